@@ -1,0 +1,32 @@
+//! What an archive knows of a recording.
+
+use crate::channel::Channel;
+
+/// A recording's descriptor: Aeron Archive documentation, "Recording descriptor"; docs/CONTROL.md, "Recordings".
+#[derive(Debug, Drop)]
+pub struct Descriptor {
+    /// The recording's id, from 0.
+    pub recording: i64,
+    /// When it was started, in milliseconds as the caller counts them.
+    pub start_timestamp: i64,
+    /// When it was stopped, in milliseconds as the caller counts them, or -1.
+    pub stop_timestamp: i64,
+    /// Where it begins, in bytes of the stream.
+    pub start_position: i64,
+    /// Where it ends, in bytes of the stream, or -1 while it is active.
+    pub stop_position: i64,
+    /// The id of the stream's first term.
+    pub initial_term_id: i32,
+    /// Bytes of a segment file.
+    pub segment_length: i32,
+    /// Bytes of a term.
+    pub term_length: i32,
+    /// Bytes that a data frame has at most, header included.
+    pub mtu: i32,
+    /// The session that is, or was last, recorded.
+    pub session_id: i32,
+    /// The stream that is recorded.
+    pub stream_id: i32,
+    /// Where the stream comes from.
+    pub channel: Channel,
+}
