@@ -1,6 +1,9 @@
 //! What an archive knows of a recording.
 
+ghost use Rattle.std.specs.Prelude.{◌≡◌, IfOk};
+
 use crate::channel::Channel;
+use std::alloc::{AllocError, Global};
 
 /// A recording's descriptor: Aeron Archive documentation, "Recording descriptor"; docs/CONTROL.md, "Recordings".
 #[derive(Debug, Drop)]
@@ -29,4 +32,26 @@ pub struct Descriptor {
     pub stream_id: i32,
     /// Where the stream comes from.
     pub channel: Channel,
+}
+
+impl Descriptor {
+    /// A copy. Costs the channel's length.
+    pub fn copy(&self, alloc: Global) -> Result<Descriptor, AllocError>
+        ensures { IfOk result (λ copy. copy ≡ self.now) }
+    {
+        Ok(Descriptor {
+            recording: self.recording,
+            start_timestamp: self.start_timestamp,
+            stop_timestamp: self.stop_timestamp,
+            start_position: self.start_position,
+            stop_position: self.stop_position,
+            initial_term_id: self.initial_term_id,
+            segment_length: self.segment_length,
+            term_length: self.term_length,
+            mtu: self.mtu,
+            session_id: self.session_id,
+            stream_id: self.stream_id,
+            channel: self.channel.copy(alloc)?,
+        })
+    }
 }

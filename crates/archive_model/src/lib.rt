@@ -1,12 +1,23 @@
-//! What an archive knows and does, as values: descriptors, commands and their replies.
+//! What an archive knows and does, as values: descriptors, commands and their replies, and the plain book of them.
 #![tactic(auto)]
 
+mod append;
+mod book;
 mod channel;
 mod command;
 mod descriptor;
+pub mod laws;
+mod range;
+mod recording;
+mod replay;
 mod reply;
+mod stream;
+#[cfg(test)]
+mod tests;
 
+pub use book::Book;
 pub use channel::Channel;
 pub use command::{Command, ExtendFields, StartFields};
 pub use descriptor::Descriptor;
+pub use recording::Recording;
 pub use reply::{PolledFrame, Reply};

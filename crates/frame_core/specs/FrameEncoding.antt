@@ -1,7 +1,7 @@
 -- Frames as bytes: Aeron Transport Protocol Specification, "Data Frame" and "Padding Frame".
-use Rattle.std.specs.Prelude.{◌≡◌, ◌<◌, ◌≤ℤ◌, ◌*◌, ◌+◌, ◌-◌, ◌/◌, ℕ, ℤ, pos, List, [], ◌∷◌, ◌++◌, length, replicate, unsigned_abs, FitsSigned}
-use Rattle.std.specs.Int.{w32, w64, cast_unsigned}
-use Rattle.byteorder.specs.Endian.{little_bytes}
+use Rattle.std.specs.Prelude.{◌≡◌, ◌<◌, ◌≤◌, ◌≤ℤ◌, ◌*◌, ◌+◌, ◌-◌, ◌/◌, ℕ, ℤ, pos, List, [], ◌∷◌, ◌++◌, length, drop, replicate, slice_index, unsigned_abs, FitsSigned}
+use Rattle.std.specs.Int.{w32, w64, cast_signed, cast_unsigned}
+use Rattle.byteorder.specs.Endian.{little_bytes, little_number}
 use Rattle.frame_core.specs.declared.frame.FrameKind.{FrameKind}
 use Rattle.frame_core.specs.declared.frame.FrameKind.TheVariants.{Pad, Message, Heartbeat}
 use Rattle.frame_core.specs.declared.frame.Frame.{Frame}
@@ -92,3 +92,26 @@ stored_as Heartbeat f = []
 
 abbrev pub stored : Frame → List ℕ
 stored f = stored_as f.kind f
+
+-- the number that stands at a place of some bytes, the lowest byte first
+unfoldable pub u16_at : List ℕ → ℕ → ℕ
+u16_at bytes place = little_number 2 (drop place bytes)
+
+unfoldable pub i32_at : List ℕ → ℕ → ℤ
+i32_at bytes place = cast_signed w32 (little_number 4 (drop place bytes))
+
+unfoldable pub i64_at : List ℕ → ℕ → ℤ
+i64_at bytes place = cast_signed w64 (little_number 8 (drop place bytes))
+
+-- the bytes begin with the frame's header, field by field
+pub record IsHeader (bytes : List ℕ) (f : Frame) : Type 0 where
+  pub whole : 32 ≤ length bytes
+  pub length_at : i32_at bytes 0 ≡ f.length
+  pub version_at : slice_index bytes 4 ≡ 0
+  pub flags_at : slice_index bytes 5 ≡ f.flags
+  pub type_at : u16_at bytes 6 ≡ type_of f.kind
+  pub term_offset_at : i32_at bytes 8 ≡ f.term_offset
+  pub session_id_at : i32_at bytes 12 ≡ f.session_id
+  pub stream_id_at : i32_at bytes 16 ≡ f.stream_id
+  pub term_id_at : i32_at bytes 20 ≡ f.term_id
+  pub reserved_at : i64_at bytes 24 ≡ f.reserved

@@ -6,3 +6,5 @@ pub mod Position
 pub mod Block
 pub mod Refusal
 pub mod Outcome
+-- What only private functions say.
+pub mod Decoding

@@ -1,9 +1,12 @@
 //! Frames of a stream: Aeron Transport Protocol Specification, "Data Frame" and "Padding Frame".
 
-ghost use Rattle.std.specs.Prelude.{◌≡◌, IfOk, IfErr};
+ghost use Rattle.std.specs.Prelude.{◌≡◌, ◌<◌, ◌^◌, length, IfOk, IfErr};
+ghost use Rattle.std.specs.Bool.{MatchBool};
 ghost use Rattle.frame_core.specs.declared.refusal.Refusal.TheVariants.{NoMemory};
 
+use crate::fields::{put_i32, put_i64, put_u16};
 use crate::items::Items;
+use crate::limits::HEADER_LENGTH;
 use crate::refusal::Refusal;
 use std::alloc::Global;
 
@@ -16,6 +19,20 @@ pub enum FrameKind {
     Message,
     /// Tells where a publication stands while it has nothing to send.
     Heartbeat,
+}
+
+impl FrameKind {
+    ghost use Rattle.frame_core.specs.FrameEncoding.{type_of};
+
+    // The number in the header's type field.
+    fn number(self) -> u16
+        ensures { result ≡ type_of self }
+    {
+        match self {
+            FrameKind::Pad => 0,
+            FrameKind::Message | FrameKind::Heartbeat => 1,
+        }
+    }
 }
 
 /// A frame: docs/PROTOCOL.md, "Data and pad header".
@@ -65,7 +82,7 @@ pub struct FrameRef<'a> {
 }
 
 impl FrameRef<'_> {
-    ghost use Rattle.frame_core.specs.FrameEncoding.{frame_of};
+    ghost use Rattle.frame_core.specs.FrameEncoding.{frame_of, HasLength, IsAligned};
 
     /// A copy of the frame. Costs its payload's length.
     pub fn to_frame(&self, alloc: Global) -> Result<Frame, Refusal>
@@ -84,10 +101,38 @@ impl FrameRef<'_> {
             payload: Items::from_vec(self.payload.to_vec(alloc)?),
         })
     }
+
+    // Whether the length and the payload are those of the kind.
+    fn has_length(&self) -> bool
+        ensures { let fits = HasLength self.now.kind self.now.length self.now.payload.now in
+            MatchBool result fits (fits → ⊥) }
+    {
+        match self.kind {
+            FrameKind::Pad => self.payload.is_empty() && self.length >= 32,
+            FrameKind::Message => {
+                if self.length < 32 {
+                    return false;
+                }
+                self.length as usize - 32 == self.payload.len()
+            }
+            FrameKind::Heartbeat => self.payload.is_empty() && self.length == 0,
+        }
+    }
+
+    // Whether the term offset is from 0 and a multiple of 32.
+    fn has_aligned_offset(&self) -> bool
+        ensures { let aligned = IsAligned self.now.term_offset in
+            MatchBool result aligned (aligned → ⊥) }
+    {
+        if self.term_offset < 0 {
+            return false;
+        }
+        self.term_offset as u32 % 32 == 0
+    }
 }
 
 impl Frame {
-    ghost use Rattle.frame_core.specs.FrameEncoding.{frame_of};
+    ghost use Rattle.frame_core.specs.FrameEncoding.{frame_of, header_of, encoded, aligned_length, IsEncodable};
 
     /// The frame as lent. Takes no memory.
     pub fn as_ref(&self) -> FrameRef<'_>
@@ -104,5 +149,50 @@ impl Frame {
             reserved: self.reserved,
             payload: self.payload.as_slice(),
         }
+    }
+
+    /// How many bytes of its stream the frame covers: its length, rounded up to a multiple of 32. Aeron Transport
+    /// Protocol Specification, "Data Frame". Takes no memory.
+    pub fn aligned_length(&self) -> u64
+        ensures value { result ≡ aligned_length self.now }
+        ensures small { result < 2 ^ 33 }
+    {
+        (u64::from(self.length.unsigned_abs()) + 31) / 32 * 32
+    }
+
+    /// How many bytes the frame's encoding has: its header's and its payload's. Takes no memory.
+    pub fn encoded_length(&self) -> usize
+        ensures { result ≡ length (encoded self.now) }
+    {
+        HEADER_LENGTH + self.payload.as_slice().len()
+    }
+
+    /// Whether the frame has an encoding: its length and its payload are those of its kind, and its term offset is
+    /// from 0 and a multiple of 32. docs/PROTOCOL.md, "Data and pad header". Takes no memory.
+    pub fn is_encodable(&self) -> bool
+        ensures { MatchBool result (IsEncodable self.now) (IsEncodable self.now → ⊥) }
+    {
+        let lent = self.as_ref();
+        if !lent.has_length() {
+            return false;
+        }
+        lent.has_aligned_offset()
+    }
+
+    /// The 32 bytes of the frame's header: Aeron Transport Protocol Specification, "Data Frame" and "Padding Frame".
+    /// Takes no memory.
+    pub fn header(&self) -> [u8; 32]
+        ensures { result ≡ header_of self.now }
+    {
+        let mut out = [0; 32];
+        put_i32(&mut out, 0, self.length);
+        out[5] = self.flags;
+        put_u16(&mut out, 6, self.kind.number());
+        put_i32(&mut out, 8, self.term_offset);
+        put_i32(&mut out, 12, self.session_id);
+        put_i32(&mut out, 16, self.stream_id);
+        put_i32(&mut out, 20, self.term_id);
+        put_i64(&mut out, 24, self.reserved);
+        out
     }
 }

@@ -3,14 +3,24 @@
 #![tactic(auto)]
 
 mod block;
+mod codec;
+mod datagram;
+mod fields;
 mod frame;
 mod geometry;
 mod items;
+pub mod laws;
 pub mod limits;
+mod positions;
 mod refusal;
+#[cfg(test)]
+mod tests;
 
-pub use block::{Block, Place, Publication};
+pub use block::{Block, Place, Publication, block_end, block_of};
+pub use codec::{decode_front, encode_into};
+pub use datagram::frames_of_datagram;
 pub use frame::{Frame, FrameKind, FrameRef};
 pub use geometry::Geometry;
 pub use items::Items;
+pub use positions::{position, term_of};
 pub use refusal::Refusal;

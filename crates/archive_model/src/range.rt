@@ -1,0 +1,112 @@
+//! Which parameters a new recording may have: docs/CONTROL.md, "Limits".
+
+ghost use Rattle.std.specs.Prelude.{◌≡◌, ◌≤ℤ◌, pos, IsTrue, ◌==◌, ◌%◌, ◌*◌, ◌^◌, ◌&&◌, ℕ, int_le, nat_lt, not, unsigned_abs, chars};
+ghost use Rattle.std.specs.List.{list_any};
+ghost use Rattle.std.specs.Char.{is_control};
+ghost use Rattle.archive_model.specs.Descriptor.{is_channel, is_in_range, is_layout, is_length, is_mtu, is_negative, is_start_position};
+
+use crate::channel::Channel;
+use crate::command::StartFields;
+use frame_core::limits::{MAX_CHANNEL_LENGTH, MAX_MTU, MAX_TERM_LENGTH, MIN_TERM_LENGTH};
+
+impl StartFields {
+    /// Whether each field is one that a recording may have. Costs the channel's length.
+    pub fn is_in_range(&self) -> bool
+        ensures range { result ≡ is_in_range self.now }
+        ensures start { IsTrue result → pos 0 ≤ℤ self.now.start_position }
+    {
+        if !has_layout(self) {
+            return false;
+        }
+        if !has_start_position(self) {
+            return false;
+        }
+        if self.timestamp < 0 {
+            return false;
+        }
+        is_named(&self.channel)
+    }
+}
+
+/// Whether bytes are a term's or a segment's length.
+#[tactic(auto, unfolding(crate::specs::Descriptor::is_length))]
+fn is_power(length: i32) -> bool
+    ensures { result ≡ is_length length }
+{
+    if length < MIN_TERM_LENGTH {
+        return false;
+    }
+    if length > MAX_TERM_LENGTH {
+        return false;
+    }
+    (length as u32).is_power_of_two()
+}
+
+/// Whether bytes are an MTU.
+#[tactic(auto, unfolding(crate::specs::Descriptor::is_mtu))]
+fn is_unit(mtu: i32) -> bool
+    ensures { result ≡ is_mtu mtu }
+{
+    if mtu <= 32 {
+        return false;
+    }
+    if mtu > MAX_MTU {
+        return false;
+    }
+    mtu as u32 % 32 == 0
+}
+
+/// Whether terms, segments and frames have lengths that fit one another.
+#[tactic(auto, unfolding(crate::specs::Descriptor::is_layout))]
+fn has_layout(fields: &StartFields) -> bool
+    ensures { result ≡ is_layout fields.now }
+{
+    if !is_power(fields.term_length) {
+        return false;
+    }
+    if !is_power(fields.segment_length) {
+        return false;
+    }
+    if fields.term_length > fields.segment_length {
+        return false;
+    }
+    is_unit(fields.mtu)
+}
+
+/// Whether a recording may begin there.
+#[tactic(auto, unfolding(crate::specs::Descriptor::is_start_position))]
+fn has_start_position(fields: &StartFields) -> bool
+    ensures range { result ≡ is_start_position fields.now.start_position fields.now.term_length }
+    ensures start { IsTrue result → pos 0 ≤ℤ fields.now.start_position }
+{
+    if fields.start_position < 0 {
+        return false;
+    }
+    let position = fields.start_position as u64;
+    if position % 32 != 0 {
+        return false;
+    }
+    position < 0x8000_0000 * fields.term_length.unsigned_abs() as u64
+}
+
+/// Whether a text is a channel.
+#[tactic(auto, unfolding(crate::specs::Descriptor::is_channel))]
+fn is_named(channel: &Channel) -> bool
+    ensures { result ≡ is_channel channel.now }
+{
+    let text = channel.as_str();
+    if text.is_empty() {
+        return false;
+    }
+    if text.len() > MAX_CHANNEL_LENGTH {
+        return false;
+    }
+    !has_control(text)
+}
+
+/// Whether a text has a control character.
+fn has_control(text: &str) -> bool
+    ensures { result ≡ list_any is_control (chars text.now) }
+{
+    text.chars().any(|c| c.is_control())
+}

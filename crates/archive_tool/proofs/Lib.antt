@@ -1,0 +1,9 @@
+mod PartsLemmas
+mod RulesLemmas
+mod ListingLemmas
+mod BlockLemmas
+mod ReplayEndsLemmas
+mod PollLemmas
+mod TranscriptLemmas
+mod ProgressLemmas
+mod ScriptLemmas

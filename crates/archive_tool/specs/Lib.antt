@@ -1,0 +1,6 @@
+-- What a reader has to believe: the lines of an input, and what a script writes.
+pub mod InputLines
+pub mod Transcript
+pub mod Script
+-- How a line is put together from parts.
+pub mod Parts

@@ -1,0 +1,44 @@
+//! The program's command line: docs/CONTROL.md, "The program".
+
+use clap::{Command, Error};
+use std::alloc::{AllocError, Global};
+
+/// What the program is asked to do.
+#[derive(Clone, Copy, Debug, PartialEq, Eq)]
+pub enum ToolCommand {
+    /// Answer control lines from standard input on standard output.
+    Run,
+}
+
+const RUN_HELP: &str =
+    "Reads control lines from standard input, one a line, until its end or the line `quit`, \
+and writes the reply of each to standard output before it waits for the next. The archive lies in memory, and is \
+gone when the program ends. A line that is refused is answered by a line `error <number> <name>`.";
+
+const STATUSES: &str =
+    "Statuses: 0 done, 1 refused (a want of memory), 2 a wrong command line, 3 standard input or \
+output failed.";
+
+fn run<'a>(alloc: Global) -> Command<'a> {
+    Command::new(alloc, "run")
+        .about("Answers control lines from standard input on standard output")
+        .long_about(RUN_HELP)
+        .after_help(STATUSES)
+}
+
+fn tool<'a>(alloc: Global) -> Result<Command<'a>, AllocError> {
+    Command::new(alloc, "archive_tool")
+        .about("Records Aeron streams and replays them")
+        .after_help(STATUSES)
+        .subcommand_required(true)
+        .arg_required_else_help(true)
+        .subcommand(run(alloc))
+}
+
+/// What the words of a command line ask for, the program's name first.
+///
+/// An error says what is wrong with the words, or is the help that they ask for.
+pub fn command_of(alloc: Global, words: &[String]) -> Result<ToolCommand, Error> {
+    let _matches = tool(alloc)?.try_get_matches_from(words)?;
+    Ok(ToolCommand::Run)
+}

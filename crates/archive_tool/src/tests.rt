@@ -1,0 +1,6 @@
+//! What no clause says: the worked scenarios, and what failing readers, writers and requests for memory lead to.
+
+mod faults;
+mod lines;
+mod refusals;
+mod scenarios;

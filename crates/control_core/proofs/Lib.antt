@@ -1,0 +1,7 @@
+mod NumbersLemmas
+mod LinesLemmas
+mod LineTextLemmas
+mod SpellingLemmas
+mod HexCaseLemmas
+mod NumberedLemmas
+pub mod ChangeLemmas

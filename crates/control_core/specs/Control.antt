@@ -1,0 +1,59 @@
+-- The control state of an archive: docs/CONTROL.md, "Control state".
+use Rattle.std.specs.Prelude.{ℕ, ℤ, pos, Bool, false, List, [], Option, Some, None}
+use Rattle.archive_model.specs.State.{empty}
+use Rattle.archive_model.specs.Commands.{recorded_in}
+use Rattle.archive_model.specs.Acceptance.{BookState, recording_in}
+use Rattle.control_core.specs.declared.desk.RecorderSession.{RecorderSession}
+use Rattle.control_core.specs.declared.desk.OpenReplay.{OpenReplay}
+use Rattle.control_core.specs.declared.desk.Written.{Written}
+
+-- The recordings with the next id and the history's count and limit, the recorder sessions and the open replays by
+-- rising number, the next numbers of both, and whether a write has failed.
+pub record Control : Type 0 where
+  pub book : BookState
+  pub sessions : List RecorderSession
+  pub replays : List OpenReplay
+  pub next_session : ℤ
+  pub next_replay : ℤ
+  pub is_broken : Bool
+
+-- an archive without recordings, whose history may have so many entries
+abbrev pub new_archive : ℕ → Control
+new_archive limit = record {
+  book = record { state = empty; counted = 0; limit = limit };
+  sessions = [];
+  replays = [];
+  next_session = pos 0;
+  next_replay = pos 0;
+  is_broken = false;
+}
+
+-- ids and numbers stop here
+abbrev pub last_number : ℤ
+last_number = pos 9223372036854775807
+
+abbrev pub session_number : RecorderSession → ℤ
+session_number s = s.number
+
+abbrev pub replay_number : OpenReplay → ℤ
+replay_number r = r.number
+
+-- where a session's next block begins: at the end of what it wrote, or at the recorded position
+abbrev pub written_to : Option Written → ℤ → ℤ
+written_to None recorded = recorded
+written_to (Some written) recorded = written.last
+
+-- the sessions and replays alone, which the desk keeps
+pub record Seats : Type 0 where
+  pub sessions : List RecorderSession
+  pub replays : List OpenReplay
+  pub next_session : ℤ
+  pub next_replay : ℤ
+
+-- what a session has written
+abbrev pub with_written : Option Written → RecorderSession → RecorderSession
+with_written written s = record s { written = written }
+
+-- a replay that goes on from a position
+abbrev pub moved_to : ℤ → OpenReplay → OpenReplay
+moved_to next replay = record replay { next = next }

@@ -1,0 +1,13 @@
+-- What a reader has to believe: numbers and lines as text, the text of replies and refusals, the control state, and what
+-- each call is answered.
+pub mod Numbers
+pub mod Lines
+pub mod LineText
+pub mod ReplyText
+pub mod RefusalText
+pub mod Control
+pub mod Rules
+pub mod Calls
+pub mod Answers
+-- Where values stand in a list.
+pub mod Numbered

@@ -1,0 +1,51 @@
+//! What may happen to an archive. docs/CONTROL.md, "Lines".
+
+use crate::request::Request;
+use frame_core::Block;
+
+/// A call on an archive.
+#[derive(Debug, Drop)]
+pub enum Event {
+    /// A request to its catalogue.
+    Ask(Request),
+    /// Write a block behind what a recorder session wrote before.
+    Write {
+        /// The recorder session's number.
+        session: i64,
+        /// The block.
+        block: Block,
+    },
+    /// Record what a recorder session wrote.
+    Settle {
+        /// The recorder session's number.
+        session: i64,
+    },
+    /// Open a replay of a range of a recording.
+    ReplayOpen {
+        /// The recording's id.
+        recording: i64,
+        /// Where the replay begins, in bytes of the stream.
+        position: i64,
+        /// How far it goes, in bytes of the stream; -1 for all that is recorded.
+        length: i64,
+    },
+    /// Take the next frames of a replay.
+    ReplayPoll {
+        /// The replay's number.
+        replay: i64,
+        /// How many frames are taken at most.
+        max: i64,
+    },
+    /// Close a replay.
+    ReplayClose {
+        /// The replay's number.
+        replay: i64,
+    },
+    /// Remove one file that no recording needs.
+    Sweep,
+    /// Read each recorded frame of a recording.
+    Verify {
+        /// The recording's id.
+        recording: i64,
+    },
+}

@@ -1,0 +1,24 @@
+//! What is asked of an archive and what it answers, as values and as lines of text, and what it keeps of its callers.
+#![tactic(auto)]
+
+mod desk;
+mod event;
+pub mod laws;
+mod line;
+mod number;
+mod numbered;
+mod parse;
+mod print;
+mod refusal_line;
+mod request;
+
+pub use desk::{Desk, OpenReplay, RecorderSession, Written};
+pub use event::Event;
+pub use line::Line;
+pub use parse::parse_line;
+pub use print::print_reply;
+pub use refusal_line::{RefusalLine, print_refusal};
+pub use request::{FindFields, Request};
+
+#[cfg(test)]
+mod tests;

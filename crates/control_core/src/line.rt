@@ -1,0 +1,20 @@
+//! A control line as a value. docs/CONTROL.md, "Lines".
+
+use crate::event::Event;
+use frame_core::Items;
+
+/// What a control line asks for.
+#[derive(Debug, Drop)]
+pub enum Line {
+    /// A call on the archive.
+    Event(Event),
+    /// Write the bytes of a block, and settle it.
+    Block {
+        /// The recorder session's number.
+        session: i64,
+        /// The block as bytes; at least one.
+        bytes: Items<u8>,
+    },
+    /// Read no further line.
+    Quit,
+}

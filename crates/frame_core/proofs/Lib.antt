@@ -1,0 +1,5 @@
+pub mod BlockLemmas
+pub mod DatagramLemmas
+pub mod FrameEncodingLemmas
+pub mod FrontLemmas
+pub mod PositionLemmas

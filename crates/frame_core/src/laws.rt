@@ -1,0 +1,64 @@
+//! Laws of the definitions, each the contract of a function that does nothing.
+
+ghost use Rattle.std.specs.Prelude.{◌≡◌, ◌<◌, ◌≤◌, ◌++◌, ℕ, ℤ, List, length, take, slice_index, FitsSigned};
+ghost use Rattle.std.specs.Int.{w32};
+ghost use Rattle.frame_core.specs.Block.{AreBlock};
+ghost use Rattle.frame_core.specs.Datagram.{IsBadAt, IsDatagram};
+ghost use Rattle.frame_core.specs.FrameEncoding.{IsEncodable, IsHeader, Fits, aligned_length, encoded, header_of, stored};
+ghost use Rattle.frame_core.specs.Front.{IsFront, used_by};
+ghost use Rattle.frame_core.specs.Position.{HasPosition};
+ghost use Rattle.frame_core.specs.declared.frame.Frame.{Frame};
+ghost use Rattle.frame_core.specs.declared.frame.FrameKind.TheVariants.{Message};
+ghost use Rattle.frame_core.specs.declared.geometry.Geometry.{Geometry};
+
+/// The bytes alone determine the frame in front of them, and how many of them it uses.
+pub fn one_frame_in_front()
+    ensures { (bytes : List ℕ) (f g : Frame) (m n : ℕ)
+        → IsFront bytes f m → IsFront bytes g n → (f ≡ g) × (m ≡ n) }
+{}
+
+/// An encoding is read as its frame, whatever follows it; a message uses its aligned length where so much is there, and
+/// so does what a segment file holds of it.
+pub fn an_encoding_is_read_as_its_frame()
+    ensures any { (f : Frame) (rest : List ℕ) → IsEncodable f →
+        IsFront (encoded f ++ rest) f
+        (used_by f.kind (length (encoded f)) (length (encoded f ++ rest))) }
+    ensures message { (f : Frame) (rest : List ℕ) → IsEncodable f → f.kind ≡ Message
+        → aligned_length f ≤ length (encoded f ++ rest)
+        → IsFront (encoded f ++ rest) f (aligned_length f) }
+    ensures stored { (f : Frame) (rest : List ℕ) → IsEncodable f → f.kind ≡ Message
+        → IsFront (stored f ++ rest) f (aligned_length f) }
+{}
+
+/// An encoding begins with a header that has each field at its place in the standard's table, and those fields
+/// determine the header's 32 bytes. Aeron Transport Protocol Specification, "Data Frame".
+pub fn an_encoding_begins_with_its_header()
+    ensures fields { (f : Frame) (rest : List ℕ) → IsEncodable f → IsHeader (encoded f ++ rest) f }
+    ensures bytes { (bytes : List ℕ) (f : Frame) → ((k : ℕ) → slice_index bytes k < 256)
+        → IsHeader bytes f → take 32 bytes ≡ header_of f }
+{}
+
+/// Some bytes are one datagram, or are bad at one offset.
+pub fn a_datagram_has_one_answer()
+    ensures list { (bytes : List ℕ) (fs gs : List Frame)
+        → IsDatagram bytes fs → IsDatagram bytes gs → fs ≡ gs }
+    ensures offset { (bytes : List ℕ) (m n : ℕ) → IsBadAt bytes m → IsBadAt bytes n → m ≡ n }
+    ensures apart { (bytes : List ℕ) (fs : List Frame) (n : ℕ)
+        → IsDatagram bytes fs → IsBadAt bytes n → ⊥ }
+{}
+
+/// A term and an offset have one position, and a position has one term id and one offset.
+pub fn positions_and_terms_are_inverse()
+    ensures position { (g : Geometry) (term offset p q : ℤ)
+        → HasPosition g term offset p → HasPosition g term offset q → p ≡ q }
+    ensures term { (g : Geometry) (term other offset place p : ℤ)
+        → FitsSigned w32 term → FitsSigned w32 other
+        → HasPosition g term offset p → HasPosition g other place p
+        → (term ≡ other) × (offset ≡ place) }
+{}
+
+/// Frames are a block at one position at most.
+pub fn a_block_has_one_position()
+    ensures { (g : Geometry) (fs : List Frame) (p q : ℤ)
+        → AreBlock g fs p → AreBlock g fs q → p ≡ q }
+{}
