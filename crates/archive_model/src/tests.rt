@@ -88,39 +88,40 @@ fn first_recording_and_replay(rt: HostRuntime) -> Result<(), Fail> {
     let alloc = rt.alloc();
     let mut book = Book::new(alloc, 1_048_576);
     let started = book.apply(&Command::Start(start_fields(alloc, 0)?));
-    assert!(rt;
-        matches!(
-            &started,
-            Ok(Reply::Started {
-                recording: 0,
-                session: 0
-            })
-        )
-    );
+    assert!(rt; matches!(&started, Ok(Reply::Started { recording: 0, .. })));
     let blocks = vec![in alloc; (0, hello(alloc, 42, 0)?)]?;
     let settled = book.apply(&append_of(alloc, 0, blocks)?);
     assert!(rt; matches!(&settled, Ok(Reply::Settled { position: 64 })));
-
     let replayed = book.replay(alloc, &0, &0, &LAST_NUMBER)?;
     assert_eq!(rt; replayed.len(), 1);
-    for frame in replayed.as_slice() {
-        assert_eq!(rt; frame.payload.as_slice(), b"hello".as_slice());
-        assert_eq!(rt; frame.term_offset, 0);
-    }
+    Ok(())
+}
+
+#[test]
+fn a_book_finds_its_recordings(rt: HostRuntime) -> Result<(), Fail> {
+    let alloc = rt.alloc();
+    let book = three_hellos(alloc)?;
     assert_eq!(rt; book.recordings().len(), 1);
     assert!(rt; !book.is_full());
     let recording = book.recording(&0).ok_or("no recording")?;
-    assert!(rt; recording.is_active());
     assert!(rt; recording.has_id(&0));
-    assert_eq!(rt; recording.frames().len(), 1);
-    assert_eq!(rt; recording.recorded_position(), 64);
+    assert!(rt; recording.is_active());
+    assert_eq!(rt; recording.frames().len(), 3);
+    assert_eq!(rt; recording.recorded_position(), 192);
+    assert!(rt; book.recording(&1).is_none());
+    Ok(())
+}
+
+#[test]
+fn a_descriptor_is_copied(rt: HostRuntime) -> Result<(), Fail> {
+    let alloc = rt.alloc();
+    let book = three_hellos(alloc)?;
+    let recording = book.recording(&0).ok_or("no recording")?;
     let copy = recording.descriptor().copy(alloc)?;
     assert_eq!(rt; (copy.stop_position, copy.stop_timestamp), (-1, -1));
     assert_eq!(rt; copy.channel.as_str(), "c");
     assert_eq!(rt; copy.geometry().term_length, 65_536);
     assert_eq!(rt; copy.publication().session_id, 7);
-    let unknown = book.recording(&1);
-    assert!(rt; unknown.is_none());
     Ok(())
 }
 

@@ -1,18 +1,18 @@
 -- A block that is written and settled at once.
-use Rattle.std.proofs.Common.{◌≡◌, ◌+ℤ◌, ℕ, ℤ, pos, Bool, true, false, List, [], ◌∷◌, ◌++◌, Option, Some, None, Result, Ok, Err, refl, sym, ap, subst, ◌∙◌, inl, inr, ◌⊎◌, IsTrue, IsFalse, is_some, OnOk, OnErr}
+use Rattle.std.proofs.Common.{◌≡◌, ◌+ℤ◌, ℕ, ℤ, pos, true, false, List, [], ◌∷◌, ◌++◌, Option, Some, None, Result, Ok, Err, refl, sym, ap, subst, ◌∙◌, inl, inr, IsTrue, IsFalse, is_some, OnOk, OnErr}
 use Rattle.std.proofs.lemmas.List.{append-nil}
 use Rattle.frame_core.specs.declared.block.Block.{Block}
 use Rattle.frame_core.specs.declared.refusal.Refusal.{Refusal}
-use Rattle.frame_core.specs.declared.refusal.Refusal.TheVariants.{UnknownRecording, ActiveRecording, NotActive, ActiveReplay, BadPosition, BadExtension, MaxRecordings, MaxReplays, UnknownReplay, BadParameter, HistoryFull, StaleSession, BadBlock, NeedSettle, Damaged, Broken, DeviceFault, NoMemory, NotCatalogue, NewerVersion, BadFrame, BadLine}
+use Rattle.frame_core.specs.declared.refusal.Refusal.TheVariants.{UnknownRecording, NotActive, HistoryFull, StaleSession, BadBlock, NeedSettle, Broken, NoMemory}
 use Rattle.frame_core.specs.Block.{end_position, covered, AreBlock}
 use Rattle.frame_core.specs.Datagram.{IsDatagram}
 use Rattle.archive_model.specs.declared.command.Command.TheVariants.{Append}
 use Rattle.archive_model.specs.declared.reply.Reply.{Reply}
 use Rattle.archive_model.specs.declared.reply.Reply.TheVariants.{Settled}
 use Rattle.archive_model.specs.Keyed.{find, change}
-use Rattle.archive_model.specs.State.{Recording, is_active, recorded_position, geometry_of, publication_of}
+use Rattle.archive_model.specs.State.{Recording, is_active, recorded_position, geometry_of}
 use Rattle.archive_model.specs.Commands.{recorded_in, reply_to}
-use Rattle.archive_model.specs.Acceptance.{Rules, NoneHolds, ComesFirst, before, checks, recording_in, is_full, book_after, BookState, Continue, Of, Answers, rules_of}
+use Rattle.archive_model.specs.Acceptance.{NoneHolds, ComesFirst, before, checks, recording_in, is_full, book_after, BookState, Continue, Of, Answers, rules_of}
 use Rattle.control_core.specs.declared.desk.RecorderSession.{RecorderSession}
 use Rattle.control_core.specs.declared.desk.Written.{Written}
 use Rattle.control_core.specs.Control.{Control, session_number, with_written, written_to}

@@ -1,5 +1,5 @@
 -- The frames of a poll end at or before where their recording does.
-use Rattle.std.proofs.Common.{◌≡◌, ◌+◌, ◌+ℤ◌, ◌≤ℤ◌, ℕ, suc, zero, ℤ, pos, Bool, true, false, List, [], ◌∷◌, ◌++◌, refl, sym, ap, subst, ◌∙◌, take, length, ◌-◌, slice_get, Option, Some, None, arith, if◌then◌else◌}
+use Rattle.std.proofs.Common.{◌≡◌, ◌+ℤ◌, ◌≤ℤ◌, ℕ, suc, zero, ℤ, pos, Bool, true, false, List, [], ◌∷◌, sym, ap, subst, ◌∙◌, take, length, ◌-◌, slice_get, Some, None, arith, if◌then◌else◌}
 use Rattle.std.specs.Prelude.{filter, Result, Ok, Err, IfOk}
 use Rattle.frame_core.specs.declared.refusal.Refusal.{Refusal}
 use Rattle.std.proofs.lemmas.Int.{ints}

@@ -5,7 +5,7 @@ use Rattle.std.specs.Io.KnownBytes.{Appends, Keeps, IsAtEnd}
 use Rattle.std.proofs.KnownBytes.{Appends-nil, Appends-trans, Appends-kept}
 use Rattle.std.specs.Prelude.{IfSome}
 use Rattle.archive_tool.specs.InputLines.{lines_of, kept, NextLine}
-use Rattle.archive_tool.specs.Transcript.{Transcript, Serves, until_quit, AnswersAll, AnswersSome, IsRight, SaysNoMemory, Replied, Writes}
+use Rattle.archive_tool.specs.Transcript.{Transcript, Serves, until_quit, AnswersAll, AnswersSome, IsRight, Replied, Writes}
 use Rattle.archive_tool.proofs.TranscriptLemmas.{EndsLine, NoneQuits, none_quits-more, until-append, until-last, take-front, transcript-more, only_answers}
 
 module _ {S : Type 0} (start : S) (quits : Option (List ℕ) → Bool) (Answers : S → Option (List ℕ) → List ℕ → S → Type 0) where

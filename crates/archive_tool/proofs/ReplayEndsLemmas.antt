@@ -1,7 +1,7 @@
 -- A replay that is opened or polled.
-use Rattle.std.proofs.Common.{◌≡◌, ◌+ℤ◌, ℕ, ℤ, pos, negsuc, Bool, true, false, List, [], ◌∷◌, ◌++◌, ◌&&◌, Option, Some, None, Result, Ok, Err, refl, sym, ap, subst, ◌∙◌, inl, inr, ◌⊎◌, IsTrue, IsFalse, length, nat_le, int_le}
+use Rattle.std.proofs.Common.{◌≡◌, ℤ, pos, negsuc, true, false, ◌&&◌, Some, None, Ok, refl, sym, ap, subst, ◌∙◌, inl, inr, length, nat_le, int_le}
 use Rattle.frame_core.specs.declared.refusal.Refusal.{Refusal}
-use Rattle.frame_core.specs.declared.refusal.Refusal.TheVariants.{UnknownRecording, ActiveRecording, NotActive, ActiveReplay, BadPosition, BadExtension, MaxRecordings, MaxReplays, UnknownReplay, BadParameter, HistoryFull, StaleSession, BadBlock, NeedSettle, Damaged, Broken, DeviceFault, NoMemory, NotCatalogue, NewerVersion, BadFrame, BadLine}
+use Rattle.frame_core.specs.declared.refusal.Refusal.TheVariants.{UnknownRecording, BadPosition, MaxReplays, UnknownReplay, BadParameter}
 use Rattle.archive_model.specs.declared.reply.Reply.TheVariants.{ReplayOpened}
 use Rattle.archive_model.specs.Keyed.{find}
 use Rattle.archive_model.specs.State.{Recording}
@@ -9,7 +9,7 @@ use Rattle.archive_model.specs.Replay.{is_boundary}
 use Rattle.archive_model.specs.Acceptance.{NoneHolds, checks, recording_in}
 use Rattle.control_core.specs.declared.desk.OpenReplay.{OpenReplay}
 use Rattle.control_core.specs.Control.{Control, last_number, replay_number}
-use Rattle.control_core.specs.Rules.{HoldsOf, open_rules, opening_position, poll_rules, is_from_to}
+use Rattle.control_core.specs.Rules.{open_rules, opening_position, poll_rules, is_from_to}
 use Rattle.control_core.specs.Calls.{OpenEnds, after_open, start_in, PollEnds, poll_reply, after_poll}
 use Rattle.archive_tool.proofs.RulesLemmas.{none_all}
 

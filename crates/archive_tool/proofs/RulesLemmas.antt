@@ -1,12 +1,12 @@
 -- How the rules of a call follow from those of the command that it makes.
-use Rattle.std.proofs.Common.{◌≡◌, ◌<ℤ◌, ℕ, ℤ, Bool, true, false, List, [], ◌∷◌, ◌++◌, length, take, ◌-◌, ◌+◌, Result, Ok, Err, refl, sym, ap, subst, ◌∙◌, inl, inr, ◌⊎◌, rules, arith, IsTrue}
+use Rattle.std.proofs.Common.{◌≡◌, true, false, List, [], ◌∷◌, ◌++◌, length, take, ◌-◌, ◌+◌, Err, refl, sym, ap, ◌∙◌, inl, inr, arith}
 use Rattle.std.proofs.lemmas.List.{length-append}
 use Rattle.std.proofs.Math.Seq.{take-append_seam}
 use Rattle.frame_core.specs.declared.refusal.Refusal.{Refusal}
 use Rattle.frame_core.specs.declared.refusal.Refusal.TheVariants.{UnknownRecording, ActiveRecording, NotActive, ActiveReplay, BadPosition, BadExtension, MaxRecordings, MaxReplays, UnknownReplay, BadParameter, HistoryFull, StaleSession, BadBlock, NeedSettle, Damaged, Broken, DeviceFault, NoMemory, NotCatalogue, NewerVersion, BadFrame, BadLine}
 use Rattle.archive_model.specs.declared.command.StartFields.{StartFields}
 use Rattle.archive_model.specs.declared.command.Command.TheVariants.{Start}
-use Rattle.archive_model.specs.Acceptance.{Rules, NoneHolds, ComesFirst, before, checks, Answers, rules_of}
+use Rattle.archive_model.specs.Acceptance.{Rules, NoneHolds, before, checks, Answers, rules_of}
 use Rattle.control_core.specs.Control.{Control, last_number}
 use Rattle.control_core.specs.Rules.{start_rules}
 use Rattle.control_core.specs.Calls.{OrNoMemory, StartEnds}

@@ -2,5 +2,6 @@
 pub mod InputLines
 pub mod Transcript
 pub mod Script
+pub mod CommandLine
 -- How a line is put together from parts.
 pub mod Parts

@@ -1,6 +1,11 @@
 //! The program's command line: docs/CONTROL.md, "The program".
 
-use clap::{Command, Error};
+ghost use Rattle.std.specs.Prelude.{◌≡◌, Some, IfOk, IfSome, map, string_bytes};
+ghost use Rattle.clap.specs.Words.{subcommand_name_of};
+ghost use Rattle.archive_tool.specs.CommandLine.{IsHeld, name_of};
+
+use clap::error::ErrorKind;
+use clap::{ArgMatches, Command, Error};
 use std::alloc::{AllocError, Global};
 
 /// What the program is asked to do.
@@ -35,10 +40,26 @@ fn tool<'a>(alloc: Global) -> Result<Command<'a>, AllocError> {
         .subcommand(run(alloc))
 }
 
+/// The command that matches hold, if it is one of the program's.
+fn held(matches: &ArgMatches<'_>) -> Option<ToolCommand>
+    ensures { IfSome result (λ command. subcommand_name_of matches.now ≡ Some (name_of command)) }
+{
+    if matches.subcommand_matches("run").is_some() {
+        return Some(ToolCommand::Run);
+    }
+    None
+}
+
 /// What the words of a command line ask for, the program's name first.
 ///
 /// An error says what is wrong with the words, or is the help that they ask for.
-pub fn command_of(alloc: Global, words: &[String]) -> Result<ToolCommand, Error> {
-    let _matches = tool(alloc)?.try_get_matches_from(words)?;
-    Ok(ToolCommand::Run)
+pub fn command_of(alloc: Global, words: &[String]) -> Result<ToolCommand, Error>
+    ensures { IfOk result (IsHeld (map string_bytes words.now)) }
+{
+    let mut tool = tool(alloc)?;
+    let matches = tool.try_get_matches_from_mut(words)?;
+    match held(&matches) {
+        Some(command) => Ok(command),
+        None => Err(tool.error(ErrorKind::MissingSubcommand, "a command is missing")?),
+    }
 }

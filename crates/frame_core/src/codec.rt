@@ -1,7 +1,7 @@
 //! Frames from bytes, and as bytes: Aeron Transport Protocol Specification, "Data Frame" and "Padding Frame";
 //! docs/PROTOCOL.md, "Data and pad header".
 
-ghost use Rattle.std.specs.Prelude.{◌≡◌, ◌<◌, ◌≤◌, ◌^◌, ◌++◌, ℕ, length, drop, IfOk, IfErr, OnErr, MatchOption};
+ghost use Rattle.std.specs.Prelude.{◌≡◌, ◌<◌, ◌≤◌, ◌^◌, ◌++◌, ◌↔◌, ℕ, length, drop, slice_index, IsTrue, IfOk, IfErr, OnErr, MatchOption};
 ghost use Rattle.std.specs.Bool.{MatchBool};
 ghost use Rattle.frame_core.specs.Datagram.{HasNoFront};
 ghost use Rattle.frame_core.specs.Decoding.{IsBody, read_frame};
@@ -62,7 +62,7 @@ fn front_of(bytes: &[u8]) -> Option<(FrameRef<'_>, usize)>
     if bytes.len() < HEADER_LENGTH {
         return None;
     }
-    if bytes[4] != 0 {
+    if !has_version(bytes) {
         return None;
     }
     if !has_aligned_offset(bytes) {
@@ -72,6 +72,14 @@ fn front_of(bytes: &[u8]) -> Option<(FrameRef<'_>, usize)>
         return None;
     };
     Some((frame_at(bytes, body.kind, body.end), body.used))
+}
+
+// Whether a header is of version 0.
+fn has_version(bytes: &[u8]) -> bool
+    requires { 32 ≤ length bytes.now }
+    ensures { IsTrue result ↔ (slice_index bytes.now 4 ≡ 0) }
+{
+    bytes[4] == 0
 }
 
 // Whether the term offset in a header is from 0 and a multiple of 32.

@@ -1,5 +1,5 @@
 -- The frames end at or before the recorded position, which is a number of 64 bits.
-use Rattle.std.proofs.Common.{◌≡◌, ◌≤ℤ◌, pos, rules, arith, subst, FitsSigned, w64}
+use Rattle.std.proofs.Common.{◌≤ℤ◌, pos, rules, arith, subst, FitsSigned, w64}
 use Rattle.std.proofs.lemmas.Int.{ints}
 use Rattle.archive_model.specs.State.{recorded_position}
 use Rattle.archive_tool.proofs.PollLemmas.{given-ends}

@@ -1,11 +1,11 @@
 -- Line after line the text goes on, and it is the transcript of the lines that were read.
-use Rattle.std.proofs.Common.{◌≡◌, true, false, rules, subst, sym}
+use Rattle.std.proofs.Common.{◌≡◌, true, false, rules, subst}
 use Rattle.std.specs.Prelude.{MatchBool}
 use Rattle.std.specs.Io.Buffered.{reader_remaining}
 use Rattle.std.specs.Io.KnownBytes.{IsAtEnd}
 use Rattle.archive_tool.specs.InputLines.{ReadsLine}
-use Rattle.archive_tool.specs.Script.{Answers, beginning, quits, KeepsUnlessWrite, EndsEarly}
-use Rattle.archive_tool.proofs.ProgressLemmas.{Progress, progress-kept, progress-end}
+use Rattle.archive_tool.specs.Script.{Answers, beginning, quits}
+use Rattle.archive_tool.proofs.ProgressLemmas.{progress-kept, progress-end}
 use Rattle.archive_tool.proofs.ScriptLemmas.{answers_end, early_read, early_answer, goes_on, ends_at_quit}
 use Rattle.archive_tool.proofs.script.run_lines.Goals as goal
 

@@ -7,8 +7,9 @@ use Rattle.frame_core.proofs.codec.front_of.Goals as goal
 pub returns-then-bytes-lt-HEADER_LENGTH : goal.returns-then-bytes-lt-HEADER_LENGTH
 returns-then-bytes-lt-HEADER_LENGTH c f used front = omega (arith, (front_header c.args.bytes.now f used front).whole)
 
-pub returns-then-bytes-ne0 : goal.returns-then-bytes-ne0
-returns-then-bytes-ne0 c f used front = c.if-bytes-ne0.true (front_header c.args.bytes.now f used front).version_at
+pub returns-then-not-has_version : goal.returns-then-not-has_version
+returns-then-not-has_version c f used front =
+    let version = (front_header c.args.bytes.now f used front).version_at in search rules
 
 pub returns-then-not-has_aligned_offset : goal.returns-then-not-has_aligned_offset
 returns-then-not-has_aligned_offset c f used front =

@@ -1,5 +1,5 @@
 -- A block that continues its recording is written, and settled where the history has room.
-use Rattle.std.proofs.Common.{◌≡◌, ◌∷◌, [], true, false, Some, None, rules, sym, ap, subst, ◌∙◌, is_some, Err}
+use Rattle.std.proofs.Common.{◌≡◌, ◌∷◌, [], true, false, Some, None, rules, sym, subst, Err}
 use Rattle.frame_core.specs.declared.refusal.Refusal.TheVariants.{HistoryFull}
 use Rattle.frame_core.specs.Block.{end_position}
 use Rattle.archive_model.specs.Keyed.{find, change}

@@ -1,0 +1,40 @@
+-- What a disk in memory counts, and when it stops or fails.
+use Rattle.std.specs.Prelude.{ℕ, ◌+◌, ◌-◌, ◌^◌, ◌==◌, min, Bool, Option, None, Some, option_map, if◌then◌else◌}
+use Rattle.disk_core.specs.declared.counts.Counts.{Counts}
+use Rattle.disk_core.specs.declared.counts.Turn.{Turn}
+use Rattle.disk_core.specs.declared.counts.Turn.TheVariants.{Goes, Fails, Stops}
+
+-- one more, up to the last u64
+abbrev pub one_more : ℕ → ℕ
+one_more n = min (n + 1) (2 ^ 64 - 1)
+
+-- nothing counted, and no call that is to fail
+abbrev pub fresh : Counts
+fresh = record { calls = 0; changes = 0; faults = 0; left = None; fails = 0 }
+
+-- what becomes of the next call where so many changes are left and this call from now fails
+abbrev pub turn_of : Option ℕ → ℕ → Turn
+turn_of None fails = if fails == 1 then Fails else Goes
+turn_of (Some left) fails = if left == 0 then Stops else (if fails == 1 then Fails else Goes)
+
+-- what becomes of the next call
+abbrev pub next_turn : Counts → Turn
+next_turn counts = turn_of counts.left counts.fails
+
+-- the counts after a call, which may be one that changes something
+abbrev pub counted : Bool → Counts → Counts
+counted changes old = record {
+  calls = one_more old.calls;
+  changes = if changes then one_more old.changes else old.changes;
+  faults = old.faults;
+  left = if changes then option_map (λ n. n - 1) old.left else old.left;
+  fails = old.fails - 1;
+}
+
+-- the counts with one fault more
+abbrev pub with_fault : Counts → Counts
+with_fault old = record old { faults = one_more old.faults }
+
+-- the counts after a call with this outcome
+abbrev pub after_call : Bool → Bool → Counts → Counts
+after_call changes succeeded old = if succeeded then counted changes old else with_fault (counted changes old)

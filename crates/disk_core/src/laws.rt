@@ -1,0 +1,81 @@
+//! Laws of the definitions, each the contract of a function that does nothing.
+ghost use Rattle.std.specs.Prelude.{◌≡◌, ◌≢◌, ◌+◌, ◌<◌, ◌≤◌, ℕ, max, Bool, List, length, get_or, Option, if◌then◌else◌};
+ghost use Rattle.disk_core.specs.declared.file_id.FileId.{FileId};
+ghost use Rattle.disk_core.specs.Image.{Image, FileState, Files, LeavesFile, MayLeave, reads, durable, begun};
+ghost use Rattle.disk_core.specs.Calls.{overwritten, write_to, cut_to, removed, synced, IsWritten, IsCut, IsRemoved, IsSynced};
+
+/// A write of some bytes leaves the file as long as it was, or as the bytes reach. The bytes stand at
+/// the offset, and elsewhere the file is as it was, with zeros in a gap.
+#[tactic(auto, using(crate::proofs::OverwriteLemmas::length_overwritten, crate::proofs::OverwriteLemmas::overwritten_inside, crate::proofs::OverwriteLemmas::overwritten_below, crate::proofs::OverwriteLemmas::overwritten_above))]
+pub fn writes_change_their_range_alone()
+    ensures long { (at : ℕ) (bytes old : List ℕ) → 0 < length bytes →
+        length (overwritten at bytes old) ≡ max (length old) (at + length bytes) }
+    ensures inside { (at : ℕ) (bytes old : List ℕ) (k : ℕ) → k < length bytes →
+        get_or (overwritten at bytes old) (at + k) 0 ≡ get_or bytes k 0 }
+    ensures below { (at : ℕ) (bytes old : List ℕ) (place : ℕ) → place < at →
+        get_or (overwritten at bytes old) place 0 ≡ get_or old place 0 }
+    ensures above { (at : ℕ) (bytes old : List ℕ) (place : ℕ) → at + length bytes ≤ place →
+        get_or (overwritten at bytes old) place 0 ≡ get_or old place 0 }
+{}
+
+/// What a call makes of a file where it succeeds is within the bound on what it may make.
+#[tactic(auto, using(crate::proofs::OverwriteLemmas::write_is_written, crate::proofs::ImageLemmas::cut_is_cut))]
+pub fn calls_keep_their_bounds()
+    ensures write { (at : ℕ) (bytes : List ℕ) (file : FileState) →
+        IsWritten at (length bytes) file (write_to at bytes file) }
+    ensures cut { (len : ℕ) (file : FileState) → IsCut len file (cut_to len file) }
+    ensures remove { (file : FileState) → IsRemoved file (removed file) }
+    ensures sync { (file : FileState) → IsSynced file (synced file) }
+{}
+
+/// Nothing that a crash may leave before a write is lost by it, wholly or partly done: so a crash
+/// within a write leaves nothing that one after it may not leave.
+#[tactic(auto, using(crate::proofs::ImageLemmas::written_keeps))]
+pub fn writes_keep_outcomes()
+    ensures { (at count : ℕ) (old new : FileState) (left : Option (List ℕ)) →
+        IsWritten at count old new → LeavesFile old left → LeavesFile new left }
+{}
+
+/// Nothing that a crash may leave before a cut is lost by it, wholly or partly done.
+#[tactic(auto, using(crate::proofs::ImageLemmas::cut_keeps))]
+pub fn cuts_keep_outcomes()
+    ensures { (len : ℕ) (old new : FileState) (left : Option (List ℕ)) →
+        IsCut len old new → LeavesFile old left → LeavesFile new left }
+{}
+
+/// Nothing that a crash may leave before a remove is lost by it, done or failed.
+#[tactic(auto, using(crate::proofs::ImageLemmas::removed_keeps))]
+pub fn removes_keep_outcomes()
+    ensures { (old new : FileState) (left : Option (List ℕ)) →
+        IsRemoved old new → LeavesFile old left → LeavesFile new left }
+{}
+
+/// A sync, also a failed one, adds nothing to what a crash may leave: so a crash within a sync leaves
+/// nothing that one before it may not leave.
+#[tactic(auto, using(crate::proofs::ImageLemmas::synced_left))]
+pub fn syncs_add_no_outcome()
+    ensures { (old new : FileState) (left : Option (List ℕ)) → LeavesFile old old.reads →
+        IsSynced old new → LeavesFile new left → LeavesFile old left }
+{}
+
+/// Once each file has been synced, a crash leaves what is read and nothing else.
+#[tactic(auto, using(crate::proofs::ImageLemmas::all_durable))]
+pub fn synced_files_are_left_as_read()
+    ensures { (files : Files) (image : Image) → ((file : FileId) → files file ≡ durable (reads files file)) →
+        MayLeave files image → (file : FileId) → image file ≡ reads files file }
+{}
+
+/// Of a disk that is begun from an image, a crash leaves that image and nothing else.
+#[tactic(auto, using(crate::proofs::ImageLemmas::begun_left))]
+pub fn a_begun_disk_is_durable()
+    ensures { (first image : Image) → MayLeave (begun first) image → (file : FileId) → image file ≡ first file }
+{}
+
+/// What a crash leaves of one file says nothing of another: of two images that it may leave, each file
+/// may be left as in either.
+#[tactic(auto, using(crate::proofs::ImageLemmas::either_image))]
+pub fn files_are_independent()
+    ensures { (files : Files) (one other : Image) (pick : FileId → Bool) →
+        MayLeave files one → MayLeave files other →
+        MayLeave files (λ file. if pick file then one file else other file) }
+{}

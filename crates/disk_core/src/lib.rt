@@ -1,0 +1,22 @@
+//! Files of the archive, what a device call does to them, and what a crash may leave.
+#![tactic(auto)]
+
+mod change;
+mod counts;
+pub mod crash;
+pub mod disk;
+pub mod fault;
+pub mod file_id;
+mod history;
+pub mod laws;
+pub mod memory;
+mod memory_file;
+pub mod two_slots;
+
+pub use disk::Disk;
+pub use fault::{Fault, ListFault};
+pub use file_id::FileId;
+pub use memory::MemoryDisk;
+
+#[cfg(test)]
+mod tests;
