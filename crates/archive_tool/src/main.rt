@@ -10,6 +10,7 @@ mod parameters;
 mod polling;
 mod script;
 
+use clap::error::ErrorKind;
 use command::{ToolCommand, command_of};
 use control_core::print_refusal;
 use fault::ScriptFault;
@@ -30,6 +31,9 @@ const DEVICE: u8 = 3;
 fn main(rt: HostRuntime) -> ExitCode {
     match commanded(&rt) {
         Ok(code) => code,
+        Err(error) if error.kind() == io::ErrorKind::OutOfMemory => {
+            refused(&rt, &Refusal::NoMemory, REFUSED)
+        }
         Err(_) => refused(&rt, &Refusal::DeviceFault, DEVICE),
     }
 }
@@ -42,6 +46,9 @@ fn commanded<R: AllocGlobal + Env + Input + Print + Eprint>(rt: &R) -> io::Resul
     }
     match command_of(rt.alloc(), words.as_slice()) {
         Ok(ToolCommand::Run) => Ok(run(rt)),
+        Err(error) if error.kind() == ErrorKind::OutOfMemory => {
+            Ok(refused(rt, &Refusal::NoMemory, REFUSED))
+        }
         Err(error) => {
             let code = if error.use_stderr() { USAGE } else { 0 };
             error.print(rt)?;
