@@ -1,12 +1,12 @@
 //! Laws of the definitions, each the contract of a function that does nothing.
 
-ghost use Rattle.std.specs.Prelude.{◌≡◌, ◌<◌, ◌≤◌, ◌++◌, ℕ, ℤ, List, length, take, slice_index, FitsSigned};
+ghost use Rattle.std.specs.Prelude.{◌≡◌, ◌<◌, ◌≤◌, ◌++◌, ℕ, ℤ, pos, List, Some, length, take, slice_index, FitsSigned};
 ghost use Rattle.std.specs.Int.{w32};
 ghost use Rattle.frame_core.specs.Block.{AreBlock};
 ghost use Rattle.frame_core.specs.Datagram.{IsBadAt, IsDatagram};
 ghost use Rattle.frame_core.specs.FrameEncoding.{IsEncodable, IsHeader, Fits, aligned_length, encoded, header_of, stored};
 ghost use Rattle.frame_core.specs.Front.{IsFront, used_by};
-ghost use Rattle.frame_core.specs.Position.{HasPosition};
+ghost use Rattle.frame_core.specs.Position.{HasPosition, position_of};
 ghost use Rattle.frame_core.specs.declared.frame.Frame.{Frame};
 ghost use Rattle.frame_core.specs.declared.frame.FrameKind.TheVariants.{Message};
 ghost use Rattle.frame_core.specs.declared.geometry.Geometry.{Geometry};
@@ -45,6 +45,14 @@ pub fn a_datagram_has_one_answer()
     ensures offset { (bytes : List ℕ) (m n : ℕ) → IsBadAt bytes m → IsBadAt bytes n → m ≡ n }
     ensures apart { (bytes : List ℕ) (fs : List Frame) (n : ℕ)
         → IsDatagram bytes fs → IsBadAt bytes n → ⊥ }
+{}
+
+/// The function that gives positions gives each that an offset in a term has, and no other.
+pub fn a_position_is_what_its_function_gives()
+    ensures given { (g : Geometry) (term offset : ℤ) (n : ℕ)
+        → position_of g term offset ≡ Some n → HasPosition g term offset (pos n) }
+    ensures all { (g : Geometry) (term offset p : ℤ) → HasPosition g term offset p
+        → (n : ℕ) × (position_of g term offset ≡ Some n) × (p ≡ pos n) }
 {}
 
 /// A term and an offset have one position, and a position has one term id and one offset.
