@@ -2,4 +2,6 @@ pub mod BlockLemmas
 pub mod DatagramLemmas
 pub mod FrameEncodingLemmas
 pub mod FrontLemmas
+pub mod NakLemmas
 pub mod PositionLemmas
+pub mod SetupLemmas
