@@ -11,8 +11,10 @@ mod geometry;
 mod items;
 pub mod laws;
 pub mod limits;
+mod nak;
 mod positions;
 mod refusal;
+mod setup;
 #[cfg(test)]
 mod tests;
 
@@ -22,5 +24,7 @@ pub use datagram::frames_of_datagram;
 pub use frame::{Frame, FrameKind, FrameRef};
 pub use geometry::Geometry;
 pub use items::Items;
+pub use nak::Nak;
 pub use positions::{position, term_of};
 pub use refusal::Refusal;
+pub use setup::Setup;
