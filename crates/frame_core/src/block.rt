@@ -165,8 +165,8 @@ fn start_of(geometry: &Geometry, frame: &Frame) -> Option<i64>
     position(geometry, frame.term_id, frame.term_offset)
 }
 
-// What the frames of the publication's blocks have in common that begin with a frame.
-fn place_behind(geometry: &Geometry, publication: &Publication, first: &Frame) -> Place
+/// What the frames of the publication's blocks have in common that begin with a frame. Takes no memory.
+pub fn place_behind(geometry: &Geometry, publication: &Publication, first: &Frame) -> Place
     ensures { result ≡ place_of geometry.now publication.now first.now }
 {
     Place {
@@ -261,9 +261,10 @@ fn run_size(place: &Place, start: u32, frames: &[Frame]) -> Option<u64>
     Some(offset - u64::from(start))
 }
 
-// Whether a frame is a message of the place, at the offset.
+/// Whether a frame is a message of the place that begins at the offset, in bytes of its term, and no longer than the
+/// MTU: docs/PROTOCOL.md, "Blocks". Takes no memory.
 #[tactic(auto, unfolding(crate::specs::Block::is_part))]
-fn is_next(place: &Place, offset: u64, frame: &Frame) -> bool
+pub fn is_next(place: &Place, offset: u64, frame: &Frame) -> bool
     ensures starts { IsTrue result → offset < 2 ^ 31 }
     ensures part { result ≡ is_part place.now offset frame.now }
 {

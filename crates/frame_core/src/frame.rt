@@ -1,8 +1,8 @@
 //! Frames of a stream: Aeron Transport Protocol Specification, "Data Frame" and "Padding Frame".
 
-ghost use Rattle.std.specs.Prelude.{◌≡◌, ◌<◌, ◌^◌, length, IfOk, IfErr};
+ghost use Rattle.std.specs.Prelude.{◌≡◌, ◌<◌, ◌^◌, length, unsigned_abs, IfOk, IfErr};
 ghost use Rattle.std.specs.Bool.{MatchBool};
-ghost use Rattle.frame_core.specs.FrameEncoding.{IsAligned};
+ghost use Rattle.frame_core.specs.FrameEncoding.{IsAligned, aligned};
 ghost use Rattle.frame_core.specs.declared.refusal.Refusal.TheVariants.{NoMemory};
 
 use crate::fields::{put_i32, put_i64, put_u16};
@@ -83,7 +83,15 @@ pub struct FrameRef<'a> {
 }
 
 impl FrameRef<'_> {
-    ghost use Rattle.frame_core.specs.FrameEncoding.{frame_of, HasLength};
+    ghost use Rattle.frame_core.specs.FrameEncoding.{aligned_length, frame_of, HasLength};
+
+    /// As [`Frame::aligned_length`].
+    pub fn aligned_length(&self) -> u64
+        ensures value { result ≡ aligned_length (frame_of self.now) }
+        ensures small { result < 2 ^ 33 }
+    {
+        aligned_size(&self.length)
+    }
 
     /// A copy of the frame. Costs its payload's length.
     pub fn to_frame(&self, alloc: Global) -> Result<Frame, Refusal>
@@ -121,6 +129,14 @@ impl FrameRef<'_> {
     }
 }
 
+// The bytes of a length, rounded up to a multiple of 32.
+fn aligned_size(length: &i32) -> u64
+    ensures value { result ≡ aligned (unsigned_abs length.now) }
+    ensures small { result < 2 ^ 33 }
+{
+    (u64::from(length.unsigned_abs()) + 31) / 32 * 32
+}
+
 impl Frame {
     ghost use Rattle.frame_core.specs.FrameEncoding.{frame_of, header_of, encoded, aligned_length, IsEncodable};
 
@@ -147,7 +163,7 @@ impl Frame {
         ensures value { result ≡ aligned_length self.now }
         ensures small { result < 2 ^ 33 }
     {
-        (u64::from(self.length.unsigned_abs()) + 31) / 32 * 32
+        aligned_size(&self.length)
     }
 
     /// How many bytes the frame's encoding has: its header's and its payload's. Takes no memory.
