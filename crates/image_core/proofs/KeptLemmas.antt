@@ -1,0 +1,150 @@
+-- What an image keeps stays so.
+use Rattle.std.proofs.Common.{◌≡◌, ◌∙◌, ap, refl, ◌+◌, ◌*◌, ◌<◌, ◌≤◌, ◌^◌, ◌≤ℤ◌, ℕ, ℤ, pos, negsuc, List, [], ◌∷◌, ◌++◌, Bool, true, false, Some, None, arith}
+use Rattle.std.specs.Prelude.{◌&&◌, nat_le, max, unsigned_abs, Option, if◌then◌else◌}
+use Rattle.std.specs.Ordering.{nat_cmp}
+use Rattle.std.specs.BTreeMap.{insert_entry}
+use Rattle.std.proofs.lemmas.Int.{ints}
+use Rattle.frame_core.specs.declared.frame.FrameKind.{FrameKind}
+use Rattle.frame_core.specs.declared.frame.FrameKind.TheVariants.{Pad, Message, Heartbeat}
+use Rattle.frame_core.specs.declared.frame.Frame.{Frame}
+use Rattle.frame_core.specs.declared.block.Publication.{Publication}
+use Rattle.frame_core.specs.declared.geometry.Geometry.{Geometry}
+use Rattle.frame_core.specs.FrameEncoding.{HasLength, IsEncodable, aligned, aligned_length}
+use Rattle.frame_core.specs.Position.{frame_position}
+use Rattle.image_core.specs.declared.fate.Fate.TheVariants.{Joins}
+use Rattle.image_core.specs.Rebuild.{chain_end}
+use Rattle.image_core.specs.Received.{Received, after, is_free, is_inside, is_of, is_open, is_within, place_in, rebuilt, window}
+use Rattle.image_core.specs.Kept.{AreSpaced, IsJoining, IsKept, undone, without}
+use Rattle.image_core.proofs.ChainLemmas.{chain_high, chain_low, spaced_raise, spaced_wide}
+use Rattle.image_core.proofs.JoinLemmas.{chain_more, members_insert, remove_inserted, spaced_insert}
+use Rattle.image_core.proofs.UndoLemmas.{without_push}
+
+-- a frame has a place only if it is of the publication, within the MTU and inside its term, and lies at its position
+pub record IsPlaced (g : Geometry) (publication : Publication) (f : Frame) (p : ℕ) : Type 0 where
+  pub of : is_of publication f ≡ true
+  pub within : is_within g.mtu f.kind f.length ≡ true
+  pub inside : is_inside g f ≡ true
+  pub position : frame_position g f ≡ Some p
+
+placed_by : (a b c : Bool) (o : Option ℕ) (p : ℕ) → (if a then (if b then (if c then o else None) else None) else None) ≡ Some p
+    → (a ≡ true) × (b ≡ true) × (c ≡ true) × (o ≡ Some p)
+placed_by true true true o p is = (refl, refl, refl, is)
+placed_by true true false o p is = absurd cc
+placed_by true false c o p is = absurd cc
+placed_by false b c o p is = absurd cc
+
+pub placed : (g : Geometry) (publication : Publication) (f : Frame) (p : ℕ) → place_in g publication f ≡ Some p → IsPlaced g publication f p
+unfolding place_in
+placed g publication f p is =
+    let parts = placed_by (is_of publication f) (is_within g.mtu f.kind f.length) (is_inside g f) (frame_position g f) p is in
+    record { of = parts.0; within = parts.1; inside = parts.2; position = parts.3 }
+
+abs_low : (z : ℤ) → pos 32 ≤ℤ z → 32 ≤ unsigned_abs z
+abs_low (pos n) low = omega (arith, ints)
+abs_low (negsuc n) low = absurd (omega (arith, ints))
+
+size_by : (kind : FrameKind) (mtu size : ℤ) (payload : List ℕ) → HasLength kind size payload → is_within mtu kind size ≡ true → 0 < aligned (unsigned_abs size)
+size_by Pad mtu size payload has within = let low = abs_low size has.0 in omega arith
+size_by Message mtu size payload has within = rw has (omega arith)
+size_by Heartbeat mtu size payload has within = absurd cc
+
+-- a frame that has a place covers something
+pub has_size : (g : Geometry) (publication : Publication) (f : Frame) (p : ℕ) → IsEncodable f → place_in g publication f ≡ Some p → 0 < aligned_length f
+has_size g publication f p encodable place =
+    size_by f.kind g.mtu f.length f.payload encodable.length (placed g publication f p place).within
+
+-- what an open range is
+pub record IsOpen (r : Received) (p end : ℕ) : Type 0 where
+  pub beyond : rebuilt r ≤ p
+  pub within : end ≤ rebuilt r + window r.geometry
+  pub free : is_free p end r.joined ≡ true
+
+all_by : (a b c : Bool) → (a && b && c) ≡ true → (a ≡ true) × (b ≡ true) × (c ≡ true)
+all_by true true true h = (refl, refl, refl)
+all_by true true false h = absurd cc
+all_by true false c h = absurd cc
+all_by false b c h = absurd cc
+
+pub open_parts : (r : Received) (p end : ℕ) → is_open r p end ≡ true → IsOpen r p end
+open_parts r p end is =
+    let parts = all_by (nat_le (rebuilt r) p) (nat_le end (rebuilt r + window r.geometry)) (is_free p end r.joined) is in
+    let low = parts.0 in
+    let high = parts.1 in
+    record { beyond = grind arith; within = grind arith; free = parts.2 }
+
+-- a term's bytes
+terms_abs : (z : ℤ) → z ≤ℤ pos 1073741824 → pos 65536 ≤ℤ z → unsigned_abs z ≤ 1073741824
+terms_abs (pos n) most least = omega (arith, ints)
+terms_abs (negsuc n) most least = absurd (omega (arith, ints))
+
+-- what is kept lies below 2^61
+pub record IsSmall (r : Received) (at : ℕ) : Type 0 where
+  pub rebuilt : at ≤ r.high
+  pub high : r.high ≤ 2 ^ 61
+  pub spaced : AreSpaced 0 (2 ^ 62) r.joined
+
+pub kept_small : (r : Received) (at : ℕ) → IsKept r at → IsSmall r at
+kept_small r at kept =
+    let terms = terms_abs r.geometry.term_length kept.terms.most kept.terms.least in
+    let high : r.high ≤ 2 ^ 61 = omega (arith, kept.limit, terms) in
+    record {
+      rebuilt = rw kept.rebuilt (chain_high r.from r.from r.high r.joined kept.begins kept.spaced);
+      high = high;
+      spaced = spaced_wide r.from r.high r.joined (omega arith) kept.spaced;
+    }
+
+pub kept_hear : (r : Received) (at p : ℕ) → IsKept r at → p ≤ 2 ^ 31 * unsigned_abs r.geometry.term_length → IsKept (record r { high = max r.high p }) at
+kept_hear r at p kept room = record {
+  terms = kept.terms;
+  spaced = spaced_raise r.from r.high (max r.high p) r.joined (omega arith) kept.spaced;
+  members = kept.members;
+  rebuilt = kept.rebuilt;
+  begins = let begins = kept.begins in omega arith;
+  limit = let limit = kept.limit in omega arith;
+}
+
+-- the frames are spaced as before, and the one more
+pub spaced_join : (r : Received) (at p : ℕ) (f : Frame) → IsKept r at → IsEncodable f → IsJoining r f p
+    → AreSpaced r.from (max r.high (p + aligned_length f)) (insert_entry nat_cmp r.joined p f)
+spaced_join r at p f kept encodable joining =
+    let parts = open_parts r p (p + aligned_length f) joining.opens in
+    let low = chain_low r.from r.joined in
+    spaced_insert r.from (max r.high (p + aligned_length f)) p f r.joined
+    (spaced_raise r.from r.high (max r.high (p + aligned_length f)) r.joined (omega arith) kept.spaced)
+    (let beyond = parts.beyond in omega arith)
+    (has_size r.geometry r.publication f p encodable joining.place)
+    (omega arith)
+    parts.free
+
+pub kept_join : (r : Received) (at p : ℕ) (f : Frame) → IsKept r at → IsEncodable f → IsJoining r f p
+    → IsKept (after r f (Joins p)) (chain_end at (insert_entry nat_cmp r.joined p f))
+kept_join r at p f kept encodable joining =
+    let parts = open_parts r p (p + aligned_length f) joining.opens in
+    record {
+      terms = kept.terms;
+      spaced = spaced_join r at p f kept encodable joining;
+      members = members_insert r.geometry r.publication p f r.joined kept.members encodable joining.place;
+      rebuilt = ap (λ (q : ℕ). chain_end q (insert_entry nat_cmp r.joined p f)) kept.rebuilt ∙ chain_more r.from r.high r.from p f r.joined kept.spaced (omega arith) parts.beyond;
+      begins = let begins = kept.begins in omega arith;
+      limit = let limit = kept.limit in let room = joining.room in omega arith;
+    }
+
+-- the map in which it was put is wide enough to follow
+pub wide_join : (r : Received) (at p : ℕ) (f : Frame) → IsKept r at → IsEncodable f → IsJoining r f p → AreSpaced 0 (2 ^ 62) (insert_entry nat_cmp r.joined p f)
+wide_join r at p f kept encodable joining =
+    let small = kept_small r at kept in
+    let terms = terms_abs r.geometry.term_length kept.terms.most kept.terms.least in
+    spaced_wide r.from (max r.high (p + aligned_length f)) (insert_entry nat_cmp r.joined p f) (let high = small.high in let room = joining.room in omega arith)
+    (spaced_join r at p f kept encodable joining)
+
+-- a frame that joined and was noted goes out as it came in
+pub undone_join : (ps noted : List ℕ) (high : ℕ) (r : Received) (at p : ℕ) (f : Frame) → IsKept r at → IsEncodable f → IsJoining r f p → noted ≡ ps ++ p ∷ []
+    → undone noted high (after r f (Joins p)) ≡ undone ps high r
+undone_join ps noted high r at p f kept encodable joining is =
+    let parts = open_parts r p (p + aligned_length f) joining.opens in
+    let size = has_size r.geometry r.publication f p encodable joining.place in
+    let goes : without noted (insert_entry nat_cmp r.joined p f) ≡ without ps r.joined =
+    ap (λ (qs : List ℕ). without qs (insert_entry nat_cmp r.joined p f)) is
+    ∙ without_push ps p (insert_entry nat_cmp r.joined p f)
+    ∙ ap (without ps) (remove_inserted r.from r.high p f r.joined kept.spaced size parts.free) in
+    ap (λ (ms : List (ℕ × Frame)). record r { joined = ms; high = high }) goes

@@ -1,0 +1,12 @@
+-- Taking out what was put in.
+use Rattle.std.proofs.Common.{◌≡◌, ap, refl, ℕ, List, [], ◌∷◌, ◌++◌}
+use Rattle.std.specs.Ordering.{nat_cmp}
+use Rattle.std.specs.Map.{remove_entry}
+use Rattle.std.specs.BTreeMap.{is_at}
+use Rattle.frame_core.specs.declared.frame.Frame.{Frame}
+use Rattle.image_core.specs.Kept.{without}
+
+-- the last position goes first
+pub without_push : (ps : List ℕ) (p : ℕ) (ms : List (ℕ × Frame)) → without (ps ++ p ∷ []) ms ≡ without ps (remove_entry (is_at (nat_cmp p)) ms)
+without_push [] p ms = refl
+without_push (q ∷ ps) p ms = ap (remove_entry (is_at (nat_cmp q))) (without_push ps p ms)

@@ -1,0 +1,58 @@
+-- What holds of the frames that an image keeps.
+use Rattle.std.specs.Prelude.{◌≡◌, ◌<◌, ◌≤◌, ◌^◌, ◌*◌, ◌≤ℤ◌, ℕ, pos, unsigned_abs, List, [], ◌∷◌, Some, true, ◌+◌}
+use Rattle.std.specs.Ordering.{nat_cmp}
+use Rattle.std.specs.Map.{remove_entry}
+use Rattle.std.specs.BTreeMap.{is_at}
+use Rattle.frame_core.specs.declared.frame.Frame.{Frame}
+use Rattle.frame_core.specs.declared.block.Publication.{Publication}
+use Rattle.frame_core.specs.declared.geometry.Geometry.{Geometry}
+use Rattle.frame_core.specs.FrameEncoding.{IsEncodable, aligned_length}
+use Rattle.image_core.specs.Rebuild.{end_of, chain_end}
+use Rattle.image_core.specs.declared.fate.Fate.{Fate}
+use Rattle.image_core.specs.declared.fate.Fate.TheVariants.{Joins, Tells, Drops}
+use Rattle.image_core.specs.Received.{Received, is_open, place_in}
+
+-- by rising position from one on, each of some size, none over another, and ending at most at another position
+abbrev pub AreSpaced : ℕ → ℕ → List (ℕ × Frame) → Type 0
+AreSpaced low high [] = Unit {0}
+AreSpaced low high (m ∷ ms) = (low ≤ m.0) × (0 < aligned_length m.1) × (end_of m ≤ high) × AreSpaced (end_of m) high ms
+
+-- each has an encoding, and lies where it may join
+abbrev pub AreMembers : Geometry → Publication → List (ℕ × Frame) → Type 0
+AreMembers g publication [] = Unit {0}
+AreMembers g publication (m ∷ ms) = IsEncodable m.1 × (place_in g publication m.1 ≡ Some m.0) × AreMembers g publication ms
+
+-- a term has so many bytes
+pub record HasTerms (g : Geometry) : Type 0 where
+  pub least : pos 65536 ≤ℤ g.term_length
+  pub most : g.term_length ≤ℤ pos 1073741824
+
+-- what an image keeps, with its rebuild position at hand
+pub record IsKept (r : Received) (at : ℕ) : Type 0 where
+  pub terms : HasTerms r.geometry
+  pub spaced : AreSpaced r.from r.high r.joined
+  pub members : AreMembers r.geometry r.publication r.joined
+  pub rebuilt : at ≡ chain_end r.from r.joined
+  pub begins : r.from ≤ r.high
+  pub limit : r.high ≤ 2 ^ 31 * unsigned_abs r.geometry.term_length
+
+-- the frames that are left, where those at some positions go, the last position first
+abbrev pub without : List ℕ → List (ℕ × Frame) → List (ℕ × Frame)
+without [] ms = ms
+without (p ∷ ps) ms = remove_entry (is_at (nat_cmp p)) (without ps ms)
+
+-- as it was before some frames joined, whose positions these are
+abbrev pub undone : List ℕ → ℕ → Received → Received
+undone ps high r = record r { joined = without ps r.joined; high = high }
+
+-- a frame joins at a position, inside the stream
+pub record IsJoining (r : Received) (f : Frame) (p : ℕ) : Type 0 where
+  pub place : place_in r.geometry r.publication f ≡ Some p
+  pub opens : is_open r p (p + aligned_length f) ≡ true
+  pub room : p + aligned_length f ≤ 2 ^ 31 * unsigned_abs r.geometry.term_length
+
+-- what becomes of a frame stays inside the stream
+abbrev pub IsComing : Received → Frame → Fate → Type 0
+IsComing r f (Joins p) = IsJoining r f p
+IsComing r f (Tells p) = p ≤ 2 ^ 31 * unsigned_abs r.geometry.term_length
+IsComing r f Drops = Unit {0}

@@ -1,0 +1,13 @@
+//! Images: what a receiver knows of one publication, whose datagrams come lost, repeated, overlapping and hostile.
+#![tactic(auto)]
+
+mod fate;
+mod gaps;
+mod held;
+mod image;
+mod inserted;
+pub mod laws;
+mod places;
+
+pub use image::Image;
+pub use inserted::Inserted;
