@@ -82,6 +82,7 @@ pub record IsSmall (r : Received) (at : ℕ) : Type 0 where
   pub rebuilt : at ≤ r.high
   pub high : r.high ≤ 2 ^ 61
   pub spaced : AreSpaced 0 (2 ^ 62) r.joined
+  pub from : AreSpaced r.from (2 ^ 62) r.joined
 
 pub kept_small : (r : Received) (at : ℕ) → IsKept r at → IsSmall r at
 kept_small r at kept =
@@ -91,6 +92,7 @@ kept_small r at kept =
       rebuilt = rw kept.rebuilt (chain_high r.from r.from r.high r.joined kept.begins kept.spaced);
       high = high;
       spaced = spaced_wide r.from r.high r.joined (omega arith) kept.spaced;
+      from = spaced_raise r.from r.high (2 ^ 62) r.joined (omega arith) kept.spaced;
     }
 
 pub kept_hear : (r : Received) (at p : ℕ) → IsKept r at → p ≤ 2 ^ 31 * unsigned_abs r.geometry.term_length → IsKept (record r { high = max r.high p }) at

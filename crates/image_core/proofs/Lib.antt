@@ -1,3 +1,4 @@
+mod BlockLemmas
 mod ChainLemmas
 mod HistoryLemmas
 mod InsertLemmas
@@ -5,4 +6,5 @@ mod JoinLemmas
 mod KeptLemmas
 mod RangeLemmas
 mod SetupLemmas
+mod TakeLemmas
 mod UndoLemmas

@@ -1,11 +1,11 @@
 -- Where an image begins.
 use Rattle.std.proofs.Common.{rules, ◌≡◌, refl, ◌+◌, ◌*◌, ◌<◌, ◌≤◌, ◌^◌, ◌≤ℤ◌, ◌<ℤ◌, ◌+ℤ◌, ◌*ℤ◌, ℕ, ℤ, pos, negsuc, Bool, true, false, FitsSigned, w32, arith}
-use Rattle.std.specs.Prelude.{unsigned_abs, nat_le, ◌&&◌}
+use Rattle.std.specs.Prelude.{unsigned_abs, nat_le, nat_lt, ◌&&◌, ◌%◌, ◌==◌}
 use Rattle.std.specs.Int.{is_power_of_two}
 use Rattle.std.proofs.lemmas.Int.{ints, wraps}
 use Rattle.std.proofs.lemmas.Nat.{mul-add-lt}
 use Rattle.frame_core.specs.declared.setup.Setup.{Setup}
-use Rattle.frame_core.specs.Limits.{is_term_length}
+use Rattle.frame_core.specs.Limits.{is_mtu, is_term_length}
 use Rattle.frame_core.specs.Position.{terms_since}
 use Rattle.frame_core.specs.Setup.{HasJoinPosition, geometry_of}
 use Rattle.image_core.specs.Kept.{HasTerms}
@@ -24,8 +24,16 @@ terms_of (pos n) is =
     (omega (arith, ints), omega (arith, ints))
 terms_of (negsuc n) is = absurd cc
 
+mtu_of : (z : ℤ) → is_mtu z ≡ true → z ≤ℤ pos 65504
+unfolding is_mtu
+mtu_of (pos n) is =
+    let parts = both (nat_lt 32 n) (nat_le n 65504) ((n % 32) == 0) is in
+    let high : n ≤ 65504 = (let h = parts.1 in grind arith) in
+    omega (arith, ints)
+mtu_of (negsuc n) is = absurd cc
+
 pub joined_terms : (s : Setup) (p : ℤ) → HasJoinPosition s p → HasTerms (geometry_of s)
-joined_terms s p joins = let is = terms_of s.term_length joins.term_length in record { least = is.0; most = is.1 }
+joined_terms s p joins = let is = terms_of s.term_length joins.term_length in record { least = is.0; most = is.1; mtu = mtu_of s.mtu joins.mtu }
 
 -- a term and an offset lie below the end of the last term
 below : (terms offset size : ℤ) (p : ℕ) → pos 0 ≤ℤ terms → terms <ℤ pos 2147483648 → pos 0 ≤ℤ offset → offset <ℤ size → pos p ≡ terms *ℤ size +ℤ offset → p < 2 ^ 31 * unsigned_abs size

@@ -1,12 +1,15 @@
 -- What holds of the frames that an image keeps.
-use Rattle.std.specs.Prelude.{◌≡◌, ◌<◌, ◌≤◌, ◌^◌, ◌*◌, ◌≤ℤ◌, ℕ, pos, unsigned_abs, List, [], ◌∷◌, Some, true, ◌+◌}
+use Rattle.std.specs.Prelude.{◌≡◌, ◌<◌, ◌≤◌, ◌^◌, ◌*◌, ◌≤ℤ◌, ℕ, pos, unsigned_abs, List, [], ◌∷◌, ◌++◌, map, Some, true, ◌+◌}
 use Rattle.std.specs.Ordering.{nat_cmp}
 use Rattle.std.specs.Map.{remove_entry}
 use Rattle.std.specs.BTreeMap.{is_at}
 use Rattle.frame_core.specs.declared.frame.Frame.{Frame}
 use Rattle.frame_core.specs.declared.block.Publication.{Publication}
 use Rattle.frame_core.specs.declared.geometry.Geometry.{Geometry}
+use Rattle.frame_core.specs.declared.block.Place.{Place}
+use Rattle.frame_core.specs.Block.{is_part, run_end}
 use Rattle.frame_core.specs.FrameEncoding.{IsEncodable, aligned_length}
+use Rattle.image_core.specs.History.{IsChain}
 use Rattle.image_core.specs.Rebuild.{end_of, chain_end}
 use Rattle.image_core.specs.declared.fate.Fate.{Fate}
 use Rattle.image_core.specs.declared.fate.Fate.TheVariants.{Joins, Tells, Drops}
@@ -22,10 +25,11 @@ abbrev pub AreMembers : Geometry → Publication → List (ℕ × Frame) → Typ
 AreMembers g publication [] = Unit {0}
 AreMembers g publication (m ∷ ms) = IsEncodable m.1 × (place_in g publication m.1 ≡ Some m.0) × AreMembers g publication ms
 
--- a term has so many bytes
+-- a term and a message have so many bytes
 pub record HasTerms (g : Geometry) : Type 0 where
   pub least : pos 65536 ≤ℤ g.term_length
   pub most : g.term_length ≤ℤ pos 1073741824
+  pub mtu : g.mtu ≤ℤ pos 65504
 
 -- what an image keeps, with its rebuild position at hand
 pub record IsKept (r : Received) (at : ℕ) : Type 0 where
@@ -56,3 +60,29 @@ abbrev pub IsComing : Received → Frame → Fate → Type 0
 IsComing r f (Joins p) = IsJoining r f p
 IsComing r f (Tells p) = p ≤ 2 ^ 31 * unsigned_abs r.geometry.term_length
 IsComing r f Drops = Unit {0}
+
+-- more frames were taken that follow one another as messages of a block, up to a limit in their term
+pub record TakesRun (place : Place) (from offset limit : ℕ) (before : List (ℕ × Frame)) (old new : List Frame) (to : ℕ) (after : List (ℕ × Frame)) : Type 0 where
+  pub taken : List (ℕ × Frame)
+  pub left : before ≡ taken ++ after
+  pub chain : IsChain from taken to
+  pub frames : new ≡ old ++ map (λ m. m.1) taken
+  pub last : ℕ
+  pub run : run_end place offset (map (λ m. m.1) taken) ≡ Some last
+  pub few : last ≤ limit
+
+-- the first of the frames is the next message of a block, of so many bytes
+pub record IsNext (place : Place) (at offset limit : ℕ) (ms : List (ℕ × Frame)) (size : ℕ) : Type 0 where
+  pub first : ℕ × Frame
+  pub rest : List (ℕ × Frame)
+  pub is : ms ≡ first ∷ rest
+  pub begins : first.0 ≡ at
+  pub part : is_part place offset first.1 ≡ true
+  pub covers : size ≡ aligned_length first.1
+  pub few : offset + size ≤ limit
+
+-- the first frame was moved behind the frames of a list
+pub record MovesFirst (before after : List (ℕ × Frame)) (old new : List Frame) : Type 0 where
+  pub first : ℕ × Frame
+  pub is : before ≡ first ∷ after
+  pub behind : new ≡ old ++ first.1 ∷ []

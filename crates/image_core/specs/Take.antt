@@ -2,21 +2,27 @@
 use Rattle.std.specs.Prelude.{◌≡◌, ◌<◌, ◌+ℤ◌, ◌++◌, ℕ, pos, List, map}
 use Rattle.frame_core.specs.declared.frame.Frame.{Frame}
 use Rattle.frame_core.specs.declared.block.Block.{Block}
+use Rattle.frame_core.specs.declared.block.Publication.{Publication}
+use Rattle.frame_core.specs.declared.geometry.Geometry.{Geometry}
 use Rattle.frame_core.specs.declared.nak.Nak.{Nak}
-use Rattle.frame_core.specs.Block.{IsBlock}
+use Rattle.frame_core.specs.Block.{AreBlockOf}
 use Rattle.frame_core.specs.Nak.{HasRange}
 use Rattle.frame_core.specs.Position.{HasPosition}
 use Rattle.image_core.specs.History.{IsChain, StandsFor}
 use Rattle.image_core.specs.Received.{Received, gap_end, rebuilt}
 
--- the frames of a block were the first that were held; they follow one another, and are held no more
-pub record GivesBlock (old : Received) (b : Block) (new : Received) : Type 0 where
+-- the first frames were taken from those that are held: a block of the publication, whose frames follow one another from where it begins to where the rest does
+pub record TakesBlock (g : Geometry) (publication : Publication) (from : ℕ) (before : List (ℕ × Frame)) (given : List Frame) (to : ℕ) (after : List (ℕ × Frame)) : Type 0 where
   pub taken : List (ℕ × Frame)
+  pub left : before ≡ taken ++ after
+  pub chain : IsChain from taken to
+  pub frames : given ≡ map (λ m. m.1) taken
+  pub block : AreBlockOf g publication given (pos from)
+
+-- a block was given of the first frames that were held, and they are held no more. What an image held of all that it received it holds still, apart from what was taken
+pub record GivesBlock (old : Received) (b : Block) (new : Received) : Type 0 where
   pub begins : b.position ≡ pos old.from
-  pub frames : b.frames ≡ map (λ m. m.1) taken
-  pub block : IsBlock old.geometry old.publication b
-  pub chain : IsChain old.from taken new.from
-  pub left : old.joined ≡ taken ++ new.joined
+  pub takes : TakesBlock old.geometry old.publication old.from old.joined b.frames new.from new.joined
   pub same : new ≡ record old { from = new.from; joined = new.joined }
   pub whole : (all : Received) → StandsFor all old → StandsFor all new
 

@@ -1,13 +1,14 @@
 //! Images of publications: docs/PROTOCOL.md, "Images".
 
-ghost use Rattle.std.specs.Prelude.{◌≡◌, ◌≢◌, ◌<◌, ◌≤◌, ◌+◌, ◌&&◌, ◌↔◌, ◌≤ℤ◌, ℕ, pos, length, map, nat_le, IfOk, IfErr, OnOk, OnErr, IsTrue, ◌^◌, ◌*◌, max, unsigned_abs, if◌then◌else◌, None, true, false, MatchOption};
+ghost use Rattle.std.specs.Prelude.{◌≡◌, ◌≢◌, ◌<◌, ◌≤◌, ◌+◌, ◌&&◌, ◌↔◌, ◌≤ℤ◌, ℕ, pos, length, map, nat_le, IfOk, IfErr, OnOk, OnErr, IsTrue, ◌^◌, ◌*◌, max, unsigned_abs, if◌then◌else◌, None, true, false, MatchOption, []};
+ghost use Rattle.std.specs.Vec.{vec_capacity};
 ghost use Rattle.frame_core.specs.FrameEncoding.{IsEncodable, aligned_length, frame_of, u16_at};
 ghost use Rattle.std.specs.Bool.{MatchBool};
 ghost use Rattle.frame_core.specs.Position.{frame_position};
 ghost use Rattle.frame_core.specs.Block.{AreEncodable};
 ghost use Rattle.frame_core.specs.declared.refusal.Refusal.TheVariants.{NoMemory};
 ghost use Rattle.frame_core.specs.Setup.{IsUsable};
-ghost use Rattle.image_core.specs.Take.{IsGap};
+ghost use Rattle.image_core.specs.Take.{GivesBlock, IsGap, TakesBlock};
 ghost use Rattle.image_core.specs.Insert.{Inserts, IsForeign, IsInsertRefusal, tally, uncounted};
 ghost use Rattle.image_core.specs.Kept.{HasTerms, IsComing, IsJoining, IsKept, undone};
 ghost use Rattle.image_core.specs.Received.{IsBegun, Received, after, begun, fate, frame_fate, gap_end, heartbeat_fate, is_of, is_open, place_in, rebuilt, received, received_all};
@@ -17,9 +18,11 @@ use crate::gaps::{nak_over, term_end};
 use crate::held::{chain_end, is_free, next_start, put, withdraw};
 use crate::inserted::Inserted;
 use crate::places::{heartbeat_position, place_of, window};
+use crate::taking::{run_count, take_frames};
 use byteorder::{ByteOrder, LittleEndian};
 use frame_core::{
-    Frame, FrameKind, FrameRef, Geometry, Nak, Publication, Refusal, Setup, frames_of_datagram,
+    Block, Frame, FrameKind, FrameRef, Geometry, Items, Nak, Publication, Refusal, Setup,
+    frames_of_datagram,
 };
 use std::alloc::Global;
 use std::collections::BTreeMap;
@@ -157,6 +160,47 @@ impl Image {
         let frames = frames_of_datagram(self.alloc, datagram)?;
         let inserted = self.insert_all(frames.as_slice())?;
         Ok(inserted)
+    }
+
+    /// A block of the first frames that were not taken, up to the rebuild position: as many messages as follow one
+    /// another in their term within a block's bytes, or one pad: docs/PROTOCOL.md, "Blocks". None where all frames up to
+    /// the rebuild position were taken. NoMemory where the list can't be made; nothing changes then. The image keeps the
+    /// frames no more. Costs for each frame the logarithm of how many are held.
+    pub fn take_block(&mut self) -> Result<Option<Block>, Refusal>
+        ensures block { IfOk result (λ found. MatchOption found
+            ((rebuilt self.old ≡ self.old.from) × (self.new ≡ self.old))
+            (λ block. GivesBlock self.old block self.new)) }
+        ensures memory { IfErr result (λ refusal. refusal ≡ NoMemory) }
+        ensures same { OnErr result (self.new ≡ self.old) }
+    {
+        if self.from == self.rebuilt {
+            return Ok(None);
+        }
+        let position = self.from;
+        let mut frames = Vec::with_capacity(self.alloc, run_count(&self.held, position))?;
+        self.take_into(&mut frames);
+        Ok(Some(Block {
+            position: position as i64,
+            frames: Items::from_vec(frames),
+        }))
+    }
+
+    // Takes the frames of a block into a list that has room for one.
+    fn take_into(&mut self, frames: &mut Vec<Frame>)
+        requires some { self.old.from < rebuilt self.old }
+        requires empty { frames.old.items ≡ [] }
+        requires room { 0 < vec_capacity frames.old }
+        ensures takes { TakesBlock self.old.geometry self.old.publication self.old.from self.old.joined
+            frames.new.items self.new.from self.new.joined }
+        ensures same { self.new ≡ record self.old { from = self.new.from; joined = self.new.joined } }
+    {
+        self.from = take_frames(
+            &mut self.held,
+            &self.geometry,
+            &self.publication,
+            self.from,
+            frames,
+        );
     }
 
     // Takes in all frames of a datagram, or none of them.

@@ -8,6 +8,7 @@ mod image;
 mod inserted;
 pub mod laws;
 mod places;
+mod taking;
 
 pub use image::Image;
 pub use inserted::Inserted;
