@@ -4,5 +4,6 @@ pub mod Received
 pub mod History
 pub mod Insert
 pub mod Take
+pub mod Repair
 -- What only the image's own invariant says.
 pub mod Kept

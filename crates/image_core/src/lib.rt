@@ -8,7 +8,9 @@ mod image;
 mod inserted;
 pub mod laws;
 mod places;
+mod repairs;
 mod taking;
 
 pub use image::Image;
 pub use inserted::Inserted;
+pub use repairs::repair;
