@@ -177,8 +177,8 @@ pub fn place_behind(geometry: &Geometry, publication: &Publication, first: &Fram
     }
 }
 
-// Whether each frame has an encoding.
-fn are_encodable(frames: &[Frame]) -> bool
+/// Whether each frame has an encoding: [`Frame::is_encodable`]. Takes no memory. Costs a step for each frame.
+pub fn are_encodable(frames: &[Frame]) -> bool
     ensures { MatchBool result (AreEncodable frames.now) (AreEncodable frames.now → ⊥) }
 {
     for frame in frames {

@@ -18,7 +18,9 @@ mod setup;
 #[cfg(test)]
 mod tests;
 
-pub use block::{Block, Place, Publication, block_end, block_of, is_next, place_behind};
+pub use block::{
+    Block, Place, Publication, are_encodable, block_end, block_of, is_next, place_behind,
+};
 pub use codec::{decode_front, encode_into};
 pub use datagram::frames_of_datagram;
 pub use frame::{Frame, FrameKind, FrameRef};
