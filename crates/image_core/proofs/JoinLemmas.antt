@@ -42,7 +42,7 @@ before_first p end m (Ahead h) before some = absurd (omega arith)
 before_first p end m (Behind h) before some = h
 
 -- it doesn't begin where the first one does
-not_at_first : (p end : ℕ) (m : ℕ × Frame) → IsApart p end m → p ≡ m.0 → 0 < aligned_length m.1 → p < end → ⊥
+pub not_at_first : (p end : ℕ) (m : ℕ × Frame) → IsApart p end m → p ≡ m.0 → 0 < aligned_length m.1 → p < end → ⊥
 not_at_first p end m (Ahead h) same some more = absurd (omega arith)
 not_at_first p end m (Behind h) same some more = absurd (omega arith)
 

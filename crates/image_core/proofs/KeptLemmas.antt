@@ -106,15 +106,15 @@ kept_hear r at p kept room = record {
 }
 
 -- the frames are spaced as before, and the one more
-pub spaced_join : (r : Received) (at p : ℕ) (f : Frame) → IsKept r at → IsEncodable f → IsJoining r f p
-    → AreSpaced r.from (max r.high (p + aligned_length f)) (insert_entry nat_cmp r.joined p f)
-spaced_join r at p f kept encodable joining =
-    let parts = open_parts r p (p + aligned_length f) joining.opens in
+pub spaced_join : (r : Received) (p : ℕ) (f : Frame) → AreSpaced r.from r.high r.joined → IsEncodable f → place_in r.geometry r.publication f ≡ Some p
+    → is_open r p (p + aligned_length f) ≡ true → AreSpaced r.from (max r.high (p + aligned_length f)) (insert_entry nat_cmp r.joined p f)
+spaced_join r p f spaced encodable place opens =
+    let parts = open_parts r p (p + aligned_length f) opens in
     let low = chain_low r.from r.joined in
     spaced_insert r.from (max r.high (p + aligned_length f)) p f r.joined
-    (spaced_raise r.from r.high (max r.high (p + aligned_length f)) r.joined (omega arith) kept.spaced)
+    (spaced_raise r.from r.high (max r.high (p + aligned_length f)) r.joined (omega arith) spaced)
     (let beyond = parts.beyond in omega arith)
-    (has_size r.geometry r.publication f p encodable joining.place)
+    (has_size r.geometry r.publication f p encodable place)
     (omega arith)
     parts.free
 
@@ -124,7 +124,7 @@ kept_join r at p f kept encodable joining =
     let parts = open_parts r p (p + aligned_length f) joining.opens in
     record {
       terms = kept.terms;
-      spaced = spaced_join r at p f kept encodable joining;
+      spaced = spaced_join r p f kept.spaced encodable joining.place joining.opens;
       members = members_insert r.geometry r.publication p f r.joined kept.members encodable joining.place;
       rebuilt = ap (λ (q : ℕ). chain_end q (insert_entry nat_cmp r.joined p f)) kept.rebuilt ∙ chain_more r.from r.high r.from p f r.joined kept.spaced (omega arith) parts.beyond;
       begins = let begins = kept.begins in omega arith;
@@ -137,7 +137,7 @@ wide_join r at p f kept encodable joining =
     let small = kept_small r at kept in
     let terms = terms_abs r.geometry.term_length kept.terms.most kept.terms.least in
     spaced_wide r.from (max r.high (p + aligned_length f)) (insert_entry nat_cmp r.joined p f) (let high = small.high in let room = joining.room in omega arith)
-    (spaced_join r at p f kept encodable joining)
+    (spaced_join r p f kept.spaced encodable joining.place joining.opens)
 
 -- a frame that joined and was noted goes out as it came in
 pub undone_join : (ps noted : List ℕ) (high : ℕ) (r : Received) (at p : ℕ) (f : Frame) → IsKept r at → IsEncodable f → IsJoining r f p → noted ≡ ps ++ p ∷ []

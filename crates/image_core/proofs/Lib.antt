@@ -4,6 +4,7 @@ mod HistoryLemmas
 mod InsertLemmas
 mod JoinLemmas
 mod KeptLemmas
+mod LawLemmas
 mod RangeLemmas
 mod SetupLemmas
 mod TakeLemmas

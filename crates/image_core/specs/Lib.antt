@@ -5,5 +5,6 @@ pub mod History
 pub mod Insert
 pub mod Take
 pub mod Repair
+pub mod Laws
 -- What only the image's own invariant says.
 pub mod Kept

@@ -190,9 +190,11 @@ impl Image {
         requires some { self.old.from < rebuilt self.old }
         requires empty { frames.old.items ≡ [] }
         requires room { 0 < vec_capacity frames.old }
-        ensures takes { TakesBlock self.old.geometry self.old.publication self.old.from self.old.joined
-            frames.new.items self.new.from self.new.joined }
-        ensures same { self.new ≡ record self.old { from = self.new.from; joined = self.new.joined } }
+        ensures takes { let old = self.old in let new = self.new in
+            TakesBlock old.geometry old.publication old.from old.joined
+            frames.new.items new.from new.joined }
+        ensures same { let new = self.new in
+            new ≡ record self.old { from = new.from; joined = new.joined } }
     {
         self.from = take_frames(
             &mut self.held,

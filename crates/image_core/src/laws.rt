@@ -1,10 +1,38 @@
 //! Laws of the definitions, each the contract of a function that does nothing.
 
+ghost use Rattle.std.specs.Prelude.{ℕ, List};
+ghost use Rattle.frame_core.specs.Block.{AreEncodable};
+ghost use Rattle.frame_core.specs.declared.block.Publication.{Publication};
+ghost use Rattle.frame_core.specs.declared.frame.Frame.{Frame};
+ghost use Rattle.frame_core.specs.declared.geometry.Geometry.{Geometry};
 ghost use Rattle.image_core.specs.History.{IsUnseen, StandsFor};
-ghost use Rattle.image_core.specs.Received.{Received};
+ghost use Rattle.image_core.specs.Laws.{HasGap, HasHighMark, HasLongestChain};
+ghost use Rattle.image_core.specs.Received.{Received, begun, received_all};
 
-/// What was taken of an image makes no difference: where it stands for all that was received, it has the rebuild
-/// position and the gap of all, the same becomes of each further frame, and it stands for all that is received then.
+/// What was taken of an image makes no difference. An image holds what it received, as long as nothing is taken. Where
+/// it holds all that was received apart from what was taken, it has the rebuild position and the gap of all, the same
+/// becomes of each further frame, and it holds all that is received then, apart from what was taken.
 pub fn what_was_taken_makes_no_difference()
-    ensures { (all r : Received) → StandsFor all r → IsUnseen all r }
+    ensures begins { (r : Received) → StandsFor r r }
+    ensures unseen { (all r : Received) → StandsFor all r → IsUnseen all r }
+{}
+
+/// After any frames the rebuild position is the end of the longest chain of received frames from the join position.
+pub fn the_longest_chain_ends_at_the_rebuild_position()
+    ensures { (g : Geometry) (publication : Publication) (join : ℕ) (fs : List Frame)
+        → AreEncodable fs → HasLongestChain (received_all (begun g publication join) fs) }
+{}
+
+/// After any frames the high mark is the greatest of the join position, the ends of the received frames, and the
+/// positions of the publication's heartbeats.
+pub fn the_high_mark_is_the_greatest()
+    ensures { (g : Geometry) (publication : Publication) (join : ℕ) (fs : List Frame)
+        → AreEncodable fs → HasHighMark join fs (received_all (begun g publication join) fs) }
+{}
+
+/// After any frames no received frame lies in the gap, which ends at the first of the high mark, the end of the term
+/// and the received frames behind the rebuild position.
+pub fn a_gap_holds_no_received_frame()
+    ensures { (g : Geometry) (publication : Publication) (join : ℕ) (fs : List Frame)
+        → AreEncodable fs → HasGap (received_all (begun g publication join) fs) }
 {}

@@ -8,8 +8,12 @@ mod image;
 mod inserted;
 pub mod laws;
 mod places;
+#[cfg(test)]
+mod recovery_test;
 mod repairs;
 mod taking;
+#[cfg(test)]
+mod tests;
 
 pub use image::Image;
 pub use inserted::Inserted;

@@ -46,7 +46,8 @@ pub fn take_frames(
     requires some { from < chain_end from held.old.entries }
     requires empty { frames.old.items ≡ [] }
     requires room { 0 < vec_capacity frames.old }
-    ensures { TakesBlock geometry.now publication.now from held.old.entries frames.new.items result held.new.entries }
+    ensures { TakesBlock geometry.now publication.now from
+        held.old.entries frames.new.items result held.new.entries }
 {
     let Some((_, first)) = held.pop_first() else {
         return from;
@@ -92,7 +93,8 @@ fn take_run(
     requires spaced { AreSpaced from (2 ^ 62) held.old.entries }
     requires few { offset ≤ limit }
     requires small { limit < 2 ^ 33 }
-    ensures { TakesRun place.now from offset limit held.old.entries frames.old.items frames.new.items result held.new.entries }
+    ensures { TakesRun place.now from offset limit
+        held.old.entries frames.old.items frames.new.items result held.new.entries }
 {
     let mut at = from;
     let mut next = offset;

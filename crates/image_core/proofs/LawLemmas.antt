@@ -1,0 +1,315 @@
+-- The names of the rebuild position, the high mark and the gap.
+use Rattle.std.proofs.Common.{◌≡◌, ◌∙◌, sym, ap, refl, subst, ◌+◌, ◌<◌, ◌≤◌, ◌⊎◌, inl, inr, ℕ, List, [], ◌∷◌, ◌++◌, Bool, true, false, Some, None, append_assoc, append-nil, arith}
+use Rattle.std.specs.Prelude.{◌==◌, map, max, min, nat_lt, Option, if◌then◌else◌}
+use Rattle.std.specs.Ordering.{nat_cmp, match_ordering}
+use Rattle.std.specs.declared.cmp.Ordering.{Ordering}
+use Rattle.std.specs.BTreeMap.{insert_entry}
+use Rattle.frame_core.specs.declared.frame.FrameKind.{FrameKind}
+use Rattle.frame_core.specs.declared.frame.FrameKind.TheVariants.{Heartbeat, Message, Pad}
+use Rattle.frame_core.specs.declared.frame.Frame.{Frame}
+use Rattle.frame_core.specs.declared.block.Publication.{Publication}
+use Rattle.frame_core.specs.declared.geometry.Geometry.{Geometry}
+use Rattle.frame_core.specs.Block.{AreEncodable}
+use Rattle.frame_core.specs.FrameEncoding.{IsEncodable, aligned_length}
+use Rattle.frame_core.specs.Position.{frame_position}
+use Rattle.frame_core.proofs.OrderLemmas.{by_cmp}
+use Rattle.image_core.specs.declared.fate.Fate.{Fate}
+use Rattle.image_core.specs.declared.fate.Fate.TheVariants.{Joins, Tells, Drops}
+use Rattle.image_core.specs.Rebuild.{end_of, chain_end, next_start, term_end}
+use Rattle.image_core.specs.Received.{Received, after, begun, fate, fate_of, frame_fate, gap_end, heartbeat_fate, is_free, is_of, is_open, place_in, rebuilt, received, received_all}
+use Rattle.image_core.specs.History.{IsChain}
+use Rattle.image_core.specs.Kept.{AreSpaced}
+use Rattle.image_core.specs.Laws.{AreAmong, HasGap, HasHighMark, HasLongestChain, IsAmong, greatest, heard, heartbeat_at}
+use Rattle.image_core.proofs.ChainLemmas.{chain_at, chain_below, chain_by, chain_low, spaced_raise}
+use Rattle.image_core.proofs.JoinLemmas.{apart, not_at_first}
+use Rattle.image_core.proofs.KeptLemmas.{has_size, open_parts, spaced_join}
+
+-- a spaced frame lies above what all are spaced from, covers something, and ends in time
+record IsInside (low high : ℕ) (m : ℕ × Frame) : Type 0 where
+  above : low ≤ m.0
+  some : 0 < aligned_length m.1
+  ends : end_of m ≤ high
+
+among_inside : (low high : ℕ) (m : ℕ × Frame) (ms : List (ℕ × Frame)) → AreSpaced low high ms → IsAmong m ms → IsInside low high m
+among_inside low high m [] spaced among = elim among [ ]
+among_inside low high m (x ∷ ms) spaced (inl same) = subst (IsInside low high) (sym same) (record { above = spaced.0; some = spaced.1; ends = spaced.2 })
+among_inside low high m (x ∷ ms) spaced (inr among) =
+    let it = among_inside (end_of x) high m ms spaced.3 among in
+    record { above = (let above = it.above in omega arith); some = it.some; ends = it.ends }
+
+-- a chain goes on behind a frame that begins where it has come to
+among_step : (low high p : ℕ) (m : ℕ × Frame) (ms : List (ℕ × Frame)) → AreSpaced low high ms → IsAmong m ms → p ≡ m.0 → chain_end (end_of m) ms ≡ chain_end p ms
+among_step low high p m [] spaced among at = elim among [ ]
+among_step low high p m (x ∷ ms) spaced (inl same) at =
+    let here : p ≡ x.0 = at ∙ ap (λ (y : ℕ × Frame). y.0) same in
+    let end : end_of m ≡ end_of x = ap end_of same in
+    let some = spaced.1 in
+    chain_by (end_of m) x ms (λ past. omega (arith, end, some)) ∙ ap (λ (q : ℕ). chain_end q ms) end ∙ sym (chain_at p x ms here)
+among_step low high p m (x ∷ ms) spaced (inr among) at =
+    let it = among_inside (end_of x) high m ms spaced.3 among in
+    let above = it.above in
+    let some = it.some in
+    chain_by (end_of m) x ms (λ past. omega arith) ∙ among_step (end_of x) high p m ms spaced.3 among at ∙ sym (chain_by p x ms (λ same. omega arith))
+
+longest : (low high p end : ℕ) (ms other : List (ℕ × Frame)) → AreSpaced low high ms → AreAmong other ms → IsChain p other end → end ≤ chain_end p ms
+longest low high p end ms [] spaced among chain = let up = chain_low p ms in omega (arith, chain, up)
+longest low high p end ms (m ∷ other) spaced among chain =
+    subst (λ (q : ℕ). end ≤ q) (among_step low high p m ms spaced among.0 chain.0) (longest low high (end_of m) end ms other spaced among.1 chain.2)
+
+among_more : (x : ℕ × Frame) (xs ms : List (ℕ × Frame)) → AreAmong xs ms → AreAmong xs (x ∷ ms)
+among_more x [] ms among = tt
+among_more x (m ∷ xs) ms among = (inr among.0, among_more x xs ms among.1)
+
+-- the frames of the longest chain
+record IsRun (p : ℕ) (ms : List (ℕ × Frame)) : Type 0 where
+  chain : List (ℕ × Frame)
+  among : AreAmong chain ms
+  follows : IsChain p chain (chain_end p ms)
+
+run_by : (low high p : ℕ) (m : ℕ × Frame) (ms : List (ℕ × Frame)) (b : Bool) → (p == m.0) ≡ b → 0 < aligned_length m.1 → ((q : ℕ) → IsRun q ms) → IsRun p (m ∷ ms)
+run_by low high p m ms true h some further =
+    let same : p ≡ m.0 = grind arith in
+    let rest = further (end_of m) in
+    record { chain = m ∷ rest.chain; among = (inl refl, among_more m rest.chain ms rest.among); follows = rw (chain_at p m ms same) (same, some, rest.follows) }
+run_by low high p m ms false h some further =
+    let rest = further p in
+    let by = chain_by p m ms (λ same. grind arith) in
+    record { chain = rest.chain; among = among_more m rest.chain ms rest.among; follows = rw by rest.follows }
+
+run : (low high p : ℕ) (ms : List (ℕ × Frame)) → AreSpaced low high ms → IsRun p ms
+run low high p [] spaced = record { chain = []; among = tt; follows = refl }
+run low high p (m ∷ ms) spaced = run_by low high p m ms (p == m.0) refl spaced.1 (λ q. run (end_of m) high q ms spaced.3)
+
+-- frames that joined stay spaced
+AreSpacedIn : Received → Type 0
+AreSpacedIn r = AreSpaced r.from r.high r.joined
+
+spaced_if : (r : Received) (f : Frame) (p : ℕ) (b : Bool) → is_open r p (p + aligned_length f) ≡ b → AreSpacedIn r → IsEncodable f → place_in r.geometry r.publication f ≡ Some p
+    → AreSpacedIn (after r f (if b then Joins p else Drops))
+unfolding AreSpacedIn
+spaced_if r f p true opens spaced encodable place = spaced_join r p f spaced encodable place opens
+spaced_if r f p false opens spaced encodable place = spaced
+
+spaced_frame : (r : Received) (f : Frame) (o : Option ℕ) → AreSpacedIn r → IsEncodable f → place_in r.geometry r.publication f ≡ o → AreSpacedIn (after r f (frame_fate r f o))
+spaced_frame r f None spaced encodable place = spaced
+spaced_frame r f (Some p) spaced encodable place = spaced_if r f p (is_open r p (p + aligned_length f)) refl spaced encodable place
+
+spaced_heartbeat : (r : Received) (f : Frame) (o : Option ℕ) → AreSpacedIn r → AreSpacedIn (after r f (heartbeat_fate o))
+unfolding AreSpacedIn
+spaced_heartbeat r f None spaced = spaced
+spaced_heartbeat r f (Some p) spaced = spaced_raise r.from r.high (max r.high p) r.joined (omega arith) spaced
+
+spaced_kind : (r : Received) (f : Frame) (kind : FrameKind) → AreSpacedIn r → IsEncodable f → AreSpacedIn (after r f (fate_of kind r f))
+spaced_kind r f Pad spaced encodable = spaced_frame r f (place_in r.geometry r.publication f) spaced encodable refl
+spaced_kind r f Message spaced encodable = spaced_frame r f (place_in r.geometry r.publication f) spaced encodable refl
+spaced_kind r f Heartbeat spaced encodable = spaced_heartbeat r f (if is_of r.publication f then frame_position r.geometry f else None) spaced
+
+spaced_all : (r : Received) (fs : List Frame) → AreSpacedIn r → AreEncodable fs → AreSpacedIn (received_all r fs)
+spaced_all r [] spaced encodable = spaced
+spaced_all r (f ∷ fs) spaced encodable = spaced_all (received r f) fs (spaced_kind r f f.kind spaced encodable.0) encodable.1
+
+pub longest_chain : (g : Geometry) (publication : Publication) (p : ℕ) (fs : List Frame) → AreEncodable fs → HasLongestChain (received_all (begun g publication p) fs)
+unfolding AreSpacedIn
+longest_chain g publication p fs encodable =
+    let r = received_all (begun g publication p) fs in
+    let spaced = spaced_all (begun g publication p) fs tt encodable in
+    let it = run r.from r.high r.from r.joined spaced in
+    record {
+      chain = it.chain;
+      received = it.among;
+      follows = it.follows;
+      longest = λ other end among chain. longest r.from r.high r.from end r.joined other spaced among chain;
+    }
+
+-- a frame that begins before a chain's end ends by then
+out_by : (low high p : ℕ) (m x : ℕ × Frame) (ms : List (ℕ × Frame)) → AreSpaced low high (x ∷ ms) → p ≤ low → (IsAmong m ms → m.0 < chain_end (end_of x) ms → end_of m ≤ chain_end (end_of x) ms)
+    → IsAmong m (x ∷ ms) → m.0 < chain_end p (x ∷ ms) → end_of m ≤ chain_end p (x ∷ ms)
+out_by low high p m x ms spaced from further among before =
+    by_cmp (λ (o : Ordering). end_of m ≤ chain_end p (x ∷ ms)) p x.0
+    (λ below.
+    let stays = chain_by p x ms (λ same. omega arith) ∙ chain_below (end_of x) high p ms spaced.3 (omega arith) in
+    let it = among_inside low high m (x ∷ ms) spaced among in
+    let inside = among_inside x.0 high m (x ∷ ms) (omega arith, spaced.1, spaced.2, spaced.3) among in
+    absurd (omega (arith, stays, before, inside.above)))
+    (λ same.
+    let goes = chain_at p x ms same in
+    let up = chain_low (end_of x) ms in
+    elim among [
+      | inl is ↦ (let end : end_of m ≡ end_of x = ap end_of is in omega (arith, end, goes, up))
+      | inr rest ↦ (let ends = further rest (omega (arith, goes, before)) in omega (arith, goes, ends))
+    ])
+    (λ above. absurd (omega (arith, spaced.0)))
+
+out : (low high p : ℕ) (m : ℕ × Frame) (ms : List (ℕ × Frame)) → AreSpaced low high ms → p ≤ low → IsAmong m ms → m.0 < chain_end p ms → end_of m ≤ chain_end p ms
+out low high p m [] spaced from among before = elim among [ ]
+out low high p m (x ∷ ms) spaced from among before =
+    out_by low high p m x ms spaced from (λ rest less. out (end_of x) high (end_of x) m ms spaced.3 (omega arith) rest less) among before
+
+-- no frame begins at a chain's end
+chain_still : (low high p : ℕ) (ms : List (ℕ × Frame)) → AreSpaced low high ms → p ≤ low → chain_end (chain_end p ms) ms ≡ chain_end p ms
+chain_still low high p [] spaced from = refl
+chain_still low high p (x ∷ ms) spaced from =
+    by_cmp (λ (o : Ordering). chain_end (chain_end p (x ∷ ms)) (x ∷ ms) ≡ chain_end p (x ∷ ms)) p x.0
+    (λ below. let stays = chain_by p x ms (λ same. omega arith) ∙ chain_below (end_of x) high p ms spaced.3 (omega arith) in ap (λ (q : ℕ). chain_end q (x ∷ ms)) stays)
+    (λ same.
+    let goes = chain_at p x ms same in
+    let up = chain_low (end_of x) ms in
+    let some = spaced.1 in
+    ap (λ (q : ℕ). chain_end q (x ∷ ms)) goes ∙ chain_by (chain_end (end_of x) ms) x ms (λ at. omega arith) ∙ chain_still (end_of x) high (end_of x) ms spaced.3 (omega arith) ∙ sym goes)
+    (λ above. absurd (omega (arith, spaced.0)))
+
+not_at_end : (low high p : ℕ) (m : ℕ × Frame) (ms : List (ℕ × Frame)) → AreSpaced low high ms → p ≤ low → IsAmong m ms → m.0 ≡ chain_end p ms → ⊥
+not_at_end low high p m ms spaced from among at =
+    let goes = among_step low high (chain_end p ms) m ms spaced among (sym at) in
+    let still = chain_still low high p ms spaced from in
+    let up = chain_low (end_of m) ms in
+    let it = among_inside low high m ms spaced among in
+    omega (arith, goes, still, up, it.some, at)
+
+-- what begins next, begins first
+next_most : (p other : ℕ) (m x : ℕ × Frame) (ms : List (ℕ × Frame)) (b : Bool) → nat_lt p x.0 ≡ b → x.0 ≤ m.0 → p < m.0 → (IsAmong m ms → next_start p other ms ≤ m.0) → (b ≡ false → IsAmong m ms)
+    → (if b then x.0 else next_start p other ms) ≤ m.0
+next_most p other m x ms true h order past further among = order
+next_most p other m x ms false h order past further among = further (among refl)
+
+next_least : (low high p other : ℕ) (m : ℕ × Frame) (ms : List (ℕ × Frame)) → AreSpaced low high ms → IsAmong m ms → p < m.0 → next_start p other ms ≤ m.0
+next_least low high p other m [] spaced among past = elim among [ ]
+next_least low high p other m (x ∷ ms) spaced (inl same) past =
+    let at : m.0 ≡ x.0 = ap (λ (y : ℕ × Frame). y.0) same in
+    next_most p other m x ms (nat_lt p x.0) refl (omega arith) past (λ rest. next_least (end_of x) high p other m ms spaced.3 rest past) (λ h. absurd (grind arith))
+next_least low high p other m (x ∷ ms) spaced (inr among) past =
+    let it = among_inside (end_of x) high m ms spaced.3 among in
+    let above = it.above in
+    next_most p other m x ms (nat_lt p x.0) refl (omega arith) past (λ rest. next_least (end_of x) high p other m ms spaced.3 rest past) (λ h. among)
+
+-- and it is one of the frames, or the other position
+NextIs : ℕ → ℕ → List (ℕ × Frame) → ℕ → Type 0
+NextIs p other ms n = (n ≡ other) ⊎ ((m : ℕ × Frame) × IsAmong m ms × (p < m.0) × (n ≡ m.0))
+
+next_by : (p other : ℕ) (x : ℕ × Frame) (ms : List (ℕ × Frame)) (b : Bool) → nat_lt p x.0 ≡ b → NextIs p other ms (next_start p other ms) → NextIs p other (x ∷ ms) (if b then x.0 else next_start p other ms)
+unfolding NextIs
+next_by p other x ms true h further = inr (x, inl refl, grind arith, refl)
+next_by p other x ms false h (inl is) = inl is
+next_by p other x ms false h (inr found) = inr (found.0, inr found.1, found.2, found.3)
+
+next_is : (p other : ℕ) (ms : List (ℕ × Frame)) → NextIs p other ms (next_start p other ms)
+unfolding NextIs
+next_is p other [] = inl refl
+next_is p other (x ∷ ms) = next_by p other x ms (nat_lt p x.0) refl (next_is p other ms)
+
+min_is : (a b c : ℕ) → (min a (min b c) ≡ a) ⊎ ((min a (min b c) ≡ b) ⊎ (min a (min b c) ≡ c))
+min_is a b c = by_cmp (λ (o : Ordering). (min a (min b c) ≡ a) ⊎ ((min a (min b c) ≡ b) ⊎ (min a (min b c) ≡ c))) b c
+    (λ below. by_cmp (λ (o : Ordering). (min a (min b c) ≡ a) ⊎ ((min a (min b c) ≡ b) ⊎ (min a (min b c) ≡ c))) a b (λ l. inl (omega arith)) (λ e. inl (omega arith)) (λ g. inr (inl (omega arith))))
+    (λ same. by_cmp (λ (o : Ordering). (min a (min b c) ≡ a) ⊎ ((min a (min b c) ≡ b) ⊎ (min a (min b c) ≡ c))) a b (λ l. inl (omega arith)) (λ e. inl (omega arith)) (λ g. inr (inl (omega arith))))
+    (λ above. by_cmp (λ (o : Ordering). (min a (min b c) ≡ a) ⊎ ((min a (min b c) ≡ b) ⊎ (min a (min b c) ≡ c))) a c (λ l. inl (omega arith)) (λ e. inl (omega arith)) (λ g. inr (inr (omega arith))))
+
+pub gap_of : (g : Geometry) (publication : Publication) (p : ℕ) (fs : List Frame) → AreEncodable fs → HasGap (received_all (begun g publication p) fs)
+unfolding AreSpacedIn NextIs
+gap_of g publication p fs encodable =
+    let r : Received = received_all (begun g publication p) fs in
+    let spaced = spaced_all (begun g publication p) fs tt encodable in
+    let next : ℕ = next_start (rebuilt r) r.high r.joined in
+    let term : ℕ = term_end r.geometry (rebuilt r) in
+    record {
+      empty = λ m among. by_cmp (λ (o : Ordering). (end_of m ≤ rebuilt r) ⊎ (gap_end r ≤ m.0)) (rebuilt r) m.0
+          (λ past. let least = next_least r.from r.high (rebuilt r) r.high m r.joined spaced among past in inr (omega (arith, least)))
+          (λ at. absurd (not_at_end r.from r.high r.from m r.joined spaced (omega arith) among (sym at)))
+          (λ before. inl (out r.from r.high r.from m r.joined spaced (omega arith) among before));
+      high = omega arith;
+      term = omega arith;
+      first = elim (min_is next r.high term) [
+        | inl is ↦ elim (next_is (rebuilt r) r.high r.joined) [ inl other ↦ inl (is ∙ other) | inr found ↦ inr (inr (found.0, found.1, found.2, is ∙ found.3)) ]
+        | inr rest ↦ elim rest [ inl is ↦ inl is | inr is ↦ inr (inl is) ]
+      ];
+    }
+
+-- the greatest of two lists of numbers
+greatest-append : (xs ys : List ℕ) → greatest (xs ++ ys) ≡ max (greatest xs) (greatest ys)
+greatest-append [] ys = omega arith
+greatest-append (x ∷ xs) ys = let rest = greatest-append xs ys in omega arith
+
+-- a frame that joined has an end among the others
+ends_insert : (high p : ℕ) (f : Frame) (low : ℕ) (ms : List (ℕ × Frame)) → AreSpaced low high ms → 0 < aligned_length f → is_free p (p + aligned_length f) ms ≡ true
+    → greatest (map end_of (insert_entry nat_cmp ms p f)) ≡ max (p + aligned_length f) (greatest (map end_of ms))
+ends_insert high p f low [] spaced some free = omega arith
+ends_insert high p f low (m ∷ ms) spaced some free =
+    let parts = apart p (p + aligned_length f) m ms free in
+    by_cmp (λ (o : Ordering). greatest (map end_of (match_ordering o ((p, f) ∷ m ∷ ms) ((m.0, f) ∷ ms) (m ∷ insert_entry nat_cmp ms p f))) ≡ max (p + aligned_length f) (greatest (map end_of (m ∷ ms)))) p m.0
+    (λ below. refl)
+    (λ same. absurd (not_at_first p (p + aligned_length f) m parts.0 same spaced.1 (omega arith)))
+    (λ above. let rest = ends_insert high p f (end_of m) ms spaced.3 some parts.1 in omega (arith, rest))
+
+-- the high mark is the greatest of the join position, the ends, and what was heard
+IsMark : ℕ → List ℕ → Received → Type 0
+IsMark join told r = r.high ≡ max join (max (greatest (map end_of r.joined)) (greatest told))
+
+mark_if : (join : ℕ) (told : List ℕ) (r : Received) (f : Frame) (p : ℕ) (b : Bool) → is_open r p (p + aligned_length f) ≡ b → AreSpacedIn r → IsEncodable f
+    → place_in r.geometry r.publication f ≡ Some p → IsMark join told r → IsMark join told (after r f (if b then Joins p else Drops))
+unfolding AreSpacedIn IsMark
+mark_if join told r f p true opens spaced encodable place mark =
+    let parts = open_parts r p (p + aligned_length f) opens in
+    let ends = ends_insert r.high p f r.from r.joined spaced (has_size r.geometry r.publication f p encodable place) parts.free in
+    omega (arith, mark, ends)
+mark_if join told r f p false opens spaced encodable place mark = mark
+
+mark_frame : (join : ℕ) (told : List ℕ) (r : Received) (f : Frame) (o : Option ℕ) → AreSpacedIn r → IsEncodable f → place_in r.geometry r.publication f ≡ o → IsMark join told r
+    → IsMark join told (after r f (frame_fate r f o))
+mark_frame join told r f None spaced encodable place mark = mark
+mark_frame join told r f (Some p) spaced encodable place mark = mark_if join told r f p (is_open r p (p + aligned_length f)) refl spaced encodable place mark
+
+mark_heartbeat : (join : ℕ) (told : List ℕ) (r : Received) (f : Frame) (o : Option ℕ) → IsMark join told r → IsMark join (told ++ heartbeat_at Heartbeat o) (after r f (heartbeat_fate o))
+unfolding IsMark
+mark_heartbeat join told r f None mark = rw (append-nil told) mark
+mark_heartbeat join told r f (Some p) mark = let all = greatest-append told (p ∷ []) in omega (arith, mark, all)
+
+mark_kind : (join : ℕ) (told : List ℕ) (r : Received) (f : Frame) (kind : FrameKind) → AreSpacedIn r → IsEncodable f → IsMark join told r
+    → IsMark join (told ++ heartbeat_at kind (if is_of r.publication f then frame_position r.geometry f else None)) (after r f (fate_of kind r f))
+mark_kind join told r f Pad spaced encodable mark =
+    rw (append-nil told) (mark_frame join told r f (place_in r.geometry r.publication f) spaced encodable refl mark)
+mark_kind join told r f Message spaced encodable mark =
+    rw (append-nil told) (mark_frame join told r f (place_in r.geometry r.publication f) spaced encodable refl mark)
+mark_kind join told r f Heartbeat spaced encodable mark = mark_heartbeat join told r f (if is_of r.publication f then frame_position r.geometry f else None) mark
+
+-- whose frames are received stays
+geometry_same : (r : Received) (f : Frame) (it : Fate) → (after r f it).geometry ≡ r.geometry
+geometry_same r f (Joins p) = refl
+geometry_same r f (Tells p) = refl
+geometry_same r f Drops = refl
+
+publication_same : (r : Received) (f : Frame) (it : Fate) → (after r f it).publication ≡ r.publication
+publication_same r f (Joins p) = refl
+publication_same r f (Tells p) = refl
+publication_same r f Drops = refl
+
+heard_same : (r : Received) (f : Frame) (fs : List Frame) → heard (received r f).geometry (received r f).publication fs ≡ heard r.geometry r.publication fs
+heard_same r f fs =
+    ap (λ (g : Geometry). heard g (received r f).publication fs) (geometry_same r f (fate r f)) ∙ ap (λ (u : Publication). heard r.geometry u fs) (publication_same r f (fate r f))
+
+mark_all : (join : ℕ) (told : List ℕ) (r : Received) (fs : List Frame) → AreSpacedIn r → AreEncodable fs → IsMark join told r
+    → IsMark join (told ++ heard r.geometry r.publication fs) (received_all r fs)
+mark_all join told r [] spaced encodable mark = rw (append-nil told) mark
+mark_all join told r (f ∷ fs) spaced encodable mark =
+    let now : List ℕ = heartbeat_at f.kind (if is_of r.publication f then frame_position r.geometry f else None) in
+    let further = mark_all join (told ++ now) (received r f) fs (spaced_kind r f f.kind spaced encodable.0) encodable.1 (mark_kind join told r f f.kind spaced encodable.0 mark) in
+    let all : (told ++ now) ++ heard (received r f).geometry (received r f).publication fs ≡ told ++ (now ++ heard r.geometry r.publication fs) =
+    ap (λ (ns : List ℕ). (told ++ now) ++ ns) (heard_same r f fs) ∙ append_assoc told now (heard r.geometry r.publication fs) in
+    subst (λ (ns : List ℕ). IsMark join ns (received_all (received r f) fs)) all further
+
+all_geometry : (r : Received) (fs : List Frame) → (received_all r fs).geometry ≡ r.geometry
+all_geometry r [] = refl
+all_geometry r (f ∷ fs) = all_geometry (received r f) fs ∙ geometry_same r f (fate r f)
+
+all_publication : (r : Received) (fs : List Frame) → (received_all r fs).publication ≡ r.publication
+all_publication r [] = refl
+all_publication r (f ∷ fs) = all_publication (received r f) fs ∙ publication_same r f (fate r f)
+
+pub high_mark : (g : Geometry) (publication : Publication) (p : ℕ) (fs : List Frame) → AreEncodable fs → HasHighMark p fs (received_all (begun g publication p) fs)
+unfolding AreSpacedIn IsMark
+high_mark g publication p fs encodable =
+    let r : Received = received_all (begun g publication p) fs in
+    let mark = mark_all p [] (begun g publication p) fs tt encodable (omega arith) in
+    let said : heard r.geometry r.publication fs ≡ heard g publication fs =
+    ap (λ (h : Geometry). heard h r.publication fs) (all_geometry (begun g publication p) fs) ∙ ap (λ (u : Publication). heard g u fs) (all_publication (begun g publication p) fs) in
+    let both = greatest-append (map end_of r.joined) (heard r.geometry r.publication fs) in
+    let same : greatest (heard r.geometry r.publication fs) ≡ greatest (heard g publication fs) = ap greatest said in
+    omega (arith, mark, both, same)

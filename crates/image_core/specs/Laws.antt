@@ -1,0 +1,56 @@
+-- What gives the rebuild position, the high mark and the gap their names: docs/PROTOCOL.md, "Images".
+use Rattle.std.specs.Prelude.{◌≡◌, ◌<◌, ◌≤◌, ◌⊎◌, ℕ, max, if◌then◌else◌, List, [], ◌∷◌, ◌++◌, Option, None, Some, map}
+use Rattle.frame_core.specs.declared.frame.FrameKind.{FrameKind}
+use Rattle.frame_core.specs.declared.frame.FrameKind.TheVariants.{Pad, Message, Heartbeat}
+use Rattle.frame_core.specs.declared.frame.Frame.{Frame}
+use Rattle.frame_core.specs.declared.block.Publication.{Publication}
+use Rattle.frame_core.specs.declared.geometry.Geometry.{Geometry}
+use Rattle.frame_core.specs.Position.{frame_position}
+use Rattle.image_core.specs.Rebuild.{end_of, term_end}
+use Rattle.image_core.specs.Received.{Received, gap_end, is_of, rebuilt}
+use Rattle.image_core.specs.History.{IsChain}
+
+-- one of the frames, at its position
+abbrev pub IsAmong : ℕ × Frame → List (ℕ × Frame) → Type 0
+IsAmong m [] = ⊥
+IsAmong m (x ∷ xs) = (m ≡ x) ⊎ IsAmong m xs
+
+abbrev pub AreAmong : List (ℕ × Frame) → List (ℕ × Frame) → Type 0
+AreAmong [] all = Unit {0}
+AreAmong (m ∷ ms) all = IsAmong m all × AreAmong ms all
+
+-- received frames follow one another up to the rebuild position, and no further
+pub record HasLongestChain (r : Received) : Type 0 where
+  pub chain : List (ℕ × Frame)
+  pub received : AreAmong chain r.joined
+  pub follows : IsChain r.from chain (rebuilt r)
+  pub longest : (other : List (ℕ × Frame)) (end : ℕ) → AreAmong other r.joined → IsChain r.from other end → end ≤ rebuilt r
+
+-- the gap holds no received frame, and ends at the first of the high mark, the end of the term and the received frames behind the rebuild position
+pub record HasGap (r : Received) : Type 0 where
+  pub empty : (m : ℕ × Frame) → IsAmong m r.joined → (end_of m ≤ rebuilt r) ⊎ (gap_end r ≤ m.0)
+  pub high : gap_end r ≤ r.high
+  pub term : gap_end r ≤ term_end r.geometry (rebuilt r)
+  pub first : (gap_end r ≡ r.high)
+      ⊎ ((gap_end r ≡ term_end r.geometry (rebuilt r)) ⊎ ((m : ℕ × Frame) × IsAmong m r.joined × (rebuilt r < m.0) × (gap_end r ≡ m.0)))
+
+-- the greatest of some numbers
+abbrev pub greatest : List ℕ → ℕ
+greatest [] = 0
+greatest (n ∷ ns) = max n (greatest ns)
+
+-- the position of a heartbeat
+abbrev pub heartbeat_at : FrameKind → Option ℕ → List ℕ
+heartbeat_at Pad found = []
+heartbeat_at Message found = []
+heartbeat_at Heartbeat None = []
+heartbeat_at Heartbeat (Some p) = p ∷ []
+
+-- the positions of a publication's heartbeats among some frames
+abbrev pub heard : Geometry → Publication → List Frame → List ℕ
+heard g publication [] = []
+heard g publication (f ∷ fs) = heartbeat_at f.kind (if is_of publication f then frame_position g f else None) ++ heard g publication fs
+
+-- the high mark is the greatest of the join position, the ends of the received frames, and the positions of the publication's heartbeats among all frames
+abbrev pub HasHighMark : ℕ → List Frame → Received → Type 0
+HasHighMark join fs r = r.high ≡ greatest (join ∷ map end_of r.joined ++ heard r.geometry r.publication fs)
