@@ -18,10 +18,10 @@ use Rattle.image_core.specs.declared.fate.Fate.TheVariants.{Joins, Tells, Drops}
 use Rattle.image_core.specs.Rebuild.{end_of, chain_end, next_start, term_end}
 use Rattle.image_core.specs.Received.{Received, after, begun, fate, fate_of, frame_fate, gap_end, heartbeat_fate, is_free, is_of, is_open, place_in, rebuilt, received, received_all}
 use Rattle.image_core.specs.History.{IsChain}
-use Rattle.image_core.specs.Kept.{AreSpaced}
-use Rattle.image_core.specs.Laws.{AreAmong, HasGap, HasHighMark, HasLongestChain, IsAmong, greatest, heard, heartbeat_at}
+use Rattle.image_core.specs.Kept.{AreMembers, AreSpaced}
+use Rattle.image_core.specs.Laws.{AreAmong, HasGap, HasHighMark, HasLongestChain, IsAmong, LieApart, greatest, heard, heartbeat_at}
 use Rattle.image_core.proofs.ChainLemmas.{chain_at, chain_below, chain_by, chain_low, spaced_raise}
-use Rattle.image_core.proofs.JoinLemmas.{apart, not_at_first}
+use Rattle.image_core.proofs.JoinLemmas.{apart, members_insert, not_at_first}
 use Rattle.image_core.proofs.KeptLemmas.{has_size, open_parts, spaced_join}
 
 -- a spaced frame lies above what all are spaced from, covers something, and ends in time
@@ -313,3 +313,48 @@ high_mark g publication p fs encodable =
     let both = greatest-append (map end_of r.joined) (heard r.geometry r.publication fs) in
     let same : greatest (heard r.geometry r.publication fs) ≡ greatest (heard g publication fs) = ap greatest said in
     omega (arith, mark, both, same)
+
+-- each received frame lies where it may join
+AreMembersIn : Received → Type 0
+AreMembersIn r = AreMembers r.geometry r.publication r.joined
+
+members_if : (r : Received) (f : Frame) (p : ℕ) (b : Bool) → AreMembersIn r → IsEncodable f → place_in r.geometry r.publication f ≡ Some p → AreMembersIn (after r f (if b then Joins p else Drops))
+unfolding AreMembersIn
+members_if r f p true members encodable place = members_insert r.geometry r.publication p f r.joined members encodable place
+members_if r f p false members encodable place = members
+
+members_frame : (r : Received) (f : Frame) (o : Option ℕ) → AreMembersIn r → IsEncodable f → place_in r.geometry r.publication f ≡ o → AreMembersIn (after r f (frame_fate r f o))
+members_frame r f None members encodable place = members
+members_frame r f (Some p) members encodable place = members_if r f p (is_open r p (p + aligned_length f)) members encodable place
+
+members_heartbeat : (r : Received) (f : Frame) (o : Option ℕ) → AreMembersIn r → AreMembersIn (after r f (heartbeat_fate o))
+unfolding AreMembersIn
+members_heartbeat r f None members = members
+members_heartbeat r f (Some p) members = members
+
+members_kind : (r : Received) (f : Frame) (kind : FrameKind) → AreMembersIn r → IsEncodable f → AreMembersIn (after r f (fate_of kind r f))
+members_kind r f Pad members encodable = members_frame r f (place_in r.geometry r.publication f) members encodable refl
+members_kind r f Message members encodable = members_frame r f (place_in r.geometry r.publication f) members encodable refl
+members_kind r f Heartbeat members encodable = members_heartbeat r f (if is_of r.publication f then frame_position r.geometry f else None) members
+
+members_all : (r : Received) (fs : List Frame) → AreMembersIn r → AreEncodable fs → AreMembersIn (received_all r fs)
+members_all r [] members encodable = members
+members_all r (f ∷ fs) members encodable = members_all (received r f) fs (members_kind r f f.kind members encodable.0) encodable.1
+
+from_same : (r : Received) (f : Frame) (it : Fate) → (after r f it).from ≡ r.from
+from_same r f (Joins p) = refl
+from_same r f (Tells p) = refl
+from_same r f Drops = refl
+
+all_from : (r : Received) (fs : List Frame) → (received_all r fs).from ≡ r.from
+all_from r [] = refl
+all_from r (f ∷ fs) = all_from (received r f) fs ∙ from_same r f (fate r f)
+
+pub lie_apart : (g : Geometry) (publication : Publication) (p : ℕ) (fs : List Frame) → AreEncodable fs → LieApart p (received_all (begun g publication p) fs)
+unfolding AreSpacedIn AreMembersIn
+lie_apart g publication p fs encodable =
+    let r : Received = received_all (begun g publication p) fs in
+    record {
+      spaced = subst (λ (q : ℕ). AreSpaced q r.high r.joined) (all_from (begun g publication p) fs) (spaced_all (begun g publication p) fs tt encodable);
+      members = members_all (begun g publication p) fs tt encodable;
+    }

@@ -9,6 +9,7 @@ use Rattle.frame_core.specs.Position.{frame_position}
 use Rattle.image_core.specs.Rebuild.{end_of, term_end}
 use Rattle.image_core.specs.Received.{Received, gap_end, is_of, rebuilt}
 use Rattle.image_core.specs.History.{IsChain}
+use Rattle.image_core.specs.Kept.{AreMembers, AreSpaced}
 
 -- one of the frames, at its position
 abbrev pub IsAmong : ℕ × Frame → List (ℕ × Frame) → Type 0
@@ -18,6 +19,11 @@ IsAmong m (x ∷ xs) = (m ≡ x) ⊎ IsAmong m xs
 abbrev pub AreAmong : List (ℕ × Frame) → List (ℕ × Frame) → Type 0
 AreAmong [] all = Unit {0}
 AreAmong (m ∷ ms) all = IsAmong m all × AreAmong ms all
+
+-- no received frame lies over another, and none before the join position; each has an encoding, and is of the publication, within the MTU and inside its term, at its position
+pub record LieApart (join : ℕ) (r : Received) : Type 0 where
+  pub spaced : AreSpaced join r.high r.joined
+  pub members : AreMembers r.geometry r.publication r.joined
 
 -- received frames follow one another up to the rebuild position, and no further
 pub record HasLongestChain (r : Received) : Type 0 where

@@ -6,5 +6,5 @@ pub mod Insert
 pub mod Take
 pub mod Repair
 pub mod Laws
--- What only the image's own invariant says.
+-- What an image keeps. Public clauses name AreSpaced and AreMembers of it alone.
 pub mod Kept

@@ -196,13 +196,15 @@ impl Image {
         ensures same { let new = self.new in
             new ≡ record self.old { from = new.from; joined = new.joined } }
     {
-        self.from = take_frames(
+        let from = self.from;
+        let rest = take_frames(
             &mut self.held,
             &self.geometry,
             &self.publication,
-            self.from,
+            from,
             frames,
         );
+        self.from = rest;
     }
 
     // Takes in all frames of a datagram, or none of them.

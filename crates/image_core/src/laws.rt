@@ -6,7 +6,7 @@ ghost use Rattle.frame_core.specs.declared.block.Publication.{Publication};
 ghost use Rattle.frame_core.specs.declared.frame.Frame.{Frame};
 ghost use Rattle.frame_core.specs.declared.geometry.Geometry.{Geometry};
 ghost use Rattle.image_core.specs.History.{IsUnseen, StandsFor};
-ghost use Rattle.image_core.specs.Laws.{HasGap, HasHighMark, HasLongestChain};
+ghost use Rattle.image_core.specs.Laws.{HasGap, HasHighMark, HasLongestChain, LieApart};
 ghost use Rattle.image_core.specs.Received.{Received, begun, received_all};
 
 /// What was taken of an image makes no difference. An image holds what it received, as long as nothing is taken. Where
@@ -15,6 +15,13 @@ ghost use Rattle.image_core.specs.Received.{Received, begun, received_all};
 pub fn what_was_taken_makes_no_difference()
     ensures begins { (r : Received) → StandsFor r r }
     ensures unseen { (all r : Received) → StandsFor all r → IsUnseen all r }
+{}
+
+/// After any frames the received ones lie one behind another, none before the join position; each is of the publication,
+/// no longer than the MTU and inside its term, and lies at its position.
+pub fn received_frames_lie_apart()
+    ensures { (g : Geometry) (publication : Publication) (join : ℕ) (fs : List Frame)
+        → AreEncodable fs → LieApart join (received_all (begun g publication join) fs) }
 {}
 
 /// After any frames the rebuild position is the end of the longest chain of received frames from the join position.
