@@ -1,35 +1,46 @@
 -- Frames that are held, where one is put in or taken out.
-use Rattle.std.proofs.Common.{◌≡◌, ◌<◌, ◌^◌, ℕ, Bool, true, false, List, [], ◌∷◌, Option, None, Some, is_some, if◌then◌else◌, nat_lt, length, refl, ap, rules}
+use Rattle.std.proofs.Common.{◌≡◌, ◌<◌, ◌^◌, ℕ, Bool, true, false, List, [], ◌∷◌, Option, None, Some, is_some, sym, subst, if◌then◌else◌, nat_lt, length, refl, ap, rules}
 use Rattle.std.specs.Prelude.{nat_le}
 use Rattle.std.specs.Ordering.{nat_cmp, match_ordering, is_eq}
 use Rattle.std.specs.Prelude.{cond}
 use Rattle.std.specs.declared.cmp.Ordering.{Ordering}
+use Rattle.std.specs.List.{AllByRecursion}
+use Rattle.std.proofs.lemmas.Option.{same_Some}
 use Rattle.std.specs.Map.{lookup, remove_entry}
 use Rattle.std.specs.BTreeMap.{insert_entry, is_at}
 use Rattle.frame_core.specs.declared.frame.Frame.{Frame}
 use Rattle.frame_core.proofs.OrderLemmas.{by_cmp, equal_cmp, greater_cmp}
 use Rattle.merge_core.specs.declared.merge.Offered.TheVariants.{Held, Ignored, Full}
 use Rattle.merge_core.specs.Merge.{Merging, offered_at, held_at}
-use Rattle.merge_core.specs.Room.{HaveRoom}
 
-pub room_insert : (es : List (ℕ × Frame)) (p : ℕ) (f : Frame) → p < 2 ^ 62 → HaveRoom es → HaveRoom (insert_entry nat_cmp es p f)
-room_insert [] p f low room = (low, room)
-room_insert (e ∷ es) p f low room =
-    by_cmp (λ o. HaveRoom (match_ordering o ((p, f) ∷ e ∷ es) ((e.0, f) ∷ es) (e ∷ insert_entry nat_cmp es p f))) p e.0
-    (λ h. (low, room)) (λ h. (room.0, room.1)) (λ h. (room.0, room_insert es p f low room.1))
+-- what holds of each held frame and of one more holds of each where that one is put in
+pub all_insert : (P : ℕ × Frame → Type 0) (es : List (ℕ × Frame)) (p : ℕ) (f : Frame) → P (p, f) → AllByRecursion P es
+    → AllByRecursion P (insert_entry nat_cmp es p f)
+all_insert P [] p f one all = (one, all)
+all_insert P (e ∷ es) p f one all =
+    by_cmp (λ o. AllByRecursion P (match_ordering o ((p, f) ∷ e ∷ es) ((e.0, f) ∷ es) (e ∷ insert_entry nat_cmp es p f))) p e.0
+    (λ h. (one, all))
+    (λ h. (subst (λ k. P (k, f)) h one, all.1))
+    (λ h. (all.0, all_insert P es p f one all.1))
 
-pub room_remove : (es : List (ℕ × Frame)) (p : ℕ) → HaveRoom es → HaveRoom (remove_entry (is_at (nat_cmp p)) es)
-room_remove [] p room = room
-room_remove (e ∷ es) p room =
-    by_cmp (λ o. HaveRoom (cond (is_eq o) es (e ∷ remove_entry (is_at (nat_cmp p)) es))) p e.0
-    (λ h. (room.0, room_remove es p room.1)) (λ h. room.1) (λ h. (room.0, room_remove es p room.1))
+-- and where one is taken out
+pub all_remove : (P : ℕ × Frame → Type 0) (es : List (ℕ × Frame)) (p : ℕ) → AllByRecursion P es
+    → AllByRecursion P (remove_entry (is_at (nat_cmp p)) es)
+all_remove P [] p all = all
+all_remove P (e ∷ es) p all =
+    by_cmp (λ o. AllByRecursion P (cond (is_eq o) es (e ∷ remove_entry (is_at (nat_cmp p)) es))) p e.0
+    (λ h. (all.0, all_remove P es p all.1)) (λ h. all.1) (λ h. (all.0, all_remove P es p all.1))
 
--- a frame that is held lies at a position with room
-pub room_found : (es : List (ℕ × Frame)) (p : ℕ) (f : Frame) → HaveRoom es → lookup (is_at (nat_cmp p)) es ≡ Some f → p < 2 ^ 62
-room_found [] p f room found = search rules
-room_found (e ∷ es) p f room found =
-    by_cmp (λ o. cond (is_eq o) (Some e.1) (lookup (is_at (nat_cmp p)) es) ≡ Some f → p < 2 ^ 62) p e.0
-    (λ h. λ found. room_found es p f room.1 found) (λ h. λ found. search (rules, h, room.0)) (λ h. λ found. room_found es p f room.1 found) found
+-- and it holds of the frame that is held at a position
+pub all_found : (P : ℕ × Frame → Type 0) (es : List (ℕ × Frame)) (p : ℕ) (f : Frame) → AllByRecursion P es
+    → lookup (is_at (nat_cmp p)) es ≡ Some f → P (p, f)
+all_found P [] p f all found = search rules
+all_found P (e ∷ es) p f all found =
+    by_cmp (λ o. cond (is_eq o) (Some e.1) (lookup (is_at (nat_cmp p)) es) ≡ Some f → P (p, f)) p e.0
+    (λ h. λ found. all_found P es p f all.1 found)
+    (λ h. λ found. subst (λ k. P (k, f)) (sym h) (subst (λ x. P (e.0, x)) (same_Some _ _ found) all.0))
+    (λ h. λ found. all_found P es p f all.1 found)
+    found
 
 -- what is put in where nothing was, and taken out, leaves what was there
 pub remove_inserted : (es : List (ℕ × Frame)) (p : ℕ) (f : Frame) → lookup (is_at (nat_cmp p)) es ≡ None

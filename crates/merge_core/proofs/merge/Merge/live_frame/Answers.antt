@@ -4,13 +4,13 @@ use Rattle.std.specs.Map.{lookup, remove_entry}
 use Rattle.std.specs.BTreeMap.{is_at}
 use Rattle.merge_core.specs.declared.merge.Offered.TheVariants.{Held}
 use Rattle.merge_core.specs.Merge.{Merging}
-use Rattle.merge_core.proofs.HeldLemmas.{room_insert, none_before, remove_inserted}
+use Rattle.merge_core.proofs.HeldLemmas.{all_insert, none_before, remove_inserted}
 use Rattle.merge_core.proofs.merge.Merge.live_frame.Goals as goal
 
 pub invariant_of-self-in-Ok : goal.invariant_of-self-in-Ok
 invariant_of-self-in-Ok c =
     let low : c.in_ok-position.position < 2 ^ 62 = search rules in
-    (c.self.invariant.0, rw (c.in_ok-insert-in-Held.ensures.entries) (room_insert _ _ _ low c.self.invariant.1))
+    (c.self.invariant.0, rw (c.in_ok-insert-in-Held.ensures.entries) (all_insert _ _ _ _ low c.self.invariant.1))
 
 -- the frame was put in where none was, and is taken out
 as_before : (c : goal.Joined-remove) → c.remove.new.self.entries ≡ c.self.inside.held.entries
