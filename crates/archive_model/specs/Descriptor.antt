@@ -27,6 +27,10 @@ unfoldable pub is_start_position : ℤ → ℤ → Bool
 is_start_position (pos p) term_length = p % 32 == 0 && nat_lt p (2 ^ 31 * unsigned_abs term_length)
 is_start_position (negsuc p) term_length = false
 
+-- what is recorded or merged may begin there, in a stream whose terms are that long
+abbrev pub may_begin_at : ℤ → ℤ → Bool
+may_begin_at term_length position = is_length term_length && is_start_position position term_length
+
 -- a text of 1 to 512 bytes without control characters, which are those below U+0020 and from U+007F to U+009F
 unfoldable pub is_channel : List ℕ → Bool
 is_channel text = nat_le 1 (length text) && nat_le (length text) 512 && not (list_any is_control (chars text))

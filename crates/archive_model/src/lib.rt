@@ -19,5 +19,6 @@ pub use book::Book;
 pub use channel::Channel;
 pub use command::{Command, ExtendFields, StartFields};
 pub use descriptor::Descriptor;
+pub use range::may_begin_at;
 pub use recording::Recording;
 pub use reply::{PolledFrame, Reply};

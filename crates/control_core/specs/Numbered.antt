@@ -1,5 +1,5 @@
 -- Where a value of a number stands in a list.
-use Rattle.std.specs.Prelude.{◌≡◌, ℕ, ℤ, List, Option, Some, None, slice_get, slice_set}
+use Rattle.std.specs.Prelude.{◌≡◌, ℕ, ℤ, List, Some, None, slice_get, slice_set}
 use Rattle.archive_model.specs.Keyed.{find, change}
 
 module _ {X : Type 0} (number : X → ℤ) where
