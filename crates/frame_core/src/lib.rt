@@ -17,6 +17,8 @@ mod refusal;
 mod setup;
 #[cfg(test)]
 mod tests;
+#[cfg(test)]
+mod tests_wire;
 
 pub use block::{Block, Place, Publication, block_end, block_of};
 pub use codec::{decode_front, encode_into};
