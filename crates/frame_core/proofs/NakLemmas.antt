@@ -1,5 +1,5 @@
 -- NAK frames, and the bytes that they are read from.
-use Rattle.std.proofs.Common.{◌≡◌, ◌∙◌, sym, ap, refl, ℕ, List, pos, ◌++◌, drop, take, ◌∷◌, [], arith}
+use Rattle.std.proofs.Common.{◌≡◌, ◌∙◌, sym, ap, refl, ℕ, List, ◌++◌, drop, take, ◌∷◌, [], arith}
 use Rattle.std.specs.Prelude.{slice_index}
 use Rattle.byteorder.specs.Endian.{little_bytes}
 use Rattle.frame_core.specs.declared.nak.Nak.{Nak}

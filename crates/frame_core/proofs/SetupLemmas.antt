@@ -1,5 +1,5 @@
 -- Setup frames, and the bytes that they are read from.
-use Rattle.std.proofs.Common.{◌≡◌, ◌∙◌, sym, subst, refl, ℕ, ℤ, List, Option, Some, None}
+use Rattle.std.proofs.Common.{◌≡◌, ◌∙◌, sym, refl, ℕ, ℤ, List, Option, Some, None}
 use Rattle.std.specs.Prelude.{true, MatchOption}
 use Rattle.frame_core.specs.declared.setup.Setup.{Setup}
 use Rattle.frame_core.specs.Decoding.{read_setup}

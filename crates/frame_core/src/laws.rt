@@ -1,11 +1,12 @@
 //! Laws of the definitions, each the contract of a function that does nothing.
 
-ghost use Rattle.std.specs.Prelude.{◌≡◌, ◌<◌, ◌≤◌, ◌++◌, ℕ, ℤ, List, length, take, slice_index, FitsSigned};
+ghost use Rattle.std.specs.Prelude.{◌≡◌, ◌<◌, ◌≤◌, ◌^◌, ◌++◌, ℕ, ℤ, pos, true, List, length, take, slice_index, FitsSigned};
 ghost use Rattle.std.specs.Int.{w32};
 ghost use Rattle.frame_core.specs.Block.{AreBlock};
 ghost use Rattle.frame_core.specs.Datagram.{IsBadAt, IsDatagram};
 ghost use Rattle.frame_core.specs.FrameEncoding.{IsEncodable, IsHeader, Fits, aligned_length, encoded, header_of, stored};
 ghost use Rattle.frame_core.specs.Front.{IsFront, used_by};
+ghost use Rattle.frame_core.specs.Limits.{is_term_length};
 ghost use Rattle.frame_core.specs.Nak.{HasRange, IsNak, NakFits, encoded_nak};
 ghost use Rattle.frame_core.specs.Position.{HasPosition};
 ghost use Rattle.frame_core.specs.Setup.{HasJoinPosition, IsSetup};
@@ -67,10 +68,19 @@ pub fn a_block_has_one_position()
         → AreBlock g fs p → AreBlock g fs q → p ≡ q }
 {}
 
+/// The term lengths are the fifteen powers of two from 2^16 to 2^30. docs/CONTROL.md, "Limits".
+pub fn term_lengths_are_powers_of_two()
+    ensures powers { (z : ℤ) → is_term_length z ≡ true
+        → (k : ℕ) × (16 ≤ k) × (k ≤ 30) × (z ≡ pos (2 ^ k)) }
+    ensures all { (z : ℤ) (k : ℕ) → 16 ≤ k → k ≤ 30 → z ≡ pos (2 ^ k) → is_term_length z ≡ true }
+{}
+
 /// The bytes alone determine the setup frame in front of them, and it has one join position.
 pub fn one_setup_in_front()
-    ensures frame { (bytes : List ℕ) (s t : Setup) → IsSetup bytes s → IsSetup bytes t → s ≡ t }
-    ensures position { (s : Setup) (p q : ℤ) → HasJoinPosition s p → HasJoinPosition s q → p ≡ q }
+    ensures frame { (bytes : List ℕ) (s t : Setup)
+        → IsSetup bytes s → IsSetup bytes t → s ≡ t }
+    ensures position { (s : Setup) (p q : ℤ)
+        → HasJoinPosition s p → HasJoinPosition s q → p ≡ q }
 {}
 
 /// The bytes alone determine the NAK frame in front of them.
