@@ -91,7 +91,8 @@ pub fn one_nak_in_front()
 /// A NAK that was encoded is read as it, whatever follows; and the 28 bytes that are read as it, with the flags 0, are
 /// its encoding. Aeron Transport Protocol Specification, "NAK Frame".
 pub fn an_encoded_nak_is_read_as_it()
-    ensures read { (n : Nak) (rest : List ℕ) → NakFits n → HasRange n → IsNak (encoded_nak n ++ rest) n }
+    ensures read { (n : Nak) (rest : List ℕ) → NakFits n → HasRange n
+        → IsNak (encoded_nak n ++ rest) n }
     ensures bytes { (bytes : List ℕ) (n : Nak) → ((k : ℕ) → slice_index bytes k < 256)
         → IsNak bytes n → slice_index bytes 5 ≡ 0 → take 28 bytes ≡ encoded_nak n }
 {}
