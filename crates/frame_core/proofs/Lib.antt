@@ -4,5 +4,6 @@ pub mod FrameEncodingLemmas
 pub mod FrontLemmas
 pub mod LimitsLemmas
 pub mod NakLemmas
+pub mod OrderLemmas
 pub mod PositionLemmas
 pub mod SetupLemmas

@@ -1,10 +1,11 @@
 -- Positions, and the terms and offsets that have them.
-use Rattle.std.proofs.Common.{◌≡◌, ◌∙◌, sym, ap, ℕ, ℤ, pos, negsuc, ◌≤ℤ◌, ◌<ℤ◌, ◌+ℤ◌, ◌-ℤ◌, ◌*ℤ◌, ◌+◌, ◌*◌, ◌/◌, ◌%◌, ◌<◌, FitsSigned, w32, arith}
+use Rattle.std.proofs.Common.{rules, ◌≡◌, ◌∙◌, refl, sym, ap, ℕ, ℤ, pos, negsuc, ◌≤ℤ◌, ◌<ℤ◌, ◌+ℤ◌, ◌-ℤ◌, ◌*ℤ◌, ◌+◌, ◌*◌, ◌/◌, ◌%◌, ◌<◌, FitsSigned, w32, arith}
 use Rattle.std.proofs.lemmas.Int.{ints, int_wrap_fits, int_wrap-add_left}
 use Rattle.std.proofs.lemmas.Nat.{div-mul-add, mod-mul-add}
 use Rattle.std.specs.Int.{int_wrap}
+use Rattle.std.specs.Prelude.{int_lt, unsigned_abs, if◌then◌else◌, Bool, true, false, Some, None}
 use Rattle.frame_core.specs.declared.geometry.Geometry.{Geometry}
-use Rattle.frame_core.specs.Position.{HasPosition, terms_since}
+use Rattle.frame_core.specs.Position.{HasPosition, position_of, terms_since}
 
 -- a term and an offset have one position
 pub one_position : (g : Geometry) (term offset p q : ℤ) → HasPosition g term offset p → HasPosition g term offset q → p ≡ q
@@ -39,3 +40,55 @@ one_term g term other offset place p fits other_fits here there =
     let split = split_once (terms_since g term) (terms_since g other) offset place g.term_length here.since there.since here.low there.low here.high there.high
     (sym here.place ∙ there.place) in
     (sym (term_is g term fits) ∙ ap (λ (n : ℤ). int_wrap w32 (n +ℤ g.initial_term_id)) split.0 ∙ term_is g other other_fits, split.1)
+
+-- what the function reckons with, over whole numbers alone
+record IsPlace (terms offset size : ℤ) (n : ℕ) : Type 0 where
+  since : pos 0 ≤ℤ terms
+  low : pos 0 ≤ℤ offset
+  high : offset <ℤ size
+  place : pos n ≡ terms *ℤ size +ℤ offset
+
+summed : (terms offset size : ℤ) → pos 0 ≤ℤ terms → pos 0 ≤ℤ offset → offset <ℤ size
+    → pos (unsigned_abs terms * unsigned_abs size + unsigned_abs offset) ≡ terms *ℤ size +ℤ offset
+summed (pos t) (pos o) (pos s) since low high = refl
+summed (negsuc t) offset size since low high = absurd (omega (arith, ints, since))
+summed (pos t) (negsuc o) size since low high = absurd (omega (arith, ints, low))
+summed (pos t) (pos o) (negsuc s) since low high = absurd (omega (arith, ints, high))
+
+found_by : (terms offset size : ℤ) (n : ℕ) (a b c : Bool) → int_lt terms (pos 0) ≡ a → int_lt offset (pos 0) ≡ b → int_lt offset size ≡ c
+    → (if a then None else (if b then None else (if c then Some (unsigned_abs terms * unsigned_abs size + unsigned_abs offset) else None))) ≡ Some n
+    → IsPlace terms offset size n
+found_by terms offset size n true b c since low high found = absurd (search (rules, found))
+found_by terms offset size n false true c since low high found = absurd (search (rules, found))
+found_by terms offset size n false false false since low high found = absurd (search (rules, found))
+found_by terms offset size n false false true since low high found =
+    let from : pos 0 ≤ℤ terms = search (rules, since) in
+    let above : pos 0 ≤ℤ offset = search (rules, low) in
+    let below : offset <ℤ size = search (rules, high) in
+    let is : unsigned_abs terms * unsigned_abs size + unsigned_abs offset ≡ n = search (rules, found) in
+    record { since = from; low = above; high = below; place = ap pos (sym is) ∙ summed terms offset size from above below }
+
+-- a position that the function gives
+pub given : (g : Geometry) (term offset : ℤ) (n : ℕ) → position_of g term offset ≡ Some n → HasPosition g term offset (pos n)
+unfolding position_of
+given g term offset n found =
+    let is : IsPlace (terms_since g term) offset g.term_length n = found_by (terms_since g term) offset g.term_length n _ _ _ refl refl refl found in
+    record { since = is.since; low = is.low; high = is.high; place = is.place }
+
+-- each position is given
+pub is_given : (g : Geometry) (term offset p : ℤ) → HasPosition g term offset p → (n : ℕ) × (position_of g term offset ≡ Some n) × (p ≡ pos n)
+unfolding position_of
+is_given g term offset p here =
+    let since : int_lt (terms_since g term) (pos 0) ≡ false = search (rules, here.since) in
+    let low : int_lt offset (pos 0) ≡ false = search (rules, here.low) in
+    let high : int_lt offset g.term_length ≡ true = search (rules, here.high) in (
+      unsigned_abs (terms_since g term) * unsigned_abs g.term_length + unsigned_abs offset,
+      rw (since, low, high) refl,
+      here.place ∙ sym (summed (terms_since g term) offset g.term_length here.since here.low here.high),
+    )
+
+-- none is given where there is none
+pub not_given : (g : Geometry) (term offset : ℤ) → position_of g term offset ≡ None → (p : ℤ) → HasPosition g term offset p → ⊥
+not_given g term offset none p here =
+    let found = is_given g term offset p here in
+    search (rules, none, found.1)

@@ -1,6 +1,6 @@
 //! Laws of the definitions, each the contract of a function that does nothing.
 
-ghost use Rattle.std.specs.Prelude.{◌≡◌, ◌<◌, ◌≤◌, ◌^◌, ◌++◌, ℕ, ℤ, pos, true, List, length, take, slice_index, FitsSigned};
+ghost use Rattle.std.specs.Prelude.{◌≡◌, ◌<◌, ◌≤◌, ◌^◌, ◌++◌, ℕ, ℤ, pos, true, List, Some, length, take, slice_index, FitsSigned};
 ghost use Rattle.std.specs.Int.{w32};
 ghost use Rattle.frame_core.specs.Block.{AreBlock};
 ghost use Rattle.frame_core.specs.Datagram.{IsBadAt, IsDatagram};
@@ -8,7 +8,7 @@ ghost use Rattle.frame_core.specs.FrameEncoding.{IsEncodable, IsHeader, Fits, al
 ghost use Rattle.frame_core.specs.Front.{IsFront, used_by};
 ghost use Rattle.frame_core.specs.Limits.{is_term_length};
 ghost use Rattle.frame_core.specs.Nak.{HasRange, IsNak, NakFits, encoded_nak};
-ghost use Rattle.frame_core.specs.Position.{HasPosition};
+ghost use Rattle.frame_core.specs.Position.{HasPosition, position_of};
 ghost use Rattle.frame_core.specs.Setup.{HasJoinPosition, IsSetup};
 ghost use Rattle.frame_core.specs.declared.frame.Frame.{Frame};
 ghost use Rattle.frame_core.specs.declared.frame.FrameKind.TheVariants.{Message};
@@ -50,6 +50,14 @@ pub fn a_datagram_has_one_answer()
     ensures offset { (bytes : List ℕ) (m n : ℕ) → IsBadAt bytes m → IsBadAt bytes n → m ≡ n }
     ensures apart { (bytes : List ℕ) (fs : List Frame) (n : ℕ)
         → IsDatagram bytes fs → IsBadAt bytes n → ⊥ }
+{}
+
+/// The function that gives positions gives each that an offset in a term has, and no other.
+pub fn a_position_is_what_its_function_gives()
+    ensures given { (g : Geometry) (term offset : ℤ) (n : ℕ)
+        → position_of g term offset ≡ Some n → HasPosition g term offset (pos n) }
+    ensures all { (g : Geometry) (term offset p : ℤ) → HasPosition g term offset p
+        → (n : ℕ) × (position_of g term offset ≡ Some n) × (p ≡ pos n) }
 {}
 
 /// A term and an offset have one position, and a position has one term id and one offset.

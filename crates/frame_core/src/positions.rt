@@ -1,9 +1,11 @@
 //! Where frames lie in a stream: Aeron Transport Protocol Specification, "Stream position"; docs/PROTOCOL.md,
 //! "Positions".
 
-ghost use Rattle.std.specs.Prelude.{◌≡◌, ◌<◌, ◌+◌, ◌*◌, ◌≤ℤ◌, ◌<ℤ◌, ◌+ℤ◌, ◌*ℤ◌, ◌^◌, ℤ, pos, MatchOption, IfSome};
-ghost use Rattle.frame_core.specs.Position.{HasPosition, terms_since};
+ghost use Rattle.std.specs.Prelude.{◌≡◌, ◌<◌, ◌≤◌, ◌+◌, ◌*◌, ◌≤ℤ◌, ◌<ℤ◌, ◌*ℤ◌, ◌^◌, ℤ, pos, unsigned_abs, MatchOption, IfSome};
+ghost use Rattle.frame_core.specs.FrameEncoding.{frame_of};
+ghost use Rattle.frame_core.specs.Position.{HasPosition, HasRoom, frame_position, position_of, terms_since};
 
+use crate::frame::{Frame, FrameRef};
 use crate::geometry::Geometry;
 
 /// The position of an offset in a term, in bytes of the stream. None where the term is before the first one, or the
@@ -14,17 +16,10 @@ pub fn position(geometry: &Geometry, term_id: i32, offset: i32) -> Option<i64>
         (HasPosition geometry.now term_id offset) }
     ensures small { IfSome result (λ p. (pos 0 ≤ℤ p) × (p <ℤ pos (2 ^ 62))) }
 {
-    let terms = since(geometry, term_id);
-    if terms < 0 {
-        return None;
+    match place(geometry, &term_id, &offset) {
+        Some(position) => Some(position as i64),
+        None => None,
     }
-    if offset < 0 {
-        return None;
-    }
-    if offset >= geometry.term_length {
-        return None;
-    }
-    Some(place(terms, geometry.term_length, offset))
 }
 
 /// The term id of a position, and the offset in that term, in bytes. Takes no memory.
@@ -65,14 +60,58 @@ fn term_after(geometry: &Geometry, terms: i32) -> i32
     geometry.initial_term_id.wrapping_add(terms)
 }
 
+impl Frame {
+    /// The frame's position in a stream of that geometry, in bytes: below 2^62, and at least a term below the end of the
+    /// last term. None where its term is before the first one, or its offset not in a term. Takes no memory.
+    pub fn position_in(&self, geometry: &Geometry) -> Option<u64>
+        ensures value { result ≡ frame_position geometry.now self.now }
+        ensures small { IfSome result (λ p. p < 2 ^ 62) }
+        ensures room { IfSome result (HasRoom geometry.now self.now.term_offset) }
+    {
+        place(geometry, &self.term_id, &self.term_offset)
+    }
+}
+
+impl FrameRef<'_> {
+    /// As [`Frame::position_in`].
+    pub fn position_in(&self, geometry: &Geometry) -> Option<u64>
+        ensures value { result ≡ frame_position geometry.now (frame_of self.now) }
+        ensures small { IfSome result (λ p. p < 2 ^ 62) }
+        ensures room { IfSome result (HasRoom geometry.now self.now.term_offset) }
+    {
+        place(geometry, &self.term_id, &self.term_offset)
+    }
+}
+
+// The position of an offset in a term.
+#[tactic(auto, unfolding(crate::specs::Position::position_of))]
+fn place(geometry: &Geometry, term_id: &i32, offset: &i32) -> Option<u64>
+    ensures value { result ≡ position_of geometry.now term_id.now offset.now }
+    ensures small { IfSome result (λ p. p < 2 ^ 62) }
+    ensures room { IfSome result (HasRoom geometry.now offset.now) }
+{
+    let terms = since(geometry, *term_id);
+    if terms < 0 {
+        return None;
+    }
+    if *offset < 0 {
+        return None;
+    }
+    if *offset >= geometry.term_length {
+        return None;
+    }
+    Some(behind(terms, geometry.term_length, *offset))
+}
+
 // Where an offset lies behind that many whole terms.
-fn place(terms: i32, size: i32, offset: i32) -> i64
+fn behind(terms: i32, size: i32, offset: i32) -> u64
     requires terms { pos 0 ≤ℤ terms }
     requires low { pos 0 ≤ℤ offset }
     requires high { offset <ℤ size }
-    ensures value { result ≡ terms *ℤ size +ℤ offset }
-    ensures low { pos 0 ≤ℤ result }
-    ensures high { result <ℤ pos (2 ^ 62) }
+    ensures value { result ≡ unsigned_abs terms * unsigned_abs size + unsigned_abs offset }
+    ensures small { result < 2 ^ 62 }
+    ensures room { result + unsigned_abs size ≤ 2 ^ 31 * unsigned_abs size + unsigned_abs offset }
 {
-    (terms as u64 * size as u64 + offset as u64) as i64
+    u64::from(terms.unsigned_abs()) * u64::from(size.unsigned_abs())
+        + u64::from(offset.unsigned_abs())
 }
