@@ -92,7 +92,7 @@ unfolding i64_at
 FitsSigned-i64_at bytes place small = signed_fits64 _ (number_fits 8 place bytes small)
 
 -- a signed number is read back
-i32_back : (z : ℤ) (rest : List ℕ) → FitsSigned w32 z → cast_signed w32 (little_number 4 (i32_bytes z ++ rest)) ≡ z
+pub i32_back : (z : ℤ) (rest : List ℕ) → FitsSigned w32 z → cast_signed w32 (little_number 4 (i32_bytes z ++ rest)) ≡ z
 i32_back z rest fits = ap (cast_signed w32) (little_number-reads_back 4 (cast_unsigned w32 z) rest (omega (arith, ints))) ∙ to_z-of_z w32 z fits
 
 i64_back : (z : ℤ) (rest : List ℕ) → FitsSigned w64 z → cast_signed w64 (little_number 8 (i64_bytes z ++ rest)) ≡ z
@@ -121,11 +121,11 @@ IsHeader-header_of f rest fits = record {
 }
 
 -- a part behind the first bytes
-part : (bytes front xs : List ℕ) (place n : ℕ) → front ≡ take place bytes → xs ≡ take n (drop place bytes) → front ++ xs ≡ take (place + n) bytes
+pub part : (bytes front xs : List ℕ) (place n : ℕ) → front ≡ take place bytes → xs ≡ take n (drop place bytes) → front ++ xs ≡ take (place + n) bytes
 part bytes front xs place n front_is is = rw (front_is, is) (sym (take-add place n bytes))
 
 -- two bytes, one by one
-two_bytes : (bytes : List ℕ) (place : ℕ) → place + 2 ≤ length bytes → slice_index bytes place ∷ slice_index bytes (suc place) ∷ [] ≡ take 2 (drop place bytes)
+pub two_bytes : (bytes : List ℕ) (place : ℕ) → place + 2 ≤ length bytes → slice_index bytes place ∷ slice_index bytes (suc place) ∷ [] ≡ take 2 (drop place bytes)
 two_bytes bytes place room = rw (drop-cons bytes place 0 (omega arith), drop-cons bytes (suc place) 0 (omega arith)) refl
 
 -- the version and the flags

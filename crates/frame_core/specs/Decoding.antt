@@ -1,8 +1,10 @@
--- How a front is read from its bytes.
+-- How frames are read from their bytes.
 use Rattle.std.specs.Prelude.{◌≡◌, ◌≤◌, ◌-◌, ◌≤ℤ◌, ℕ, pos, min, List, length, take, drop, slice_index}
 use Rattle.frame_core.specs.declared.frame.FrameKind.{FrameKind}
 use Rattle.frame_core.specs.declared.frame.FrameKind.TheVariants.{Pad, Message, Heartbeat}
 use Rattle.frame_core.specs.declared.frame.Frame.{Frame}
+use Rattle.frame_core.specs.declared.nak.Nak.{Nak}
+use Rattle.frame_core.specs.declared.setup.Setup.{Setup}
 use Rattle.frame_core.specs.FrameEncoding.{u16_at, i32_at, i64_at, aligned}
 
 -- a header of these bytes is of a frame of the kind, whose encoding ends at a place and which uses that many bytes
@@ -24,4 +26,28 @@ read_frame bytes kind end = record {
   term_id = i32_at bytes 20;
   reserved = i64_at bytes 24;
   payload = take (end - 32) (drop 32 bytes);
+}
+
+-- the fields of a setup frame
+abbrev pub read_setup : List ℕ → Setup
+read_setup bytes = record {
+  flags = slice_index bytes 5;
+  term_offset = i32_at bytes 8;
+  session_id = i32_at bytes 12;
+  stream_id = i32_at bytes 16;
+  initial_term_id = i32_at bytes 20;
+  active_term_id = i32_at bytes 24;
+  term_length = i32_at bytes 28;
+  mtu = i32_at bytes 32;
+  ttl = i32_at bytes 36;
+}
+
+-- the fields of a NAK frame
+abbrev pub read_nak : List ℕ → Nak
+read_nak bytes = record {
+  session_id = i32_at bytes 8;
+  stream_id = i32_at bytes 12;
+  term_id = i32_at bytes 16;
+  term_offset = i32_at bytes 20;
+  length = i32_at bytes 24;
 }

@@ -2,6 +2,7 @@
 
 ghost use Rattle.std.specs.Prelude.{◌≡◌, ◌<◌, ◌^◌, length, IfOk, IfErr};
 ghost use Rattle.std.specs.Bool.{MatchBool};
+ghost use Rattle.frame_core.specs.FrameEncoding.{IsAligned};
 ghost use Rattle.frame_core.specs.declared.refusal.Refusal.TheVariants.{NoMemory};
 
 use crate::fields::{put_i32, put_i64, put_u16};
@@ -82,7 +83,7 @@ pub struct FrameRef<'a> {
 }
 
 impl FrameRef<'_> {
-    ghost use Rattle.frame_core.specs.FrameEncoding.{frame_of, HasLength, IsAligned};
+    ghost use Rattle.frame_core.specs.FrameEncoding.{frame_of, HasLength};
 
     /// A copy of the frame. Costs its payload's length.
     pub fn to_frame(&self, alloc: Global) -> Result<Frame, Refusal>
@@ -117,17 +118,6 @@ impl FrameRef<'_> {
             }
             FrameKind::Heartbeat => self.payload.is_empty() && self.length == 0,
         }
-    }
-
-    // Whether the term offset is from 0 and a multiple of 32.
-    fn has_aligned_offset(&self) -> bool
-        ensures { let aligned = IsAligned self.now.term_offset in
-            MatchBool result aligned (aligned → ⊥) }
-    {
-        if self.term_offset < 0 {
-            return false;
-        }
-        self.term_offset as u32 % 32 == 0
     }
 }
 
@@ -176,7 +166,7 @@ impl Frame {
         if !lent.has_length() {
             return false;
         }
-        lent.has_aligned_offset()
+        is_aligned(&self.term_offset)
     }
 
     /// The 32 bytes of the frame's header: Aeron Transport Protocol Specification, "Data Frame" and "Padding Frame".
@@ -195,4 +185,15 @@ impl Frame {
         put_i64(&mut out, 24, self.reserved);
         out
     }
+}
+
+// Whether a term offset is from 0 and a multiple of 32.
+pub fn is_aligned(term_offset: &i32) -> bool
+    ensures { let aligned = IsAligned term_offset.now in
+        MatchBool result aligned (aligned → ⊥) }
+{
+    if *term_offset < 0 {
+        return false;
+    }
+    *term_offset as u32 % 32 == 0
 }

@@ -11,10 +11,14 @@ mod geometry;
 mod items;
 pub mod laws;
 pub mod limits;
+mod nak;
 mod positions;
 mod refusal;
+mod setup;
 #[cfg(test)]
 mod tests;
+#[cfg(test)]
+mod tests_wire;
 
 pub use block::{Block, Place, Publication, block_end, block_of};
 pub use codec::{decode_front, encode_into};
@@ -22,5 +26,7 @@ pub use datagram::frames_of_datagram;
 pub use frame::{Frame, FrameKind, FrameRef};
 pub use geometry::Geometry;
 pub use items::Items;
+pub use nak::Nak;
 pub use positions::{position, term_of};
 pub use refusal::Refusal;
+pub use setup::Setup;

@@ -1,5 +1,8 @@
 //! The limits of the archive, by name: docs/CONTROL.md, "Limits".
 
+ghost use Rattle.std.specs.Prelude.{◌≡◌};
+ghost use Rattle.frame_core.specs.Limits.{is_mtu, is_term_length};
+
 /// Recordings that an archive has at most.
 pub const MAX_RECORDINGS: usize = 1_024;
 /// Recorder sessions that are open at most.
@@ -32,3 +35,31 @@ pub const MAX_HISTORY: u32 = 16_777_216;
 pub const MAX_LINE_LENGTH: usize = 262_144;
 /// Where recording ids and the numbers of sessions and replays stop.
 pub const LAST_NUMBER: i64 = 9_223_372_036_854_775_807;
+
+/// Whether a term may have so many bytes: a power of two from `MIN_TERM_LENGTH` to `MAX_TERM_LENGTH`. Takes no memory.
+#[tactic(auto, unfolding(crate::specs::Limits::is_term_length))]
+pub fn is_term_length(length: i32) -> bool
+    ensures { result ≡ is_term_length length }
+{
+    if length < MIN_TERM_LENGTH {
+        return false;
+    }
+    if length > MAX_TERM_LENGTH {
+        return false;
+    }
+    (length as u32).is_power_of_two()
+}
+
+/// Whether an MTU may be so many bytes: a multiple of 32, more than a header and at most `MAX_MTU`. Takes no memory.
+#[tactic(auto, unfolding(crate::specs::Limits::is_mtu))]
+pub fn is_mtu(mtu: i32) -> bool
+    ensures { result ≡ is_mtu mtu }
+{
+    if mtu <= 32 {
+        return false;
+    }
+    if mtu > MAX_MTU {
+        return false;
+    }
+    mtu as u32 % 32 == 0
+}

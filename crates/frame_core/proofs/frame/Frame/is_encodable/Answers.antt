@@ -15,7 +15,7 @@ pub returns : goal.returns
 returns c =
     decided
     c.args.self.now
-    c.has_aligned_offset.result
+    c.is_aligned.result
     (record {
       flags = search rules;
       length = search rules;
@@ -26,7 +26,4 @@ returns c =
       reserved = search rules;
     })
     (subst (λ (f : Frame). HasLength f.kind f.length f.payload) c.as_ref-lent.ensures c.if-not-has_length.ensures)
-    (subst
-    (λ (f : Frame). MatchBool c.has_aligned_offset.result (IsAligned f.term_offset) (IsAligned f.term_offset → ⊥))
-    c.as_ref-lent.ensures
-    c.has_aligned_offset.ensures)
+    c.is_aligned.ensures

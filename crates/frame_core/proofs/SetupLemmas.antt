@@ -1,0 +1,39 @@
+-- Setup frames, and the bytes that they are read from.
+use Rattle.std.proofs.Common.{◌≡◌, ◌∙◌, sym, refl, ℕ, ℤ, List, Option, Some, None}
+use Rattle.std.specs.Prelude.{true, MatchOption}
+use Rattle.frame_core.specs.declared.setup.Setup.{Setup}
+use Rattle.frame_core.specs.Decoding.{read_setup}
+use Rattle.frame_core.specs.FrameEncoding.{IsAligned}
+use Rattle.frame_core.specs.Limits.{is_term_length, is_mtu}
+use Rattle.frame_core.specs.Position.{HasPosition}
+use Rattle.frame_core.proofs.PositionLemmas.{one_position}
+use Rattle.frame_core.specs.Setup.{HasJoinPosition, IsSetup, IsUsable, geometry_of}
+
+-- a setup frame of lengths in the limits is decided by its position
+pub joins_where_placed : (s : Setup) (found : Option ℤ) → is_term_length s.term_length ≡ true → is_mtu s.mtu ≡ true → IsAligned s.term_offset
+    → MatchOption found ((p : ℤ) → HasPosition (geometry_of s) s.active_term_id s.term_offset p → ⊥) (HasPosition (geometry_of s) s.active_term_id s.term_offset)
+    → MatchOption found (IsUsable s → ⊥) (HasJoinPosition s)
+joins_where_placed s None size unit offset placed = λ usable. placed usable.0 usable.1.place
+joins_where_placed s (Some p) size unit offset placed = record { term_length = size; mtu = unit; offset = offset; place = placed }
+
+-- the setup frame in front of the bytes is the one that is read
+pub setup_is_read : (bytes : List ℕ) (s : Setup) → IsSetup bytes s → s ≡ read_setup bytes
+setup_is_read bytes s is = rw (
+  is.flags_at,
+  is.term_offset_at,
+  is.session_id_at,
+  is.stream_id_at,
+  is.initial_term_id_at,
+  is.active_term_id_at,
+  is.term_length_at,
+  is.mtu_at,
+  is.ttl_at,
+) refl
+
+-- the bytes have one setup frame in front
+pub one_setup : (bytes : List ℕ) (s t : Setup) → IsSetup bytes s → IsSetup bytes t → s ≡ t
+one_setup bytes s t here there = setup_is_read bytes s here ∙ sym (setup_is_read bytes t there)
+
+-- a setup frame has one join position
+pub one_join : (s : Setup) (p q : ℤ) → HasJoinPosition s p → HasJoinPosition s q → p ≡ q
+one_join s p q here there = one_position (geometry_of s) s.active_term_id s.term_offset p q here.place there.place
