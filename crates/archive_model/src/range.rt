@@ -3,11 +3,11 @@
 ghost use Rattle.std.specs.Prelude.{◌≡◌, ◌≤ℤ◌, ◌<ℤ◌, ◌*ℤ◌, pos, IsTrue, ◌==◌, ◌%◌, ◌*◌, ◌^◌, ◌&&◌, ℕ, int_le, nat_lt, not, unsigned_abs, chars};
 ghost use Rattle.std.specs.List.{list_any};
 ghost use Rattle.std.specs.Char.{is_control};
-ghost use Rattle.archive_model.specs.Descriptor.{is_channel, is_in_range, is_layout, is_length, is_mtu, is_negative, is_start_position, may_begin_at};
+ghost use Rattle.archive_model.specs.Descriptor.{is_channel, is_in_range, is_layout, is_negative, is_start_position, may_begin_at};
 
 use crate::channel::Channel;
 use crate::command::StartFields;
-use frame_core::limits::{MAX_CHANNEL_LENGTH, MAX_MTU, MAX_TERM_LENGTH, MIN_TERM_LENGTH};
+use frame_core::limits::{MAX_CHANNEL_LENGTH, is_mtu, is_term_length};
 
 impl StartFields {
     /// Whether each field is one that a recording may have. Costs the channel's length.
@@ -35,39 +35,10 @@ pub fn may_begin_at(term_length: &i32, position: &i64) -> bool
     ensures low { IsTrue result → pos 0 ≤ℤ position.now }
     ensures high { IsTrue result → position.now <ℤ (pos (2 ^ 31) *ℤ term_length.now) }
 {
-    if !is_power(*term_length) {
+    if !is_term_length(*term_length) {
         return false;
     }
     is_start(position, term_length)
-}
-
-/// Whether bytes are a term's or a segment's length.
-#[tactic(auto, unfolding(crate::specs::Descriptor::is_length))]
-fn is_power(length: i32) -> bool
-    ensures range { result ≡ is_length length }
-    ensures low { IsTrue result → pos 0 ≤ℤ length }
-{
-    if length < MIN_TERM_LENGTH {
-        return false;
-    }
-    if length > MAX_TERM_LENGTH {
-        return false;
-    }
-    (length as u32).is_power_of_two()
-}
-
-/// Whether bytes are an MTU.
-#[tactic(auto, unfolding(crate::specs::Descriptor::is_mtu))]
-fn is_unit(mtu: i32) -> bool
-    ensures { result ≡ is_mtu mtu }
-{
-    if mtu <= 32 {
-        return false;
-    }
-    if mtu > MAX_MTU {
-        return false;
-    }
-    mtu as u32 % 32 == 0
 }
 
 /// Whether terms, segments and frames have lengths that fit one another.
@@ -75,16 +46,16 @@ fn is_unit(mtu: i32) -> bool
 fn has_layout(fields: &StartFields) -> bool
     ensures { result ≡ is_layout fields.now }
 {
-    if !is_power(fields.term_length) {
+    if !is_term_length(fields.term_length) {
         return false;
     }
-    if !is_power(fields.segment_length) {
+    if !is_term_length(fields.segment_length) {
         return false;
     }
     if fields.term_length > fields.segment_length {
         return false;
     }
-    is_unit(fields.mtu)
+    is_mtu(fields.mtu)
 }
 
 /// Whether a recording may begin there.
