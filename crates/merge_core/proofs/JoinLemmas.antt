@@ -13,69 +13,13 @@ use Rattle.frame_core.specs.declared.refusal.Refusal.{Refusal}
 use Rattle.frame_core.specs.FrameEncoding.{aligned_length}
 use Rattle.frame_core.specs.Position.{frame_position}
 use Rattle.frame_core.proofs.OrderLemmas.{by_cmp, equal_cmp}
+use Rattle.merge_core.proofs.EndLemmas.{is_among, or_right, or_cases, among_inserted, among_still, among_before}
 use Rattle.merge_core.proofs.StreamLemmas.{offer_place as placed_at}
 use Rattle.merge_core.specs.declared.merge.Offered.{Offered}
 use Rattle.merge_core.specs.declared.merge.Offered.TheVariants.{Held, Ignored, Full}
 use Rattle.merge_core.specs.Merge.{Merging, opened, offer_of, offer_position, offered_at, answer_at, answer_to, with_frame, with_live_end, is_joined, ends_at, joins_at, after_replay_at, after_live_at, after_replay_frame, after_live_frame, held_at, next_frame, past, after_take}
 use Rattle.merge_core.specs.Histories.{Step, after_step, after, MayJoin, IsJoined}
 use Rattle.merge_core.specs.Histories.Step.{ReplayFrame, LiveFrame, Take}
-
--- whether a number is among them
-abbrev is_among : ℕ → List ℕ → Bool
-is_among q ks = list_any (is_at (nat_cmp q)) ks
-
-or_right : (b : Bool) → (b || true) ≡ true
-or_right b = search rules
-
-or_cases : (a b : Bool) → (a || b) ≡ true → (a ≡ true) ⊎ (b ≡ true)
-or_cases true b h = inl refl
-or_cases false b h = inr h
-
-or_more : (a b c : Bool) → (b ≡ true → c ≡ true) → (a || b) ≡ true → (a || c) ≡ true
-or_more true b c more h = refl
-or_more false b c more h = more h
-
-equal_at : (q k : ℕ) → is_at (nat_cmp q) k ≡ true → q ≡ k
-equal_at q k = by_cmp (λ o. is_eq o ≡ true → q ≡ k) q k (λ h. λ a. search (rules, a)) (λ h. λ a. h) (λ h. λ a. search (rules, a))
-
--- a number that was put among others is there
-among_inserted : (ks : List ℕ) (k : ℕ) → is_among k (insert_key nat_cmp ks k) ≡ true
-among_inserted [] k = rw (equal_cmp k k refl) refl
-among_inserted (x ∷ xs) k =
-    by_cmp (λ o. is_among k (match_ordering o (k ∷ x ∷ xs) (x ∷ xs) (x ∷ insert_key nat_cmp xs k)) ≡ true) k x
-    (λ h. rw (equal_cmp k k refl) refl)
-    (λ h. rw (equal_cmp k x h) refl)
-    (λ h. rw (among_inserted xs k) (or_right (is_eq (nat_cmp k x))))
-
--- and the others stay
-among_still : (ks : List ℕ) (k q : ℕ) → is_among q ks ≡ true → is_among q (insert_key nat_cmp ks k) ≡ true
-among_still [] k q among = search (rules, among)
-among_still (x ∷ xs) k q among =
-    by_cmp (λ o. is_among q (match_ordering o (k ∷ x ∷ xs) (x ∷ xs) (x ∷ insert_key nat_cmp xs k)) ≡ true) k x
-    (λ h. rw among (or_right (is_eq (nat_cmp q k))))
-    (λ h. among)
-    (λ h. or_more (is_at (nat_cmp q) x) (is_among q xs) (is_among q (insert_key nat_cmp xs k)) (among_still xs k q) among)
-
-first_or : (a b c : Bool) (q k : ℕ) → ((b ≡ true) → (q ≡ k) ⊎ (c ≡ true)) → (a || b) ≡ true → (q ≡ k) ⊎ ((a || c) ≡ true)
-first_or true b c q k h among = inr refl
-first_or false b c q k h among = h among
-
--- no other comes
-among_before : (ks : List ℕ) (k q : ℕ) → is_among q (insert_key nat_cmp ks k) ≡ true → (q ≡ k) ⊎ (is_among q ks ≡ true)
-among_before [] k q among = split (or_cases (is_at (nat_cmp q) k) false among) where
-  split : (is_at (nat_cmp q) k ≡ true) ⊎ (false ≡ true) → (q ≡ k) ⊎ (false ≡ true)
-  split (inl at) = inl (equal_at q k at)
-  split (inr wrong) = inr wrong
-among_before (x ∷ xs) k q among =
-    by_cmp (λ o. is_among q (match_ordering o (k ∷ x ∷ xs) (x ∷ xs) (x ∷ insert_key nat_cmp xs k)) ≡ true → (q ≡ k) ⊎ (is_among q (x ∷ xs) ≡ true)) k x
-    (λ h. λ a. split (or_cases (is_at (nat_cmp q) k) (is_among q (x ∷ xs)) a))
-    (λ h. λ a. inr a)
-    (λ h. λ a. first_or (is_at (nat_cmp q) x) (is_among q (insert_key nat_cmp xs k)) (is_among q xs) q k (among_before xs k q) a)
-    among
-  where
-    split : (is_at (nat_cmp q) k ≡ true) ⊎ (is_among q (x ∷ xs) ≡ true) → (q ≡ k) ⊎ (is_among q (x ∷ xs) ≡ true)
-    split (inl at) = inl (equal_at q k at)
-    split (inr there) = inr there
 
 -- what a frame that is held, an end that is kept and a frame that is taken keep is kept by all steps
 module _ (P : Merging → Type 0) (frames : (m : Merging) (p : ℕ) (f : Frame) → P m → P (with_frame p f Held m)) (ends : (m : Merging) (end : ℕ) → P m → P (with_live_end end m))
@@ -192,7 +136,7 @@ joins_from m f p offered is (inr (ignored, inl here)) =
     rw (same_offer offered Ignored (answer_to f m) is ignored, at) refl
 joins_from m f p offered is (inr (ignored, inr (h, found, same))) =
     let at : ((p + aligned_length h) == (p + aligned_length f)) ≡ true = grind (arith, same) in
-    rw (same_offer offered Ignored (answer_to f m) is ignored, found, at) (or_right ((p + aligned_length f) == m.cursor))
+    rw (same_offer offered Ignored (answer_to f m) is ignored, found, at) (or_right ((p + aligned_length f) == m.cursor) true refl)
 
 noted_at : (m : Merging) (f : Frame) (p : ℕ) (found : Result ℕ Refusal) → offer_position m.geometry f ≡ found → frame_position m.geometry f ≡ Some p → MayJoin f p m
     → is_noted (p + aligned_length f) (after_live_at f m found) ≡ true

@@ -1,6 +1,6 @@
 //! Laws of the definitions, each the contract of a function that does nothing.
 
-ghost use Rattle.std.specs.Prelude.{ℕ, List, IsTrue, ◌↔◌};
+ghost use Rattle.std.specs.Prelude.{◌≤◌, ℕ, List, length, IsTrue, ◌↔◌};
 ghost use Rattle.frame_core.specs.declared.frame.Frame.{Frame};
 ghost use Rattle.frame_core.specs.declared.geometry.Geometry.{Geometry};
 ghost use Rattle.merge_core.specs.Merge.{opened};
@@ -22,4 +22,13 @@ pub fn one_stream_gives_its_beginning()
 pub fn merged_is_where_the_live_stream_is_joined()
     ensures { (g : Geometry) (position : ℕ) (steps : List Step)
         → IsTrue (after steps (opened g position)).is_merged ↔ IsJoined steps (opened g position) }
+{}
+
+/// At most 4,096 frames are held, and at most 4,096 ends of live frames are kept, whatever was offered and taken.
+#[tactic(auto, using(crate::proofs::BoundLemmas::few_frames, crate::proofs::BoundLemmas::few_live_ends))]
+pub fn at_most_4096_are_held()
+    ensures frames { (g : Geometry) (position : ℕ) (steps : List Step)
+        → length (after steps (opened g position)).held ≤ 4096 }
+    ensures live_ends { (g : Geometry) (position : ℕ) (steps : List Step)
+        → length (after steps (opened g position)).live_ends ≤ 4096 }
 {}
