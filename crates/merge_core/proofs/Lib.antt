@@ -3,3 +3,4 @@ pub mod StreamLemmas
 pub mod EndLemmas
 pub mod JoinLemmas
 pub mod BoundLemmas
+pub mod ChangeLemmas
