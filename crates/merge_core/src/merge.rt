@@ -143,15 +143,10 @@ impl Merge {
                 }
             }
             Offered::Ignored => {
-                if joins_there(self.cursor, &self.held, position, end) {
-                    self.is_merged = keep_end(
-                        &mut self.live_ends,
-                        self.is_merged,
-                        self.cursor,
-                        end,
-                    )?;
+                if !joins_there(self.cursor, &self.held, position, end) {
                     return Ok(Offered::Ignored);
                 }
+                self.is_merged = keep_end(&mut self.live_ends, self.is_merged, self.cursor, end)?;
                 Ok(Offered::Ignored)
             }
             Offered::Full => Ok(Offered::Full),
@@ -226,8 +221,9 @@ fn keep_end(
     end: u64,
 ) -> Result<bool, AllocFailed<u64>>
     ensures joined { IfOk result (λ joined. joined ≡ (is_merged || end == cursor)) }
-    ensures ok { OnOk result (live_ends.new.keys
-        ≡ (if is_merged || end == cursor then live_ends.old.keys else insert_key nat_cmp live_ends.old.keys end)) }
+    ensures ok { OnOk result (live_ends.new.keys ≡ (
+        if is_merged || end == cursor then live_ends.old.keys
+        else insert_key nat_cmp live_ends.old.keys end)) }
     ensures err { OnErr result (live_ends.new.keys ≡ live_ends.old.keys) }
     ensures unjoined { OnErr result ((is_merged || end == cursor) ≡ false) }
     ensures absent { OnErr result (list_any (is_at (nat_cmp end)) live_ends.old.keys ≡ false) }

@@ -66,8 +66,9 @@ returns-in_err-self-inside-in-Ignored-clause-memory c =
     let p : ℕ = c.in_ok-position.position in
     let size : c.aligned_length.result ≡ aligned_length c.args.frame = c.aligned_length.ensures.value in
     let ignored : offered_at c.in_ok-position.position m ≡ Ignored = sym (c.outcome.ensures m refl refl) ∙ c.in-Ignored.is in
+    let joined : c.joins_there.result ≡ true = search rules in
     let joins : joins_at (p + aligned_length c.args.frame) p Ignored m ≡ true =
-    subst (λ n. joins_at (p + n) p Ignored m ≡ true) size (sym (c.joins_there.ensures m refl refl) ∙ c.if-joins_there.true)
+    subst (λ n. joins_at (p + n) p Ignored m ≡ true) size (sym (c.joins_there.ensures m refl refl) ∙ joined)
     in
     let unjoined : (m.is_merged || (p + aligned_length c.args.frame) == m.cursor) ≡ false =
     subst (λ n. (m.is_merged || (p + n) == m.cursor) ≡ false) size c.in_err-self-inside-in-Ignored.ensures.unjoined
