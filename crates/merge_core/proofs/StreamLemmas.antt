@@ -66,7 +66,7 @@ record HoldsOf (g : Geometry) (stream : List Frame) (cursor : ℕ) (m : Merging)
   stands : m.cursor ≡ cursor
   held : AllByRecursion (IsHeldOf g stream) m.held
 
-offer_place : (kind : FrameKind) (place : Option ℕ) (p : ℕ) → offer_of kind place ≡ Ok p → place ≡ Some p
+pub offer_place : (kind : FrameKind) (place : Option ℕ) (p : ℕ) → offer_of kind place ≡ Ok p → place ≡ Some p
 offer_place Heartbeat place p ok = search (rules, ok)
 offer_place Pad None p ok = search (rules, ok)
 offer_place Pad (Some q) p ok = search (rules, ok)

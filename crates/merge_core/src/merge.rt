@@ -1,11 +1,12 @@
 //! A merge of a replay and the live stream: docs/PROTOCOL.md, "Merging a replay into the live stream".
 
-ghost use Rattle.std.specs.Prelude.{◌≡◌, ◌<◌, ◌≤◌, ◌^◌, ◌+◌, ◌||◌, ◌==◌, ◌≤ℤ◌, ◌<ℤ◌, ◌*ℤ◌, pos, unsigned_abs, OnOk, OnErr, IfOk, if◌then◌else◌};
+ghost use Rattle.std.specs.Prelude.{◌≡◌, ◌≢◌, false, ◌<◌, ◌≤◌, ◌^◌, ◌+◌, ◌||◌, ◌==◌, ◌≤ℤ◌, ◌<ℤ◌, ◌*ℤ◌, pos, unsigned_abs, OnOk, OnErr, IfOk, IfErr, if◌then◌else◌};
 ghost use Rattle.std.specs.Ordering.{nat_cmp};
 ghost use Rattle.std.specs.List.{list_any};
 ghost use Rattle.std.specs.BTreeMap.{is_at};
 ghost use Rattle.std.specs.BTreeSet.{insert_key};
 ghost use Rattle.frame_core.specs.FrameEncoding.{aligned_length};
+ghost use Rattle.frame_core.specs.declared.refusal.Refusal.TheVariants.{NoMemory};
 ghost use Rattle.frame_core.specs.Outcome.{Gives};
 ghost use Rattle.merge_core.specs.Merge.{Merging, offer_position, offered_at, held_at, ends_at};
 
@@ -101,6 +102,9 @@ impl Merge {
         ensures answer { Gives (λ offered. offered) result (answer_to frame self.old) }
         ensures ok { OnOk result (self.new ≡ after_replay_frame frame self.old) }
         ensures err { OnErr result (self.new ≡ self.old) }
+        // Want of memory is answered only where the offer would change something.
+        ensures memory { IfErr result (λ refusal. refusal ≡ NoMemory
+            → after_replay_frame frame self.old ≢ self.old) }
     {
         let position = position_of(&self.geometry, &frame)?;
         match outcome(self.cursor, &self.held, position) {
@@ -118,6 +122,9 @@ impl Merge {
         ensures answer { Gives (λ offered. offered) result (answer_to frame self.old) }
         ensures ok { OnOk result (self.new ≡ after_live_frame frame self.old) }
         ensures err { OnErr result (self.new ≡ self.old) }
+        // Want of memory is answered only where the offer would change something.
+        ensures memory { IfErr result (λ refusal. refusal ≡ NoMemory
+            → after_live_frame frame self.old ≢ self.old) }
     {
         let position = position_of(&self.geometry, &frame)?;
         let end = position + frame.aligned_length();
@@ -136,15 +143,10 @@ impl Merge {
                 }
             }
             Offered::Ignored => {
-                if joins_there(self.cursor, &self.held, position, end) {
-                    self.is_merged = keep_end(
-                        &mut self.live_ends,
-                        self.is_merged,
-                        self.cursor,
-                        end,
-                    )?;
+                if !joins_there(self.cursor, &self.held, position, end) {
                     return Ok(Offered::Ignored);
                 }
+                self.is_merged = keep_end(&mut self.live_ends, self.is_merged, self.cursor, end)?;
                 Ok(Offered::Ignored)
             }
             Offered::Full => Ok(Offered::Full),
@@ -168,6 +170,7 @@ impl Merge {
 fn position_of(geometry: &Geometry, frame: &Frame) -> Result<u64, Refusal>
     ensures value { result ≡ offer_position geometry.now frame.now }
     ensures small { IfOk result (λ p. p < 2 ^ 62) }
+    ensures refusal { IfErr result (λ refusal. refusal ≢ NoMemory) }
 {
     match frame.kind {
         FrameKind::Heartbeat => return Err(Refusal::BadBlock),
@@ -218,9 +221,12 @@ fn keep_end(
     end: u64,
 ) -> Result<bool, AllocFailed<u64>>
     ensures joined { IfOk result (λ joined. joined ≡ (is_merged || end == cursor)) }
-    ensures ok { OnOk result (live_ends.new.keys
-        ≡ (if is_merged || end == cursor then live_ends.old.keys else insert_key nat_cmp live_ends.old.keys end)) }
+    ensures ok { OnOk result (live_ends.new.keys ≡ (
+        if is_merged || end == cursor then live_ends.old.keys
+        else insert_key nat_cmp live_ends.old.keys end)) }
     ensures err { OnErr result (live_ends.new.keys ≡ live_ends.old.keys) }
+    ensures unjoined { OnErr result ((is_merged || end == cursor) ≡ false) }
+    ensures absent { OnErr result (list_any (is_at (nat_cmp end)) live_ends.old.keys ≡ false) }
 {
     if is_merged {
         return Ok(true);
