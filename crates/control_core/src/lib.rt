@@ -7,7 +7,6 @@ pub mod laws;
 mod line;
 mod merge_line;
 mod number;
-mod numbered;
 mod parse;
 mod print;
 mod refusal_line;

@@ -5,7 +5,7 @@ use Rattle.std.proofs.Math.Seq.{take-suc, drop-cons, set-append_seam}
 use Rattle.std.proofs.lemmas.List.{take-append-drop, append-nil, length-take-le, take_all}
 use Rattle.std.proofs.lemmas.Option.{slice_get-get_or}
 use Rattle.archive_model.specs.Keyed.{find, change}
-use Rattle.control_core.specs.Numbered.{IsPlaceOf, IsNone}
+use Rattle.archive_model.specs.Numbered.{IsPlaceOf, IsNone}
 
 module _ {X : Type 0} (number : X → ℤ) where
   -- no value of the front has the number
@@ -41,6 +41,7 @@ module _ {X : Type 0} (number : X → ℤ) where
       let before : length front ≡ place = length-take-le place xs (omega arith) in
       record {
         value = x;
+        within = within;
         at = slice_get-get_or xs place x within ∙ ap Some (sym is);
         found = ap (find number n) split ∙ skips.found (x ∷ rest) ∙ (rw this refl);
         changed = λ f. ap (change number n f) split ∙ skips.changed f (x ∷ rest) ∙ (rw this (sym (set-append_seam front x rest (f x)))) ∙ ap (λ k. set (front ++ x ∷ rest) k (f x)) before ∙ ap (λ ys. set ys place (f x)) (sym split);

@@ -2,10 +2,10 @@
 
 ghost use Rattle.std.specs.Prelude.{◌≡◌, ℤ, MatchOption};
 ghost use Rattle.std.specs.Ordering.{int_eq};
-ghost use Rattle.control_core.specs.Numbered.{IsPlaceOf, IsNone};
+ghost use Rattle.archive_model.specs.Numbered.{IsPlaceOf, IsNone};
 
 /// A value that has a number.
-pub(crate) trait Numbered {
+pub trait Numbered {
     /// Its number.
     ghost number_of: { Self → ℤ };
 
@@ -15,7 +15,7 @@ pub(crate) trait Numbered {
 }
 
 /// Where the first value of a number stands. Costs the list's length.
-pub(crate) fn place_of<T: Numbered>(values: &[T], number: &i64) -> Option<usize>
+pub fn place_of<T: Numbered>(values: &[T], number: &i64) -> Option<usize>
     ensures { MatchOption result (IsNone T.number_of number.now values.now)
         (IsPlaceOf T.number_of number.now values.now) }
 {
