@@ -19,7 +19,8 @@ counts_of disk = disk.counts
 
 -- A call that writes, cuts or removes succeeds only where it is not to fail. Where it fails it has changed
 -- nothing, or it was to fail once and has made its change all the same.
-pub record KeepsTurn {T E : Type 0} (result : Result T E) (file : FileId) (change : FileState → FileState) (old new : MemoryDisk) : Type 0 where
+pub record KeepsTurn {T E : Type 0} (result : Result T E) (file : FileId)
+    (change : FileState → FileState) (old new : MemoryDisk) : Type 0 where
   pub goes : OnOk result (next_turn (counts_of old) ≡ Goes)
   pub fails : OnErr result (IsQuiet (life_of old) (life_of new)
       ⊎ ((next_turn (counts_of old) ≡ Fails) × ((life_of new).now file ≡ change ((life_of old).now file))))

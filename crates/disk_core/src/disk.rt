@@ -18,7 +18,8 @@ pub trait Disk {
 
     /// The length of a file, 0 if it is absent.
     fn len(&mut self, file: FileId) -> Result<u64, Fault>
-        ensures exact { IfOk result (λ n. IsTrue (life self.new).obeys → n ≡ length (bytes_now (life self.old) file)) }
+        ensures exact { IfOk result (λ n. IsTrue (life self.new).obeys →
+            n ≡ length (bytes_now (life self.old) file)) }
         ensures quiet { IsQuiet (life self.old) (life self.new) }
         ensures cause { HasCause result (life self.old) (life self.new) };
 

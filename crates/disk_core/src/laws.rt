@@ -61,14 +61,15 @@ pub fn syncs_add_no_outcome()
 /// Once each file has been synced, a crash leaves what is read and nothing else.
 #[tactic(auto, using(crate::proofs::ImageLemmas::all_durable))]
 pub fn synced_files_are_left_as_read()
-    ensures { (files : Files) (image : Image) → ((file : FileId) → files file ≡ durable (reads files file)) →
-        MayLeave files image → (file : FileId) → image file ≡ reads files file }
+    ensures { (files : Files) (image : Image) →
+        ((file : FileId) → files file ≡ durable (reads files file)) → MayLeave files image → (file : FileId) → image file ≡ reads files file }
 {}
 
 /// Of a disk that is begun from an image, a crash leaves that image and nothing else.
 #[tactic(auto, using(crate::proofs::ImageLemmas::begun_left))]
 pub fn a_begun_disk_is_durable()
-    ensures { (first image : Image) → MayLeave (begun first) image → (file : FileId) → image file ≡ first file }
+    ensures { (first image : Image) → MayLeave (begun first) image →
+        (file : FileId) → image file ≡ first file }
 {}
 
 /// What a crash leaves of one file says nothing of another: of two images that it may leave, each file

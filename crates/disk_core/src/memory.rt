@@ -77,7 +77,9 @@ impl Disk for MemoryDisk {
 
     ghost life = { life_of };
 
-    ghost reads_may_stay = { λ disk file. well_stays (after nothing disk.history.log.items file) (after nothing disk.history.log.items file).reads refl (disk.history.well file) };
+    ghost reads_may_stay = { λ disk file.
+        well_stays (after nothing disk.history.log.items file)
+        (after nothing disk.history.log.items file).reads refl (disk.history.well file) };
 
     fn len(&mut self, file: FileId) -> Result<u64, Fault>
         ensures exact { IfOk result (λ n. n ≡ length (bytes_now (life_of self.old) file)) }
@@ -95,7 +97,8 @@ impl Disk for MemoryDisk {
 
     fn read_at(&mut self, file: FileId, at: u64, into: &mut [u8]) -> Result<usize, Fault>
         ensures within { IfOk result (λ n. n ≤ length into.old) }
-        ensures exact { IfOk result (λ n. IsRead (bytes_now (life_of self.old) file) at into.old into.new n) }
+        ensures exact { IfOk result (λ n.
+            IsRead (bytes_now (life_of self.old) file) at into.old into.new n) }
         ensures quiet { IsQuiet (life_of self.old) (life_of self.new) }
         ensures cause { HasCause result (life_of self.old) (life_of self.new) }
         ensures counts { counts_of self.new ≡ after_call false (is_ok result) (counts_of self.old) }
@@ -179,7 +182,8 @@ impl Disk for MemoryDisk {
     }
 
     fn list(&mut self) -> Result<Vec<FileId>, ListFault>
-        ensures files { IfOk result (λ files. AreFilesWith (λ file. IsSome (reads (life_of self.old).now file)) files.items) }
+        ensures files { IfOk result (λ files.
+            AreFilesWith (λ file. IsSome (reads (life_of self.old).now file)) files.items) }
         ensures quiet { IsQuiet (life_of self.old) (life_of self.new) }
         ensures cause { HasListCause result (life_of self.old) (life_of self.new) }
         ensures counts { counts_of self.new ≡ after_list result (counts_of self.old) }
