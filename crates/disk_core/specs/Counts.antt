@@ -39,7 +39,8 @@ with_fault old = record old { faults = one_more old.faults }
 
 -- the counts after a call with this outcome
 abbrev pub after_call : Bool → Bool → Counts → Counts
-after_call changes succeeded old = if succeeded then counted changes old else with_fault (counted changes old)
+after_call changes succeeded old =
+    if succeeded then counted changes old else with_fault (counted changes old)
 
 -- the counts after a listing with this outcome; want of memory for the list is no fault
 abbrev pub after_list : {T : Type 0} → Result T ListFault → Counts → Counts

@@ -99,6 +99,7 @@ impl Disk for MemoryDisk {
         ensures within { IfOk result (λ n. n ≤ length into.old) }
         ensures exact { IfOk result (λ n.
             IsRead (bytes_now (life_of self.old) file) at into.old into.new n) }
+        ensures buffer { OnErr result (into.new ≡ into.old) }
         ensures quiet { IsQuiet (life_of self.old) (life_of self.new) }
         ensures cause { HasCause result (life_of self.old) (life_of self.new) }
         ensures counts { counts_of self.new ≡ after_call false (is_ok result) (counts_of self.old) }
@@ -112,8 +113,10 @@ impl Disk for MemoryDisk {
     }
 
     fn write_at(&mut self, file: FileId, at: u64, bytes: &[u8]) -> Result<(), Fault>
-        ensures written { Makes result file (write_to at bytes.now) (life_of self.old) (life_of self.new) }
-        ensures step { Steps file (IsWritten at (length bytes.now)) (life_of self.old) (life_of self.new) }
+        ensures written { Makes result file (write_to at bytes.now)
+            (life_of self.old) (life_of self.new) }
+        ensures step { Steps file (IsWritten at (length bytes.now))
+            (life_of self.old) (life_of self.new) }
         ensures cause { HasCause result (life_of self.old) (life_of self.new) }
         ensures counts { counts_of self.new ≡ after_call true (is_ok result) (counts_of self.old) }
         ensures turn { KeepsTurn result file (write_to at bytes.now) self.old self.new }
