@@ -9,6 +9,11 @@ const FILE: FileId = FileId::Segment {
     base: 65536,
 };
 
+const NEVER_THERE: FileId = FileId::Segment {
+    recording: 6,
+    base: 0,
+};
+
 const UNTOUCHED: FileId = FileId::Segment {
     recording: 7,
     base: 0,
@@ -93,8 +98,8 @@ fn crash_leaves_what_the_choice_says(rt: HostRuntime) -> Result<(), Fail> {
 }
 
 // Bank A is removed, bank B is cut and grown again behind a gap, one file is untouched, one is new with a
-// gap, and one is removed and made again.
-const CHANGES: [Step<'_>; 14] = [
+// gap, one is removed and made again, and one is cut that was never there.
+const CHANGES: [Step<'_>; 15] = [
     Step::Write(FileId::BankA, 0, &[1, 2, 3, 4]),
     Step::Sync(FileId::BankA),
     Step::Write(FileId::BankB, 0, &[5, 6]),
@@ -107,11 +112,13 @@ const CHANGES: [Step<'_>; 14] = [
     Step::Cut(FileId::BankB, 1),
     Step::Write(FileId::BankB, 3, &[7]),
     Step::Write(FILE, 2, &[8]),
+    Step::Cut(NEVER_THERE, 1),
     Step::Remove(MADE_AGAIN),
     Step::Write(MADE_AGAIN, 0, &[8]),
 ];
 
-// What a crash by a choice leaves of bank A, bank B, the new file and the file made again.
+// What a crash by a choice leaves of bank A, bank B, the new file and the file made again. The file that was
+// never there takes the third byte of the choice, and the untouched one none.
 const LEFT: [(&[u8], [Option<&[u8]>; 4]); 6] = [
     (
         &[],
@@ -136,11 +143,21 @@ const LEFT: [(&[u8], [Option<&[u8]>; 4]); 6] = [
     ),
     (
         &[0, 1],
-        [Some(&[1, 2, 3, 4]), Some(&[5, 0, 0, 7]), None, Some(&[8])],
+        [
+            Some(&[1, 2, 3, 4]),
+            Some(&[5, 0, 0, 7]),
+            Some(&[0, 0, 8]),
+            Some(&[1, 2, 3]),
+        ],
     ),
     (
         &[1, 9, 0, 255],
-        [None, Some(&[5, 9, 9, 9]), None, Some(&[255])],
+        [
+            None,
+            Some(&[5, 9, 9, 9]),
+            Some(&[255, 255, 255]),
+            Some(&[8]),
+        ],
     ),
 ];
 
@@ -154,6 +171,7 @@ fn removed_cut_and_gapped_files(rt: HostRuntime) -> Result<(), Fail> {
         let mut left = disk.crash(choice)?;
         reads(&rt, &mut left, FileId::BankA, a)?;
         reads(&rt, &mut left, FileId::BankB, b)?;
+        reads(&rt, &mut left, NEVER_THERE, None)?;
         reads(&rt, &mut left, UNTOUCHED, Some(&[4]))?;
         reads(&rt, &mut left, FILE, new)?;
         reads(&rt, &mut left, MADE_AGAIN, again)?;
