@@ -5,7 +5,7 @@ use Rattle.std.proofs.lemmas.Option.{same_Some}
 use Rattle.std.proofs.lemmas.List.{length-map}
 use Rattle.std.specs.Ordering.{nat_cmp, match_ordering, is_eq}
 use Rattle.std.specs.Cmp.{nat_eq_equiv}
-use Rattle.std.specs.List.{list_any, AllByRecursion, IsDistinct}
+use Rattle.std.specs.List.{list_any}
 use Rattle.std.specs.Map.{lookup, remove_entry}
 use Rattle.std.specs.BTreeMap.{insert_entry, is_at}
 use Rattle.std.specs.BTreeSet.{insert_key}
@@ -17,7 +17,7 @@ use Rattle.frame_core.specs.FrameEncoding.{aligned_length}
 use Rattle.frame_core.proofs.OrderLemmas.{by_cmp, equal_cmp}
 use Rattle.merge_core.specs.declared.merge.Offered.{Offered}
 use Rattle.merge_core.specs.declared.merge.Offered.TheVariants.{Held, Ignored, Full}
-use Rattle.merge_core.specs.Merge.{Merging, opened, offer_position, offered_at, with_frame, with_live_end, is_joined, ends_at, joins_at, after_replay_at, after_live_at, held_at, next_frame, past}
+use Rattle.merge_core.specs.Merge.{Merging, opened, offer_position, offered_at, with_frame, with_live_end, ends_at, joins_at, after_replay_at, after_live_at, held_at, next_frame, past}
 use Rattle.merge_core.specs.Histories.{Step, after_step, after}
 use Rattle.merge_core.specs.Histories.Step.{ReplayFrame, LiveFrame, Take}
 use Rattle.merge_core.proofs.HeldLemmas.{none_before}

@@ -1,9 +1,8 @@
 -- Frames that are held, where one is put in or taken out.
-use Rattle.std.proofs.Common.{◌≡◌, ◌<◌, ◌^◌, ℕ, Bool, true, false, List, [], ◌∷◌, Option, None, Some, is_some, sym, subst, if◌then◌else◌, nat_lt, length, refl, ap, rules}
+use Rattle.std.proofs.Common.{◌≡◌, ℕ, Bool, true, false, List, [], ◌∷◌, Option, None, Some, is_some, sym, subst, if◌then◌else◌, nat_lt, length, refl, ap, rules}
 use Rattle.std.specs.Prelude.{nat_le}
 use Rattle.std.specs.Ordering.{nat_cmp, match_ordering, is_eq}
 use Rattle.std.specs.Prelude.{cond}
-use Rattle.std.specs.declared.cmp.Ordering.{Ordering}
 use Rattle.std.specs.List.{AllByRecursion}
 use Rattle.std.proofs.lemmas.Option.{same_Some}
 use Rattle.std.specs.Map.{lookup, remove_entry}

@@ -1,23 +1,20 @@
 -- When the live stream is joined.
-use Rattle.std.proofs.Common.{◌≡◌, ◌<◌, ◌+◌, ◌==◌, ◌||◌, ℕ, Bool, true, false, if◌then◌else◌, List, [], ◌∷◌, ◌++◌, ◌⊎◌, inl, inr, Option, None, Some, refl, sym, ap, ◌∙◌, subst, arith, rules}
+use Rattle.std.proofs.Common.{◌≡◌, ◌+◌, ◌==◌, ◌||◌, ℕ, Bool, true, false, if◌then◌else◌, List, [], ◌∷◌, ◌++◌, ◌⊎◌, inl, inr, Option, None, Some, refl, sym, ap, ◌∙◌, subst, arith, rules}
 use Rattle.std.specs.Prelude.{Result, Ok, Err, IsTrue, ◌↔◌}
 use Rattle.std.specs.Result.{result_ok}
 use Rattle.std.proofs.lemmas.Option.{same_Some}
-use Rattle.std.specs.Ordering.{nat_cmp, match_ordering, is_eq}
-use Rattle.std.specs.List.{list_any}
-use Rattle.std.specs.BTreeMap.{is_at}
+use Rattle.std.specs.Ordering.{nat_cmp}
 use Rattle.std.specs.BTreeSet.{insert_key}
 use Rattle.frame_core.specs.declared.frame.Frame.{Frame}
 use Rattle.frame_core.specs.declared.geometry.Geometry.{Geometry}
 use Rattle.frame_core.specs.declared.refusal.Refusal.{Refusal}
 use Rattle.frame_core.specs.FrameEncoding.{aligned_length}
 use Rattle.frame_core.specs.Position.{frame_position}
-use Rattle.frame_core.proofs.OrderLemmas.{by_cmp, equal_cmp}
 use Rattle.merge_core.proofs.EndLemmas.{is_among, or_right, or_cases, among_inserted, among_still, among_before}
 use Rattle.merge_core.proofs.StreamLemmas.{offer_place as placed_at}
 use Rattle.merge_core.specs.declared.merge.Offered.{Offered}
 use Rattle.merge_core.specs.declared.merge.Offered.TheVariants.{Held, Ignored, Full}
-use Rattle.merge_core.specs.Merge.{Merging, opened, offer_of, offer_position, offered_at, answer_at, answer_to, with_frame, with_live_end, is_joined, ends_at, joins_at, after_replay_at, after_live_at, after_replay_frame, after_live_frame, held_at, next_frame, past, after_take}
+use Rattle.merge_core.specs.Merge.{Merging, opened, offer_position, offered_at, answer_at, answer_to, with_frame, with_live_end, ends_at, joins_at, after_replay_at, after_live_at, after_replay_frame, after_live_frame, held_at, next_frame, past, after_take}
 use Rattle.merge_core.specs.Histories.{Step, after_step, after, MayJoin, IsJoined}
 use Rattle.merge_core.specs.Histories.Step.{ReplayFrame, LiveFrame, Take}
 

@@ -1,5 +1,5 @@
 -- Offers of one stream, and what comes out of them.
-use Rattle.std.proofs.Common.{◌≡◌, ◌<◌, ◌≤◌, ◌+◌, ◌==◌, ℕ, Bool, true, false, if◌then◌else◌, List, [], ◌∷◌, ◌++◌, ◌⊎◌, inl, inr, Option, None, Some, refl, sym, ap, ◌∙◌, subst, arith, rules}
+use Rattle.std.proofs.Common.{◌≡◌, ◌<◌, ◌≤◌, ◌+◌, ◌==◌, ℕ, Bool, true, false, if◌then◌else◌, List, [], ◌∷◌, ◌++◌, inl, inr, Option, None, Some, refl, sym, ap, ◌∙◌, subst, arith, rules}
 use Rattle.std.specs.Prelude.{Result, Ok, Err}
 use Rattle.std.proofs.lemmas.Option.{same_Some}
 use Rattle.std.specs.List.{AllByRecursion}
@@ -12,7 +12,7 @@ use Rattle.frame_core.specs.FrameEncoding.{aligned_length}
 use Rattle.frame_core.specs.Position.{frame_position}
 use Rattle.merge_core.specs.declared.merge.Offered.{Offered}
 use Rattle.merge_core.specs.declared.merge.Offered.TheVariants.{Held, Ignored, Full}
-use Rattle.merge_core.specs.Merge.{Merging, opened, offer_of, offer_position, offered_at, with_frame, with_live_end, joins_at, after_replay_at, after_live_at, after_replay_frame, after_live_frame, held_at, next_frame, past, after_take}
+use Rattle.merge_core.specs.Merge.{Merging, opened, offer_of, offer_position, offered_at, with_frame, with_live_end, joins_at, after_replay_at, after_live_at, after_replay_frame, after_live_frame, next_frame, past}
 use Rattle.merge_core.specs.Histories.{Step, taken, output, Follow, IsOf, AreOf, from, IsBeginning}
 use Rattle.merge_core.specs.Histories.Step.{ReplayFrame, LiveFrame, Take}
 use Rattle.merge_core.proofs.HeldLemmas.{all_insert, all_remove, all_found}

@@ -4,6 +4,7 @@ ghost use Rattle.std.specs.Prelude.{◌≡◌, ◌≢◌, false, ◌<◌, ◌≤
 ghost use Rattle.std.specs.Ordering.{nat_cmp};
 ghost use Rattle.std.specs.List.{list_any};
 ghost use Rattle.std.specs.BTreeMap.{is_at};
+ghost use Rattle.std.specs.Map.{remove_entry};
 ghost use Rattle.std.specs.BTreeSet.{insert_key};
 ghost use Rattle.frame_core.specs.FrameEncoding.{aligned_length};
 ghost use Rattle.frame_core.specs.declared.refusal.Refusal.TheVariants.{NoMemory};
@@ -136,10 +137,7 @@ impl Merge {
                         self.is_merged = is_merged;
                         Ok(Offered::Held)
                     }
-                    Err(_) => {
-                        self.held.remove(&position);
-                        Err(Refusal::NoMemory)
-                    }
+                    Err(_) => Err(let_go(&mut self.held, position)),
                 }
             }
             Offered::Ignored => {
@@ -236,6 +234,15 @@ fn keep_end(
     }
     live_ends.insert(end)?;
     Ok(false)
+}
+
+// Lets a frame go whose end could not be kept, for want of memory.
+fn let_go(held: &mut BTreeMap<u64, Frame>, position: u64) -> Refusal
+    ensures entries { held.new.entries ≡ remove_entry (is_at (nat_cmp position)) held.old.entries }
+    ensures refusal { result ≡ NoMemory }
+{
+    held.remove(&position);
+    Refusal::NoMemory
 }
 
 // Whether the live stream is joined where the cursor is.

@@ -1,4 +1,4 @@
-use Rattle.std.proofs.Common.{◌≡◌, ◌≢◌, ◌+◌, ◌==◌, ◌||◌, ℕ, subst, true, ◌<◌, ◌^◌, rules, ◌∙◌, ap, sym, refl, List, [], false, None}
+use Rattle.std.proofs.Common.{◌≡◌, ◌≢◌, ◌+◌, ◌==◌, ◌||◌, ℕ, subst, true, ◌<◌, ◌^◌, rules, ◌∙◌, ap, sym, refl, [], false, None}
 use Rattle.std.specs.Ordering.{nat_cmp}
 use Rattle.std.specs.Map.{lookup, remove_entry}
 use Rattle.std.specs.BTreeMap.{is_at}
@@ -17,14 +17,14 @@ invariant_of-self-in-Ok c =
     (c.self.invariant.0, rw (c.in_ok-insert-in-Held.ensures.entries) (all_insert _ _ _ _ low c.self.invariant.1))
 
 -- the frame was put in where none was, and is taken out
-as_before : (c : goal.Joined-remove) → c.remove.new.self.entries ≡ c.self.inside.held.entries
+as_before : (c : goal.After-let_go) → c.let_go.new.held.entries ≡ c.self.inside.held.entries
 as_before c =
     let m : Merging = record { geometry = c.self.inside.geometry; cursor = c.self.inside.cursor; held = c.self.inside.held.entries; live_ends = []; is_merged = false } in
     let held : c.outcome.result ≡ Held = search rules in
     let none : lookup (is_at (nat_cmp c.in_ok-position.position)) c.self.inside.held.entries ≡ None =
     none_before m c.in_ok-position.position (sym (c.outcome.ensures m refl refl) ∙ held)
     in
-    c.remove.ensures.entries ∙ ap (remove_entry (is_at (nat_cmp c.in_ok-position.position))) c.in_ok-insert-in-Held.ensures.entries
+    c.let_go.ensures.entries ∙ ap (remove_entry (is_at (nat_cmp c.in_ok-position.position))) c.in_ok-insert-in-Held.ensures.entries
     ∙ remove_inserted _ _ _ none
 
 pub invariant_of-self-in-Err : goal.invariant_of-self-in-Err

@@ -1,4 +1,4 @@
-use Rattle.std.proofs.Common.{◌≡◌, ◌+◌, ◌<◌, ◌^◌, rules, arith, Some, sym, ◌∙◌}
+use Rattle.std.proofs.Common.{◌<◌, ◌^◌, arith, sym}
 use Rattle.merge_core.proofs.HeldLemmas.{all_remove, all_found}
 use Rattle.merge_core.proofs.merge.Merge.take.Goals as goal
 
