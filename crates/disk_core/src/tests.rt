@@ -293,6 +293,22 @@ fn stops_and_fails_where_told(rt: HostRuntime) -> Result<(), Fail> {
 }
 
 #[test]
+fn failing_cuts_and_removes_take_effect(rt: HostRuntime) -> Result<(), Fail> {
+    let mut disk = MemoryDisk::new(rt.alloc());
+    disk.write_at(FILE, 0, &[1, 2, 3])?;
+    disk.sync(FILE)?;
+    disk.fail_at(1);
+    assert!(rt; disk.cut(FILE, 1).is_err());
+    reads(&rt, &mut disk, FILE, Some(&[1]))?;
+    reads(&rt, &mut disk.crash(&[0])?, FILE, Some(&[1, 2, 3]))?;
+    disk.fail_at(1);
+    assert!(rt; disk.remove(FILE).is_err());
+    reads(&rt, &mut disk, FILE, None)?;
+    reads(&rt, &mut disk.crash(&[0])?, FILE, Some(&[1, 2, 3]))?;
+    reads(&rt, &mut disk.crash(&[1])?, FILE, None)
+}
+
+#[test]
 fn files_have_names(rt: HostRuntime) -> Result<(), Fail> {
     for (file, name) in [
         (FileId::BankA, "catalogue-a.bank"),
