@@ -11,7 +11,7 @@ use Rattle.archive_model.specs.Descriptor.{is_negative}
 use Rattle.archive_model.specs.Commands.{frames_of, recorded_in}
 use Rattle.archive_model.specs.Acceptance.{BookState, Answers, Continue, recording_in, is_full, Of}
 use Rattle.archive_model.specs.Keyed.{find, change}
-use Rattle.archive_model.specs.Places.{IsPlace}
+use Rattle.archive_model.specs.Numbered.{IsPlaceOf}
 use Rattle.archive_model.specs.Histories.{AreRising}
 
 not_full : (b : BookState) → b.counted < b.limit → IsTrue (is_full b) → ⊥
@@ -53,11 +53,15 @@ rising_set low (x ∷ rs) (suc place) r new next rising gets same = (rising.0, r
 pub read_at : (rs : List Recording) (place : ℕ) (r : Recording) → place < length rs → r ≡ get_or rs place r → slice_get rs place ≡ Some r
 read_at rs place r within is = slice_get_read rs (length rs) place r refl within is
 
+-- which recording stands at a place
+stands : (id : ℤ) (rs : List Recording) (place : ℕ) (r : Recording) (at : IsPlaceOf id_of id rs place) → r ≡ get_or rs place r → at.value ≡ r
+stands id rs place r at is = let same : Some at.value ≡ Some r = sym at.at ∙ read_at rs place r at.within is in cc
+
 -- a recording at its place
-pub found_at : (id : ℤ) (rs : List Recording) (place : ℕ) (r : Recording) → IsPlace id_of id rs place → r ≡ get_or rs place r → find id_of id rs ≡ Some r
-found_at id rs place r at is = at.found ∙ read_at rs place r at.within is
+pub found_at : (id : ℤ) (rs : List Recording) (place : ℕ) (r : Recording) → IsPlaceOf id_of id rs place → r ≡ get_or rs place r → find id_of id rs ≡ Some r
+found_at id rs place r at is = at.found ∙ ap Some (stands id rs place r at is)
 
 -- to change the recording at its place is to change it under its id
-pub changed_at : (id : ℤ) (rs : List Recording) (place : ℕ) (r new : Recording) (f : Recording → Recording) → IsPlace id_of id rs place → r ≡ get_or rs place r → new ≡ f r
+pub changed_at : (id : ℤ) (rs : List Recording) (place : ℕ) (r new : Recording) (f : Recording → Recording) → IsPlaceOf id_of id rs place → r ≡ get_or rs place r → new ≡ f r
     → slice_set rs place new ≡ change id_of id f rs
-changed_at id rs place r new f at is made = ap (slice_set rs place) made ∙ sym (at.changed f r (read_at rs place r at.within is))
+changed_at id rs place r new f at is made = ap (slice_set rs place) made ∙ ap (λ (x : Recording). slice_set rs place (f x)) (sym (stands id rs place r at is)) ∙ sym (at.changed f)

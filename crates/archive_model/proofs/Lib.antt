@@ -1,5 +1,5 @@
 pub mod KeptLemmas
-pub mod PlacesLemmas
+pub mod NumberedLemmas
 pub mod ReplayLemmas
 pub mod ListLemmas
 pub mod HistoriesLemmas

@@ -1,31 +1,26 @@
 -- Which parameters a recording may have: docs/CONTROL.md, "Limits".
 use Rattle.std.specs.Prelude.{◌%◌, ◌*◌, ◌^◌, ◌==◌, ◌&&◌, not, ℕ, ℤ, pos, negsuc, Bool, true, false, List, length, nat_le, nat_lt, int_le, unsigned_abs, chars}
-use Rattle.std.specs.Int.{is_power_of_two}
 use Rattle.std.specs.List.{list_any}
 use Rattle.std.specs.Char.{is_control}
+use Rattle.frame_core.specs.Limits.{is_term_length, is_mtu}
 use Rattle.archive_model.specs.declared.command.StartFields.{StartFields}
 
 abbrev pub is_negative : ℤ → Bool
 is_negative (pos n) = false
 is_negative (negsuc n) = true
 
--- a term's or a segment's length: a power of two from 65,536 to 1,073,741,824
-unfoldable pub is_length : ℤ → Bool
-is_length (pos n) = nat_le 65536 n && nat_le n 1073741824 && is_power_of_two n
-is_length (negsuc n) = false
-
--- a multiple of 32, greater than 32 and at most 65,504
-unfoldable pub is_mtu : ℤ → Bool
-is_mtu (pos n) = nat_lt 32 n && nat_le n 65504 && n % 32 == 0
-is_mtu (negsuc n) = false
-
+-- the term and the segment have lengths that a term may have, the segment's at least the term's
 unfoldable pub is_layout : StartFields → Bool
-is_layout f = is_length f.term_length && is_length f.segment_length && int_le f.term_length f.segment_length && is_mtu f.mtu
+is_layout f = is_term_length f.term_length && is_term_length f.segment_length && int_le f.term_length f.segment_length && is_mtu f.mtu
 
 -- a multiple of 32 from 0, less than 2^31 terms
 unfoldable pub is_start_position : ℤ → ℤ → Bool
 is_start_position (pos p) term_length = p % 32 == 0 && nat_lt p (2 ^ 31 * unsigned_abs term_length)
 is_start_position (negsuc p) term_length = false
+
+-- what is recorded or merged may begin there, in a stream whose terms are that long
+abbrev pub may_begin_at : ℤ → ℤ → Bool
+may_begin_at term_length position = is_term_length term_length && is_start_position position term_length
 
 -- a text of 1 to 512 bytes without control characters, which are those below U+0020 and from U+007F to U+009F
 unfoldable pub is_channel : List ℕ → Bool

@@ -1,13 +1,13 @@
 //! Which parameters a new recording may have: docs/CONTROL.md, "Limits".
 
-ghost use Rattle.std.specs.Prelude.{◌≡◌, ◌≤ℤ◌, pos, IsTrue, ◌==◌, ◌%◌, ◌*◌, ◌^◌, ◌&&◌, ℕ, int_le, nat_lt, not, unsigned_abs, chars};
+ghost use Rattle.std.specs.Prelude.{◌≡◌, ◌≤ℤ◌, ◌<ℤ◌, ◌*ℤ◌, pos, IsTrue, ◌==◌, ◌%◌, ◌*◌, ◌^◌, ◌&&◌, ℕ, int_le, nat_lt, not, unsigned_abs, chars};
 ghost use Rattle.std.specs.List.{list_any};
 ghost use Rattle.std.specs.Char.{is_control};
-ghost use Rattle.archive_model.specs.Descriptor.{is_channel, is_in_range, is_layout, is_length, is_mtu, is_negative, is_start_position};
+ghost use Rattle.archive_model.specs.Descriptor.{is_channel, is_in_range, is_layout, is_negative, is_start_position, may_begin_at};
 
 use crate::channel::Channel;
 use crate::command::StartFields;
-use frame_core::limits::{MAX_CHANNEL_LENGTH, MAX_MTU, MAX_TERM_LENGTH, MIN_TERM_LENGTH};
+use frame_core::limits::{MAX_CHANNEL_LENGTH, is_mtu, is_term_length};
 
 impl StartFields {
     /// Whether each field is one that a recording may have. Costs the channel's length.
@@ -18,7 +18,7 @@ impl StartFields {
         if !has_layout(self) {
             return false;
         }
-        if !has_start_position(self) {
+        if !is_start(&self.start_position, &self.term_length) {
             return false;
         }
         if self.timestamp < 0 {
@@ -28,32 +28,17 @@ impl StartFields {
     }
 }
 
-/// Whether bytes are a term's or a segment's length.
-#[tactic(auto, unfolding(crate::specs::Descriptor::is_length))]
-fn is_power(length: i32) -> bool
-    ensures { result ≡ is_length length }
+/// Whether a stream whose terms have that length in bytes may be recorded or merged from a position, in bytes of the
+/// stream: docs/CONTROL.md, "Limits".
+pub fn may_begin_at(term_length: &i32, position: &i64) -> bool
+    ensures range { result ≡ may_begin_at term_length.now position.now }
+    ensures low { IsTrue result → pos 0 ≤ℤ position.now }
+    ensures high { IsTrue result → position.now <ℤ (pos (2 ^ 31) *ℤ term_length.now) }
 {
-    if length < MIN_TERM_LENGTH {
+    if !is_term_length(*term_length) {
         return false;
     }
-    if length > MAX_TERM_LENGTH {
-        return false;
-    }
-    (length as u32).is_power_of_two()
-}
-
-/// Whether bytes are an MTU.
-#[tactic(auto, unfolding(crate::specs::Descriptor::is_mtu))]
-fn is_unit(mtu: i32) -> bool
-    ensures { result ≡ is_mtu mtu }
-{
-    if mtu <= 32 {
-        return false;
-    }
-    if mtu > MAX_MTU {
-        return false;
-    }
-    mtu as u32 % 32 == 0
+    is_start(position, term_length)
 }
 
 /// Whether terms, segments and frames have lengths that fit one another.
@@ -61,32 +46,34 @@ fn is_unit(mtu: i32) -> bool
 fn has_layout(fields: &StartFields) -> bool
     ensures { result ≡ is_layout fields.now }
 {
-    if !is_power(fields.term_length) {
+    if !is_term_length(fields.term_length) {
         return false;
     }
-    if !is_power(fields.segment_length) {
+    if !is_term_length(fields.segment_length) {
         return false;
     }
     if fields.term_length > fields.segment_length {
         return false;
     }
-    is_unit(fields.mtu)
+    is_mtu(fields.mtu)
 }
 
 /// Whether a recording may begin there.
 #[tactic(auto, unfolding(crate::specs::Descriptor::is_start_position))]
-fn has_start_position(fields: &StartFields) -> bool
-    ensures range { result ≡ is_start_position fields.now.start_position fields.now.term_length }
-    ensures start { IsTrue result → pos 0 ≤ℤ fields.now.start_position }
+fn is_start(position: &i64, term_length: &i32) -> bool
+    ensures range { result ≡ is_start_position position.now term_length.now }
+    ensures low { IsTrue result → pos 0 ≤ℤ position.now }
+    ensures below { IsTrue result
+        → position.now <ℤ pos (2 ^ 31 * unsigned_abs term_length.now) }
 {
-    if fields.start_position < 0 {
+    if *position < 0 {
         return false;
     }
-    let position = fields.start_position as u64;
+    let position = *position as u64;
     if position % 32 != 0 {
         return false;
     }
-    position < 0x8000_0000 * fields.term_length.unsigned_abs() as u64
+    position < 0x8000_0000 * term_length.unsigned_abs() as u64
 }
 
 /// Whether a text is a channel.

@@ -7,3 +7,4 @@ mod PollLemmas
 mod TranscriptLemmas
 mod ProgressLemmas
 mod ScriptLemmas
+mod CommandLineLemmas

@@ -11,12 +11,11 @@ use Rattle.archive_model.specs.declared.reply.Reply.TheVariants as replies
 use Rattle.archive_model.specs.declared.reply.PolledFrame.{PolledFrame}
 use Rattle.control_core.specs.ReplyText.{reply_text, told, end_line, taken_line, swept_line, merge_line, frame_line}
 use Rattle.control_core.specs.RefusalText.{name_of, place_of, refusal_text}
-use Rattle.control_core.specs.Control.{Control}
 use Rattle.control_core.specs.Calls.{OrNoMemory}
-use Rattle.control_core.specs.Answers.{ReadLineEnds}
 use Rattle.archive_tool.specs.declared.fault.ScriptFault.{ScriptFault}
 use Rattle.archive_tool.specs.declared.fault.ScriptFault.TheVariants as faults
 use Rattle.archive_tool.specs.InputLines.{ReadsLine}
+use Rattle.archive_tool.specs.ScriptLines.{ScriptState, ReadLineEnds}
 use Rattle.archive_tool.specs.Transcript.{Serves, Replied, Writes, memory_line}
 use Rattle.archive_tool.specs.Script.{Answers, asked, outcome_text, beginning, quits, IsTranscript, EndsEarly, KeepsUnlessWrite}
 use Rattle.archive_tool.proofs.ProgressLemmas.{Progress, progress-kept, progress-more, progress-last, progress-fault}
@@ -93,37 +92,37 @@ outcome_end (Ok reply) = reply_end reply
 outcome_end (Err refusal) = refusal_end refusal
 
 -- each answer ends its line
-pub answers_end : (old : Control) (line : Option (List ℕ)) (reply : List ℕ) (new : Control) → Answers old line reply new → EndsLine reply
+pub answers_end : (old : ScriptState) (line : Option (List ℕ)) (reply : List ℕ) (new : ScriptState) → Answers old line reply new → EndsLine reply
 answers_end old line reply new answers = let end = outcome_end answers.0 in inr (end.0, answers.2 ∙ end.1)
 
-served : (old : Control) (line : Option (List ℕ)) (outcome : Result Reply Refusal) (new : Control) → OrNoMemory old (ReadLineEnds old (asked line)) outcome new → Serves Answers old line (outcome_text outcome) new
+served : (old : ScriptState) (line : Option (List ℕ)) (outcome : Result Reply Refusal) (new : ScriptState) → OrNoMemory old (ReadLineEnds old (asked line)) outcome new → Serves Answers old line (outcome_text outcome) new
 served old line (Ok reply) new ends = inl (Ok reply, ends, refl)
 served old line (Err NoMemory) new ends = inr (no_memory_text, ends)
 served old line (Err refusal) new ends = inl (Err refusal, ends, refl)
 
 -- what is written of an answer serves its line
-pub replied : (contents written line : Option (List ℕ)) (old new : Control) (outcome : Result Reply Refusal) (result : Result (Unit {0}) ScriptFault) → OrNoMemory old (ReadLineEnds old (asked line)) outcome new → OnOk result (Appends contents written (outcome_text outcome)) → OnOk result (Replied Answers contents written line old new)
+pub replied : (contents written line : Option (List ℕ)) (old new : ScriptState) (outcome : Result Reply Refusal) (result : Result (Unit {0}) ScriptFault) → OrNoMemory old (ReadLineEnds old (asked line)) outcome new → OnOk result (Appends contents written (outcome_text outcome)) → OnOk result (Replied Answers contents written line old new)
 replied contents written line old new outcome (Ok done) ends appended = record { reply = outcome_text outcome; appended = appended; serves = served old line outcome new ends }
 replied contents written line old new outcome (Err fault) ends appended = tt
 
 -- what was answered before a read that failed is the transcript of the first lines
-pub early_read : (before now contents written : Option (List ℕ)) (state : Control) (fault : ScriptFault) → Progress beginning quits Answers before now contents written state → EndsEarly fault before contents written
+pub early_read : (before now contents written : Option (List ℕ)) (state : ScriptState) (fault : ScriptFault) → Progress beginning quits Answers before now contents written state → EndsEarly fault before contents written
 early_read before now contents written state faults.Write progress = tt
 early_read before now contents written state faults.Read progress = progress-fault beginning quits Answers answers_end before now contents written state progress
 early_read before now contents written state faults.Memory progress = progress-fault beginning quits Answers answers_end before now contents written state progress
 
 -- so is it before an answer that found no memory
-pub early_answer : (before now contents written then : Option (List ℕ)) (state : Control) (fault : ScriptFault) → Progress beginning quits Answers before now contents written state → KeepsUnlessWrite fault written then → EndsEarly fault before contents then
+pub early_answer : (before now contents written then : Option (List ℕ)) (state : ScriptState) (fault : ScriptFault) → Progress beginning quits Answers before now contents written state → KeepsUnlessWrite fault written then → EndsEarly fault before contents then
 early_answer before now contents written then state faults.Write progress keeps = tt
 early_answer before now contents written then state faults.Read progress keeps = early_read before now contents then state faults.Read (progress-kept beginning quits Answers before now contents written then state progress keeps)
 early_answer before now contents written then state faults.Memory progress keeps = early_read before now contents then state faults.Memory (progress-kept beginning quits Answers before now contents written then state progress keeps)
 
 -- a line is answered, and the next one is read
-pub goes_on : (before now later contents written then line : Option (List ℕ)) (state new : Control) → Progress beginning quits Answers before now contents written state → ReadsLine now later line → Replied Answers written then line state new → quits line ≡ false → Progress beginning quits Answers before later contents then new
+pub goes_on : (before now later contents written then line : Option (List ℕ)) (state new : ScriptState) → Progress beginning quits Answers before now contents written state → ReadsLine now later line → Replied Answers written then line state new → quits line ≡ false → Progress beginning quits Answers before later contents then new
 goes_on before now later contents written then line state new progress read replied more =
     progress-more beginning quits Answers before now later contents written then read.line state new progress read.next (subst (λ l. Replied Answers written then l state new) read.is_kept replied) (ap quits (sym read.is_kept) ∙ more)
 
 -- the line that quits is answered
-pub ends_at_quit : (before now later contents written then line : Option (List ℕ)) (state new : Control) → Progress beginning quits Answers before now contents written state → ReadsLine now later line → Replied Answers written then line state new → quits line ≡ true → Writes before contents then IsTranscript
+pub ends_at_quit : (before now later contents written then line : Option (List ℕ)) (state new : ScriptState) → Progress beginning quits Answers before now contents written state → ReadsLine now later line → Replied Answers written then line state new → quits line ≡ true → Writes before contents then IsTranscript
 ends_at_quit before now later contents written then line state new progress read replied quit =
     progress-last beginning quits Answers answers_end before now later contents written then read.line state new progress read.next (subst (λ l. Replied Answers written then l state new) read.is_kept replied) (ap quits (sym read.is_kept) ∙ quit)

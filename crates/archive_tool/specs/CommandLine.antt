@@ -1,8 +1,8 @@
 -- The program's command line: docs/CONTROL.md, "The program".
-use Rattle.std.specs.Prelude.{◌≡◌, ℕ, List, Some, codes}
-use Rattle.clap.specs.Words.{HasMatchesOf, app_of, subcommand_name_of}
+use Rattle.std.specs.Prelude.{◌≡◌, ℕ, true, List, Some, codes}
+use Rattle.clap.specs.Simple.{on_top}
+use Rattle.clap.specs.Words.{App, HasMatchesOf, new_app, subcommand_name_of, with_subcommand}
 use Rattle.clap.specs.declared.parser.matches.ArgMatches.{ArgMatches}
-use Rattle.clap.specs.declared.builder.command.Command.{Command}
 use Rattle.archive_tool.specs.declared.command.ToolCommand.{ToolCommand}
 use Rattle.archive_tool.specs.declared.command.ToolCommand.TheVariants.{Run}
 
@@ -10,9 +10,16 @@ use Rattle.archive_tool.specs.declared.command.ToolCommand.TheVariants.{Run}
 abbrev pub name_of : ToolCommand → List ℕ
 name_of Run = codes "run"
 
+-- the program, of which one command has to be asked for
+abbrev pub named_tool : App
+named_tool = on_top (λ s. record s { subcommand_required = true; arg_required_else_help = true }) (new_app (codes "archive_tool"))
+
+-- and its commands
+abbrev pub tool_app : App
+tool_app = with_subcommand named_tool (new_app (name_of Run)).top
+
 -- clap's matches of the words hold the command
 pub record IsHeld (words : List (List ℕ)) (command : ToolCommand) : Type 0 where
-  pub tool : Command
   pub matches : ArgMatches
-  pub parsed : HasMatchesOf (app_of tool) words matches
+  pub parsed : HasMatchesOf tool_app words matches
   pub name : subcommand_name_of matches ≡ Some (name_of command)

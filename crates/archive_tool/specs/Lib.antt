@@ -1,6 +1,8 @@
 -- What a reader has to believe: the lines of an input, and what a script writes.
 pub mod InputLines
 pub mod Transcript
+pub mod Merging
+pub mod ScriptLines
 pub mod Script
 pub mod CommandLine
 -- How a line is put together from parts.

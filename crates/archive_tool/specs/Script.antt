@@ -8,10 +8,9 @@ use Rattle.control_core.specs.declared.line.Line.{Line}
 use Rattle.control_core.specs.Lines.{line_of}
 use Rattle.control_core.specs.ReplyText.{reply_text}
 use Rattle.control_core.specs.RefusalText.{refusal_text}
-use Rattle.control_core.specs.Control.{Control, new_archive}
-use Rattle.control_core.specs.Answers.{ReadLineEnds}
 use Rattle.archive_tool.specs.declared.fault.ScriptFault.{ScriptFault}
 use Rattle.archive_tool.specs.declared.fault.ScriptFault.TheVariants as faults
+use Rattle.archive_tool.specs.ScriptLines.{ScriptState, new_script, ReadLineEnds}
 use Rattle.archive_tool.specs.Transcript.{AnswersAll, AnswersSome, Serves, IsRight, Writes}
 
 -- what a line asks for; one that is too long is none
@@ -25,7 +24,7 @@ outcome_text (Ok reply) = reply_text reply
 outcome_text (Err refusal) = refusal_text refusal
 
 -- From the old state the text may be the answer to the line, and new the state after it.
-abbrev pub Answers : Control → Option (List ℕ) → List ℕ → Control → Type 0
+abbrev pub Answers : ScriptState → Option (List ℕ) → List ℕ → ScriptState → Type 0
 Answers old line text new = (outcome : Result Reply Refusal) × ReadLineEnds old (asked line) outcome new × (text ≡ outcome_text outcome)
 
 -- the line behind which no further line is read
@@ -33,9 +32,9 @@ abbrev pub quits : Option (List ℕ) → Bool
 quits None = false
 quits (Some bytes) = bytes_eq bytes (codes "quit")
 
--- a script begins without recordings, and its history may have so many entries
-abbrev pub beginning : Control
-beginning = new_archive 1048576
+-- the history of a script may have so many entries
+abbrev pub beginning : ScriptState
+beginning = new_script 1048576
 
 -- The text answers all lines up to the one that quits; where it never says that memory ran out, each exactly.
 abbrev pub IsTranscript : List (List ℕ) → List ℕ → Type 0

@@ -6,13 +6,13 @@ ghost use Rattle.control_core.specs.Rules.{ContinuesAt};
 ghost use Rattle.archive_model.specs.Acceptance.{Accepts, Answers, book_after};
 ghost use Rattle.control_core.specs.Control.{new_archive};
 ghost use Rattle.control_core.specs.Calls.{OrNoMemory, StartEnds, ListEnds, OpenEnds, PollEnds, BytesEnd};
-ghost use Rattle.control_core.specs.Answers.{RequestEnds, EventEnds, LineEnds};
+ghost use Rattle.control_core.specs.Answers.{RequestEnds, EventEnds};
 
 use crate::listing::descriptors;
 use crate::parameters::{bound_of, is_listing, is_poll, is_replay, opening_position};
 use crate::polling::{end_of, next_frames, next_of};
 use archive_model::{Book, Command, Recording, Reply, StartFields};
-use control_core::{Desk, Event, Line, RecorderSession, Request, Written};
+use control_core::{Desk, Event, RecorderSession, Request, Written};
 use frame_core::limits::{LAST_NUMBER, MAX_OPEN_REPLAYS};
 use frame_core::{Block, Items, Refusal, block_end, block_of};
 use std::alloc::{AllocError, Global};
@@ -170,19 +170,8 @@ impl Archive {
         self.book.append(&seat.recording, &blocks)
     }
 
-    /// Answers a line that was read.
-    pub fn answer(&mut self, line: &Line) -> Result<Reply, Refusal>
-        ensures { OrNoMemory self.old (LineEnds self.old line.now) result self.new }
-    {
-        match line {
-            Line::Event(event) => self.call(event),
-            Line::Block { session, bytes } => self.block(session, bytes.as_slice()),
-            Line::Quit => Ok(Reply::Bye),
-        }
-    }
-
     /// Answers a call. One that no line brings yet is `BadLine`.
-    fn call(&mut self, event: &Event) -> Result<Reply, Refusal>
+    pub fn call(&mut self, event: &Event) -> Result<Reply, Refusal>
         ensures { OrNoMemory self.old (EventEnds self.old event.now) result self.new }
     {
         match event {

@@ -1,8 +1,8 @@
 //! The program's command line: docs/CONTROL.md, "The program".
 
-ghost use Rattle.std.specs.Prelude.{◌≡◌, Some, IfOk, IfSome, map, string_bytes};
-ghost use Rattle.clap.specs.Words.{subcommand_name_of};
-ghost use Rattle.archive_tool.specs.CommandLine.{IsHeld, name_of};
+ghost use Rattle.std.specs.Prelude.{◌≡◌, ◌∷◌, [], ℕ, List, Some, IfOk, IfErr, MatchOption, map, string_bytes};
+ghost use Rattle.clap.specs.Words.{app_of, kind_of, subcommand_name_of};
+ghost use Rattle.archive_tool.specs.CommandLine.{IsHeld, name_of, tool_app};
 
 use clap::error::ErrorKind;
 use clap::{ArgMatches, Command, Error};
@@ -24,25 +24,26 @@ const STATUSES: &str =
     "Statuses: 0 done, 1 refused (a want of memory), 2 a wrong command line, 3 standard input or \
 output failed.";
 
-fn run<'a>(alloc: Global) -> Command<'a> {
-    Command::new(alloc, "run")
+fn tool<'a>(alloc: Global) -> Result<Command<'a>, AllocError>
+    ensures { IfOk result (λ tool. app_of tool ≡ tool_app) }
+{
+    let run = Command::new(alloc, "run")
         .about("Answers control lines from standard input on standard output")
         .long_about(RUN_HELP)
-        .after_help(STATUSES)
-}
-
-fn tool<'a>(alloc: Global) -> Result<Command<'a>, AllocError> {
+        .after_help(STATUSES);
     Command::new(alloc, "archive_tool")
         .about("Records Aeron streams and replays them")
         .after_help(STATUSES)
         .subcommand_required(true)
         .arg_required_else_help(true)
-        .subcommand(run(alloc))
+        .subcommand(run)
 }
 
 /// The command that matches hold, if it is one of the program's.
 fn held(matches: &ArgMatches<'_>) -> Option<ToolCommand>
-    ensures { IfSome result (λ command. subcommand_name_of matches.now ≡ Some (name_of command)) }
+    ensures { MatchOption result
+        ((command : ToolCommand) → subcommand_name_of matches.now ≡ Some (name_of command) → ⊥)
+        (λ command. subcommand_name_of matches.now ≡ Some (name_of command)) }
 {
     if matches.subcommand_matches("run").is_some() {
         return Some(ToolCommand::Run);
@@ -52,12 +53,19 @@ fn held(matches: &ArgMatches<'_>) -> Option<ToolCommand>
 
 /// What the words of a command line ask for, the program's name first.
 ///
-/// An error says what is wrong with the words, or is the help that they ask for.
+/// An error says what is wrong with the words, or is the help that they ask for. A command's word alone is its command,
+/// unless memory runs out.
 pub fn command_of(alloc: Global, words: &[String]) -> Result<ToolCommand, Error>
-    ensures { IfOk result (IsHeld (map string_bytes words.now)) }
+    ensures held { IfOk result (IsHeld (map string_bytes words.now)) }
+    ensures alone { IfErr result (λ e. (program : List ℕ) (command : ToolCommand)
+        → map string_bytes words.now ≡ program ∷ name_of command ∷ []
+        → kind_of e ≡ ErrorKind.OutOfMemory) }
 {
     let mut tool = tool(alloc)?;
-    let matches = tool.try_get_matches_from_mut(words)?;
+    let matches = match tool.try_get_matches_from_mut(words) {
+        Ok(matches) => matches,
+        Err(error) => return Err(error),
+    };
     match held(&matches) {
         Some(command) => Ok(command),
         None => Err(tool.error(ErrorKind::MissingSubcommand, "a command is missing")?),

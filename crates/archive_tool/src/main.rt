@@ -6,9 +6,11 @@ mod command;
 mod fault;
 mod lines;
 mod listing;
+mod merging;
 mod parameters;
 mod polling;
 mod script;
+mod state;
 
 use clap::error::ErrorKind;
 use command::{ToolCommand, command_of};

@@ -6,13 +6,13 @@ ghost use Rattle.std.specs.Io.Buffered.{reader_remaining};
 ghost use Rattle.control_core.specs.ReplyText.{reply_text};
 ghost use Rattle.control_core.specs.RefusalText.{refusal_text};
 ghost use Rattle.control_core.specs.Calls.{OrNoMemory};
-ghost use Rattle.control_core.specs.Answers.{ReadLineEnds};
 ghost use Rattle.archive_tool.specs.Transcript.{Writes, Replied};
+ghost use Rattle.archive_tool.specs.ScriptLines.{ReadLineEnds};
 ghost use Rattle.archive_tool.specs.Script.{Answers, asked, outcome_text, quits, KeepsUnlessWrite, IsTranscript, EndsEarly};
 
-use crate::archive::Archive;
 use crate::fault::ScriptFault;
 use crate::lines::{LineBuffer, read_line};
+use crate::state::ScriptState;
 use archive_model::Reply;
 use control_core::{parse_line, print_refusal, print_reply};
 use frame_core::Refusal;
@@ -36,14 +36,14 @@ fn is_quit(line: &LineBuffer) -> bool
 }
 
 /// What a line is answered. A line that is too long is `BadLine`.
-fn outcome_of(alloc: Global, archive: &mut Archive, line: &LineBuffer) -> Result<Reply, Refusal>
-    ensures { OrNoMemory archive.old (ReadLineEnds archive.old (asked line.now)) result archive.new }
+fn outcome_of(alloc: Global, state: &mut ScriptState, line: &LineBuffer) -> Result<Reply, Refusal>
+    ensures { OrNoMemory state.old (ReadLineEnds state.old (asked line.now)) result state.new }
 {
     let Some(bytes) = line.bytes() else {
         return Err(Refusal::BadLine);
     };
     let line = parse_line(alloc, bytes)?;
-    archive.answer(&line)
+    state.answer(&line)
 }
 
 /// Writes what was answered. `Memory` where a reply's text finds no memory, and then nothing is written; `Write`
@@ -94,16 +94,16 @@ fn write_refusal<W: Write>(refusal: &Refusal, writer: &mut W) -> Result<(), Scri
 /// Answers a line.
 fn answer_line<W: Write>(
     alloc: Global,
-    archive: &mut Archive,
+    state: &mut ScriptState,
     line: &LineBuffer,
     writer: &mut W,
 ) -> Result<(), ScriptFault>
     ensures ok { OnOk result (Replied Answers
-        (W.contents writer.old) (W.contents writer.new) line.now archive.old archive.new) }
+        (W.contents writer.old) (W.contents writer.new) line.now state.old state.new) }
     ensures err { IfErr result
         (λ fault. KeepsUnlessWrite fault (W.contents writer.old) (W.contents writer.new)) }
 {
-    let outcome = outcome_of(alloc, archive, line);
+    let outcome = outcome_of(alloc, state, line);
     write_outcome(alloc, &outcome, writer)
 }
 
@@ -135,7 +135,7 @@ fn run_lines<R: Read + Drop, W: Write>(
     ensures early { IfErr result (λ fault. EndsEarly fault (reader_remaining R.remaining reader.old)
         (W.contents writer.old) (W.contents writer.new)) }
 {
-    let mut archive = Archive::new(alloc, HISTORY);
+    let mut state = ScriptState::new(alloc, HISTORY);
     let mut line = LineBuffer::new(alloc);
     let mut reads = 0u64;
     'lines: loop {
@@ -148,7 +148,7 @@ fn run_lines<R: Read + Drop, W: Write>(
             Ok(false) => return Ok(()),
             Err(fault) => return Err(fault),
         }
-        match answer_line(alloc, &mut archive, &line, writer) {
+        match answer_line(alloc, &mut state, &line, writer) {
             Ok(()) => {}
             Err(fault) => return Err(fault),
         }

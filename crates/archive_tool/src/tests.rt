@@ -2,5 +2,6 @@
 
 mod faults;
 mod lines;
+mod merging;
 mod refusals;
 mod scenarios;

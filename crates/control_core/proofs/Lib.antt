@@ -3,5 +3,4 @@ mod LinesLemmas
 mod LineTextLemmas
 mod SpellingLemmas
 mod HexCaseLemmas
-mod NumberedLemmas
 pub mod ChangeLemmas

@@ -22,7 +22,8 @@ use Rattle.control_core.specs.declared.request.Request.TheVariants.{Start, List 
 use Rattle.control_core.specs.declared.event.Event.TheVariants.{Ask, ReplayOpen, ReplayPoll}
 use Rattle.control_core.specs.declared.line.Line.{Line}
 use Rattle.control_core.specs.declared.line.Line.TheVariants as lines
-use Rattle.control_core.specs.Lines.{has_blank, word_at, long_at, int_at, line_of, text_of, words_of, reading_of, start_of, block_of, list_of, replay_of, poll_of, word_of}
+use Rattle.control_core.specs.declared.merge_line.MergeLine.TheVariants as merges
+use Rattle.control_core.specs.Lines.{merge_of, merge_replay_of, merge_live_of, merging_of, has_blank, word_at, long_at, int_at, line_of, text_of, words_of, reading_of, start_of, block_of, list_of, replay_of, poll_of, word_of}
 use Rattle.control_core.proofs.LinesLemmas.{line_of-text}
 use Rattle.control_core.specs.LineText.{IsInt, IsLong, AreStartFields, IsLine, field, IsTextOf}
 use Rattle.control_core.proofs.NumbersLemmas.{mag_below}
@@ -245,6 +246,56 @@ start_text s text is e =
       some_bytes s.channel is.channel_some,
     )
 
+merge_text : (term term_length position : ℤ) → IsInt term → IsInt term_length → IsLong position
+    → line_of (codes "merge " ++ field term (field term_length (signed_decimal position))) ≡ Ok (lines.Merge (merges.Open term term_length position))
+unfolding words_of reading_of merging_of merge_of
+merge_text term term_length position a b d =
+    let last = signed_decimal position in
+    line_of-words (codes "merge") (field term (field term_length last)) refl (IsUtf8-int term _ a (IsUtf8-int term_length _ b (IsUtf8-number position d)))
+    ∙ rw (int_at-text term (field term_length last) a, int_at-text term_length last b, long_of-text position d)
+
+-- digits that stand for bytes are read behind a word by what reads bytes
+record AreDigitsOf (digits bytes : List ℕ) : Type 0 where
+  some : 0 < length digits
+  read : decode_of digits ≡ Ok bytes
+  utf8 : IsUtf8 digits
+
+digits_of : (digits bytes : List ℕ) → 0 < length bytes → IsBytes bytes → map to_ascii_lowercase digits ≡ encode_lower bytes → AreDigitsOf digits bytes
+digits_of digits bytes some fit lowered =
+    let read = decode_of-either digits bytes fit lowered in
+    let shape = decode_of-ok digits bytes read in
+    record { some = omega (arith, shape.2); read = read; utf8 = IsUtf8-from_ascii digits (IsAscii-digits digits shape.1) }
+
+pub replayed_is_read : (digits bytes : List ℕ) → 0 < length bytes → IsBytes bytes → map to_ascii_lowercase digits ≡ encode_lower bytes
+    → line_of (codes "merge-replay " ++ digits) ≡ Ok (lines.Merge (merges.Replay bytes))
+unfolding words_of reading_of merging_of merge_replay_of
+replayed_is_read digits bytes some fit lowered =
+    let is = digits_of digits bytes some fit lowered in
+    line_of-words (codes "merge-replay") digits refl is.utf8 ∙ rw (bytes_of-digits digits bytes is.some is.read)
+
+pub live_is_read : (digits bytes : List ℕ) → 0 < length bytes → IsBytes bytes → map to_ascii_lowercase digits ≡ encode_lower bytes
+    → line_of (codes "merge-live " ++ digits) ≡ Ok (lines.Merge (merges.Live bytes))
+unfolding words_of reading_of merging_of merge_live_of
+live_is_read digits bytes some fit lowered =
+    let is = digits_of digits bytes some fit lowered in
+    line_of-words (codes "merge-live") digits refl is.utf8 ∙ rw (bytes_of-digits digits bytes is.some is.read)
+
+lowered_self : (bytes : List ℕ) → IsBytes bytes → map to_ascii_lowercase (encode_lower bytes) ≡ encode_lower bytes
+lowered_self bytes fit = decode_of-lowered (encode_lower bytes) bytes (decode_of-encode_lower bytes fit)
+
+-- a word alone
+line_of-word : (word : List ℕ) → is_plain word ≡ true → has_blank word ≡ false → line_of word ≡ word_of word
+unfolding text_of
+line_of-word word h none = line_of-text word (IsUtf8-from_ascii word (plain word h).ascii) ∙ rw none
+
+take_text : line_of (codes "merge-take") ≡ Ok (lines.Merge merges.Take)
+unfolding word_of
+take_text = line_of-word (codes "merge-take") refl refl
+
+state_text : line_of (codes "merge-state") ≡ Ok (lines.Merge merges.State)
+unfolding word_of
+state_text = line_of-word (codes "merge-state") refl refl
+
 quit_text : line_of (codes "quit") ≡ Ok lines.Quit
 unfolding text_of word_of
 quit_text = line_of-text (codes "quit") (IsUtf8-from_ascii (codes "quit") (plain (codes "quit") refl).ascii)
@@ -257,4 +308,9 @@ text_is_read (lines.Event (ReplayOpen recording position size)) text is e = ap l
 text_is_read (lines.Event (ReplayPoll replay most)) text is e = ap line_of e ∙ poll_text replay most is.0 is.1
 text_is_read (lines.Event event) text is e = absurd is
 text_is_read (lines.Block session bytes) text is e = ap line_of e ∙ block_text session bytes is.0 is.1 is.2
+text_is_read (lines.Merge (merges.Open term term_length position)) text is e = ap line_of e ∙ merge_text term term_length position is.0 is.1 is.2
+text_is_read (lines.Merge (merges.Replay bytes)) text is e = ap line_of e ∙ replayed_is_read (encode_lower bytes) bytes is.0 is.1 (lowered_self bytes is.1)
+text_is_read (lines.Merge (merges.Live bytes)) text is e = ap line_of e ∙ live_is_read (encode_lower bytes) bytes is.0 is.1 (lowered_self bytes is.1)
+text_is_read (lines.Merge merges.Take) text is e = ap line_of e ∙ take_text
+text_is_read (lines.Merge merges.State) text is e = ap line_of e ∙ state_text
 text_is_read lines.Quit text is e = ap line_of e ∙ quit_text

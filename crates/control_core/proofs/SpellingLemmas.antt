@@ -22,10 +22,11 @@ use Rattle.control_core.specs.declared.event.Event.TheVariants.{Ask, ReplayOpen,
 use Rattle.control_core.specs.declared.line.Line.{Line}
 use Rattle.control_core.specs.declared.line.Line.TheVariants as lines
 use Rattle.control_core.specs.Numbers.{fits, long_of, int_of, decoded, bytes_of}
-use Rattle.control_core.specs.Lines.{has_blank, word_at, long_at, int_at, channel_of, line_of, text_of, words_of, reading_of, start_of, block_of, list_of, replay_of, poll_of, word_of}
+use Rattle.control_core.specs.declared.merge_line.MergeLine.TheVariants as merges
+use Rattle.control_core.specs.Lines.{merge_of, merge_replay_of, merge_live_of, merging_of, has_blank, word_at, long_at, int_at, channel_of, line_of, text_of, words_of, reading_of, start_of, block_of, list_of, replay_of, poll_of, word_of}
 use Rattle.control_core.specs.LineText.{AreStartFields, IsLine, field, IsTextOf, IsSpelling}
 use Rattle.control_core.proofs.HexCaseLemmas.{decode_of-lowered}
-use Rattle.control_core.proofs.LineTextLemmas.{text_is_read, digits_is_read}
+use Rattle.control_core.proofs.LineTextLemmas.{text_is_read, digits_is_read, replayed_is_read, live_is_read}
 
 -- ---- results
 
@@ -276,11 +277,55 @@ block_ok text line h =
       spelling = (session.0.1, ap (λ t. codes "block " ++ t) a.spelled, b.lowered);
     })
 
+merge_ok : (text : List ℕ) (line : Line) → merge_of text ≡ Ok line → IsSpelled line (codes "merge " ++ text)
+unfolding merge_of
+merge_ok text line h =
+    let term = bind_ok (int_at text) _ line h in
+    let term_length = bind_ok (int_at term.0.1) _ line term.2 in
+    let position = bind_ok (long_of term_length.0.1) _ line term_length.2 in
+    let a = int_at-ok text term.0 term.1 in
+    let b = int_at-ok term.0.1 term_length.0 term_length.1 in
+    let d = long_of-ok term_length.0.1 position.0 position.1 in
+    subst (λ l. IsSpelled l (codes "merge " ++ text)) (ok_same _ line position.2) (record {
+      is_line = (a.fit, b.fit, d.fit);
+      spelling = ap (λ t. codes "merge " ++ t) (a.spelled ∙ ap (field term.0.0) (b.spelled ∙ ap (field term_length.0.0) d.spelled));
+    })
+
+merge_replay_ok : (text : List ℕ) (line : Line) → merge_replay_of text ≡ Ok line → IsSpelled line (codes "merge-replay " ++ text)
+unfolding merge_replay_of
+merge_replay_ok text line h =
+    let bytes = bind_ok (bytes_of text) _ line h in
+    let b = bytes_of-ok text bytes.0 bytes.1 in
+    subst (λ l. IsSpelled l (codes "merge-replay " ++ text)) (ok_same _ line bytes.2)
+    (record { is_line = (b.some, b.fit); spelling = (text, refl, b.lowered) })
+
+merge_live_ok : (text : List ℕ) (line : Line) → merge_live_of text ≡ Ok line → IsSpelled line (codes "merge-live " ++ text)
+unfolding merge_live_of
+merge_live_ok text line h =
+    let bytes = bind_ok (bytes_of text) _ line h in
+    let b = bytes_of-ok text bytes.0 bytes.1 in
+    subst (λ l. IsSpelled l (codes "merge-live " ++ text)) (ok_same _ line bytes.2)
+    (record { is_line = (b.some, b.fit); spelling = (text, refl, b.lowered) })
+
 -- ---- words
 
 -- the rest is read behind this word
 is_word : (word name rest : List ℕ) (line : Line) → bytes_eq word name ≡ true → IsSpelled line (name ++ 32 ∷ rest) → IsSpelled line (word ++ 32 ∷ rest)
 is_word word name rest line same h = subst (λ w. IsSpelled line (w ++ 32 ∷ rest)) (sym ((bytes_eq-Decides word name).0 same)) h
+
+merging_ok : (word rest : List ℕ) (line : Line) → merging_of word rest ≡ Ok line → IsSpelled line (word ++ 32 ∷ rest)
+unfolding merging_of
+merging_ok word rest line h =
+    elim (if_cases (bytes_eq word (codes "merge")) (merge_of rest) _ line h) [
+      | inl p ↦ is_word word (codes "merge") rest line p.0 (merge_ok rest line p.1)
+      | inr other ↦
+          elim (if_cases (bytes_eq word (codes "merge-replay")) (merge_replay_of rest) _ line other) [
+            | inl p ↦ is_word word (codes "merge-replay") rest line p.0 (merge_replay_ok rest line p.1)
+            | inr last ↦
+                let p = if_ok (bytes_eq word (codes "merge-live")) (merge_live_of rest) line last in
+                is_word word (codes "merge-live") rest line p.0 (merge_live_ok rest line p.1)
+          ]
+    ]
 
 reading_ok : (word rest : List ℕ) (line : Line) → reading_of word rest ≡ Ok line → IsSpelled line (word ++ 32 ∷ rest)
 unfolding reading_of
@@ -290,9 +335,11 @@ reading_ok word rest line h =
       | inr other ↦
           elim (if_cases (bytes_eq word (codes "replay")) (replay_of rest) _ line other) [
             | inl p ↦ is_word word (codes "replay") rest line p.0 (replay_ok rest line p.1)
-            | inr last ↦
-                let p = if_ok (bytes_eq word (codes "poll")) (poll_of rest) line last in
-                is_word word (codes "poll") rest line p.0 (poll_ok rest line p.1)
+            | inr more ↦
+                elim (if_cases (bytes_eq word (codes "poll")) (poll_of rest) _ line more) [
+                  | inl p ↦ is_word word (codes "poll") rest line p.0 (poll_ok rest line p.1)
+                  | inr last ↦ merging_ok word rest line last
+                ]
           ]
     ]
 
@@ -311,9 +358,21 @@ words_ok word rest line utf8 h =
 word_ok : (word : List ℕ) (line : Line) → word_of word ≡ Ok line → IsSpelled line word
 unfolding word_of
 word_ok word line h =
-    let p = if_ok (bytes_eq word (codes "quit")) (Ok lines.Quit) line h in
-    subst (λ l. IsSpelled l word) (ok_same lines.Quit line p.1)
-    (record { is_line = tt; spelling = (bytes_eq-Decides word (codes "quit")).0 p.0 })
+    elim (if_cases (bytes_eq word (codes "quit")) (Ok lines.Quit) _ line h) [
+      | inl p ↦
+          subst (λ l. IsSpelled l word) (ok_same lines.Quit line p.1)
+          (record { is_line = tt; spelling = (bytes_eq-Decides word (codes "quit")).0 p.0 })
+      | inr other ↦
+          elim (if_cases (bytes_eq word (codes "merge-take")) (Ok (lines.Merge merges.Take)) _ line other) [
+            | inl p ↦
+                subst (λ l. IsSpelled l word) (ok_same (lines.Merge merges.Take) line p.1)
+                (record { is_line = tt; spelling = (bytes_eq-Decides word (codes "merge-take")).0 p.0 })
+            | inr last ↦
+                let p = if_ok (bytes_eq word (codes "merge-state")) (Ok (lines.Merge merges.State)) line last in
+                subst (λ l. IsSpelled l word) (ok_same (lines.Merge merges.State) line p.1)
+                (record { is_line = tt; spelling = (bytes_eq-Decides word (codes "merge-state")).0 p.0 })
+          ]
+    ]
 
 text_by : (t : Bool) (text : List ℕ) (line : Line) → IsUtf8 text → has_blank text ≡ t
     → (if t then words_of (before_first (λ b. b == 32) text) (after_first (λ b. b == 32) text) else word_of text) ≡ ok line → IsSpelled line text
@@ -340,6 +399,11 @@ spelling_read (lines.Event (Ask (AskList from count))) text is e = text_is_read 
 spelling_read (lines.Event (ReplayOpen recording position size)) text is e = text_is_read (lines.Event (ReplayOpen recording position size)) text is e
 spelling_read (lines.Event (ReplayPoll replay most)) text is e = text_is_read (lines.Event (ReplayPoll replay most)) text is e
 spelling_read (lines.Event event) text is e = absurd is
+spelling_read (lines.Merge (merges.Open term term_length position)) text is e = text_is_read (lines.Merge (merges.Open term term_length position)) text is e
+spelling_read (lines.Merge (merges.Replay bytes)) text is e = ap line_of e.1 ∙ replayed_is_read e.0 bytes is.0 is.1 e.2
+spelling_read (lines.Merge (merges.Live bytes)) text is e = ap line_of e.1 ∙ live_is_read e.0 bytes is.0 is.1 e.2
+spelling_read (lines.Merge merges.Take) text is e = text_is_read (lines.Merge merges.Take) text is e
+spelling_read (lines.Merge merges.State) text is e = text_is_read (lines.Merge merges.State) text is e
 spelling_read lines.Quit text is e = text_is_read lines.Quit text is e
 spelling_read (lines.Block session bytes) text is e = ap line_of e.1 ∙ digits_is_read session e.0 bytes is.0 is.1 is.2 e.2
 

@@ -21,13 +21,16 @@ use Rattle.archive_model.specs.Acceptance.{Rules, NoneHolds, ComesFirst, checks,
 use Rattle.archive_model.specs.Replay.{polled}
 use Rattle.control_core.specs.declared.desk.RecorderSession.{RecorderSession}
 use Rattle.control_core.specs.declared.desk.OpenReplay.{OpenReplay}
-use Rattle.control_core.specs.declared.desk.Written.{Written}
 use Rattle.control_core.specs.Control.{Control, session_number, replay_number, last_number, with_written, moved_to}
 use Rattle.control_core.specs.Rules.{session_rules, start_rules, list_rules, write_rules, settle_rules, open_rules, opening_position, poll_rules}
 
--- what a call may end with: its answer, and the control state then
+-- what a call on some state may end with: its answer, and the state then
+abbrev pub EndsIn : Type 0 → Type 1
+EndsIn S = Result Reply Refusal → S → Type 0
+
+-- the same of the control state
 abbrev pub Ends : Type 1
-Ends = Result Reply Refusal → Control → Type 0
+Ends = EndsIn Control
 
 -- the first refusal whose rule holds, and nothing is changed; where no rule holds this reply and this state
 abbrev pub Checked : Control → Rules → Reply → Control → Ends
@@ -137,7 +140,7 @@ PollEnds a number most =
     Checked a (poll_rules a found most) (poll_reply a found most) (after_poll a number found most)
 
 -- what a call ends with, or want of memory, which changes nothing
-abbrev pub OrNoMemory : Control → Ends → Ends
+abbrev pub OrNoMemory : {S : Type 0} → S → EndsIn S → EndsIn S
 OrNoMemory old ends (Ok reply) new = ends (Ok reply) new
 OrNoMemory old ends (Err NoMemory) new = new ≡ old
 OrNoMemory old ends (Err refusal) new = ends (Err refusal) new

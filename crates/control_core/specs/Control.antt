@@ -1,8 +1,7 @@
 -- The control state of an archive: docs/CONTROL.md, "Control state".
 use Rattle.std.specs.Prelude.{ℕ, ℤ, pos, Bool, false, List, [], Option, Some, None}
 use Rattle.archive_model.specs.State.{empty}
-use Rattle.archive_model.specs.Commands.{recorded_in}
-use Rattle.archive_model.specs.Acceptance.{BookState, recording_in}
+use Rattle.archive_model.specs.Acceptance.{BookState}
 use Rattle.control_core.specs.declared.desk.RecorderSession.{RecorderSession}
 use Rattle.control_core.specs.declared.desk.OpenReplay.{OpenReplay}
 use Rattle.control_core.specs.declared.desk.Written.{Written}

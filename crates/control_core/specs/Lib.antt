@@ -9,5 +9,5 @@ pub mod Control
 pub mod Rules
 pub mod Calls
 pub mod Answers
+
 -- Where values stand in a list.
-pub mod Numbered

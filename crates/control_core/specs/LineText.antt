@@ -8,6 +8,7 @@ use Rattle.control_core.specs.declared.request.Request.TheVariants.{Start, List 
 use Rattle.control_core.specs.declared.event.Event.TheVariants.{Ask, ReplayOpen, ReplayPoll}
 use Rattle.control_core.specs.declared.line.Line.{Line}
 use Rattle.control_core.specs.declared.line.Line.TheVariants as lines
+use Rattle.control_core.specs.declared.merge_line.MergeLine.TheVariants as merges
 use Rattle.control_core.specs.Numbers.{fits}
 
 -- numbers of 32 and of 64 bits
@@ -38,6 +39,11 @@ IsLine (lines.Event (ReplayOpen recording position size)) = IsLong recording × 
 IsLine (lines.Event (ReplayPoll replay most)) = IsLong replay × IsLong most
 IsLine (lines.Event event) = ⊥
 IsLine (lines.Block session bytes) = IsLong session × (0 < length bytes) × IsBytes bytes
+IsLine (lines.Merge (merges.Open term term_length position)) = IsInt term × IsInt term_length × IsLong position
+IsLine (lines.Merge (merges.Replay bytes)) = (0 < length bytes) × IsBytes bytes
+IsLine (lines.Merge (merges.Live bytes)) = (0 < length bytes) × IsBytes bytes
+IsLine (lines.Merge merges.Take) = Unit {0}
+IsLine (lines.Merge merges.State) = Unit {0}
 IsLine lines.Quit = Unit {0}
 
 -- a number, and what stands behind its blank
@@ -55,10 +61,20 @@ IsTextOf (lines.Event (ReplayOpen recording position size)) text =
 IsTextOf (lines.Event (ReplayPoll replay most)) text = text ≡ codes "poll " ++ field replay (signed_decimal most)
 IsTextOf (lines.Event event) text = ⊥
 IsTextOf (lines.Block session bytes) text = text ≡ codes "block " ++ field session (encode_lower bytes)
+IsTextOf (lines.Merge (merges.Open term term_length position)) text =
+    text ≡ codes "merge " ++ field term (field term_length (signed_decimal position))
+IsTextOf (lines.Merge (merges.Replay bytes)) text = text ≡ codes "merge-replay " ++ encode_lower bytes
+IsTextOf (lines.Merge (merges.Live bytes)) text = text ≡ codes "merge-live " ++ encode_lower bytes
+IsTextOf (lines.Merge merges.Take) text = text ≡ codes "merge-take"
+IsTextOf (lines.Merge merges.State) text = text ≡ codes "merge-state"
 IsTextOf lines.Quit text = text ≡ codes "quit"
 
 -- the same, with hex digits in either case
 abbrev pub IsSpelling : Line → List ℕ → Type 0
 IsSpelling (lines.Block session bytes) text =
     (digits : List ℕ) × (text ≡ codes "block " ++ field session digits) × (map to_ascii_lowercase digits ≡ encode_lower bytes)
+IsSpelling (lines.Merge (merges.Replay bytes)) text =
+    (digits : List ℕ) × (text ≡ codes "merge-replay " ++ digits) × (map to_ascii_lowercase digits ≡ encode_lower bytes)
+IsSpelling (lines.Merge (merges.Live bytes)) text =
+    (digits : List ℕ) × (text ≡ codes "merge-live " ++ digits) × (map to_ascii_lowercase digits ≡ encode_lower bytes)
 IsSpelling line text = IsTextOf line text

@@ -9,6 +9,7 @@ use Rattle.control_core.specs.declared.request.Request.TheVariants.{Start, List 
 use Rattle.control_core.specs.declared.event.Event.TheVariants.{Ask, ReplayOpen, ReplayPoll}
 use Rattle.control_core.specs.declared.line.Line.{Line}
 use Rattle.control_core.specs.declared.line.Line.TheVariants as lines
+use Rattle.control_core.specs.declared.merge_line.MergeLine.TheVariants as merges
 use Rattle.control_core.specs.Numbers.{long_of, int_of, bytes_of}
 
 -- a blank is U+0020 alone
@@ -91,13 +92,41 @@ poll_of text = do
   most ← long_of replay.1
   Ok (lines.Event (ReplayPoll replay.0 most))
 
--- lines that read what is recorded: their first word and what stands behind its blank
+-- <initial term> <term length> <position>
+unfoldable pub merge_of : List ℕ → Result Line Refusal
+merge_of text = do
+  term ← int_at text
+  term_length ← int_at term.1
+  position ← long_of term_length.1
+  Ok (lines.Merge (merges.Open term.0 term_length.0 position))
+
+-- <hex>
+unfoldable pub merge_replay_of : List ℕ → Result Line Refusal
+merge_replay_of text = do
+  bytes ← bytes_of text
+  Ok (lines.Merge (merges.Replay bytes))
+
+-- <hex>
+unfoldable pub merge_live_of : List ℕ → Result Line Refusal
+merge_live_of text = do
+  bytes ← bytes_of text
+  Ok (lines.Merge (merges.Live bytes))
+
+-- lines to a merge: their first word and what stands behind its blank
+unfoldable pub merging_of : List ℕ → List ℕ → Result Line Refusal
+merging_of word rest =
+    if bytes_eq word (codes "merge") then merge_of rest
+    else if bytes_eq word (codes "merge-replay") then merge_replay_of rest
+    else if bytes_eq word (codes "merge-live") then merge_live_of rest
+    else Err BadLine
+
+-- lines that read what is recorded, before those
 unfoldable pub reading_of : List ℕ → List ℕ → Result Line Refusal
 reading_of word rest =
     if bytes_eq word (codes "list") then list_of rest
     else if bytes_eq word (codes "replay") then replay_of rest
     else if bytes_eq word (codes "poll") then poll_of rest
-    else Err BadLine
+    else merging_of word rest
 
 -- lines that record, before the others
 unfoldable pub words_of : List ℕ → List ℕ → Result Line Refusal
@@ -108,7 +137,11 @@ words_of word rest =
 
 -- lines of one word
 unfoldable pub word_of : List ℕ → Result Line Refusal
-word_of word = if bytes_eq word (codes "quit") then Ok lines.Quit else Err BadLine
+word_of word =
+    if bytes_eq word (codes "quit") then Ok lines.Quit
+    else if bytes_eq word (codes "merge-take") then Ok (lines.Merge merges.Take)
+    else if bytes_eq word (codes "merge-state") then Ok (lines.Merge merges.State)
+    else Err BadLine
 
 -- a line of several words, or of one
 unfoldable pub text_of : List ℕ → Result Line Refusal

@@ -3,7 +3,6 @@ use Rattle.std.specs.Prelude.{◌≡◌, ◌⊎◌, ◌&&◌, ℤ, pos, negsuc, 
 use Rattle.std.specs.Ordering.{int_eq}
 use Rattle.std.specs.Prelude.{if◌then◌else◌}
 use Rattle.frame_core.specs.declared.block.Block.{Block}
-use Rattle.frame_core.specs.declared.refusal.Refusal.{Refusal}
 use Rattle.frame_core.specs.declared.refusal.Refusal.TheVariants.{UnknownRecording, NotActive, BadPosition, MaxRecordings, MaxReplays, UnknownReplay, BadParameter, HistoryFull, StaleSession, BadBlock, NeedSettle, Broken}
 use Rattle.frame_core.specs.Block.{IsBlock}
 use Rattle.archive_model.specs.declared.command.StartFields.{StartFields}

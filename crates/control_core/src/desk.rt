@@ -2,7 +2,7 @@
 
 ghost use Rattle.std.specs.Prelude.{◌≡◌, ◌+ℤ◌, pos, ◌++◌, ◌∷◌, [], ◌<ℤ◌, length, ◌-◌, take, OnOk, OnErr};
 
-use crate::numbered::{Numbered, place_of};
+use archive_model::{Numbered, place_of};
 use std::alloc::{AllocError, Global};
 use std::marker::Model;
 

@@ -1,6 +1,7 @@
 //! A control line as a value. docs/CONTROL.md, "Lines".
 
 use crate::event::Event;
+use crate::merge_line::MergeLine;
 use frame_core::Items;
 
 /// What a control line asks for.
@@ -15,6 +16,8 @@ pub enum Line {
         /// The block as bytes; at least one.
         bytes: Items<u8>,
     },
+    /// A line to the merge of a replay and the live stream.
+    Merge(MergeLine),
     /// Read no further line.
     Quit,
 }

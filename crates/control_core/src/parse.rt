@@ -2,10 +2,11 @@
 
 ghost use Rattle.std.specs.Prelude.{◌≡◌};
 ghost use Rattle.frame_core.specs.Outcome.{Gives, Shows};
-ghost use Rattle.control_core.specs.Lines.{word_at, long_at, int_at, channel_of, start_of, block_of, list_of, replay_of, poll_of, reading_of, words_of, word_of, text_of, line_of};
+ghost use Rattle.control_core.specs.Lines.{word_at, long_at, int_at, channel_of, start_of, block_of, list_of, replay_of, poll_of, reading_of, merge_of, merge_replay_of, merge_live_of, merging_of, words_of, word_of, text_of, line_of};
 
 use crate::event::Event;
 use crate::line::Line;
+use crate::merge_line::MergeLine;
 use crate::number::{bytes, int, long};
 use crate::request::Request;
 use archive_model::{Channel, StartFields};
@@ -109,15 +110,55 @@ fn poll(text: &str) -> Result<Line, Refusal>
     Ok(Line::Event(Event::ReplayPoll { replay, max }))
 }
 
+#[tactic(auto, unfolding(crate::specs::Lines::merge_of))]
+fn merge(text: &str) -> Result<Line, Refusal>
+    ensures { result ≡ merge_of text.now }
+{
+    let (initial_term_id, rest) = next_int(text)?;
+    let (term_length, rest) = next_int(rest)?;
+    let position = long(rest)?;
+    Ok(Line::Merge(MergeLine::Open {
+        initial_term_id,
+        term_length,
+        position,
+    }))
+}
+
+#[tactic(auto, unfolding(crate::specs::Lines::merge_replay_of))]
+fn merge_replay(alloc: Global, text: &str) -> Result<Line, Refusal>
+    ensures { Gives (λ x. x) result (merge_replay_of text.now) }
+{
+    Ok(Line::Merge(MergeLine::Replay(bytes(alloc, text)?)))
+}
+
+#[tactic(auto, unfolding(crate::specs::Lines::merge_live_of))]
+fn merge_live(alloc: Global, text: &str) -> Result<Line, Refusal>
+    ensures { Gives (λ x. x) result (merge_live_of text.now) }
+{
+    Ok(Line::Merge(MergeLine::Live(bytes(alloc, text)?)))
+}
+
+#[tactic(auto, unfolding(crate::specs::Lines::merging_of))]
+fn merging_line(alloc: Global, word: &str, rest: &str) -> Result<Line, Refusal>
+    ensures { Gives (λ x. x) result (merging_of word.now rest.now) }
+{
+    match word {
+        "merge" => merge(rest),
+        "merge-replay" => merge_replay(alloc, rest),
+        "merge-live" => merge_live(alloc, rest),
+        _ => Err(Refusal::BadLine),
+    }
+}
+
 #[tactic(auto, unfolding(crate::specs::Lines::reading_of))]
-fn reading_line(word: &str, rest: &str) -> Result<Line, Refusal>
-    ensures { result ≡ reading_of word.now rest.now }
+fn reading_line(alloc: Global, word: &str, rest: &str) -> Result<Line, Refusal>
+    ensures { Gives (λ x. x) result (reading_of word.now rest.now) }
 {
     match word {
         "list" => list(rest),
         "replay" => replay(rest),
         "poll" => poll(rest),
-        _ => Err(Refusal::BadLine),
+        _ => merging_line(alloc, word, rest),
     }
 }
 
@@ -128,7 +169,7 @@ fn line_of_words(alloc: Global, word: &str, rest: &str) -> Result<Line, Refusal>
     match word {
         "start" => start(alloc, rest),
         "block" => block(alloc, rest),
-        _ => reading_line(word, rest),
+        _ => reading_line(alloc, word, rest),
     }
 }
 
@@ -138,6 +179,8 @@ fn line_of_word(word: &str) -> Result<Line, Refusal>
 {
     match word {
         "quit" => Ok(Line::Quit),
+        "merge-take" => Ok(Line::Merge(MergeLine::Take)),
+        "merge-state" => Ok(Line::Merge(MergeLine::State)),
         _ => Err(Refusal::BadLine),
     }
 }

@@ -72,7 +72,8 @@ written_keeps at count old new left written leaves = elim written [
   | inr torn ↦ leaves_on old new left leaves torn.touched (subst IsTrue (sym torn.was_absent)) (omega (arith, torn.least)) (torn_same at count old new torn)
 ]
 
-get_or_cut : (file : Option (List ℕ)) (len place : ℕ) → place < len → get_or (bytes_of (option_map (take len) file)) place 0 ≡ get_or (bytes_of file) place 0
+-- what is cut off a file lies past the length that is left
+pub get_or_cut : (file : Option (List ℕ)) (len place : ℕ) → place < len → get_or (bytes_of (option_map (take len) file)) place 0 ≡ get_or (bytes_of file) place 0
 get_or_cut None len place below = refl
 get_or_cut (Some bytes) len place below = get_or-take len bytes place 0 below
 

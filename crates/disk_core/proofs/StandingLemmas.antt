@@ -1,9 +1,9 @@
 -- What a crash leaves of bytes that were durable before others were written.
-use Rattle.std.proofs.Common.{◌≡◌, ℕ, ◌+◌, ◌<◌, ◌≤◌, List, length, get_or, Option, Some, None, IsTrue, false, true, inl, inr, lt_of_not-le, le_of_eq, sym, ap, ◌∙◌, subst, refl, arith}
-use Rattle.disk_core.specs.Image.{FileState, IsWithin, IsUnsynced, AgreesWhereDurable, LeavesFile, durable}
-use Rattle.disk_core.specs.Calls.{IsWritten}
+use Rattle.std.proofs.Common.{◌≡◌, ℕ, ◌+◌, ◌<◌, ◌≤◌, min, List, length, length-take, get_or, take, Option, option_map, IsSome, Some, None, IsTrue, false, true, inl, inr, lt_of_not-le, le_of_eq, sym, ap, ◌∙◌, subst, refl, arith}
+use Rattle.disk_core.specs.Image.{FileState, IsWithin, IsUnsynced, AgreesWhereDurable, LeavesFile, bytes_of, durable}
+use Rattle.disk_core.specs.Calls.{IsWritten, IsCut}
 use Rattle.disk_core.specs.Standing.{Holds, unsynced_from, KeepsBelow, IsTornCopy, IsSameBelow}
-use Rattle.disk_core.proofs.ImageLemmas.{leaves_on, durable_left}
+use Rattle.disk_core.proofs.ImageLemmas.{leaves_on, durable_left, get_or_cut}
 
 -- a place that is durable where all from a place on is unsynced lies below it and is durable
 durable_below : (at : ℕ) (file : FileState) (place : ℕ) → ¬ IsUnsynced (unsynced_from at file) place → (place < at) × ¬ IsUnsynced file place
@@ -38,13 +38,36 @@ keeps_write at to count old mid new past kept written = elim written [
   }
 ]
 
+length_cut : (file : Option (List ℕ)) (len : ℕ) → length (bytes_of (option_map (take len) file)) ≡ min len (length (bytes_of file))
+length_cut None len = omega arith
+length_cut (Some bytes) len = length-take len bytes
+
+-- one cut more, to that place or past it, wholly or partly done
+pub keeps_cut : (at len : ℕ) (old mid new : FileState) → at ≤ len → KeepsBelow at old mid → IsCut len mid new → KeepsBelow at old new
+keeps_cut at len old mid new past kept cut = elim cut [
+  | inl same ↦ subst (λ (f : FileState). KeepsBelow at old f) (sym same) kept
+  | inr shorter ↦ record {
+    written = λ place below within.
+        kept.written place below (subst (λ (ranges : List (ℕ × ℕ)). IsWithin ranges place) shorter.written within);
+    least = omega (arith, kept.least, shorter.least, past);
+    was_absent = shorter.was_absent ∙ kept.was_absent;
+    no_shorter =
+        let long : length (bytes_of new.reads) ≡ min shorter.length_left (length (bytes_of mid.reads)) =
+        ap (λ (r : Option (List ℕ)). length (bytes_of r)) shorter.reads ∙ length_cut mid.reads shorter.length_left in
+        omega (arith, long, kept.no_shorter, shorter.no_less, past);
+    same = λ place below.
+        ap (λ (r : Option (List ℕ)). get_or (bytes_of r) place 0) shorter.reads
+        ∙ get_or_cut mid.reads shorter.length_left place (omega (arith, below, past, shorter.no_less)) ∙ kept.same place below;
+  }
+]
+
 -- what is kept below a place is kept below a lower one
 pub keeps_less : (at to : ℕ) (old new : FileState) → at ≤ to → KeepsBelow to old new → KeepsBelow at old new
 keeps_less at to old new lower kept = record {
   written = λ place below within. kept.written place (omega (arith, below, lower)) within;
   least = omega (arith, kept.least, lower);
   was_absent = kept.was_absent;
-  no_shorter = kept.no_shorter;
+  no_shorter = omega (arith, kept.no_shorter, lower);
   same = λ place below. kept.same place (omega (arith, below, lower));
 }
 
@@ -132,3 +155,24 @@ pub below_holds : (at : ℕ) (old left : List ℕ) (place : ℕ) (bytes : List �
 below_holds at old left place bytes same holds within k inside =
     let stood = holds k inside in
     (omega (arith, stood.0, same.0, within, inside), same.1 (place + k) (omega (arith, within, inside)) stood.0 ∙ stood.1)
+
+-- bytes that stood below that place still stand there
+pub keeps_holds : (at : ℕ) (old new : FileState) (place : ℕ) (bytes : List ℕ) → KeepsBelow at old new
+    → Holds (bytes_of old.reads) place bytes → place + length bytes ≤ at → Holds (bytes_of new.reads) place bytes
+keeps_holds at old new place bytes kept holds within k inside =
+    let stood = holds k inside in
+    (omega (arith, stood.0, kept.no_shorter, within, inside), kept.same (place + k) (omega (arith, within, inside)) ∙ stood.1)
+
+is_there : (at : ℕ) (old : List ℕ) (left : Option (List ℕ)) → IsSameBelow at old left → IsSome left
+is_there at old None same = absurd same
+is_there at old (Some left) same = refl
+
+-- a crash leaves a file that was durable before it was changed from a place on alone
+pub below_there : (at : ℕ) (old : List ℕ) (file : FileState) (left : Option (List ℕ)) → KeepsBelow at (durable (Some old)) file → LeavesFile file left → IsSome left
+below_there at old file left kept leaves = is_there at old left (below_left at old (durable (Some old)) file left refl kept leaves)
+
+-- and the bytes that stood in it below that place
+pub below_stands : (at : ℕ) (old left : List ℕ) (file : FileState) (place : ℕ) (bytes : List ℕ) → KeepsBelow at (durable (Some old)) file → LeavesFile file (Some left)
+    → Holds old place bytes → place + length bytes ≤ at → Holds left place bytes
+below_stands at old left file place bytes kept leaves =
+    below_holds at old left place bytes (below_left at old (durable (Some old)) file (Some left) refl kept leaves)

@@ -71,7 +71,7 @@ pub record IsShorter (len : ℕ) (old new : FileState) : Type 0 where
 abbrev pub IsCut : ℕ → FileState → FileState → Type 0
 IsCut len old new = (new ≡ old) ⊎ IsShorter len old new
 
--- a remove happened or left no trace, or it failed, which counts as absence, and the file still reads as before
+-- a remove happened or left no trace, or it failed, which counts as absence, and the file reads as before
 abbrev pub IsRemoved : FileState → FileState → Type 0
 IsRemoved old new =
     (new ≡ old) ⊎ (new ≡ removed old) ⊎ (new ≡ record (removed old) { reads = old.reads })
@@ -80,7 +80,8 @@ IsRemoved old new =
 abbrev pub IsSynced : FileState → FileState → Type 0
 IsSynced old new = (new ≡ old) ⊎ (new ≡ synced old)
 
--- a read of this many bytes from this offset into a buffer: as many as fit, fewer only at the end of the file
-pub record IsRead (file : List ℕ) (at : ℕ) (old_buffer new_buffer : List ℕ) (count : ℕ) : Type 0 where
+-- a read of count bytes from an offset into a buffer: as many as fit, fewer only at the end of the file
+pub record IsRead (file : List ℕ) (at : ℕ)
+    (old_buffer new_buffer : List ℕ) (count : ℕ) : Type 0 where
   pub count_is : count ≡ min (length old_buffer) (length file - at)
   pub buffer : new_buffer ≡ take count (drop at file) ++ drop count old_buffer

@@ -1,8 +1,10 @@
 -- What a disk in memory counts, and when it stops or fails.
-use Rattle.std.specs.Prelude.{ℕ, ◌+◌, ◌-◌, ◌^◌, ◌==◌, min, Bool, Option, None, Some, option_map, if◌then◌else◌}
+use Rattle.std.specs.Prelude.{ℕ, ◌+◌, ◌-◌, ◌^◌, ◌==◌, min, Bool, false, Option, None, Some, option_map, Result, Ok, Err, if◌then◌else◌}
 use Rattle.disk_core.specs.declared.counts.Counts.{Counts}
 use Rattle.disk_core.specs.declared.counts.Turn.{Turn}
 use Rattle.disk_core.specs.declared.counts.Turn.TheVariants.{Goes, Fails, Stops}
+use Rattle.disk_core.specs.declared.fault.ListFault.{ListFault}
+use Rattle.disk_core.specs.declared.fault.ListFault.TheVariants.{Device, NoMemory}
 
 -- one more, up to the last u64
 abbrev pub one_more : ℕ → ℕ
@@ -37,4 +39,11 @@ with_fault old = record old { faults = one_more old.faults }
 
 -- the counts after a call with this outcome
 abbrev pub after_call : Bool → Bool → Counts → Counts
-after_call changes succeeded old = if succeeded then counted changes old else with_fault (counted changes old)
+after_call changes succeeded old =
+    if succeeded then counted changes old else with_fault (counted changes old)
+
+-- the counts after a listing with this outcome; want of memory for the list is no fault
+abbrev pub after_list : {T : Type 0} → Result T ListFault → Counts → Counts
+after_list (Ok files) old = counted false old
+after_list (Err Device) old = with_fault (counted false old)
+after_list (Err NoMemory) old = counted false old

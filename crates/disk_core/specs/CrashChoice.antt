@@ -12,13 +12,15 @@ pick choice n = get_or choice (n % length choice) 0
 -- what is left has this byte in each unsynced place of these bytes, and is else the same
 pub record IsFilled (byte : ℕ) (file : FileState) (bytes left : List ℕ) : Type 0 where
   pub long : length left ≡ length bytes
-  pub unsynced : (place : ℕ) → place < length bytes → IsUnsynced file place → get_or left place 0 ≡ byte
+  pub unsynced : (place : ℕ) → place < length bytes → IsUnsynced file place →
+      get_or left place 0 ≡ byte
   pub durable : (place : ℕ) → ¬ IsUnsynced file place → get_or left place 0 ≡ get_or bytes place 0
 
 -- the same of a file that may be absent
 abbrev pub IsFilledFile : ℕ → FileState → Option (List ℕ) → Option (List ℕ) → Type 0
 IsFilledFile byte file None left = left ≡ None
-IsFilledFile byte file (Some bytes) left = (filled : List ℕ) × (left ≡ Some filled) × IsFilled byte file bytes filled
+IsFilledFile byte file (Some bytes) left =
+    (filled : List ℕ) × (left ≡ Some filled) × IsFilled byte file bytes filled
 
 -- the first of the two that is there
 abbrev pub or_else : Option (List ℕ) → Option (List ℕ) → Option (List ℕ)
@@ -29,7 +31,7 @@ or_else (Some bytes) other = Some bytes
 abbrev pub reads_or_synced : FileState → Option (List ℕ)
 reads_or_synced file = or_else file.reads file.last_synced
 
--- what a byte leaves of a touched file: as last synced, as it reads, or with each unsynced byte this byte
+-- what a byte leaves of a touched file: as last synced, as it reads, or this byte at each unsynced place
 pub record IsLeftBy (byte : ℕ) (file : FileState) (left : Option (List ℕ)) : Type 0 where
   pub as_synced : byte ≡ 0 → left ≡ file.last_synced
   pub as_read : byte ≡ 1 → left ≡ file.reads
@@ -40,7 +42,7 @@ pub record IsLeft (byte : ℕ) (file : FileState) (left : Option (List ℕ)) : T
   pub touched : IsTrue file.is_touched → IsLeftBy byte file left
   pub untouched : IsFalse file.is_touched → left ≡ file.reads
 
--- the image that a choice gives: one byte for each touched file in the order of files, the others as they read
+-- the image that a choice gives: a byte for each touched file in the order of files, the others as they read
 pub record IsChosen (files : Files) (choice : List ℕ) (image : Image) : Type 0 where
   pub touched : List FileId
   pub are_touched : AreFilesWith (λ file. IsTrue (files file).is_touched) touched

@@ -45,15 +45,18 @@ pub record IsQuiet (old new : Life) : Type 0 where
   pub faults : old.faults ≤ new.faults
 
 -- a call that may change one file: a moment later, or no moment has passed and nothing has changed
-pub record Steps (file : FileId) (Change : FileState → FileState → Type 0) (old new : Life) : Type 0 where
+pub record Steps (file : FileId) (Change : FileState → FileState → Type 0)
+    (old new : Life) : Type 0 where
   pub obeyed : IsTrue new.obeys → IsTrue old.obeys
   pub this : Change (old.now file) (new.now file)
   pub others : (other : FileId) → other ≢ file → new.now other ≡ old.now other
-  pub time : (moments new ≡ moments old ++ new.now ∷ []) ⊎ ((new.past ≡ old.past) × (new.now ≡ old.now))
+  pub time : (moments new ≡ moments old ++ new.now ∷ [])
+      ⊎ ((new.past ≡ old.past) × (new.now ≡ old.now))
   pub faults : old.faults ≤ new.faults
 
 -- where the call succeeds, it has made exactly this change of the file
-abbrev pub Makes : {T E : Type 0} → Result T E → FileId → (FileState → FileState) → Life → Life → Type 0
+abbrev pub Makes : {T E : Type 0} → Result T E → FileId → (FileState → FileState)
+    → Life → Life → Type 0
 Makes result file change old new = OnOk result (new.now file ≡ change (old.now file))
 
 -- the count of faults rose, unless it was at its last value

@@ -1,8 +1,10 @@
 -- A disk in memory: its life and its counts.
-use Rattle.std.specs.Prelude.{◌≡◌, Result, OnOk}
+use Rattle.std.specs.Prelude.{◌≡◌, ◌⊎◌, Result, OnOk, OnErr}
+use Rattle.disk_core.specs.declared.file_id.FileId.{FileId}
 use Rattle.disk_core.specs.declared.memory.MemoryDisk.{MemoryDisk}
 use Rattle.disk_core.specs.declared.counts.Counts.{Counts}
-use Rattle.disk_core.specs.declared.counts.Turn.TheVariants.{Goes, Stops}
+use Rattle.disk_core.specs.declared.counts.Turn.TheVariants.{Goes, Fails}
+use Rattle.disk_core.specs.Image.{FileState}
 use Rattle.disk_core.specs.Life.{Life, IsQuiet}
 use Rattle.disk_core.specs.Counts.{next_turn}
 use Rattle.disk_core.specs.Memory.{life_at}
@@ -15,7 +17,10 @@ life_of disk = life_at disk.history.log.items disk.history.born disk.counts.faul
 abbrev pub counts_of : MemoryDisk → Counts
 counts_of disk = disk.counts
 
--- a call succeeds only where it is not to fail, and changes nothing where the disk has stopped
-pub record KeepsTurn {T E : Type 0} (result : Result T E) (old new : MemoryDisk) : Type 0 where
+-- A call that writes, cuts or removes succeeds only where it is not to fail. Where it fails it has changed
+-- nothing, or it was to fail once and has made its change all the same.
+pub record KeepsTurn {T E : Type 0} (result : Result T E) (file : FileId)
+    (change : FileState → FileState) (old new : MemoryDisk) : Type 0 where
   pub goes : OnOk result (next_turn (counts_of old) ≡ Goes)
-  pub stops : next_turn (counts_of old) ≡ Stops → IsQuiet (life_of old) (life_of new)
+  pub fails : OnErr result (IsQuiet (life_of old) (life_of new)
+      ⊎ ((next_turn (counts_of old) ≡ Fails) × ((life_of new).now file ≡ change ((life_of old).now file))))

@@ -16,11 +16,11 @@ pub record KeepsBelow (at : ℕ) (old new : FileState) : Type 0 where
   pub written : (place : ℕ) → place < at → IsWithin new.written place → IsWithin old.written place
   pub least : min old.least at ≤ new.least
   pub was_absent : new.was_absent ≡ old.was_absent
-  pub no_shorter : length (bytes_of old.reads) ≤ length (bytes_of new.reads)
+  pub no_shorter : min (length (bytes_of old.reads)) at ≤ length (bytes_of new.reads)
   pub same : (place : ℕ) → place < at →
       get_or (bytes_of new.reads) place 0 ≡ get_or (bytes_of old.reads) place 0
 
--- the bytes of a file outside this range, and no shorter
+-- as long as the file at least, with the same bytes outside this range
 pub record IsTornBytes (at count : ℕ) (old left : List ℕ) : Type 0 where
   pub no_shorter : length old ≤ length left
   pub outside : (place : ℕ) → (place < at) ⊎ (at + count ≤ place) → place < length old →
@@ -31,8 +31,8 @@ abbrev pub IsTornCopy : ℕ → ℕ → List ℕ → Option (List ℕ) → Type 
 IsTornCopy at count old None = ⊥
 IsTornCopy at count old (Some left) = IsTornBytes at count old left
 
--- what a crash leaves of a durable file that was then written from this place on alone: it is there, the
--- same below that place
+-- what a crash leaves of a durable file that was then changed from this place on alone: it is there, and
+-- the same below that place
 abbrev pub IsSameBelow : ℕ → List ℕ → Option (List ℕ) → Type 0
 IsSameBelow at old None = ⊥
 IsSameBelow at old (Some left) =

@@ -1,5 +1,5 @@
 //! What a disk in memory counts, and when it stops or fails.
-ghost use Rattle.std.specs.Prelude.{◌≡◌, ◌≤◌, is_ok, if◌then◌else◌, OnOk, IsOk};
+ghost use Rattle.std.specs.Prelude.{◌≡◌, ◌≤◌, ◌↔◌, is_ok, if◌then◌else◌, IsOk};
 ghost use Rattle.disk_core.specs.declared.counts.Turn.TheVariants.{Goes};
 ghost use Rattle.disk_core.specs.Counts.{fresh, next_turn, counted, with_fault};
 
@@ -76,8 +76,7 @@ impl Counts {
         turn: Turn,
         outcome: Result<(), AllocError>,
     ) -> Result<(), Fault>
-        ensures made { OnOk result (IsOk outcome) }
-        ensures goes { OnOk result (turn ≡ Goes) }
+        ensures done { IsOk result ↔ ((turn ≡ Goes) × IsOk outcome) }
         ensures risen { self.old.faults ≤ self.new.faults }
         ensures counted { self.new ≡ (if is_ok result then self.old else with_fault self.old) }
     {

@@ -20,8 +20,10 @@ impl MemoryDisk {
     /// The new disk begins with that image, all of it durable; it neither stops nor fails. It copies each file.
     /// `NoMemory` is the only refusal.
     pub fn crash(&self, choice: &[u8]) -> Result<MemoryDisk, Refusal>
-        ensures left { IfOk result (λ disk. IsCrash (life_of self.now).now choice.now (life_of disk).now) }
-        ensures may_leave { IfOk result (λ disk. MayLeave (life_of self.now).now (reads (life_of disk).now)) }
+        ensures left { IfOk result (λ disk.
+            IsCrash (life_of self.now).now choice.now (life_of disk).now) }
+        ensures may_leave { IfOk result (λ disk.
+            MayLeave (life_of self.now).now (reads (life_of disk).now)) }
         ensures past { IfOk result (λ disk. (life_of disk).past ≡ []) }
         ensures counts { IfOk result (λ disk. counts_of disk ≡ fresh) }
         ensures refusal { IfErr result (λ refusal. refusal ≡ NoMemory) }

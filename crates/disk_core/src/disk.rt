@@ -18,7 +18,8 @@ pub trait Disk {
 
     /// The length of a file, 0 if it is absent.
     fn len(&mut self, file: FileId) -> Result<u64, Fault>
-        ensures exact { IfOk result (λ n. IsTrue (life self.new).obeys → n ≡ length (bytes_now (life self.old) file)) }
+        ensures exact { IfOk result (λ n. IsTrue (life self.new).obeys →
+            n ≡ length (bytes_now (life self.old) file)) }
         ensures quiet { IsQuiet (life self.old) (life self.new) }
         ensures cause { HasCause result (life self.old) (life self.new) };
 
@@ -34,8 +35,10 @@ pub trait Disk {
     /// Writes bytes at an offset, over what is there and past the end. A gap reads as zeros. An absent
     /// file is made. No bytes change nothing. After a fault the range may be written in part.
     fn write_at(&mut self, file: FileId, at: u64, bytes: &[u8]) -> Result<(), Fault>
-        ensures written { Makes result file (write_to at bytes.now) (life self.old) (life self.new) }
-        ensures step { Steps file (IsWritten at (length bytes.now)) (life self.old) (life self.new) }
+        ensures written { Makes result file (write_to at bytes.now)
+            (life self.old) (life self.new) }
+        ensures step { Steps file (IsWritten at (length bytes.now))
+            (life self.old) (life self.new) }
         ensures cause { HasCause result (life self.old) (life self.new) };
 
     /// Cuts a file to a length. A shorter file stays as it reads, and an absent one absent. After a

@@ -1,8 +1,9 @@
 //! Laws of the definitions, each the contract of a function that does nothing.
-ghost use Rattle.std.specs.Prelude.{◌≡◌, ◌≢◌, ◌+◌, ◌<◌, ◌≤◌, ℕ, max, Bool, List, length, get_or, Option, if◌then◌else◌};
+ghost use Rattle.std.specs.Prelude.{◌≡◌, ◌≢◌, ◌+◌, ◌<◌, ◌≤◌, ℕ, max, Bool, List, length, get_or, Option, Some, IsSome, if◌then◌else◌};
 ghost use Rattle.disk_core.specs.declared.file_id.FileId.{FileId};
-ghost use Rattle.disk_core.specs.Image.{Image, FileState, Files, LeavesFile, MayLeave, reads, durable, begun};
+ghost use Rattle.disk_core.specs.Image.{Image, FileState, Files, LeavesFile, MayLeave, reads, bytes_of, durable, begun};
 ghost use Rattle.disk_core.specs.Calls.{overwritten, write_to, cut_to, removed, synced, IsWritten, IsCut, IsRemoved, IsSynced};
+ghost use Rattle.disk_core.specs.Standing.{Holds, KeepsBelow};
 
 /// A write of some bytes leaves the file as long as it was, or as the bytes reach. The bytes stand at
 /// the offset, and elsewhere the file is as it was, with zeros in a gap.
@@ -61,14 +62,15 @@ pub fn syncs_add_no_outcome()
 /// Once each file has been synced, a crash leaves what is read and nothing else.
 #[tactic(auto, using(crate::proofs::ImageLemmas::all_durable))]
 pub fn synced_files_are_left_as_read()
-    ensures { (files : Files) (image : Image) → ((file : FileId) → files file ≡ durable (reads files file)) →
-        MayLeave files image → (file : FileId) → image file ≡ reads files file }
+    ensures { (files : Files) (image : Image) →
+        ((file : FileId) → files file ≡ durable (reads files file)) → MayLeave files image → (file : FileId) → image file ≡ reads files file }
 {}
 
 /// Of a disk that is begun from an image, a crash leaves that image and nothing else.
 #[tactic(auto, using(crate::proofs::ImageLemmas::begun_left))]
 pub fn a_begun_disk_is_durable()
-    ensures { (first image : Image) → MayLeave (begun first) image → (file : FileId) → image file ≡ first file }
+    ensures { (first image : Image) → MayLeave (begun first) image →
+        (file : FileId) → image file ≡ first file }
 {}
 
 /// What a crash leaves of one file says nothing of another: of two images that it may leave, each file
@@ -78,4 +80,29 @@ pub fn files_are_independent()
     ensures { (files : Files) (one other : Image) (pick : FileId → Bool) →
         MayLeave files one → MayLeave files other →
         MayLeave files (λ file. if pick file then one file else other file) }
+{}
+
+/// A write at a place or past it, or a cut to it or past it, wholly or partly done, keeps what is below
+/// that place.
+#[tactic(auto, using(crate::proofs::StandingLemmas::keeps_refl, crate::proofs::StandingLemmas::keeps_write, crate::proofs::StandingLemmas::keeps_cut))]
+pub fn later_changes_keep_what_is_below()
+    ensures start { (at : ℕ) (file : FileState) → KeepsBelow at file file }
+    ensures write { (at to count : ℕ) (old mid new : FileState) → at ≤ to →
+        KeepsBelow at old mid → IsWritten to count mid new → KeepsBelow at old new }
+    ensures cut { (at len : ℕ) (old mid new : FileState) → at ≤ len →
+        KeepsBelow at old mid → IsCut len mid new → KeepsBelow at old new }
+{}
+
+/// Where a durable file is then changed from a place on alone, bytes that stood in it below that place
+/// stand in it still, and in whatever a crash leaves of it, which is there.
+#[tactic(auto, using(crate::proofs::StandingLemmas::keeps_holds, crate::proofs::StandingLemmas::below_there, crate::proofs::StandingLemmas::below_stands))]
+pub fn bytes_below_stand()
+    ensures read { (at : ℕ) (old new : FileState) (place : ℕ) (bytes : List ℕ) →
+        KeepsBelow at old new → Holds (bytes_of old.reads) place bytes →
+        place + length bytes ≤ at → Holds (bytes_of new.reads) place bytes }
+    ensures there { (at : ℕ) (old : List ℕ) (file : FileState) (left : Option (List ℕ)) →
+        KeepsBelow at (durable (Some old)) file → LeavesFile file left → IsSome left }
+    ensures stand { (at : ℕ) (old left : List ℕ) (file : FileState) (place : ℕ) (bytes : List ℕ) →
+        KeepsBelow at (durable (Some old)) file → LeavesFile file (Some left) →
+        Holds old place bytes → place + length bytes ≤ at → Holds left place bytes }
 {}

@@ -1,10 +1,12 @@
 //! A disk in memory, on which the archive runs without a folder, and by which crashes are tested.
-ghost use Rattle.std.specs.Prelude.{◌≡◌, ◌≤◌, [], None, refl, true, false, length, is_ok, Some, OnOk, OnErr, IfOk, IsSome};
+ghost use Rattle.std.specs.Prelude.{◌≡◌, ◌≢◌, ◌≤◌, ◌↔◌, [], None, refl, true, false, length, is_ok, Some, OnOk, OnErr, IfOk, IsOk, IsErrOf, IsSome};
 ghost use Rattle.disk_core.specs.FileNames.{AreFilesWith};
 ghost use Rattle.disk_core.specs.Image.{reads, begun, bytes_of};
 ghost use Rattle.disk_core.specs.Calls.{write_to, cut_to, removed, synced, IsWritten, IsCut, IsRemoved, IsSynced, IsRead};
 ghost use Rattle.disk_core.specs.Life.{bytes_now, IsQuiet, Steps, Makes, HasCause, HasListCause};
-ghost use Rattle.disk_core.specs.Counts.{after_call, fresh};
+ghost use Rattle.disk_core.specs.Counts.{after_call, after_list, next_turn, fresh};
+ghost use Rattle.disk_core.specs.declared.counts.Turn.TheVariants.{Goes};
+ghost use Rattle.disk_core.specs.declared.fault.ListFault.TheVariants.{Device};
 
 use crate::counts::{Counts, Turn};
 use crate::history::History;
@@ -75,14 +77,16 @@ impl Disk for MemoryDisk {
 
     ghost life = { life_of };
 
-    ghost reads_may_stay = { λ disk file. well_stays (after nothing disk.history.log.items file) (after nothing disk.history.log.items file).reads refl (disk.history.well file) };
+    ghost reads_may_stay = { λ disk file.
+        well_stays (after nothing disk.history.log.items file)
+        (after nothing disk.history.log.items file).reads refl (disk.history.well file) };
 
     fn len(&mut self, file: FileId) -> Result<u64, Fault>
         ensures exact { IfOk result (λ n. n ≡ length (bytes_now (life_of self.old) file)) }
         ensures quiet { IsQuiet (life_of self.old) (life_of self.new) }
         ensures cause { HasCause result (life_of self.old) (life_of self.new) }
         ensures counts { counts_of self.new ≡ after_call false (is_ok result) (counts_of self.old) }
-        ensures turn { KeepsTurn result self.old self.new }
+        ensures turn { IsOk result ↔ (next_turn (counts_of self.old) ≡ Goes) }
     {
         if self.counts.begin(false) != Turn::Goes {
             self.counts.fail();
@@ -93,11 +97,13 @@ impl Disk for MemoryDisk {
 
     fn read_at(&mut self, file: FileId, at: u64, into: &mut [u8]) -> Result<usize, Fault>
         ensures within { IfOk result (λ n. n ≤ length into.old) }
-        ensures exact { IfOk result (λ n. IsRead (bytes_now (life_of self.old) file) at into.old into.new n) }
+        ensures exact { IfOk result (λ n.
+            IsRead (bytes_now (life_of self.old) file) at into.old into.new n) }
+        ensures buffer { OnErr result (into.new ≡ into.old) }
         ensures quiet { IsQuiet (life_of self.old) (life_of self.new) }
         ensures cause { HasCause result (life_of self.old) (life_of self.new) }
         ensures counts { counts_of self.new ≡ after_call false (is_ok result) (counts_of self.old) }
-        ensures turn { KeepsTurn result self.old self.new }
+        ensures turn { IsOk result ↔ (next_turn (counts_of self.old) ≡ Goes) }
     {
         if self.counts.begin(false) != Turn::Goes {
             self.counts.fail();
@@ -107,11 +113,13 @@ impl Disk for MemoryDisk {
     }
 
     fn write_at(&mut self, file: FileId, at: u64, bytes: &[u8]) -> Result<(), Fault>
-        ensures written { Makes result file (write_to at bytes.now) (life_of self.old) (life_of self.new) }
-        ensures step { Steps file (IsWritten at (length bytes.now)) (life_of self.old) (life_of self.new) }
+        ensures written { Makes result file (write_to at bytes.now)
+            (life_of self.old) (life_of self.new) }
+        ensures step { Steps file (IsWritten at (length bytes.now))
+            (life_of self.old) (life_of self.new) }
         ensures cause { HasCause result (life_of self.old) (life_of self.new) }
         ensures counts { counts_of self.new ≡ after_call true (is_ok result) (counts_of self.old) }
-        ensures turn { KeepsTurn result self.old self.new }
+        ensures turn { KeepsTurn result file (write_to at bytes.now) self.old self.new }
     {
         let turn = self.counts.begin(true);
         if turn == Turn::Stops {
@@ -127,7 +135,7 @@ impl Disk for MemoryDisk {
         ensures step { Steps file (IsCut len) (life_of self.old) (life_of self.new) }
         ensures cause { HasCause result (life_of self.old) (life_of self.new) }
         ensures counts { counts_of self.new ≡ after_call true (is_ok result) (counts_of self.old) }
-        ensures turn { KeepsTurn result self.old self.new }
+        ensures turn { KeepsTurn result file (cut_to len) self.old self.new }
     {
         let turn = self.counts.begin(true);
         if turn == Turn::Stops {
@@ -143,7 +151,7 @@ impl Disk for MemoryDisk {
         ensures step { Steps file IsRemoved (life_of self.old) (life_of self.new) }
         ensures cause { HasCause result (life_of self.old) (life_of self.new) }
         ensures counts { counts_of self.new ≡ after_call true (is_ok result) (counts_of self.old) }
-        ensures turn { KeepsTurn result self.old self.new }
+        ensures turn { KeepsTurn result file removed self.old self.new }
     {
         let turn = self.counts.begin(true);
         if turn == Turn::Stops {
@@ -160,7 +168,8 @@ impl Disk for MemoryDisk {
         ensures step { Steps file IsSynced (life_of self.old) (life_of self.new) }
         ensures cause { HasCause result (life_of self.old) (life_of self.new) }
         ensures counts { counts_of self.new ≡ after_call true (is_ok result) (counts_of self.old) }
-        ensures turn { KeepsTurn result self.old self.new }
+        ensures turn { OnOk result (next_turn (counts_of self.old) ≡ Goes) }
+        ensures unchanged { OnErr result (IsQuiet (life_of self.old) (life_of self.new)) }
     {
         if self.counts.begin(true) != Turn::Goes {
             self.counts.fail();
@@ -176,10 +185,12 @@ impl Disk for MemoryDisk {
     }
 
     fn list(&mut self) -> Result<Vec<FileId>, ListFault>
-        ensures files { IfOk result (λ files. AreFilesWith (λ file. IsSome (reads (life_of self.old).now file)) files.items) }
+        ensures files { IfOk result (λ files.
+            AreFilesWith (λ file. IsSome (reads (life_of self.old).now file)) files.items) }
         ensures quiet { IsQuiet (life_of self.old) (life_of self.new) }
         ensures cause { HasListCause result (life_of self.old) (life_of self.new) }
-        ensures turn { KeepsTurn result self.old self.new }
+        ensures counts { counts_of self.new ≡ after_list result (counts_of self.old) }
+        ensures turn { IsErrOf result Device ↔ (next_turn (counts_of self.old) ≢ Goes) }
     {
         if self.counts.begin(false) != Turn::Goes {
             self.counts.fail();

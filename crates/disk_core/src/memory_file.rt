@@ -2,7 +2,7 @@
 ghost use Rattle.std.specs.Prelude.{◌≡◌, ◌+◌, ◌-◌, ◌<◌, ◌≤◌, ◌++◌, List, ℕ, Option, Some, option_map, get_or, ◌⊎◌, length, take, drop, replicate, OnOk, OnErr, IfOk};
 ghost use Rattle.disk_core.specs.Image.{bytes_of, durable};
 ghost use Rattle.disk_core.specs.Calls.{IsRead, overwritten, write_to, cut_to, removed};
-ghost use Rattle.disk_core.specs.Memory.{bytes_in, state_of, AreFilled};
+ghost use Rattle.disk_core.specs.Memory.{bytes_in, state_of, Becomes, AreFilled};
 ghost use Rattle.disk_core.specs.CrashChoice.{IsFilled};
 
 use std::alloc::{AllocError, Global};
@@ -21,7 +21,8 @@ pub(crate) struct MemoryFile {
 impl MemoryFile {
     /// A file that is not there and never was.
     pub(crate) fn absent(alloc: Global) -> Self
-        ensures { (last : Option (List ℕ)) → state_of last result ≡ record (durable None) { last_synced = last } }
+        ensures { (last : Option (List ℕ)) →
+            state_of last result ≡ record (durable None) { last_synced = last } }
     {
         MemoryFile {
             reads: None,
@@ -35,8 +36,8 @@ impl MemoryFile {
     /// Writes some bytes at an offset. Where there is no memory for it the file stays as it was.
     pub(crate) fn write(&mut self, alloc: Global, at: u64, bytes: &[u8]) -> Result<(), AllocError>
         requires some { 0 < length bytes.now }
-        ensures done { OnOk result ((last : Option (List ℕ)) → state_of last self.new ≡ write_to at bytes.now (state_of last self.old)) }
-        ensures same { OnErr result ((last : Option (List ℕ)) → state_of last self.new ≡ state_of last self.old) }
+        ensures done { OnOk result (Becomes (write_to at bytes.now) self.old self.new) }
+        ensures same { OnErr result (Becomes (λ state. state) self.old self.new) }
     {
         self.written.push((at, bytes.len() as u64))?;
         let outcome = write_file(alloc, &mut self.reads, at, bytes);
@@ -58,7 +59,8 @@ impl MemoryFile {
 
     /// Writes a byte over each unsynced place of these bytes.
     pub(crate) fn fill(&self, bytes: &mut [u8], byte: u8)
-        ensures { (last : Option (List ℕ)) → IsFilled byte (state_of last self.now) bytes.old bytes.new }
+        ensures { (last : Option (List ℕ)) →
+            IsFilled byte (state_of last self.now) bytes.old bytes.new }
     {
         fill_ranges(&self.written, bytes, byte);
         fill_range(bytes, self.least, u64::MAX, byte);
@@ -66,7 +68,7 @@ impl MemoryFile {
 
     /// Cuts the file to a length.
     pub(crate) fn cut(&mut self, len: u64)
-        ensures { (last : Option (List ℕ)) → state_of last self.new ≡ cut_to len (state_of last self.old) }
+        ensures { Becomes (cut_to len) self.old self.new }
     {
         cut_file(&mut self.reads, len);
         self.is_touched = true;
@@ -75,7 +77,7 @@ impl MemoryFile {
 
     /// Removes the file.
     pub(crate) fn remove(&mut self)
-        ensures { (last : Option (List ℕ)) → state_of last self.new ≡ removed (state_of last self.old) }
+        ensures { Becomes removed self.old self.new }
     {
         self.reads = None;
         self.is_touched = true;
@@ -154,7 +156,8 @@ pub(crate) fn write_file(
     bytes: &[u8],
 ) -> Result<(), AllocError>
     requires some { 0 < length bytes.now }
-    ensures done { OnOk result (bytes_in file.new ≡ Some (overwritten at bytes.now (bytes_of (bytes_in file.old)))) }
+    ensures done { OnOk result
+        (bytes_in file.new ≡ Some (overwritten at bytes.now (bytes_of (bytes_in file.old)))) }
     ensures same { OnErr result (bytes_in file.new ≡ bytes_in file.old) }
 {
     match file {
@@ -183,7 +186,8 @@ fn overwrite(file: &mut Vec<u8>, at: u64, bytes: &[u8]) -> Result<(), AllocError
 
 // Fills a file up with zeros to a length, if it is shorter.
 fn stretch(file: &mut Vec<u8>, len: usize) -> Result<(), AllocError>
-    ensures done { OnOk result (file.new.items ≡ file.old.items ++ replicate (len - length file.old.items) 0) }
+    ensures done { OnOk result
+        (file.new.items ≡ file.old.items ++ replicate (len - length file.old.items) 0) }
     ensures same { OnErr result (file.new.items ≡ file.old.items) }
 {
     if file.len() < len {
@@ -211,8 +215,10 @@ fn fill_ranges(ranges: &[(u64, u64)], bytes: &mut [u8], byte: u8)
 
 // Writes a byte over each place from this one on, up to so many.
 fn fill_range(bytes: &mut [u8], at: u64, count: u64, byte: u8)
-    ensures inside { (place : ℕ) → at ≤ place → place < at + count → place < length bytes.old → get_or bytes.new place 0 ≡ byte }
-    ensures outside { (place : ℕ) → (place < at) ⊎ (at + count ≤ place) → get_or bytes.new place 0 ≡ get_or bytes.old place 0 }
+    ensures inside { (place : ℕ) → at ≤ place → place < at + count → place < length bytes.old →
+        get_or bytes.new place 0 ≡ byte }
+    ensures outside { (place : ℕ) → (place < at) ⊎ (at + count ≤ place) →
+        get_or bytes.new place 0 ≡ get_or bytes.old place 0 }
 {
     let len = bytes.len() as u64;
     let from = at.min(len);

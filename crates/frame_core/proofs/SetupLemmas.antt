@@ -1,11 +1,12 @@
 -- Setup frames, and the bytes that they are read from.
-use Rattle.std.proofs.Common.{◌≡◌, ◌∙◌, sym, subst, refl, ℕ, ℤ, List, Option, Some, None}
+use Rattle.std.proofs.Common.{◌≡◌, ◌∙◌, sym, refl, ℕ, ℤ, List, Option, Some, None}
 use Rattle.std.specs.Prelude.{true, MatchOption}
 use Rattle.frame_core.specs.declared.setup.Setup.{Setup}
 use Rattle.frame_core.specs.Decoding.{read_setup}
 use Rattle.frame_core.specs.FrameEncoding.{IsAligned}
 use Rattle.frame_core.specs.Limits.{is_term_length, is_mtu}
 use Rattle.frame_core.specs.Position.{HasPosition}
+use Rattle.frame_core.proofs.PositionLemmas.{one_position}
 use Rattle.frame_core.specs.Setup.{HasJoinPosition, IsSetup, IsUsable, geometry_of}
 
 -- a setup frame of lengths in the limits is decided by its position
@@ -32,3 +33,7 @@ setup_is_read bytes s is = rw (
 -- the bytes have one setup frame in front
 pub one_setup : (bytes : List ℕ) (s t : Setup) → IsSetup bytes s → IsSetup bytes t → s ≡ t
 one_setup bytes s t here there = setup_is_read bytes s here ∙ sym (setup_is_read bytes t there)
+
+-- a setup frame has one join position
+pub one_join : (s : Setup) (p q : ℤ) → HasJoinPosition s p → HasJoinPosition s q → p ≡ q
+one_join s p q here there = one_position (geometry_of s) s.active_term_id s.term_offset p q here.place there.place

@@ -1,15 +1,20 @@
 //! Laws of the definitions, each the contract of a function that does nothing.
 
-ghost use Rattle.std.specs.Prelude.{◌≡◌, ◌<◌, ◌≤◌, ◌++◌, ℕ, ℤ, pos, List, Some, length, take, slice_index, FitsSigned};
+ghost use Rattle.std.specs.Prelude.{◌≡◌, ◌<◌, ◌≤◌, ◌^◌, ◌++◌, ℕ, ℤ, pos, true, List, Some, length, take, slice_index, FitsSigned};
 ghost use Rattle.std.specs.Int.{w32};
 ghost use Rattle.frame_core.specs.Block.{AreBlock};
 ghost use Rattle.frame_core.specs.Datagram.{IsBadAt, IsDatagram};
 ghost use Rattle.frame_core.specs.FrameEncoding.{IsEncodable, IsHeader, Fits, aligned_length, encoded, header_of, stored};
 ghost use Rattle.frame_core.specs.Front.{IsFront, used_by};
+ghost use Rattle.frame_core.specs.Limits.{is_term_length};
+ghost use Rattle.frame_core.specs.Nak.{HasRange, IsNak, NakFits, encoded_nak};
 ghost use Rattle.frame_core.specs.Position.{HasPosition, position_of};
+ghost use Rattle.frame_core.specs.Setup.{HasJoinPosition, IsSetup};
 ghost use Rattle.frame_core.specs.declared.frame.Frame.{Frame};
 ghost use Rattle.frame_core.specs.declared.frame.FrameKind.TheVariants.{Message};
 ghost use Rattle.frame_core.specs.declared.geometry.Geometry.{Geometry};
+ghost use Rattle.frame_core.specs.declared.nak.Nak.{Nak};
+ghost use Rattle.frame_core.specs.declared.setup.Setup.{Setup};
 
 /// The bytes alone determine the frame in front of them, and how many of them it uses.
 pub fn one_frame_in_front()
@@ -69,4 +74,33 @@ pub fn positions_and_terms_are_inverse()
 pub fn a_block_has_one_position()
     ensures { (g : Geometry) (fs : List Frame) (p q : ℤ)
         → AreBlock g fs p → AreBlock g fs q → p ≡ q }
+{}
+
+/// The term lengths are the fifteen powers of two from 2^16 to 2^30. docs/CONTROL.md, "Limits".
+pub fn term_lengths_are_powers_of_two()
+    ensures powers { (z : ℤ) → is_term_length z ≡ true
+        → (k : ℕ) × (16 ≤ k) × (k ≤ 30) × (z ≡ pos (2 ^ k)) }
+    ensures all { (z : ℤ) (k : ℕ) → 16 ≤ k → k ≤ 30 → z ≡ pos (2 ^ k) → is_term_length z ≡ true }
+{}
+
+/// The bytes alone determine the setup frame in front of them, and it has one join position.
+pub fn one_setup_in_front()
+    ensures frame { (bytes : List ℕ) (s t : Setup)
+        → IsSetup bytes s → IsSetup bytes t → s ≡ t }
+    ensures position { (s : Setup) (p q : ℤ)
+        → HasJoinPosition s p → HasJoinPosition s q → p ≡ q }
+{}
+
+/// The bytes alone determine the NAK frame in front of them.
+pub fn one_nak_in_front()
+    ensures { (bytes : List ℕ) (m n : Nak) → IsNak bytes m → IsNak bytes n → m ≡ n }
+{}
+
+/// A NAK that was encoded is read as it, whatever follows; and the 28 bytes that are read as it, with the flags 0, are
+/// its encoding. Aeron Transport Protocol Specification, "NAK Frame".
+pub fn an_encoded_nak_is_read_as_it()
+    ensures read { (n : Nak) (rest : List ℕ) → NakFits n → HasRange n
+        → IsNak (encoded_nak n ++ rest) n }
+    ensures bytes { (bytes : List ℕ) (n : Nak) → ((k : ℕ) → slice_index bytes k < 256)
+        → IsNak bytes n → slice_index bytes 5 ≡ 0 → take 28 bytes ≡ encoded_nak n }
 {}

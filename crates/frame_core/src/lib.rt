@@ -17,6 +17,8 @@ mod refusal;
 mod setup;
 #[cfg(test)]
 mod tests;
+#[cfg(test)]
+mod tests_wire;
 
 pub use block::{
     Block, Place, Publication, are_encodable, block_end, block_of, is_next, place_behind,

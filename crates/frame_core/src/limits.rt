@@ -1,6 +1,6 @@
 //! The limits of the archive, by name: docs/CONTROL.md, "Limits".
 
-ghost use Rattle.std.specs.Prelude.{◌≡◌};
+ghost use Rattle.std.specs.Prelude.{◌≡◌, ◌≤ℤ◌, pos, IsTrue};
 ghost use Rattle.frame_core.specs.Limits.{is_mtu, is_term_length};
 
 /// Recordings that an archive has at most.
@@ -39,7 +39,8 @@ pub const LAST_NUMBER: i64 = 9_223_372_036_854_775_807;
 /// Whether a term may have so many bytes: a power of two from `MIN_TERM_LENGTH` to `MAX_TERM_LENGTH`. Takes no memory.
 #[tactic(auto, unfolding(crate::specs::Limits::is_term_length))]
 pub fn is_term_length(length: i32) -> bool
-    ensures { result ≡ is_term_length length }
+    ensures value { result ≡ is_term_length length }
+    ensures low { IsTrue result → pos 0 ≤ℤ length }
 {
     if length < MIN_TERM_LENGTH {
         return false;

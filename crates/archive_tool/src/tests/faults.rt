@@ -1,6 +1,6 @@
 //! Readers and writers that fail, and requests for memory that are refused.
 
-use super::scenarios::{HELLO_AT_0, START_LINE, replies};
+use super::scenarios::{HELLO_AT_0, HELLO_AT_64, START_LINE, run};
 use crate::fault::ScriptFault;
 use crate::script::run_script;
 use std::io::{Error, ErrorKind, Read, Write};
@@ -85,11 +85,27 @@ fn what_was_written_before_stays(rt: HostRuntime) -> Result<(), Fail> {
 // Each request for memory of this test fails in turn, where the test is run so.
 #[test]
 fn a_script_of_every_line(rt: HostRuntime) -> Result<(), Fail> {
-    let alloc = rt.alloc();
-    let script = format!(in alloc;
-        "{START_LINE}\nblock 0 {HELLO_AT_0}\nlist 0 10\nreplay 0 0 -1\npoll 0 5\nquit\n"
-    )?;
-    let told = replies(alloc, script.as_str())?;
-    assert!(rt; told.as_str().ends_with("more 64\nbye\n"));
-    Ok(())
+    run(
+        rt.alloc(),
+        &[
+            (START_LINE, "", "started 0 0", ""),
+            ("block 0 ", HELLO_AT_0, "settled 64", ""),
+            (
+                "list 0 10",
+                "",
+                "recording 0 1000 -1 0 -1 42 131072 65536 1408 7 1001 c",
+                "",
+            ),
+            ("", "", "end 1", ""),
+            ("replay 0 0 -1", "", "replay 0", ""),
+            ("poll 0 5", "", "frame 0 ", HELLO_AT_0),
+            ("", "", "more 64", ""),
+            ("merge 42 65536 0", "", "merge 0", ""),
+            ("merge-replay ", HELLO_AT_0, "held", ""),
+            ("merge-live ", HELLO_AT_64, "held", ""),
+            ("merge-take", "", "frame 0 ", HELLO_AT_0),
+            ("merge-state", "", "merged no 64", ""),
+            ("quit", "", "bye", ""),
+        ],
+    )
 }

@@ -1,7 +1,7 @@
 //! Refusals in the order of their checks, line by line. docs/CONTROL.md, "Refusals".
 
 use super::scenarios::{
-    HELLO_AT_0, HELLO_AT_64, HELLO_AT_128, HELLO_IN_NEXT_TERM, START_LINE, replies,
+    HELLO_AT_0, HELLO_AT_64, HELLO_AT_128, HELLO_IN_NEXT_TERM, START_LINE, run,
 };
 use crate::archive::Archive;
 use archive_model::{Channel, Reply, StartFields};
@@ -11,66 +11,61 @@ use std::test::*;
 
 #[test]
 fn each_line_meets_its_first_refusal(rt: HostRuntime) -> Result<(), Fail> {
-    let alloc = rt.alloc();
-    let script = format!(in alloc; "{START_LINE}\nblock 0 {HELLO_AT_0}\n")?;
-    let begun = "started 0 0\nsettled 64\n";
-    for (line, told) in [
-        (
-            "start 1001 7 42 65535 1408 131072 0 1000 c",
-            "error 10 BadParameter",
-        ),
-        (
-            "start 1001 7 42 65536 1408 131072 0 -1 c",
-            "error 10 BadParameter",
-        ),
-        ("list 0 1025", "error 10 BadParameter"),
-        ("list 0 -1", "error 10 BadParameter"),
-        ("block 1 zz", "error 22 BadLine"),
-        ("block 1 00", "error 12 StaleSession"),
-        ("block -1 00", "error 12 StaleSession"),
-        ("block 2147483648 00", "error 12 StaleSession"),
-        ("block 0 00", "error 21 BadFrame 0"),
-        ("replay 5 0 -1", "error 1 UnknownRecording"),
-        ("replay 5 -2 -1", "error 10 BadParameter"),
-        ("replay 5 0 -2", "error 10 BadParameter"),
-        ("replay 0 32 -1", "error 5 BadPosition"),
-        ("replay 0 65 -1", "error 5 BadPosition"),
-        ("poll 5 0", "error 10 BadParameter"),
-        ("poll 5 4097", "error 10 BadParameter"),
-        ("poll 5 1", "error 9 UnknownReplay"),
-        ("settle 0", "error 22 BadLine"),
-    ] {
-        let lines = format!(in alloc; "{script}{line}\nlist 0 0\n")?;
-        let expected = format!(in alloc; "{begun}{told}\nend 0\n")?;
-        assert_eq!(rt;
-            replies(alloc, lines.as_str())?.as_str(),
-            expected.as_str(),
-            "{line}"
-        );
-    }
-    Ok(())
+    run(
+        rt.alloc(),
+        &[
+            (START_LINE, "", "started 0 0", ""),
+            ("block 0 ", HELLO_AT_0, "settled 64", ""),
+            (
+                "start 1001 7 42 65535 1408 131072 0 1000 c",
+                "",
+                "error 10 BadParameter",
+                "",
+            ),
+            (
+                "start 1001 7 42 65536 1408 131072 0 -1 c",
+                "",
+                "error 10 BadParameter",
+                "",
+            ),
+            ("list 0 1025", "", "error 10 BadParameter", ""),
+            ("list 0 -1", "", "error 10 BadParameter", ""),
+            ("block 1 zz", "", "error 22 BadLine", ""),
+            ("block 1 00", "", "error 12 StaleSession", ""),
+            ("block -1 00", "", "error 12 StaleSession", ""),
+            ("block 2147483648 00", "", "error 12 StaleSession", ""),
+            ("block 0 00", "", "error 21 BadFrame 0", ""),
+            ("replay 5 0 -1", "", "error 1 UnknownRecording", ""),
+            ("replay 5 -2 -1", "", "error 10 BadParameter", ""),
+            ("replay 5 0 -2", "", "error 10 BadParameter", ""),
+            ("replay 0 32 -1", "", "error 5 BadPosition", ""),
+            ("replay 0 65 -1", "", "error 5 BadPosition", ""),
+            ("poll 5 0", "", "error 10 BadParameter", ""),
+            ("poll 5 4097", "", "error 10 BadParameter", ""),
+            ("poll 5 1", "", "error 9 UnknownReplay", ""),
+            ("settle 0", "", "error 22 BadLine", ""),
+            ("block 0 ", HELLO_AT_64, "settled 128", ""),
+            (START_LINE, "", "started 1 1", ""),
+            ("replay 0 0 0", "", "replay 0", ""),
+        ],
+    )
 }
 
 #[test]
 fn blocks_have_to_continue_their_recording(rt: HostRuntime) -> Result<(), Fail> {
-    let alloc = rt.alloc();
     let other = "2500000000c001004000000008000000e90300002a000000000000000000000068656c6c6f";
-    for (hex, told) in [
-        (HELLO_AT_64, "settled 128"),
-        (HELLO_AT_0, "error 13 BadBlock"),
-        (HELLO_AT_128, "error 13 BadBlock"),
-        (HELLO_IN_NEXT_TERM, "error 13 BadBlock"),
-        (other, "error 13 BadBlock"),
-    ] {
-        let lines = format!(in alloc; "{START_LINE}\nblock 0 {HELLO_AT_0}\nblock 0 {hex}\n")?;
-        let expected = format!(in alloc; "started 0 0\nsettled 64\n{told}\n")?;
-        assert_eq!(rt;
-            replies(alloc, lines.as_str())?.as_str(),
-            expected.as_str(),
-            "{hex}"
-        );
-    }
-    Ok(())
+    run(
+        rt.alloc(),
+        &[
+            (START_LINE, "", "started 0 0", ""),
+            ("block 0 ", HELLO_AT_0, "settled 64", ""),
+            ("block 0 ", HELLO_AT_0, "error 13 BadBlock", ""),
+            ("block 0 ", HELLO_AT_128, "error 13 BadBlock", ""),
+            ("block 0 ", HELLO_IN_NEXT_TERM, "error 13 BadBlock", ""),
+            ("block 0 ", other, "error 13 BadBlock", ""),
+            ("block 0 ", HELLO_AT_64, "settled 128", ""),
+        ],
+    )
 }
 
 fn fields(alloc: Global) -> Result<StartFields, Fail> {

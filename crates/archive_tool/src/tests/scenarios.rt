@@ -22,6 +22,10 @@ pub const PAD_AT_TERM_END: &str =
 /// A recording of stream 1,001 and session 7 from position 0.
 pub const START_LINE: &str = "start 1001 7 42 65536 1408 131072 0 1000 c";
 
+/// A line and the hex behind it, and its reply and the hex behind that. Without a line it is a further line of the
+/// reply before it.
+pub type Step<'a> = (&'a str, &'a str, &'a str, &'a str);
+
 /// What a script of these lines answers.
 pub fn replies(alloc: Global, script: &str) -> Result<String, Fail> {
     let mut out = Vec::new(alloc);
@@ -29,87 +33,170 @@ pub fn replies(alloc: Global, script: &str) -> Result<String, Fail> {
     Ok(String::from_str(alloc, std::str::from_utf8(out.as_slice())?)?)
 }
 
+fn add(text: &mut String, line: &str, hex: &str) -> Result<(), Fail> {
+    if line.is_empty() {
+        return Ok(());
+    }
+    text.push_str(line)?;
+    text.push_str(hex)?;
+    text.push('\n')?;
+    Ok(())
+}
+
+/// Runs the lines as one script, and fails where a reply is another.
+pub fn run(alloc: Global, steps: &[Step<'_>]) -> Result<(), Fail> {
+    let mut script = String::new(alloc);
+    let mut told = String::new(alloc);
+    for (line, hex, reply, shown) in steps {
+        add(&mut script, line, hex)?;
+        add(&mut told, reply, shown)?;
+    }
+    let answered = replies(alloc, script.as_str())?;
+    if answered.as_str() == told.as_str() {
+        Ok(())
+    } else {
+        Err(Fail::new(answered))
+    }
+}
+
 #[test]
 fn first_recording_and_replay(rt: HostRuntime) -> Result<(), Fail> {
-    let alloc = rt.alloc();
-    let script = format!(in alloc;
-        "{START_LINE}\nblock 0 {HELLO_AT_0}\nreplay 0 0 -1\npoll 0 5\n"
-    )?;
-    let told = format!(in alloc;
-        "started 0 0\nsettled 64\nreplay 0\nframe 0 {HELLO_AT_0}\nmore 64\n"
-    )?;
-    assert_eq!(rt; replies(alloc, script.as_str())?.as_str(), told.as_str());
-    Ok(())
+    run(
+        rt.alloc(),
+        &[
+            (START_LINE, "", "started 0 0", ""),
+            ("block 0 ", HELLO_AT_0, "settled 64", ""),
+            ("replay 0 0 -1", "", "replay 0", ""),
+            ("poll 0 5", "", "frame 0 ", HELLO_AT_0),
+            ("", "", "more 64", ""),
+        ],
+    )
 }
 
 #[test]
 fn pad_at_a_terms_end(rt: HostRuntime) -> Result<(), Fail> {
-    let alloc = rt.alloc();
-    let script = format!(in alloc;
-        "start 1001 7 42 65536 1408 131072 65472 1000 c\nblock 0 {PAD_AT_TERM_END}\nblock 0 {HELLO_IN_NEXT_TERM}\nreplay 0 -1 -1\npoll 0 10\n"
-    )?;
-    let told = format!(in alloc;
-        "started 0 0\nsettled 65536\nsettled 65600\nreplay 0\nframe 65472 {PAD_AT_TERM_END}\nframe 65536 {HELLO_IN_NEXT_TERM}\nmore 65600\n"
-    )?;
-    assert_eq!(rt; replies(alloc, script.as_str())?.as_str(), told.as_str());
-    Ok(())
+    run(
+        rt.alloc(),
+        &[
+            (
+                "start 1001 7 42 65536 1408 131072 65472 1000 c",
+                "",
+                "started 0 0",
+                "",
+            ),
+            ("block 0 ", PAD_AT_TERM_END, "settled 65536", ""),
+            ("block 0 ", HELLO_IN_NEXT_TERM, "settled 65600", ""),
+            ("replay 0 -1 -1", "", "replay 0", ""),
+            ("poll 0 10", "", "frame 65472 ", PAD_AT_TERM_END),
+            ("", "", "frame 65536 ", HELLO_IN_NEXT_TERM),
+            ("", "", "more 65600", ""),
+        ],
+    )
 }
 
 #[test]
 fn bounded_part_of_a_recording(rt: HostRuntime) -> Result<(), Fail> {
-    let alloc = rt.alloc();
-    let script = format!(in alloc;
-        "{START_LINE}\nblock 0 {HELLO_AT_0}\nblock 0 {HELLO_AT_64}\nblock 0 {HELLO_AT_128}\nreplay 0 64 65\npoll 0 10\n"
-    )?;
-    let told = format!(in alloc;
-        "started 0 0\nsettled 64\nsettled 128\nsettled 192\nreplay 0\nframe 64 {HELLO_AT_64}\nframe 128 {HELLO_AT_128}\ndone\n"
-    )?;
-    assert_eq!(rt; replies(alloc, script.as_str())?.as_str(), told.as_str());
-    Ok(())
+    run(
+        rt.alloc(),
+        &[
+            (START_LINE, "", "started 0 0", ""),
+            ("block 0 ", HELLO_AT_0, "settled 64", ""),
+            ("block 0 ", HELLO_AT_64, "settled 128", ""),
+            ("block 0 ", HELLO_AT_128, "settled 192", ""),
+            ("replay 0 64 65", "", "replay 0", ""),
+            ("poll 0 10", "", "frame 64 ", HELLO_AT_64),
+            ("", "", "frame 128 ", HELLO_AT_128),
+            ("", "", "done", ""),
+        ],
+    )
 }
 
 #[test]
 fn bad_frame_headers(rt: HostRuntime) -> Result<(), Fail> {
-    let alloc = rt.alloc();
-    let script = format!(in alloc;
-        "{START_LINE}\nblock 0 1f00000000c001000000000007000000e90300002a000000000000000000000068656c6c6f\nblock 0 4000000000c001000000000007000000e90300002a00000000000000000000000000000000000000\n"
-    )?;
-    let told = "started 0 0\nerror 21 BadFrame 0\nerror 21 BadFrame 0\n";
-    assert_eq!(rt; replies(alloc, script.as_str())?.as_str(), told);
-    Ok(())
+    let short_length = "1f00000000c001000000000007000000e90300002a000000000000000000000068656c6c6f";
+    let cut_frame =
+        "4000000000c001000000000007000000e90300002a00000000000000000000000000000000000000";
+    run(
+        rt.alloc(),
+        &[
+            (START_LINE, "", "started 0 0", ""),
+            ("block 0 ", short_length, "error 21 BadFrame 0", ""),
+            ("block 0 ", cut_frame, "error 21 BadFrame 0", ""),
+        ],
+    )
 }
 
 #[test]
 fn empty_recording(rt: HostRuntime) -> Result<(), Fail> {
-    let script =
-        "start 1001 7 42 65536 1408 131072 0 1000 aeron:udp?endpoint=localhost:40123\nlist 0 10\nreplay 0 -1 9223372036854775807\npoll 0 10\n";
-    let told =
-        "started 0 0\nrecording 0 1000 -1 0 -1 42 131072 65536 1408 7 1001 aeron:udp?endpoint=localhost:40123\nend 1\nreplay 0\nmore 0\n";
-    assert_eq!(rt; replies(rt.alloc(), script)?.as_str(), told);
-    Ok(())
+    run(
+        rt.alloc(),
+        &[
+            (
+                "start 1001 7 42 65536 1408 131072 0 1000 ",
+                "aeron:udp?endpoint=localhost:40123",
+                "started 0 0",
+                "",
+            ),
+            (
+                "list 0 10",
+                "",
+                "recording 0 1000 -1 0 -1 42 131072 65536 1408 7 1001 ",
+                "aeron:udp?endpoint=localhost:40123",
+            ),
+            ("", "", "end 1", ""),
+            ("replay 0 -1 9223372036854775807", "", "replay 0", ""),
+            ("poll 0 10", "", "more 0", ""),
+        ],
+    )
 }
 
 #[test]
 fn polls_go_on_where_they_ended(rt: HostRuntime) -> Result<(), Fail> {
-    let alloc = rt.alloc();
-    let script = format!(in alloc;
-        "{START_LINE}\nblock 0 {HELLO_AT_0}\nblock 0 {HELLO_AT_64}\nreplay 0 0 -1\nreplay 0 64 0\npoll 0 1\npoll 0 1\npoll 0 1\npoll 1 5\n"
-    )?;
-    let told = format!(in alloc;
-        "started 0 0\nsettled 64\nsettled 128\nreplay 0\nreplay 1\nframe 0 {HELLO_AT_0}\nmore 64\nframe 64 {HELLO_AT_64}\nmore 128\nmore 128\ndone\n"
-    )?;
-    assert_eq!(rt; replies(alloc, script.as_str())?.as_str(), told.as_str());
-    Ok(())
+    run(
+        rt.alloc(),
+        &[
+            (START_LINE, "", "started 0 0", ""),
+            ("block 0 ", HELLO_AT_0, "settled 64", ""),
+            ("block 0 ", HELLO_AT_64, "settled 128", ""),
+            ("replay 0 0 -1", "", "replay 0", ""),
+            ("replay 0 64 0", "", "replay 1", ""),
+            ("poll 0 1", "", "frame 0 ", HELLO_AT_0),
+            ("", "", "more 64", ""),
+            ("poll 0 1", "", "frame 64 ", HELLO_AT_64),
+            ("", "", "more 128", ""),
+            ("poll 0 1", "", "more 128", ""),
+            ("poll 1 5", "", "done", ""),
+        ],
+    )
 }
 
 #[test]
 fn lists_begin_at_an_id(rt: HostRuntime) -> Result<(), Fail> {
-    let script =
-        "start 1001 7 42 65536 1408 131072 0 1000 a\nstart 1002 8 42 65536 1408 131072 64 1001 b c\nlist 0 1\nlist 1 1024\nlist 2 5\nlist 0 0\n";
-    let told =
-        "started 0 0\nstarted 1 1\nrecording 0 1000 -1 0 -1 42 131072 65536 1408 7 1001 a\nend 1\nrecording 1 1001 -1 64 -1 42 131072 65536 1408 8 1002 b c\nend 1\nend 0\nend 0\n";
-    assert_eq!(rt; replies(rt.alloc(), script)?.as_str(), told);
-    Ok(())
+    let first = "recording 0 1000 -1 0 -1 42 131072 65536 1408 7 1001 a";
+    let second = "recording 1 1001 -1 64 -1 42 131072 65536 1408 8 1002 b c";
+    run(
+        rt.alloc(),
+        &[
+            (
+                "start 1001 7 42 65536 1408 131072 0 1000 a",
+                "",
+                "started 0 0",
+                "",
+            ),
+            (
+                "start 1002 8 42 65536 1408 131072 64 1001 b c",
+                "",
+                "started 1 1",
+                "",
+            ),
+            ("list 0 1", "", first, ""),
+            ("", "", "end 1", ""),
+            ("list 1 1024", "", second, ""),
+            ("", "", "end 1", ""),
+            ("list 2 5", "", "end 0", ""),
+            ("list 0 0", "", "end 0", ""),
+        ],
+    )
 }
 
 #[test]

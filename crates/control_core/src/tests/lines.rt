@@ -123,11 +123,66 @@ fn other_lines(rt: HostRuntime) -> Result<(), Fail> {
     Ok(())
 }
 
+#[test]
+fn merge_lines(rt: HostRuntime) -> Result<(), Fail> {
+    let alloc = rt.alloc();
+    assert!(rt;
+        matches!(
+            parse_line(alloc, b"merge -42 65536 9223372036854775807")?,
+            Line::Merge(MergeLine::Open {
+                initial_term_id: -42,
+                term_length: 65_536,
+                position: 9_223_372_036_854_775_807
+            })
+        )
+    );
+    match parse_line(alloc, b"merge-replay 00fF")? {
+        Line::Merge(MergeLine::Replay(bytes)) => assert_eq!(rt;
+            bytes.as_slice(),
+            [0, 255].as_slice()
+        ),
+        _ => return Err(Fail::new("merge-replay")),
+    }
+    match parse_line(alloc, b"merge-live A0")? {
+        Line::Merge(MergeLine::Live(bytes)) => assert_eq!(rt; bytes.as_slice(), [160].as_slice()),
+        _ => return Err(Fail::new("merge-live")),
+    }
+    assert!(rt;
+        matches!(
+            parse_line(alloc, b"merge-take")?,
+            Line::Merge(MergeLine::Take)
+        )
+    );
+    assert!(rt;
+        matches!(
+            parse_line(alloc, b"merge-state")?,
+            Line::Merge(MergeLine::State)
+        )
+    );
+    Ok(())
+}
+
 /// Each breaks a rule of docs/CONTROL.md, "Lines"; the first is empty.
 const MALFORMED: &str = "
  \nquit \n quit
 quit 1
 Quit
+merge
+merge 42 65536
+merge 42 65536 0 0
+merge 2147483648 65536 0
+merge 42 65536 -0
+merge-replay
+merge-replay 
+merge-replay 0
+merge-replay 00 00
+merge-live
+merge-live 0g
+merge-take 
+merge-take 1
+merge-state 
+merge-close
+mergetake
 quitt
 list
 list \nlist 0
@@ -205,12 +260,7 @@ close 0
 sweep
 verify 0
 reopen
-compact
-merge 42 65536 0
-merge-replay 00
-merge-live 00
-merge-take
-merge-state";
+compact";
 
 fn is_bad(alloc: Global, line: &[u8]) -> bool {
     matches!(parse_line(alloc, line), Err(Refusal::BadLine))

@@ -5,7 +5,7 @@ use Rattle.archive_tool.proofs.ProgressLemmas.{Progress}
 use Rattle.archive_tool.proofs.script.run_lines.Given as goal
 
 abbrev pub invariant-lines : goal.invariant-lines
-invariant-lines g l = Progress beginning quits Answers (reader_remaining g.R.Read.remaining l.fn.reader) (reader_remaining g.R.Read.remaining l.reader) (g.W.Write.contents l.fn.writer) (g.W.Write.contents l.writer) l.archive
+invariant-lines g l = Progress beginning quits Answers (reader_remaining g.R.Read.remaining l.fn.reader) (reader_remaining g.R.Read.remaining l.reader) (g.W.Write.contents l.fn.writer) (g.W.Write.contents l.writer) l.state
 
 abbrev pub decreases-lines : goal.decreases-lines
 decreases-lines g l = 18446744073709551615 - l.reads

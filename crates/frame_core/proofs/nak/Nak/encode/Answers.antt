@@ -1,10 +1,10 @@
-use Rattle.std.proofs.Common.{rules, ◌≡◌, ◌∙◌, sym, subst, refl, ◌++◌, ℕ, List, take, drop, pos, FitsSigned, w32}
+use Rattle.std.proofs.Common.{rules, ◌≡◌, refl, ◌++◌, ℕ, List, take, drop, pos, FitsSigned, w32}
 use Rattle.std.specs.Prelude.{replicate}
 use Rattle.std.proofs.lemmas.Int.{to_z-of_z}
 use Rattle.byteorder.specs.Endian.{little_bytes}
 use Rattle.frame_core.specs.declared.nak.Nak.{Nak}
 use Rattle.frame_core.specs.FrameEncoding.{i32_bytes}
-use Rattle.frame_core.specs.Nak.{IsNak, encoded_nak}
+use Rattle.frame_core.specs.Nak.{encoded_nak}
 use Rattle.frame_core.proofs.NakLemmas.{IsNak-encoded_nak}
 use Rattle.frame_core.proofs.nak.Nak.encode.Goals as goal
 

@@ -1,0 +1,82 @@
+-- What each line to a merge is answered, and the merge after it, if there is one. docs/CONTROL.md, "Merging".
+use Rattle.std.specs.Prelude.{◌≡◌, ◌≢◌, ℕ, ℤ, pos, true, false, List, [], ◌∷◌, length, unsigned_abs, Option, Some, None, Result, Ok, Err}
+use Rattle.frame_core.specs.declared.frame.Frame.{Frame}
+use Rattle.frame_core.specs.declared.geometry.Geometry.{Geometry}
+use Rattle.frame_core.specs.declared.refusal.Refusal.{Refusal}
+use Rattle.frame_core.specs.declared.refusal.Refusal.TheVariants.{UnknownReplay, BadParameter, BadBlock, NoMemory, BadFrame}
+use Rattle.frame_core.specs.Datagram.{IsDatagram, IsBadAt}
+use Rattle.archive_model.specs.declared.reply.PolledFrame.{PolledFrame}
+use Rattle.archive_model.specs.declared.reply.Reply.{Reply}
+use Rattle.archive_model.specs.declared.reply.Reply.TheVariants as replies
+use Rattle.archive_model.specs.Descriptor.{may_begin_at}
+use Rattle.merge_core.specs.declared.merge.Offered.{Offered}
+use Rattle.merge_core.specs.declared.merge.Offered.TheVariants.{Held, Ignored, Full}
+use Rattle.merge_core.specs.Merge.{Merging, opened, answer_to, after_replay_frame, after_live_frame, after_take, next_frame}
+use Rattle.control_core.specs.declared.merge_line.MergeLine.{MergeLine}
+use Rattle.control_core.specs.declared.merge_line.MergeLine.TheVariants as merges
+use Rattle.control_core.specs.Calls.{EndsIn}
+use Rattle.control_core.specs.Answers.{Refused, Answered}
+
+-- a merge looks at no MTU
+abbrev pub geometry_of : ℤ → ℤ → Geometry
+geometry_of term term_length = record { initial_term_id = term; term_length = term_length; mtu = pos 65504 }
+
+-- a merge begins anew, or none may begin there, and an earlier one stays
+abbrev pub OpenEnds : Option Merging → ℤ → ℤ → ℤ → EndsIn (Option Merging)
+OpenEnds old term term_length position (Ok reply) new =
+    (may_begin_at term_length position ≡ true)
+    × (reply ≡ replies.MergeOpened position)
+    × (new ≡ Some (opened (geometry_of term term_length) (unsigned_abs position)))
+OpenEnds old term term_length position (Err refusal) new =
+    (may_begin_at term_length position ≡ false) × (refusal ≡ BadParameter) × (new ≡ old)
+
+-- The bytes are the datagram of one frame; or why they are none: no datagram, or one of more frames.
+abbrev pub IsOffer : List ℕ → Result Frame Refusal → Type 0
+IsOffer bytes (Ok frame) = IsDatagram bytes (frame ∷ [])
+IsOffer bytes (Err (BadFrame offset)) = IsBadAt bytes offset
+IsOffer bytes (Err BadBlock) = (frames : List Frame) × IsDatagram bytes frames × (length frames ≢ 1)
+IsOffer bytes (Err refusal) = ⊥
+
+-- the same, or want of memory
+abbrev pub IsOfferOrMemory : List ℕ → Result Frame Refusal → Type 0
+IsOfferOrMemory bytes (Err NoMemory) = Unit {0}
+IsOfferOrMemory bytes offer = IsOffer bytes offer
+
+abbrev pub reply_to : Result Offered Refusal → Result Reply Refusal
+reply_to (Ok Held) = Ok replies.Held
+reply_to (Ok Ignored) = Ok replies.Ignored
+reply_to (Ok Full) = Ok replies.Full
+reply_to (Err refusal) = Err refusal
+
+-- that frame is offered
+abbrev pub FrameEnds : (Frame → Merging → Merging) → Merging → Result Frame Refusal → EndsIn (Option Merging)
+FrameEnds after m (Ok frame) outcome new = (outcome ≡ reply_to (answer_to frame m)) × (new ≡ Some (after frame m))
+FrameEnds after m (Err refusal) outcome new = Refused (Some m) refusal outcome new
+
+abbrev pub OfferEnds : (Frame → Merging → Merging) → Merging → List ℕ → EndsIn (Option Merging)
+OfferEnds after m bytes outcome new = (offer : Result Frame Refusal) × IsOffer bytes offer × FrameEnds after m offer outcome new
+
+-- the next frame of the output, and where it begins
+abbrev pub frame_at : ℕ → Option Frame → Option PolledFrame
+frame_at position None = None
+frame_at position (Some frame) = Some (record { position = pos position; frame = frame })
+
+abbrev pub TakeEnds : Merging → EndsIn (Option Merging)
+TakeEnds m outcome new = (outcome ≡ Ok (replies.Taken (frame_at m.cursor (next_frame m)))) × (new ≡ Some (after_take m))
+
+-- lines to a merge that was begun
+abbrev pub BegunEnds : Merging → MergeLine → EndsIn (Option Merging)
+BegunEnds m (merges.Open term term_length position) = OpenEnds (Some m) term term_length position
+BegunEnds m (merges.Replay bytes) = OfferEnds after_replay_frame m bytes
+BegunEnds m (merges.Live bytes) = OfferEnds after_live_frame m bytes
+BegunEnds m merges.Take = TakeEnds m
+BegunEnds m merges.State = Answered (Some m) (replies.MergeState m.is_merged (pos m.cursor))
+
+-- lines to none
+abbrev pub FirstEnds : MergeLine → EndsIn (Option Merging)
+FirstEnds (merges.Open term term_length position) = OpenEnds None term term_length position
+FirstEnds line = Refused None UnknownReplay
+
+abbrev pub MergeEnds : Option Merging → MergeLine → EndsIn (Option Merging)
+MergeEnds None line = FirstEnds line
+MergeEnds (Some m) line = BegunEnds m line

@@ -1,0 +1,126 @@
+//! Lines to the merge of a replay and the live stream: docs/CONTROL.md, "Merging".
+
+ghost use Rattle.std.specs.Prelude.{◌≡◌};
+ghost use Rattle.control_core.specs.Calls.{OrNoMemory};
+ghost use Rattle.archive_tool.specs.Merging.{MergeEnds, OpenEnds, IsOfferOrMemory, reply_to};
+
+use archive_model::{PolledFrame, Reply, may_begin_at};
+use control_core::MergeLine;
+use frame_core::limits::MAX_MTU;
+use frame_core::{Frame, Geometry, Refusal, frames_of_datagram};
+use merge_core::{Merge, Offered};
+use std::alloc::Global;
+
+/// Answers a line to a merge, if one was begun.
+pub fn answer_merge(
+    alloc: Global,
+    merge: &mut Option<Merge>,
+    line: &MergeLine,
+) -> Result<Reply, Refusal>
+    ensures { OrNoMemory merge.old (MergeEnds merge.old line.now) result merge.new }
+{
+    match line {
+        MergeLine::Open {
+            initial_term_id,
+            term_length,
+            position,
+        } => open(alloc, merge, initial_term_id, term_length, position),
+        MergeLine::Replay(bytes) => offer_replay(alloc, merge, bytes.as_slice()),
+        MergeLine::Live(bytes) => offer_live(alloc, merge, bytes.as_slice()),
+        MergeLine::Take => take(merge),
+        MergeLine::State => state(merge),
+    }
+}
+
+/// Begins a merge anew.
+fn open(
+    alloc: Global,
+    merge: &mut Option<Merge>,
+    initial_term_id: &i32,
+    term_length: &i32,
+    position: &i64,
+) -> Result<Reply, Refusal>
+    ensures { OpenEnds merge.old initial_term_id.now term_length.now position.now result merge.new }
+{
+    if !may_begin_at(term_length, position) {
+        return Err(Refusal::BadParameter);
+    }
+    let geometry = Geometry {
+        initial_term_id: *initial_term_id,
+        term_length: *term_length,
+        mtu: MAX_MTU,
+    };
+    *merge = Some(Merge::new(alloc, geometry, *position));
+    Ok(Reply::MergeOpened {
+        position: *position,
+    })
+}
+
+/// The frame whose datagram bytes are: `BadFrame` where they are no datagram, `BadBlock` where they are one of more
+/// frames.
+fn offer_of(alloc: Global, bytes: &[u8]) -> Result<Frame, Refusal>
+    ensures { IsOfferOrMemory bytes.now result }
+{
+    let frames = frames_of_datagram(alloc, bytes)?;
+    match frames.as_slice() {
+        [frame] => frame.to_frame(alloc),
+        _ => Err(Refusal::BadBlock),
+    }
+}
+
+fn reply_of(offered: Offered) -> Reply
+    ensures { reply_to (Ok offered) ≡ Ok result }
+{
+    match offered {
+        Offered::Held => Reply::Held,
+        Offered::Ignored => Reply::Ignored,
+        Offered::Full => Reply::Full,
+    }
+}
+
+fn offer_replay(alloc: Global, merge: &mut Option<Merge>, bytes: &[u8]) -> Result<Reply, Refusal>
+    ensures { OrNoMemory merge.old
+        (MergeEnds merge.old (MergeLine.Replay bytes.now)) result merge.new }
+{
+    let Some(merge) = merge else {
+        return Err(Refusal::UnknownReplay);
+    };
+    let frame = offer_of(alloc, bytes)?;
+    Ok(reply_of(merge.replay_frame(frame)?))
+}
+
+fn offer_live(alloc: Global, merge: &mut Option<Merge>, bytes: &[u8]) -> Result<Reply, Refusal>
+    ensures { OrNoMemory merge.old
+        (MergeEnds merge.old (MergeLine.Live bytes.now)) result merge.new }
+{
+    let Some(merge) = merge else {
+        return Err(Refusal::UnknownReplay);
+    };
+    let frame = offer_of(alloc, bytes)?;
+    Ok(reply_of(merge.live_frame(frame)?))
+}
+
+fn take(merge: &mut Option<Merge>) -> Result<Reply, Refusal>
+    ensures { MergeEnds merge.old MergeLine.Take result merge.new }
+{
+    let Some(merge) = merge else {
+        return Err(Refusal::UnknownReplay);
+    };
+    let position = merge.cursor();
+    match merge.take() {
+        Some(frame) => Ok(Reply::Taken(Some(PolledFrame { position, frame }))),
+        None => Ok(Reply::Taken(None)),
+    }
+}
+
+fn state(merge: &Option<Merge>) -> Result<Reply, Refusal>
+    ensures { MergeEnds merge.now MergeLine.State result merge.now }
+{
+    let Some(merge) = merge else {
+        return Err(Refusal::UnknownReplay);
+    };
+    Ok(Reply::MergeState {
+        is_merged: merge.is_merged(),
+        cursor: merge.cursor(),
+    })
+}

@@ -1,0 +1,6 @@
+pub mod HeldLemmas
+pub mod StreamLemmas
+pub mod EndLemmas
+pub mod JoinLemmas
+pub mod BoundLemmas
+pub mod ChangeLemmas

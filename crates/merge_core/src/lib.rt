@@ -1,0 +1,9 @@
+//! A replay of a recording merged into the live stream, without a gap or a repeat.
+#![tactic(auto)]
+
+pub mod laws;
+mod merge;
+#[cfg(test)]
+mod tests;
+
+pub use merge::{MAX_HELD_FRAMES, Merge, Offered};
