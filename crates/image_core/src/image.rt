@@ -277,7 +277,8 @@ impl Image {
         noted.reserve(1)?;
         let owned = frame.to_frame(self.alloc)?;
         put(&mut self.held, position, owned)?;
-        self.rebuilt = chain_end(&self.held, self.rebuilt);
+        let reached = chain_end(&self.held, self.rebuilt);
+        self.rebuilt = reached;
         self.high = self.high.max(position + frame.aligned_length());
         noted.push_reserved(position);
         Ok(())

@@ -3,7 +3,6 @@
 use crate::{Image, Inserted, laws, repair};
 use frame_core::{Frame, FrameKind, Items, Nak, Refusal, Setup, are_encodable};
 use std::alloc::{AllocError, Global};
-use std::process::Abort;
 use std::test::Fail;
 
 // Session 7 and stream 1,001, terms of 65,536 bytes from term 42 on, an MTU of 1,408, joined at the beginning.

@@ -5,15 +5,15 @@ use Rattle.image_core.specs.Kept.{IsJoining, undone}
 use Rattle.image_core.proofs.KeptLemmas.{kept_join, undone_join, wide_join}
 use Rattle.image_core.proofs.image.Image.keep.Goals as goal
 
-pub chain_end-self-inside-requires-clause-spaced : goal.chain_end-self-inside-requires-clause-spaced
-chain_end-self-inside-requires-clause-spaced c =
+pub chain_end-reached-requires-clause-spaced : goal.chain_end-reached-requires-clause-spaced
+chain_end-reached-requires-clause-spaced c =
     let joins = subst (λ (r : Received). IsJoining r (frame_of c.args.frame.now) c.args.position) (sym c.self.view_is) c.requires.joins in
     rw (c.in_ok-put.ensures.entries, c.in_ok-owned.ensures.same) (wide_join _ c.self.inside.rebuilt c.args.position (frame_of c.args.frame.now) c.self.invariant c.requires.encodable joins)
 
 pub invariant_of-self-2 : goal.invariant_of-self-2
 invariant_of-self-2 c =
     let joins = subst (λ (r : Received). IsJoining r (frame_of c.args.frame.now) c.args.position) (sym c.self.view_is) c.requires.joins in
-    rw (c.chain_end-self-inside.ensures, c.max-self-inside.ensures, c.in_ok-put.ensures.entries, c.in_ok-owned.ensures.same, c.aligned_length.ensures.value)
+    rw (c.chain_end-reached.ensures, c.max-self-inside.ensures, c.in_ok-put.ensures.entries, c.in_ok-owned.ensures.same, c.aligned_length.ensures.value)
     (kept_join _ c.self.inside.rebuilt c.args.position (frame_of c.args.frame.now) c.self.invariant c.requires.encodable joins)
 
 pub returns-clause-back : goal.returns-clause-back
