@@ -74,6 +74,33 @@ fn a_failing_writer_ends_the_script(rt: HostRuntime) -> Result<(), Fail> {
     Ok(())
 }
 
+// Takes all bytes, and hands none of them on.
+#[derive(Drop)]
+struct StuckWriter;
+
+impl Write for StuckWriter {
+    fn write(&mut self, buf: &[u8]) -> std::io::Result<usize> {
+        Ok(buf.len())
+    }
+
+    fn flush(&mut self) -> std::io::Result<()> {
+        Err(Error::from(ErrorKind::Other))
+    }
+}
+
+#[test]
+fn a_reply_is_handed_on_before_the_next_read(rt: HostRuntime) -> Result<(), Fail> {
+    let reader = FailingReader {
+        bytes: b"list 0 0\n",
+        at_once: 100,
+    };
+    assert_eq!(rt;
+        run_script(rt.alloc(), reader, &mut StuckWriter),
+        Err(ScriptFault::Write)
+    );
+    Ok(())
+}
+
 #[test]
 fn what_was_written_before_stays(rt: HostRuntime) -> Result<(), Fail> {
     let mut out = b"before\n".to_vec(rt.alloc())?;
