@@ -1,8 +1,10 @@
 -- The program's command line: docs/CONTROL.md, "The program".
-use Rattle.std.specs.Prelude.{◌≡◌, ℕ, true, List, Some, codes}
+use Rattle.std.specs.Prelude.{◌≡◌, ℕ, true, List, Some, Result, Ok, Err, codes}
 use Rattle.clap.specs.Simple.{on_top}
 use Rattle.clap.specs.Words.{App, HasMatchesOf, new_app, subcommand_name_of, with_subcommand}
 use Rattle.clap.specs.declared.parser.matches.ArgMatches.{ArgMatches}
+use Rattle.archive_tool.specs.declared.fault.ScriptFault.{ScriptFault}
+use Rattle.archive_tool.specs.declared.fault.ScriptFault.TheVariants as faults
 use Rattle.archive_tool.specs.declared.command.ToolCommand.{ToolCommand}
 use Rattle.archive_tool.specs.declared.command.ToolCommand.TheVariants.{Run}
 
@@ -23,3 +25,10 @@ pub record IsHeld (words : List (List ℕ)) (command : ToolCommand) : Type 0 whe
   pub matches : ArgMatches
   pub parsed : HasMatchesOf tool_app words matches
   pub name : subcommand_name_of matches ≡ Some (name_of command)
+
+-- the status with which the program ends, by how its script ended
+abbrev pub status_of : Result (Unit {0}) ScriptFault → ℕ
+status_of (Ok done) = 0
+status_of (Err faults.Read) = 3
+status_of (Err faults.Write) = 3
+status_of (Err faults.Memory) = 1

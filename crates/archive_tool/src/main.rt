@@ -1,6 +1,10 @@
 //! The program of the archive: it answers control lines from standard input on standard output.
 #![tactic(auto)]
 
+ghost use Rattle.std.specs.Prelude.{◌≡◌};
+ghost use Rattle.std.specs.Process.{exit_status};
+ghost use Rattle.archive_tool.specs.CommandLine.{status_of};
+
 mod archive;
 mod command;
 mod fault;
@@ -19,7 +23,7 @@ use fault::ScriptFault;
 use frame_core::Refusal;
 use script::run_script;
 use std::env;
-use std::io::{self, BufWriter, Write};
+use std::io::{self, BufWriter};
 use std::process::ExitCode;
 use std::rt::Env;
 
@@ -64,8 +68,13 @@ fn run<R: AllocGlobal + Input + Print + Eprint>(rt: &R) -> ExitCode {
     let Ok(mut writer) = BufWriter::new(rt.alloc(), io::writer(rt)) else {
         return refused(rt, &Refusal::NoMemory, REFUSED);
     };
-    let outcome = run_script(rt.alloc(), rt.reader(), &mut writer);
-    let _ = writer.flush();
+    ended(rt, run_script(rt.alloc(), rt.reader(), &mut writer))
+}
+
+/// Tells why a script ended early, if it did.
+fn ended<R: Eprint>(rt: &R, outcome: Result<(), ScriptFault>) -> ExitCode
+    ensures { exit_status result ≡ status_of outcome }
+{
     match outcome {
         Ok(()) => ExitCode::SUCCESS,
         Err(ScriptFault::Read | ScriptFault::Write) => refused(rt, &Refusal::DeviceFault, DEVICE),
@@ -74,7 +83,9 @@ fn run<R: AllocGlobal + Input + Print + Eprint>(rt: &R) -> ExitCode {
 }
 
 /// Tells a refusal on standard error.
-fn refused<R: Eprint>(rt: &R, refusal: &Refusal, code: u8) -> ExitCode {
+fn refused<R: Eprint>(rt: &R, refusal: &Refusal, code: u8) -> ExitCode
+    ensures { exit_status result ≡ code }
+{
     let line = print_refusal(refusal);
     if let Ok(text) = std::str::from_utf8(line.as_bytes()) {
         let _ = rt.eprint(text);
