@@ -1,5 +1,5 @@
 -- What was taken makes no difference.
-use Rattle.std.proofs.Common.{◌≡◌, ◌∙◌, sym, ap, refl, ◌+◌, ◌<◌, ◌≤◌, ℕ, List, [], ◌∷◌, ◌++◌, Bool, true, false, Some, None, append_assoc, arith}
+use Rattle.std.proofs.Common.{◌≡◌, ◌∙◌, sym, ap, refl, subst, ◌+◌, ◌<◌, ◌≤◌, ℕ, List, [], ◌∷◌, ◌++◌, Bool, true, false, Some, None, append_assoc, pos, ◌+ℤ◌, arith}
 use Rattle.std.specs.Prelude.{◌&&◌, ◌||◌, nat_le, nat_lt, max, Option, if◌then◌else◌}
 use Rattle.std.specs.Ordering.{nat_cmp}
 use Rattle.std.specs.BTreeMap.{insert_entry}
@@ -16,6 +16,9 @@ use Rattle.image_core.specs.declared.fate.Fate.TheVariants.{Joins, Tells, Drops}
 use Rattle.image_core.specs.Rebuild.{end_of, chain_end, next_start}
 use Rattle.image_core.specs.Received.{Received, after, fate, fate_of, frame_fate, gap_end, heartbeat_fate, is_free, is_of, is_open, place_in, rebuilt, received, received_all, window}
 use Rattle.image_core.specs.History.{IsChain, IsUnseen, StandsFor}
+use Rattle.image_core.specs.Take.{IsGap}
+use Rattle.frame_core.specs.declared.nak.Nak.{Nak}
+use Rattle.frame_core.specs.Position.{HasPosition}
 use Rattle.image_core.proofs.ChainLemmas.{chain_at, chain_low}
 use Rattle.image_core.proofs.KeptLemmas.{open_parts}
 
@@ -159,3 +162,28 @@ taken_stands all old new gone s chain left same = record {
   joined = s.joined ∙ ap (λ (ms : List (ℕ × Frame)). s.taken ++ ms) left ∙ sym (append_assoc s.taken gone new.joined);
   high = s.high ∙ sym (ap (λ (r : Received). r.high) same);
 }
+
+-- a gap is one of all that was received
+pub gap_whole : (all r : Received) (n : Nak) → StandsFor all r → IsGap r n → IsGap all n
+gap_whole all r n s is =
+    let same = unseen all r s in
+    record {
+      missing = let missing = is.missing in omega (arith, same.rebuilt, s.high);
+      session_id = is.session_id ∙ sym (ap (λ (u : Publication). u.session_id) s.publication);
+      stream_id = is.stream_id ∙ sym (ap (λ (u : Publication). u.stream_id) s.publication);
+      begins = subst (λ (g : Geometry). HasPosition g n.term_id n.term_offset (pos (rebuilt all))) (sym s.geometry)
+          (subst (λ (p : ℕ). HasPosition r.geometry n.term_id n.term_offset (pos p)) (sym same.rebuilt) is.begins);
+      ends = ap (λ (p : ℕ). pos p +ℤ n.length) same.rebuilt ∙ is.ends ∙ ap pos (sym same.gap);
+      range = is.range;
+    }
+
+pub none_whole : (all r : Received) → StandsFor all r → rebuilt r ≡ r.high → rebuilt all ≡ all.high
+none_whole all r s is = (unseen all r s).rebuilt ∙ is ∙ sym s.high
+
+pub rebuilt_whole : (all r : Received) → StandsFor all r → rebuilt r ≡ rebuilt all
+rebuilt_whole all r s = sym (rebuilt_same all r s)
+
+-- some frames and then others
+pub received-append : (r : Received) (fs gs : List Frame) → received_all r (fs ++ gs) ≡ received_all (received_all r fs) gs
+received-append r [] gs = refl
+received-append r (f ∷ fs) gs = received-append (received r f) fs gs

@@ -9,6 +9,7 @@ ghost use Rattle.frame_core.specs.Block.{AreEncodable};
 ghost use Rattle.frame_core.specs.declared.refusal.Refusal.TheVariants.{NoMemory};
 ghost use Rattle.frame_core.specs.Setup.{IsUsable};
 ghost use Rattle.image_core.specs.Take.{GivesBlock, IsGap, TakesBlock};
+ghost use Rattle.image_core.specs.History.{StandsFor};
 ghost use Rattle.image_core.specs.Insert.{Inserts, IsForeign, IsInsertRefusal, tally, uncounted};
 ghost use Rattle.image_core.specs.Kept.{HasTerms, IsComing, IsJoining, IsKept, undone};
 ghost use Rattle.image_core.specs.Received.{IsBegun, Received, after, begun, fate, frame_fate, gap_end, heartbeat_fate, is_of, is_open, place_in, rebuilt, received, received_all};
@@ -103,7 +104,8 @@ impl Image {
     /// The rebuild position, in bytes of the stream: the end of the longest chain of received frames from where the
     /// image joined. Takes no memory.
     pub fn rebuilt(&self) -> i64
-        ensures { result ≡ pos (rebuilt self.now) }
+        ensures here { result ≡ pos (rebuilt self.now) }
+        ensures whole { (all : Received) → StandsFor all self.now → result ≡ pos (rebuilt all) }
     {
         self.rebuilt as i64
     }
@@ -111,7 +113,8 @@ impl Image {
     /// The high mark, in bytes of the stream: the greatest of the position where the image joined, the ends of the
     /// received frames, and the positions of the publication's heartbeats. Takes no memory.
     pub fn high(&self) -> i64
-        ensures { result ≡ pos self.now.high }
+        ensures here { result ≡ pos self.now.high }
+        ensures whole { (all : Received) → StandsFor all self.now → result ≡ pos all.high }
     {
         self.high as i64
     }
@@ -120,7 +123,9 @@ impl Image {
     /// mark or the end of the term, whichever is first. None where the rebuild position is the high mark. Takes no
     /// memory. Costs the logarithm of how many frames are held.
     pub fn gap(&self) -> Option<Nak>
-        ensures { MatchOption result (rebuilt self.now ≡ self.now.high) (IsGap self.now) }
+        ensures here { MatchOption result (rebuilt self.now ≡ self.now.high) (IsGap self.now) }
+        ensures whole { (all : Received) → StandsFor all self.now
+            → MatchOption result (rebuilt all ≡ all.high) (IsGap all) }
     {
         if self.rebuilt == self.high {
             return None;

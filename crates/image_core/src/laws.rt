@@ -1,6 +1,6 @@
 //! Laws of the definitions, each the contract of a function that does nothing.
 
-ghost use Rattle.std.specs.Prelude.{ℕ, List};
+ghost use Rattle.std.specs.Prelude.{◌≡◌, ◌++◌, ℕ, List};
 ghost use Rattle.frame_core.specs.Block.{AreEncodable};
 ghost use Rattle.frame_core.specs.declared.block.Publication.{Publication};
 ghost use Rattle.frame_core.specs.declared.frame.Frame.{Frame};
@@ -15,6 +15,12 @@ ghost use Rattle.image_core.specs.Received.{Received, begun, received_all};
 pub fn what_was_taken_makes_no_difference()
     ensures begins { (r : Received) → StandsFor r r }
     ensures unseen { (all r : Received) → StandsFor all r → IsUnseen all r }
+{}
+
+/// The frames of one datagram and then those of another are received as all of them in order.
+pub fn datagrams_come_one_after_another()
+    ensures { (r : Received) (fs gs : List Frame)
+        → received_all r (fs ++ gs) ≡ received_all (received_all r fs) gs }
 {}
 
 /// After any frames the received ones lie one behind another, none before the join position; each is of the publication,

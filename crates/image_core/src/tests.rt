@@ -295,6 +295,7 @@ fn setup_frames_that_may_not_be_used_are_refused(rt: HostRuntime) {
 #[test]
 fn laws_are_called() {
     laws::what_was_taken_makes_no_difference();
+    laws::datagrams_come_one_after_another();
     laws::received_frames_lie_apart();
     laws::the_longest_chain_ends_at_the_rebuild_position();
     laws::the_high_mark_is_the_greatest();
