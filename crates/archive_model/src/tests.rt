@@ -1,6 +1,6 @@
 //! Scenarios at this crate's calls. Expected values are those of docs/SCENARIOS.md.
 
-use crate::{Book, Channel, Command, ExtendFields, Recording, Reply, StartFields, laws};
+use crate::{Book, Channel, Command, ExtendFields, Numbered, Recording, Reply, StartFields, laws};
 use frame_core::limits::LAST_NUMBER;
 use frame_core::{Block, Frame, FrameKind, Items, Refusal};
 use std::alloc::{AllocError, Global};
@@ -104,7 +104,7 @@ fn a_book_finds_its_recordings(rt: HostRuntime) -> Result<(), Fail> {
     assert_eq!(rt; book.recordings().len(), 1);
     assert!(rt; !book.is_full());
     let recording = book.recording(&0).ok_or("no recording")?;
-    assert!(rt; recording.has_id(&0));
+    assert!(rt; recording.has_number(&0));
     assert!(rt; recording.is_active());
     assert_eq!(rt; recording.frames().len(), 3);
     assert_eq!(rt; recording.recorded_position(), 192);
