@@ -2,15 +2,14 @@
 //! docs/PROTOCOL.md, "Data and pad header".
 
 ghost use Rattle.std.specs.Prelude.{◌≡◌, ◌<◌, ◌≤◌, ◌^◌, ◌++◌, ◌↔◌, ℕ, length, drop, slice_index, IsTrue, IfOk, IfErr, OnErr, MatchOption};
-ghost use Rattle.std.specs.Bool.{MatchBool};
 ghost use Rattle.frame_core.specs.Datagram.{HasNoFront};
 ghost use Rattle.frame_core.specs.Decoding.{IsBody, read_frame};
-ghost use Rattle.frame_core.specs.FrameEncoding.{IsAligned, IsEncodable, aligned, encoded, frame_of, i32_at, u16_at};
+ghost use Rattle.frame_core.specs.FrameEncoding.{IsEncodable, aligned, encoded, frame_of, u16_at};
 ghost use Rattle.frame_core.specs.Front.{IsFront};
 ghost use Rattle.frame_core.specs.declared.frame.FrameKind.{FrameKind};
 
 use crate::fields::{read_i32, read_i64, read_u16};
-use crate::frame::{Frame, FrameKind, FrameRef};
+use crate::frame::{Frame, FrameKind, FrameRef, is_aligned};
 use crate::limits::{FRAME_ALIGNMENT, HEADER_LENGTH};
 use crate::refusal::Refusal;
 
@@ -65,7 +64,7 @@ fn front_of(bytes: &[u8]) -> Option<(FrameRef<'_>, usize)>
     if !has_version(bytes) {
         return None;
     }
-    if !has_aligned_offset(bytes) {
+    if !is_aligned(&read_i32(bytes, 8)) {
         return None;
     }
     let Some(body) = body_of(bytes) else {
@@ -80,20 +79,6 @@ fn has_version(bytes: &[u8]) -> bool
     ensures { IsTrue result ↔ (slice_index bytes.now 4 ≡ 0) }
 {
     bytes[4] == 0
-}
-
-// Whether the term offset in a header is from 0 and a multiple of 32.
-fn has_aligned_offset(bytes: &[u8]) -> bool
-    requires { 32 ≤ length bytes.now }
-    ensures { MatchBool result
-        (IsAligned (i32_at bytes.now 8))
-        (IsAligned (i32_at bytes.now 8) → ⊥) }
-{
-    let offset = read_i32(bytes, 8);
-    if offset < 0 {
-        return false;
-    }
-    offset as usize % FRAME_ALIGNMENT == 0
 }
 
 // What stands behind a header.

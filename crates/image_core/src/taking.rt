@@ -6,12 +6,9 @@ ghost use Rattle.image_core.specs.Kept.{AreMembers, AreSpaced, HasTerms, IsNext,
 ghost use Rattle.image_core.specs.Rebuild.{chain_end};
 ghost use Rattle.image_core.specs.Take.{TakesBlock};
 
-use frame_core::limits::MAX_BLOCK_LENGTH;
+use frame_core::limits::{MAX_BLOCK_FRAMES, MAX_BLOCK_LENGTH};
 use frame_core::{Frame, FrameKind, Geometry, Place, Publication, is_next, place_behind};
 use std::collections::BTreeMap;
-
-// Frames that a block has at most: each covers at least 32 bytes.
-const MOST_FRAMES: usize = 2_048;
 
 // How many frames to make room for: about as many as follow one another from a position within a block's bytes.
 pub fn run_count(held: &BTreeMap<u64, Frame>, from: u64) -> usize
@@ -19,7 +16,7 @@ pub fn run_count(held: &BTreeMap<u64, Frame>, from: u64) -> usize
 {
     let mut count = 1;
     let mut end = from;
-    'run: while count < MOST_FRAMES {
+    'run: while count < MAX_BLOCK_FRAMES {
         let Some(frame) = held.get(&end) else {
             return count;
         };

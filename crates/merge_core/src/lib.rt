@@ -6,4 +6,5 @@ mod merge;
 #[cfg(test)]
 mod tests;
 
-pub use merge::{MAX_HELD_FRAMES, Merge, Offered};
+pub use frame_core::limits::MAX_HELD_FRAMES;
+pub use merge::{Merge, Offered};

@@ -11,13 +11,11 @@ ghost use Rattle.frame_core.specs.declared.refusal.Refusal.TheVariants.{NoMemory
 ghost use Rattle.frame_core.specs.Outcome.{Gives};
 ghost use Rattle.merge_core.specs.Merge.{Merging, offer_position, offered_at, held_at, ends_at};
 
+use frame_core::limits::MAX_HELD_FRAMES;
 use frame_core::{Frame, FrameKind, Geometry, Refusal};
 use std::alloc::{AllocFailed, Global};
 use std::collections::{BTreeMap, BTreeSet};
 use std::marker::Model;
-
-/// Frames that a merge holds at most.
-pub const MAX_HELD_FRAMES: usize = 4_096;
 
 /// What became of a frame that was offered.
 #[derive(Clone, Copy, Debug, PartialEq, Eq)]
