@@ -731,3 +731,27 @@ fn refusals_have_their_numbers(rt: HostRuntime) {
         assert_eq!(rt; refusal.number(), number);
     }
 }
+
+// A refused request for memory is told as NoMemory, and the call may be made again: bench/refused_test_memory.py runs
+// this test for each of its requests for memory, which it refuses.
+#[test]
+fn refused_memory_is_told(rt: HostRuntime) -> Result<(), Fail> {
+    let alloc = rt.alloc();
+    let (lent, _) = decode_front(HELLO_AT_0)?;
+    let frame = match lent.to_frame(alloc) {
+        Err(Refusal::NoMemory) => lent.to_frame(alloc)?,
+        frame => frame?,
+    };
+    check_same(&rt, &frame.as_ref(), &lent);
+    let frames = match frames_of_datagram(alloc, HELLO_AT_0) {
+        Err(Refusal::NoMemory) => frames_of_datagram(alloc, HELLO_AT_0)?,
+        frames => frames?,
+    };
+    assert_eq!(rt; frames.len(), 1);
+    let block = match block_of(alloc, &GEOMETRY, HELLO_AT_0) {
+        Err(Refusal::NoMemory) => block_of(alloc, &GEOMETRY, HELLO_AT_0)?,
+        block => block?,
+    };
+    assert_eq!(rt; block.frames.len(), 1);
+    Ok(())
+}

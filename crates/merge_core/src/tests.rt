@@ -231,9 +231,10 @@ fn no_more_than_4096_frames_are_held(rt: HostRuntime) -> Result<(), Fail> {
     Ok(())
 }
 
-// Offers that are refused for want of memory change nothing, and may be made again. Run with `--fail-alloc N`.
+// Offers that are refused for want of memory change nothing, and may be made again: bench/refused_test_memory.py runs
+// this test for each of its requests for memory, which it refuses.
 #[test]
-fn want_of_memory_changes_nothing(rt: HostRuntime) -> Result<(), Fail> {
+fn refused_memory_changes_nothing(rt: HostRuntime) -> Result<(), Fail> {
     let alloc = rt.alloc();
     let mut merge = Merge::new(alloc, GEOMETRY, 0);
     for (offset, wanted) in [

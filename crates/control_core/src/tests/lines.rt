@@ -1,5 +1,5 @@
 use crate::*;
-use archive_model::StartFields;
+use archive_model::{Reply, StartFields};
 use frame_core::Refusal;
 use std::alloc::Global;
 use std::test::*;
@@ -290,4 +290,25 @@ fn lines_with_ends_or_without_text(rt: HostRuntime) {
     ] {
         assert!(rt; is_bad(rt.alloc(), line), "{line:?}");
     }
+}
+
+// A refused request for memory is told as NoMemory, and the call may be made again: bench/refused_test_memory.py runs
+// this test for each of its requests for memory, which it refuses.
+#[test]
+fn refused_memory_is_told(rt: HostRuntime) -> Result<(), Fail> {
+    let alloc = rt.alloc();
+    for line in [CHANNEL, b"block 0 00ff", b"merge-live 00ff"] {
+        let line = match parse_line(alloc, line) {
+            Err(Refusal::NoMemory) => parse_line(alloc, line)?,
+            line => line?,
+        };
+        assert!(rt; !matches!(line, Line::Quit));
+    }
+    let reply = Reply::Settled { position: 64 };
+    let text = match print_reply(alloc, &reply) {
+        Err(Refusal::NoMemory) => print_reply(alloc, &reply)?,
+        text => text?,
+    };
+    assert_eq!(rt; text.as_slice(), b"settled 64\n".as_slice());
+    Ok(())
 }
