@@ -1,7 +1,7 @@
 -- Blocks of the first frames that are held.
 use Rattle.std.proofs.Common.{◌≡◌, ◌∙◌, sym, ap, refl, subst, ◌+◌, ◌<◌, ◌≤◌, ◌≤ℤ◌, ◌+ℤ◌, ℕ, ℤ, pos, negsuc, List, [], ◌∷◌, ◌++◌, Bool, true, false, None, ◌⊎◌, inl, inr, length, arith}
 use Rattle.std.specs.Prelude.{map, min, unsigned_abs, ◌&&◌, int_le, Some, slice_get}
-use Rattle.std.proofs.lemmas.List.{length-append, length-map}
+use Rattle.std.proofs.lemmas.List.{length-map}
 use Rattle.std.specs.Ordering.{int_eq}
 use Rattle.std.proofs.lemmas.Int.{ints}
 use Rattle.std.proofs.lemmas.Bool.Decides.{Decides-int_eq}
@@ -305,12 +305,6 @@ long_by taken other given block count given_is block_is many is =
     let b : length block ≡ length other = ap length block_is ∙ length-map other (λ (m : ℕ × Frame). m.1) in
     omega (arith, a, b, many, is)
 
-few_by : (before taken after : List (ℕ × Frame)) (block : List Frame) (count : ℕ) → before ≡ taken ++ after → block ≡ map (λ m. m.1) taken → count ≡ length block → count ≤ length before
-few_by before taken after block count left block_is is =
-    let a : length block ≡ length taken = ap length block_is ∙ length-map taken (λ (m : ℕ × Frame). m.1) in
-    let b : length before ≡ length taken + length after = ap length left ∙ length-append taken after in
-    omega (arith, a, b, is)
-
 -- taking as many of the first frames as the longest block has takes that block
 pub takes_counted : (g : Geometry) (publication : Publication) (from : ℕ) (before after : List (ℕ × Frame)) (given : List Frame) (run : Run)
     → CountsBlock g publication from before run → TakesFirst run.count before given after → TakesBlock g publication from before given run.end after
@@ -325,11 +319,6 @@ takes_counted g publication from before after given run counts takes =
     let same_given : counts.given ≡ given = block_frames ∙ ap (map (λ (m : ℕ × Frame). m.1)) (sym same.0) ∙ sym frames in
     subst (λ (fs : List Frame). TakesBlock g publication from before fs run.end after) same_given
     (subst (λ (ms : List (ℕ × Frame)). TakesBlock g publication from before counts.given run.end ms) (sym same.1) block)
-
--- there are as many frames as the longest block has
-pub counts_few : (g : Geometry) (publication : Publication) (from : ℕ) (before : List (ℕ × Frame)) (run : Run) → CountsBlock g publication from before run → run.count ≤ length before
-counts_few g publication from before run counts =
-    few_by before counts.takes.taken counts.after counts.given run.count counts.takes.left counts.takes.frames counts.count
 
 -- what is kept when a block was taken
 pub kept_take : (r : Received) (at to : ℕ) (given : List Frame) (after : List (ℕ × Frame)) → IsKept r at → TakesBlock r.geometry r.publication r.from r.joined given to after

@@ -1,7 +1,7 @@
 -- Frames that are taken.
 use Rattle.std.proofs.Common.{◌≡◌, ◌∙◌, sym, ap, refl, subst, ◌+◌, ◌<◌, ◌≤◌, ℕ, List, [], ◌∷◌, ◌++◌, Bool, true, false, Some, None, length, append_assoc, arith}
 use Rattle.std.specs.Prelude.{Option, map, if◌then◌else◌, slice_get, nat_le, ◌&&◌, ◌==◌}
-use Rattle.std.proofs.lemmas.List.{length-append, length-map, map-append}
+use Rattle.std.proofs.lemmas.List.{length-append, map-append}
 use Rattle.frame_core.specs.declared.block.Place.{Place}
 use Rattle.frame_core.specs.declared.block.Publication.{Publication}
 use Rattle.frame_core.specs.declared.frame.Frame.{Frame}
@@ -194,14 +194,6 @@ takes_more count before after rest given more takes moves = record {
   frames = moves.behind ∙ ap (λ (fs : List Frame). fs ++ moves.first.1 ∷ []) takes.frames ∙ sym (map-append (λ m. m.1) takes.taken (moves.first ∷ []));
   many = let long : length more ≡ length given + 1 = ap length moves.behind ∙ length-append given (moves.first.1 ∷ []) in let many = takes.many in omega (arith, long, many);
 }
-
--- where fewer were taken than there are, one is left
-pub takes_some : (count most : ℕ) (before after : List (ℕ × Frame)) (given : List Frame) → TakesFirst count before given after → count < most → most ≤ length before → 0 < length after
-takes_some count most before after given takes few some =
-    let all : length before ≡ length takes.taken + length after = ap length takes.left ∙ length-append takes.taken after in
-    let long : length given ≡ length takes.taken = ap length takes.frames ∙ length-map takes.taken (λ (m : ℕ × Frame). m.1) in
-    let many = takes.many in
-    omega (arith, all, long, many, few, some)
 
 -- so many of the first frames are the same, however they are taken
 pub same_first : (before given other after rest : List (ℕ × Frame)) → before ≡ given ++ after → before ≡ other ++ rest → length given ≡ length other → (given ≡ other) × (after ≡ rest)
