@@ -1,7 +1,7 @@
 -- Frames that are taken.
-use Rattle.std.proofs.Common.{◌≡◌, ◌∙◌, sym, ap, refl, subst, ◌+◌, ◌≤◌, ◌^◌, ℕ, List, [], ◌∷◌, ◌++◌, Bool, true, false, Some, None, append_assoc, append-nil, arith}
-use Rattle.std.specs.Prelude.{Option, map, if◌then◌else◌, slice_get}
-use Rattle.std.proofs.lemmas.List.{map-append}
+use Rattle.std.proofs.Common.{◌≡◌, ◌∙◌, sym, ap, refl, subst, ◌+◌, ◌<◌, ◌≤◌, ℕ, List, [], ◌∷◌, ◌++◌, Bool, true, false, Some, None, length, append_assoc, arith}
+use Rattle.std.specs.Prelude.{Option, map, if◌then◌else◌, slice_get, nat_le, ◌&&◌, ◌==◌}
+use Rattle.std.proofs.lemmas.List.{length-append, map-append}
 use Rattle.frame_core.specs.declared.block.Place.{Place}
 use Rattle.frame_core.specs.declared.block.Publication.{Publication}
 use Rattle.frame_core.specs.declared.frame.Frame.{Frame}
@@ -10,8 +10,8 @@ use Rattle.frame_core.specs.Block.{AreEncodable, is_part, run_end}
 use Rattle.frame_core.specs.FrameEncoding.{aligned_length}
 use Rattle.image_core.specs.Rebuild.{end_of}
 use Rattle.image_core.specs.History.{IsChain}
-use Rattle.image_core.specs.Kept.{AreMembers, AreSpaced, IsNext, MovesFirst, TakesRun}
-use Rattle.image_core.proofs.HistoryLemmas.{chain_append}
+use Rattle.image_core.specs.Kept.{AreMembers, AreSpaced, MovesFirst, TakesFirst, follows, longest_run}
+use Rattle.image_core.specs.declared.taking.Run.{Run}
 
 -- what is left of spaced frames where a chain of the first was taken
 pub spaced_rest : (p q high : ℕ) (taken after : List (ℕ × Frame)) → AreSpaced p high (taken ++ after) → IsChain p taken q → AreSpaced q high after
@@ -30,69 +30,180 @@ pub if_true : (b : Bool) (x y : Option ℕ) → b ≡ true → (if b then x else
 if_true true x y h = refl
 if_true false x y h = absurd cc
 
-run_on : (place : Place) (offset last : ℕ) (g : Frame) (fs : List Frame) (f : Frame) (b : Bool) → (if b then run_end place (offset + aligned_length g) fs else None) ≡ Some last
-    → (run_end place (offset + aligned_length g) fs ≡ Some last → run_end place (offset + aligned_length g) (fs ++ f ∷ []) ≡ Some (last + aligned_length f))
-    → (if b then run_end place (offset + aligned_length g) (fs ++ f ∷ []) else None) ≡ Some (last + aligned_length f)
-run_on place offset last g fs f true run further = further run
-run_on place offset last g fs f false run further = absurd cc
+-- what a run's end tells of its first frame
+pub part_by : (b : Bool) (o : Option ℕ) (stop : ℕ) → (if b then o else None) ≡ Some stop → (b ≡ true) × (o ≡ Some stop)
+part_by true o stop is = (refl, is)
+part_by false o stop is = absurd cc
 
--- one message more at the end of a run
-run_more : (place : Place) (offset last : ℕ) (fs : List Frame) (f : Frame) → run_end place offset fs ≡ Some last → is_part place last f ≡ true
-    → run_end place offset (fs ++ f ∷ []) ≡ Some (last + aligned_length f)
-run_more place offset last [] f run part = let same : offset ≡ last = cc in rw same (if_true (is_part place last f) (Some (last + aligned_length f)) None part)
-run_more place offset last (g ∷ fs) f run part =
-    run_on place offset last g fs f (is_part place offset g) run (λ on. run_more place (offset + aligned_length g) last fs f on part)
+run_low : (place : Place) (offset stop : ℕ) (fs : List Frame) → run_end place offset fs ≡ Some stop → offset ≤ stop
+run_low place offset stop [] run = let same : offset ≡ stop = cc in omega arith
+run_low place offset stop (f ∷ fs) run =
+    let parts = part_by (is_part place offset f) (run_end place (offset + aligned_length f) fs) stop run in
+    let low = run_low place (offset + aligned_length f) stop fs parts.1 in
+    omega arith
 
--- nothing is taken yet
-run_begins : (place : Place) (from offset limit : ℕ) (before : List (ℕ × Frame)) (frames : List Frame) → offset ≤ limit → TakesRun place from offset limit before frames frames from before
-run_begins place from offset limit before frames few = record {
+pub chain_grows : (p q : ℕ) (ms : List (ℕ × Frame)) → IsChain p ms q → p ≤ q
+chain_grows p q [] chain = omega (arith, chain)
+chain_grows p q (m ∷ ms) chain = let low = chain_grows (end_of m) q ms chain.2 in omega (arith, chain.0)
+
+three_by : (a b c : Bool) → (a && b && c) ≡ true → (a ≡ true) × (b ≡ true) × (c ≡ true)
+three_by true true true is = (refl, refl, refl)
+three_by true true false is = absurd cc
+three_by true false c is = absurd cc
+three_by false b c is = absurd cc
+
+three : (a b c : Bool) → a ≡ true → b ≡ true → c ≡ true → (a && b && c) ≡ true
+three true true true ha hb hc = refl
+three true true false ha hb hc = absurd cc
+three true false c ha hb hc = absurd cc
+three false b c ha hb hc = absurd cc
+
+-- a frame that is the next message of a block
+pub record IsNext (place : Place) (at offset limit : ℕ) (m : ℕ × Frame) : Type 0 where
+  pub begins : m.0 ≡ at
+  pub part : is_part place offset m.1 ≡ true
+  pub few : offset + aligned_length m.1 ≤ limit
+
+pub next_parts : (place : Place) (at offset limit : ℕ) (m : ℕ × Frame) → follows place at offset limit m ≡ true → IsNext place at offset limit m
+unfolding follows
+next_parts place at offset limit m is =
+    let parts = three_by (m.0 == at) (is_part place offset m.1) (nat_le (offset + aligned_length m.1) limit) is in
+    let begins = parts.0 in
+    let few = parts.2 in
+    record { begins = grind arith; part = parts.1; few = grind arith }
+
+pub follows_by : (place : Place) (at offset limit : ℕ) (m : ℕ × Frame) → IsNext place at offset limit m → follows place at offset limit m ≡ true
+unfolding follows
+follows_by place at offset limit m next =
+    let begins = next.begins in
+    let few = next.few in
+    three (m.0 == at) (is_part place offset m.1) (nat_le (offset + aligned_length m.1) limit) (grind arith) next.part (grind arith)
+
+-- the longest run of the first of some frames, behind one that ends where they begin
+pub record IsRun (place : Place) (run : Run) (offset limit : ℕ) (ms : List (ℕ × Frame)) (to : Run) : Type 0 where
+  pub taken : List (ℕ × Frame)
+  pub rest : List (ℕ × Frame)
+  pub left : ms ≡ taken ++ rest
+  pub count : to.count ≡ run.count + length taken
+  pub chain : IsChain run.end taken to.end
+  pub last : ℕ
+  pub ends : run_end place offset (map (λ m. m.1) taken) ≡ Some last
+  pub few : last ≤ limit
+  pub longest : (other more : List (ℕ × Frame)) (end stop : ℕ) → ms ≡ other ++ more → IsChain run.end other end → run_end place offset (map (λ m. m.1) other) ≡ Some stop → stop ≤ limit → end ≤ to.end
+
+-- where none follows, no run is longer
+none_longer : (place : Place) (at offset limit : ℕ) (ms : List (ℕ × Frame)) → ((m : ℕ × Frame) (rest : List (ℕ × Frame)) → ms ≡ m ∷ rest → follows place at offset limit m ≡ true → ⊥)
+    → (other more : List (ℕ × Frame)) (end stop : ℕ) → ms ≡ other ++ more → IsChain at other end → run_end place offset (map (λ m. m.1) other) ≡ Some stop → stop ≤ limit → end ≤ at
+none_longer place at offset limit ms none [] more end stop is chain run few = omega (arith, chain)
+none_longer place at offset limit ms none (m ∷ other) more end stop is chain run few =
+    let parts = part_by (is_part place offset m.1) (run_end place (offset + aligned_length m.1) (map (λ x. x.1) other)) stop run in
+    let low = run_low place (offset + aligned_length m.1) stop (map (λ x. x.1) other) parts.1 in
+    absurd (none m (other ++ more) is (follows_by place at offset limit m (record { begins = sym chain.0; part = parts.0; few = omega arith })))
+
+run_stays : (place : Place) (run : Run) (offset limit : ℕ) (ms : List (ℕ × Frame)) → offset ≤ limit
+    → ((m : ℕ × Frame) (rest : List (ℕ × Frame)) → ms ≡ m ∷ rest → follows place run.end offset limit m ≡ true → ⊥) → IsRun place run offset limit ms run
+run_stays place run offset limit ms few none = record {
   taken = [];
+  rest = ms;
   left = refl;
+  count = omega arith;
   chain = refl;
-  frames = sym (append-nil frames);
   last = offset;
-  run = refl;
+  ends = refl;
   few = few;
+  longest = none_longer place run.end offset limit ms none;
 }
 
--- so far, with the frames that are left spaced
-pub record RunsTo (place : Place) (from offset limit : ℕ) (before : List (ℕ × Frame)) (old new : List Frame) (to next : ℕ) (after : List (ℕ × Frame)) : Type 0 where
-  pub takes : TakesRun place from offset limit before old new to after
-  pub at : takes.last ≡ next
-  pub spaced : AreSpaced to (2 ^ 62) after
+-- one frame more at the beginning
+more_longer : (place : Place) (run to : Run) (offset limit : ℕ) (m : ℕ × Frame) (ms : List (ℕ × Frame)) → IsNext place run.end offset limit m
+    → IsRun place (record { count = run.count + 1; end = run.end + aligned_length m.1 }) (offset + aligned_length m.1) limit ms to
+    → (other more : List (ℕ × Frame)) (end stop : ℕ) → (m ∷ ms) ≡ other ++ more → IsChain run.end other end → run_end place offset (map (λ x. x.1) other) ≡ Some stop → stop ≤ limit → end ≤ to.end
+more_longer place run to offset limit m ms next is [] more end stop left chain ends few =
+    let grows = chain_grows (run.end + aligned_length m.1) to.end is.taken is.chain in
+    omega (arith, chain)
+more_longer place run to offset limit m ms next is (x ∷ other) more end stop left chain ends few =
+    let same : x ≡ m = cc in
+    let rest : ms ≡ other ++ more = cc in
+    let parts = part_by (is_part place offset x.1) (run_end place (offset + aligned_length x.1) (map (λ y. y.1) other)) stop ends in
+    let at : end_of x ≡ run.end + aligned_length m.1 = ap end_of same ∙ ap (λ (p : ℕ). p + aligned_length m.1) next.begins in
+    is.longest other more end stop rest
+    (subst (λ (p : ℕ). IsChain p other end) at chain.2)
+    (subst (λ (y : ℕ × Frame). run_end place (offset + aligned_length y.1) (map (λ z. z.1) other) ≡ Some stop) same parts.1)
+    few
 
-pub runs_begin : (place : Place) (from offset limit : ℕ) (before : List (ℕ × Frame)) (frames : List Frame) → offset ≤ limit → AreSpaced from (2 ^ 62) before
-    → RunsTo place from offset limit before frames frames from offset before
-unfolding run_begins
-runs_begin place from offset limit before frames few spaced = record { takes = run_begins place from offset limit before frames few; at = refl; spaced = spaced }
-
--- one frame more is taken
-pub runs_further : (place : Place) (from offset limit : ℕ) (before : List (ℕ × Frame)) (old new more : List Frame) (to next size : ℕ) (after rest : List (ℕ × Frame))
-    → RunsTo place from offset limit before old new to next after → IsNext place to next limit after size → MovesFirst after rest new more
-    → RunsTo place from offset limit before old more (to + size) (next + size) rest
-runs_further place from offset limit before old new more to next size after rest runs is moves =
-    let it = runs.takes in
-    let same : is.first ≡ moves.first = cc (moves.is) in
-    let first : after ≡ is.first ∷ rest = cc (moves.is) in
-    let spaced = subst (AreSpaced to (2 ^ 62)) first runs.spaced in
-    let end : end_of is.first ≡ to + size = omega (arith, is.begins, is.covers) in
-    let part : is_part place it.last is.first.1 ≡ true = rw runs.at is.part in
+run_goes : (place : Place) (run to : Run) (offset limit : ℕ) (m : ℕ × Frame) (ms : List (ℕ × Frame)) → 0 < aligned_length m.1 → IsNext place run.end offset limit m
+    → IsRun place (record { count = run.count + 1; end = run.end + aligned_length m.1 }) (offset + aligned_length m.1) limit ms to → IsRun place run offset limit (m ∷ ms) to
+run_goes place run to offset limit m ms some next is =
+    let at : run.end + aligned_length m.1 ≡ end_of m = ap (λ (p : ℕ). p + aligned_length m.1) (sym next.begins) in
     record {
-      takes = record {
-        taken = it.taken ++ is.first ∷ [];
-        left = it.left ∙ ap (λ (ms : List (ℕ × Frame)). it.taken ++ ms) first ∙ sym (append_assoc it.taken (is.first ∷ []) rest);
-        chain = chain_append from to (to + size) it.taken (is.first ∷ []) it.chain (sym is.begins, spaced.1, end);
-        frames = moves.behind ∙ ap (λ (fs : List Frame). fs ++ moves.first.1 ∷ []) it.frames ∙ append_assoc old (map (λ m. m.1) it.taken) (moves.first.1 ∷ [])
-            ∙ ap (λ (m : ℕ × Frame). old ++ (map (λ x. x.1) it.taken ++ m.1 ∷ [])) (sym same) ∙ ap (λ (fs : List Frame). old ++ fs) (sym (map-append (λ m. m.1) it.taken (is.first ∷ [])));
-        last = it.last + aligned_length is.first.1;
-        run = ap (run_end place offset) (map-append (λ m. m.1) it.taken (is.first ∷ [])) ∙ run_more place offset it.last (map (λ m. m.1) it.taken) is.first.1 it.run part;
-        few = omega (arith, is.few, is.covers, runs.at);
-      };
-      at = omega (arith, is.covers, runs.at);
-      spaced = subst (λ (x : ℕ). AreSpaced x (2 ^ 62) rest) end spaced.3;
+      taken = m ∷ is.taken;
+      rest = is.rest;
+      left = ap (λ (xs : List (ℕ × Frame)). m ∷ xs) is.left;
+      count = let count = is.count in omega arith;
+      chain = (sym next.begins, some, subst (λ (p : ℕ). IsChain p is.taken to.end) at is.chain);
+      last = is.last;
+      ends = if_true (is_part place offset m.1) (run_end place (offset + aligned_length m.1) (map (λ x. x.1) is.taken)) None next.part ∙ is.ends;
+      few = is.few;
+      longest = more_longer place run to offset limit m ms next is;
     }
+
+run_by : (place : Place) (run to : Run) (offset limit : ℕ) (m : ℕ × Frame) (ms : List (ℕ × Frame)) (b : Bool) → follows place run.end offset limit m ≡ b → offset ≤ limit
+    → (follows place run.end offset limit m ≡ true → IsRun place run offset limit (m ∷ ms) to) → IsRun place run offset limit (m ∷ ms) (if b then to else run)
+run_by place run to offset limit m ms true is few goes = goes is
+run_by place run to offset limit m ms false is few goes =
+    run_stays place run offset limit (m ∷ ms) few (λ x rest first goes_on. let same : m ≡ x = cc in let no : follows place run.end offset limit m ≡ true = subst (λ (y : ℕ × Frame). follows place run.end offset limit y ≡ true) (sym same) goes_on in cc)
+
+pub run_is : (place : Place) (run : Run) (offset limit high : ℕ) (ms : List (ℕ × Frame)) → offset ≤ limit → AreSpaced run.end high ms → IsRun place run offset limit ms (longest_run place run offset limit ms)
+run_is place run offset limit high [] few spaced = run_stays place run offset limit [] few (λ m rest first goes. absurd cc)
+run_is place run offset limit high (m ∷ ms) few spaced =
+    run_by place run (longest_run place (record { count = run.count + 1; end = run.end + aligned_length m.1 }) (offset + aligned_length m.1) limit ms) offset limit m ms (follows place run.end offset limit m) refl few
+    (λ goes. let next = next_parts place run.end offset limit m goes in
+    run_goes place run (longest_run place (record { count = run.count + 1; end = run.end + aligned_length m.1 }) (offset + aligned_length m.1) limit ms) offset limit m ms spaced.1 next
+    (run_is place (record { count = run.count + 1; end = run.end + aligned_length m.1 }) (offset + aligned_length m.1) limit high ms next.few
+    (subst (λ (p : ℕ). AreSpaced p high ms) (ap (λ (p : ℕ). p + aligned_length m.1) next.begins) spaced.3)))
+
+run_if : (b : Bool) (x y : Run) → b ≡ true → (if b then x else y) ≡ x
+run_if true x y h = refl
+run_if false x y h = absurd cc
+
+-- one frame more at the beginning of a run
+pub run_on : (place : Place) (run : Run) (offset limit : ℕ) (m : ℕ × Frame) (ms all : List (ℕ × Frame)) → all ≡ m ∷ ms → follows place run.end offset limit m ≡ true
+    → longest_run place run offset limit all ≡ longest_run place (record { count = run.count + 1; end = run.end + aligned_length m.1 }) (offset + aligned_length m.1) limit ms
+run_on place run offset limit m ms all is goes =
+    ap (longest_run place run offset limit) is
+    ∙ run_if (follows place run.end offset limit m) (longest_run place (record { count = run.count + 1; end = run.end + aligned_length m.1 }) (offset + aligned_length m.1) limit ms) run goes
+
+-- the frames behind the next one are spaced behind it
+pub spaced_on : (place : Place) (at offset limit high : ℕ) (m : ℕ × Frame) (ms all : List (ℕ × Frame)) → all ≡ m ∷ ms → follows place at offset limit m ≡ true → AreSpaced at high all
+    → (0 < aligned_length m.1) × AreSpaced (at + aligned_length m.1) high ms
+spaced_on place at offset limit high m ms all is goes spaced =
+    let it = subst (AreSpaced at high) is spaced in
+    let next = next_parts place at offset limit m goes in
+    (it.1, subst (λ (p : ℕ). AreSpaced p high ms) (ap (λ (p : ℕ). p + aligned_length m.1) next.begins) it.3)
 
 -- the first of some frames
 pub first_of : (ms : List (ℕ × Frame)) (m : ℕ × Frame) → slice_get ms 0 ≡ Some m → (rest : List (ℕ × Frame)) × (ms ≡ m ∷ rest)
 first_of [] m is = absurd cc
 first_of (x ∷ ms) m is = let same : x ≡ m = cc in (ms, ap (λ (y : ℕ × Frame). y ∷ ms) same)
+
+-- one frame more is taken
+pub takes_more : (count : ℕ) (before after rest : List (ℕ × Frame)) (given more : List Frame) → TakesFirst count before given after → MovesFirst after rest given more → TakesFirst (count + 1) before more rest
+takes_more count before after rest given more takes moves = record {
+  taken = takes.taken ++ moves.first ∷ [];
+  left = takes.left ∙ ap (λ (ms : List (ℕ × Frame)). takes.taken ++ ms) moves.is ∙ sym (append_assoc takes.taken (moves.first ∷ []) rest);
+  frames = moves.behind ∙ ap (λ (fs : List Frame). fs ++ moves.first.1 ∷ []) takes.frames ∙ sym (map-append (λ m. m.1) takes.taken (moves.first ∷ []));
+  many = let long : length more ≡ length given + 1 = ap length moves.behind ∙ length-append given (moves.first.1 ∷ []) in let many = takes.many in omega (arith, long, many);
+}
+
+-- so many of the first frames are the same, however they are taken
+pub same_first : (before given other after rest : List (ℕ × Frame)) → before ≡ given ++ after → before ≡ other ++ rest → length given ≡ length other → (given ≡ other) × (after ≡ rest)
+same_first before [] [] after rest left right long = (refl, sym left ∙ right)
+same_first before [] (x ∷ other) after rest left right long = absurd (omega arith)
+same_first before (m ∷ given) [] after rest left right long = absurd (omega arith)
+same_first [] (m ∷ given) (x ∷ other) after rest left right long = absurd cc
+same_first (y ∷ before) (m ∷ given) (x ∷ other) after rest left right long =
+    let m_is : y ≡ m = cc in
+    let x_is : y ≡ x = cc in
+    let tails = same_first before given other after rest (cc) (cc) (omega arith) in
+    let heads : m ≡ x = sym m_is ∙ x_is in
+    (ap (λ (z : ℕ × Frame). z ∷ given) heads ∙ ap (λ (zs : List (ℕ × Frame)). x ∷ zs) tails.0, tails.1)

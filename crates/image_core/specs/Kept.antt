@@ -1,5 +1,5 @@
 -- What holds of the frames that an image keeps.
-use Rattle.std.specs.Prelude.{◌≡◌, ◌<◌, ◌≤◌, ◌^◌, ◌*◌, ◌≤ℤ◌, ℕ, pos, unsigned_abs, List, [], ◌∷◌, ◌++◌, map, Some, true, ◌+◌}
+use Rattle.std.specs.Prelude.{◌≡◌, ◌<◌, ◌≤◌, ◌^◌, ◌*◌, ◌≤ℤ◌, ◌==◌, ◌&&◌, ℕ, pos, nat_le, unsigned_abs, Bool, if◌then◌else◌, List, [], ◌∷◌, ◌++◌, length, map, Some, true, ◌+◌}
 use Rattle.std.specs.Ordering.{nat_cmp}
 use Rattle.std.specs.Map.{remove_entry}
 use Rattle.std.specs.BTreeMap.{is_at}
@@ -7,13 +7,14 @@ use Rattle.frame_core.specs.declared.frame.Frame.{Frame}
 use Rattle.frame_core.specs.declared.block.Publication.{Publication}
 use Rattle.frame_core.specs.declared.geometry.Geometry.{Geometry}
 use Rattle.frame_core.specs.declared.block.Place.{Place}
-use Rattle.frame_core.specs.Block.{is_part, run_end}
+use Rattle.frame_core.specs.Block.{is_part}
 use Rattle.frame_core.specs.FrameEncoding.{IsEncodable, aligned_length}
-use Rattle.image_core.specs.History.{IsChain}
 use Rattle.image_core.specs.Rebuild.{end_of, chain_end}
 use Rattle.image_core.specs.declared.fate.Fate.{Fate}
 use Rattle.image_core.specs.declared.fate.Fate.TheVariants.{Joins, Tells, Drops}
 use Rattle.image_core.specs.Received.{Received, is_open, place_in}
+use Rattle.image_core.specs.declared.taking.Run.{Run}
+use Rattle.image_core.specs.Take.{TakesBlock}
 
 -- by rising position from one on, each of some size, none over another, and ending at most at another position
 abbrev pub AreSpaced : ℕ → ℕ → List (ℕ × Frame) → Type 0
@@ -61,25 +62,29 @@ IsComing r f (Joins p) = IsJoining r f p
 IsComing r f (Tells p) = p ≤ 2 ^ 31 * unsigned_abs r.geometry.term_length
 IsComing r f Drops = Unit {0}
 
--- more frames were taken that follow one another as messages of a block, up to a limit in their term
-pub record TakesRun (place : Place) (from offset limit : ℕ) (before : List (ℕ × Frame)) (old new : List Frame) (to : ℕ) (after : List (ℕ × Frame)) : Type 0 where
+-- a frame that is held is the next message of a block: at a position, at an offset in its term, and within a limit there
+unfoldable pub follows : Place → ℕ → ℕ → ℕ → ℕ × Frame → Bool
+follows place at offset limit m = (m.0 == at) && is_part place offset m.1 && nat_le (offset + aligned_length m.1) limit
+
+-- the longest run of the first frames that follow one another so, behind a run that was looked at before
+abbrev pub longest_run : Place → Run → ℕ → ℕ → List (ℕ × Frame) → Run
+longest_run place run offset limit [] = run
+longest_run place run offset limit (m ∷ ms) =
+    if follows place run.end offset limit m then longest_run place (record { count = run.count + 1; end = run.end + aligned_length m.1 }) (offset + aligned_length m.1) limit ms else run
+
+-- so many of the first frames are the block that is given, and it ends there
+pub record CountsBlock (g : Geometry) (publication : Publication) (from : ℕ) (before : List (ℕ × Frame)) (run : Run) : Type 0 where
+  pub given : List Frame
+  pub after : List (ℕ × Frame)
+  pub takes : TakesBlock g publication from before given run.end after
+  pub count : run.count ≡ length given
+
+-- so many of the first frames were taken
+pub record TakesFirst (count : ℕ) (before : List (ℕ × Frame)) (given : List Frame) (after : List (ℕ × Frame)) : Type 0 where
   pub taken : List (ℕ × Frame)
   pub left : before ≡ taken ++ after
-  pub chain : IsChain from taken to
-  pub frames : new ≡ old ++ map (λ m. m.1) taken
-  pub last : ℕ
-  pub run : run_end place offset (map (λ m. m.1) taken) ≡ Some last
-  pub few : last ≤ limit
-
--- the first of the frames is the next message of a block, of so many bytes
-pub record IsNext (place : Place) (at offset limit : ℕ) (ms : List (ℕ × Frame)) (size : ℕ) : Type 0 where
-  pub first : ℕ × Frame
-  pub rest : List (ℕ × Frame)
-  pub is : ms ≡ first ∷ rest
-  pub begins : first.0 ≡ at
-  pub part : is_part place offset first.1 ≡ true
-  pub covers : size ≡ aligned_length first.1
-  pub few : offset + size ≤ limit
+  pub frames : given ≡ map (λ m. m.1) taken
+  pub many : length given ≡ count
 
 -- the first frame was moved behind the frames of a list
 pub record MovesFirst (before after : List (ℕ × Frame)) (old new : List Frame) : Type 0 where

@@ -11,7 +11,7 @@ ghost use Rattle.frame_core.specs.Setup.{IsUsable};
 ghost use Rattle.image_core.specs.Take.{GivesBlock, IsGap, TakesBlock};
 ghost use Rattle.image_core.specs.History.{StandsFor};
 ghost use Rattle.image_core.specs.Insert.{Inserts, IsForeign, IsInsertRefusal, tally, uncounted};
-ghost use Rattle.image_core.specs.Kept.{HasTerms, IsComing, IsJoining, IsKept, undone};
+ghost use Rattle.image_core.specs.Kept.{CountsBlock, HasTerms, IsComing, IsJoining, IsKept, undone};
 ghost use Rattle.image_core.specs.Received.{IsBegun, Received, after, begun, fate, frame_fate, gap_end, heartbeat_fate, is_of, is_open, place_in, rebuilt, received, received_all};
 
 use crate::fate::Fate;
@@ -19,7 +19,7 @@ use crate::gaps::{nak_over, term_end};
 use crate::held::{chain_end, is_free, next_start, put, withdraw};
 use crate::inserted::Inserted;
 use crate::places::{heartbeat_position, place_of, window};
-use crate::taking::{run_count, take_frames};
+use crate::taking::{Run, longest_block, take_frames};
 use byteorder::{ByteOrder, LittleEndian};
 use frame_core::{
     Block, Frame, FrameKind, FrameRef, Geometry, Items, Nak, Publication, Refusal, Setup,
@@ -167,10 +167,10 @@ impl Image {
         Ok(inserted)
     }
 
-    /// A block of the first frames that were not taken, up to the rebuild position: as many messages as follow one
-    /// another in their term within a block's bytes, or one pad: docs/PROTOCOL.md, "Blocks". None where all frames up to
-    /// the rebuild position were taken. NoMemory where the list can't be made; nothing changes then. The image keeps the
-    /// frames no more. Costs for each frame the logarithm of how many are held.
+    /// The longest block of the first frames that were not taken, up to the rebuild position: all messages that follow
+    /// one another in their term within a block's bytes, or one pad: docs/PROTOCOL.md, "Blocks". None where all frames
+    /// up to the rebuild position were taken. NoMemory where the list can't be made; nothing changes then. The image
+    /// keeps the frames no more. Costs for each frame of the block the logarithm of how many are held.
     pub fn take_block(&mut self) -> Result<Option<Block>, Refusal>
         ensures block { IfOk result (λ found. MatchOption found
             ((rebuilt self.old ≡ self.old.from) × (self.new ≡ self.old))
@@ -182,34 +182,38 @@ impl Image {
             return Ok(None);
         }
         let position = self.from;
-        let mut frames = Vec::with_capacity(self.alloc, run_count(&self.held, position))?;
-        self.take_into(&mut frames);
+        let run = self.next_block();
+        let mut frames = Vec::with_capacity(self.alloc, run.count)?;
+        self.take_into(&run, &mut frames);
         Ok(Some(Block {
             position: position as i64,
             frames: Items::from_vec(frames),
         }))
     }
 
-    // Takes the frames of a block into a list that has room for one.
-    fn take_into(&mut self, frames: &mut Vec<Frame>)
-        requires some { self.old.from < rebuilt self.old }
+    // The block that is given next.
+    fn next_block(&self) -> Run
+        requires { self.now.from < rebuilt self.now }
+        ensures { let now = self.now in
+            CountsBlock now.geometry now.publication now.from now.joined result }
+    {
+        longest_block(&self.held, &self.geometry, &self.publication, self.from)
+    }
+
+    // Takes the frames of a block into a list that has room for them.
+    fn take_into(&mut self, run: &Run, frames: &mut Vec<Frame>)
+        requires block { let old = self.old in
+            CountsBlock old.geometry old.publication old.from old.joined run.now }
         requires empty { frames.old.items ≡ [] }
-        requires room { 0 < vec_capacity frames.old }
+        requires room { run.now.count ≤ vec_capacity frames.old }
         ensures takes { let old = self.old in let new = self.new in
             TakesBlock old.geometry old.publication old.from old.joined
             frames.new.items new.from new.joined }
         ensures same { let new = self.new in
             new ≡ record self.old { from = new.from; joined = new.joined } }
     {
-        let from = self.from;
-        let rest = take_frames(
-            &mut self.held,
-            &self.geometry,
-            &self.publication,
-            from,
-            frames,
-        );
-        self.from = rest;
+        take_frames(&mut self.held, run.count, frames);
+        self.from = run.end;
     }
 
     // Takes in all frames of a datagram, or none of them.

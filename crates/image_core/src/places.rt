@@ -58,8 +58,7 @@ pub fn place_of(geometry: &Geometry, publication: &Publication, frame: &FrameRef
     if !is_inside(geometry, frame) {
         return None;
     }
-    let place = frame.position_in(geometry)?;
-    Some(place)
+    frame.position_in(geometry)
 }
 
 // The position of a heartbeat of the publication.
@@ -78,8 +77,7 @@ pub fn heartbeat_position(
     if !is_of(publication, frame) {
         return None;
     }
-    let place = frame.position_in(geometry)?;
-    Some(place)
+    frame.position_in(geometry)
 }
 
 // Half a term.

@@ -1,65 +1,51 @@
-//! The frames of a block, taken from those that are held.
+//! The longest block of the frames that are held, and how it is taken.
 
-ghost use Rattle.std.specs.Prelude.{◌≡◌, ◌<◌, ◌≤◌, ◌^◌, ◌++◌, ◌+◌, [], ◌∷◌, ℕ, IfSome, length, min, unsigned_abs, vec_len};
+ghost use Rattle.std.specs.Prelude.{◌≡◌, ◌<◌, ◌≤◌, ◌+◌, ◌^◌, [], length, min, unsigned_abs, vec_len};
 ghost use Rattle.std.specs.Vec.{vec_capacity};
-ghost use Rattle.image_core.specs.Kept.{AreMembers, AreSpaced, HasTerms, IsNext, MovesFirst, TakesRun};
+ghost use Rattle.image_core.specs.Kept.{AreMembers, AreSpaced, CountsBlock, HasTerms, MovesFirst, TakesFirst, follows, longest_run};
 ghost use Rattle.image_core.specs.Rebuild.{chain_end};
-ghost use Rattle.image_core.specs.Take.{TakesBlock};
 
-use frame_core::limits::{MAX_BLOCK_FRAMES, MAX_BLOCK_LENGTH};
+use frame_core::limits::MAX_BLOCK_LENGTH;
 use frame_core::{Frame, FrameKind, Geometry, Place, Publication, is_next, place_behind};
 use std::collections::BTreeMap;
 
-// How many frames to make room for: about as many as follow one another from a position within a block's bytes.
-pub fn run_count(held: &BTreeMap<u64, Frame>, from: u64) -> usize
-    ensures { 0 < result }
-{
-    let mut count = 1;
-    let mut end = from;
-    'run: while count < MAX_BLOCK_FRAMES {
-        let Some(frame) = held.get(&end) else {
-            return count;
-        };
-        end = end.saturating_add(frame.aligned_length());
-        if end.saturating_sub(from) >= MAX_BLOCK_LENGTH as u64 {
-            return count;
-        }
-        count += 1;
-    }
-    count
+// The first of the frames that are held, as far as they are looked at.
+#[derive(Clone, Copy)]
+pub struct Run {
+    // How many they are.
+    pub count: usize,
+    // Where the last of them ends.
+    pub end: u64,
 }
 
-// Takes the first frames of a chain that are a block, at least one, and answers where the rest begins.
-pub fn take_frames(
-    held: &mut BTreeMap<u64, Frame>,
+// The longest block of the first frames of a chain.
+pub fn longest_block(
+    held: &BTreeMap<u64, Frame>,
     geometry: &Geometry,
     publication: &Publication,
     from: u64,
-    frames: &mut Vec<Frame>,
-) -> u64
+) -> Run
     requires terms { HasTerms geometry.now }
-    requires spaced { AreSpaced from (2 ^ 62) held.old.entries }
-    requires members { AreMembers geometry.now publication.now held.old.entries }
-    requires some { from < chain_end from held.old.entries }
-    requires empty { frames.old.items ≡ [] }
-    requires room { 0 < vec_capacity frames.old }
-    ensures { TakesBlock geometry.now publication.now from
-        held.old.entries frames.new.items result held.new.entries }
+    requires spaced { AreSpaced from (2 ^ 62) held.now.entries }
+    requires members { AreMembers geometry.now publication.now held.now.entries }
+    requires some { from < chain_end from held.now.entries }
+    ensures { CountsBlock geometry.now publication.now from held.now.entries result }
 {
-    let Some((_, first)) = held.pop_first() else {
-        return from;
+    let Some((_, first)) = held.first_key_value() else {
+        return Run {
+            count: 0,
+            end: from,
+        };
     };
-    let size = first.aligned_length();
-    let offset = offset_of(&first);
-    let place = place_behind(geometry, publication, &first);
-    let kind = first.kind;
-    frames.push_reserved(first);
-    match kind {
+    let end = from + first.aligned_length();
+    match first.kind {
         FrameKind::Message => {}
-        FrameKind::Pad | FrameKind::Heartbeat => return from + size,
+        FrameKind::Pad | FrameKind::Heartbeat => return Run { count: 1, end },
     }
+    let place = place_behind(geometry, publication, first);
+    let offset = offset_of(first);
     let limit = limit_behind(geometry, &offset);
-    take_run(held, &place, from + size, offset + size, limit, frames)
+    longest_run(held, &place, from, offset, limit)
 }
 
 // How many bytes of its term lie before a frame.
@@ -78,66 +64,72 @@ fn limit_behind(geometry: &Geometry, offset: &u64) -> u64
     (*offset + MAX_BLOCK_LENGTH as u64).min(u64::from(geometry.term_length.unsigned_abs()))
 }
 
-// Takes the next messages of a block, as far as there is room for them, and answers where the rest begins.
-fn take_run(
-    held: &mut BTreeMap<u64, Frame>,
+// The longest run of the first frames as messages of a block, up to a limit in their term.
+fn longest_run(
+    held: &BTreeMap<u64, Frame>,
     place: &Place,
     from: u64,
     offset: u64,
     limit: u64,
-    frames: &mut Vec<Frame>,
-) -> u64
-    requires spaced { AreSpaced from (2 ^ 62) held.old.entries }
-    requires few { offset ≤ limit }
+) -> Run
+    requires spaced { AreSpaced from (2 ^ 62) held.now.entries }
+    requires few { offset < 2 ^ 33 }
     requires small { limit < 2 ^ 33 }
-    ensures { TakesRun place.now from offset limit
-        held.old.entries frames.old.items frames.new.items result held.new.entries }
+    ensures { result ≡ longest_run place.now (record { count = 0; end = from })
+        offset limit held.now.entries }
 {
-    let mut at = from;
+    let mut run = Run {
+        count: 0,
+        end: from,
+    };
     let mut next = offset;
-    'run: while frames.len() < frames.capacity() {
-        let Some(size) = next_size(held, place, &at, &next, &limit) else {
-            return at;
+    for (start, frame) in held {
+        if !follows(place, run.end, next, limit, start, frame) {
+            return run;
+        }
+        let size = frame.aligned_length();
+        run = Run {
+            count: run.count + 1,
+            end: run.end + size,
         };
-        take_first(held, frames);
-        at += size;
         next += size;
     }
-    at
+    run
 }
 
-// How many bytes the first frame covers, if it is the next message of a block within a limit.
-fn next_size(
-    held: &BTreeMap<u64, Frame>,
-    place: &Place,
-    at: &u64,
-    offset: &u64,
-    limit: &u64,
-) -> Option<u64>
-    requires small { offset.now < 2 ^ 33 }
-    ensures { IfSome result (IsNext place.now at.now offset.now limit.now held.now.entries) }
+// Whether a frame that is held is the next message of a block within a limit.
+#[tactic(auto, unfolding(crate::specs::Kept::follows))]
+fn follows(place: &Place, at: u64, offset: u64, limit: u64, start: &u64, frame: &Frame) -> bool
+    ensures { result ≡ follows place.now at offset limit (start.now, frame.now) }
 {
-    let Some((start, frame)) = held.first_key_value() else {
-        return None;
-    };
-    if *start != *at {
-        return None;
+    if *start != at {
+        return false;
     }
-    if !is_next(place, *offset, frame) {
-        return None;
+    if !is_next(place, offset, frame) {
+        return false;
     }
-    let size = frame.aligned_length();
-    if *offset + size > *limit {
-        return None;
+    offset + frame.aligned_length() <= limit
+}
+
+// Takes so many of the first frames into a list that has room for them.
+pub fn take_frames(held: &mut BTreeMap<u64, Frame>, count: usize, frames: &mut Vec<Frame>)
+    requires some { count ≤ length held.old.entries }
+    requires empty { frames.old.items ≡ [] }
+    requires room { count ≤ vec_capacity frames.old }
+    ensures { TakesFirst count held.old.entries frames.new.items held.new.entries }
+{
+    'each: while frames.len() < count {
+        take_first(held, frames);
     }
-    Some(size)
 }
 
 // Moves the first frame behind the others of a list that has room for it.
 fn take_first(held: &mut BTreeMap<u64, Frame>, frames: &mut Vec<Frame>)
     requires some { 0 < length held.old.entries }
     requires room { vec_len frames.old < vec_capacity frames.old }
-    ensures { MovesFirst held.old.entries held.new.entries frames.old.items frames.new.items }
+    ensures moves { MovesFirst held.old.entries held.new.entries frames.old.items frames.new.items }
+    ensures len { vec_len frames.new ≡ vec_len frames.old + 1 }
+    ensures capacity { vec_capacity frames.new ≡ vec_capacity frames.old }
 {
     let Some((_, frame)) = held.pop_first() else {
         return;

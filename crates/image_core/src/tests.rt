@@ -272,6 +272,30 @@ fn what_was_rebuilt_comes_as_blocks(rt: HostRuntime) -> Result<(), Fail> {
     Ok(())
 }
 
+// A block ends where one frame more would cover more than 65,536 bytes, and at the end of its term.
+#[test]
+fn blocks_are_as_long_as_they_may_be(rt: HostRuntime) -> Result<(), Fail> {
+    let alloc = rt.alloc();
+    let wide = Setup {
+        term_offset: 32_768,
+        term_length: 131_072,
+        mtu: 32_768,
+        ..SETUP
+    };
+    let mut image = Image::from_setup(alloc, &wide)?;
+    for (term_id, offset) in [(42, 32_768), (42, 65_536), (42, 98_304), (43, 0)] {
+        let frame = message(alloc, term_id, offset, &[0; 32_736])?;
+        assert_eq!(rt; image.insert(&datagram(alloc, &frame)?), Ok(counted(1, 0)));
+    }
+    for (position, count) in [(32_768, 2), (98_304, 1), (131_072, 1)] {
+        let block = image.take_block()?.ok_or("no block")?;
+        assert_eq!(rt; block.position, position);
+        assert_eq!(rt; block.frames.len(), count);
+    }
+    assert!(rt; matches!(image.take_block(), Ok(None)));
+    Ok(())
+}
+
 #[test]
 fn setup_frames_that_may_not_be_used_are_refused(rt: HostRuntime) {
     let early = Setup {

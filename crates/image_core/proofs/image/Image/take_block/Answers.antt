@@ -5,8 +5,8 @@ use Rattle.image_core.proofs.BlockLemmas.{gives_block, more_left}
 use Rattle.image_core.proofs.KeptLemmas.{kept_small}
 use Rattle.image_core.proofs.image.Image.take_block.Goals as goal
 
-pub take_into-requires-clause-some : goal.take_into-requires-clause-some
-take_into-requires-clause-some c =
+pub next_block-run-requires : goal.next_block-run-requires
+next_block-run-requires c =
     let at : c.self.inside.rebuilt ≡ rebuilt c.args.self.now = c.self.invariant.rebuilt ∙ ap rebuilt c.self.view_is in
     let from : c.self.inside.from ≡ c.args.self.now.from = ap (λ (r : Received). r.from) c.self.view_is in
     more_left c.args.self.now (λ same. c.if-self.false (from ∙ same ∙ sym at))
