@@ -381,6 +381,42 @@ fn a_stopped_recording_takes_nothing(rt: HostRuntime) -> Result<(), Fail> {
     Ok(())
 }
 
+// A start, and two blocks.
+fn start_and_append(alloc: Global) -> Result<[Command; 2], AllocError> {
+    let blocks = vec![in alloc; (0, hello(alloc, 42, 0)?), (64, hello(alloc, 42, 64)?)]?;
+    Ok([
+        Command::Start(start_fields(alloc, 0)?),
+        append_of(alloc, 0, blocks)?,
+    ])
+}
+
+// A refused request for memory is told as NoMemory and changes nothing, and the call may be made again:
+// bench/refused_test_memory.py runs this test for each of its requests for memory, which it refuses.
+#[test]
+fn refused_memory_changes_nothing(rt: HostRuntime) -> Result<(), Fail> {
+    let alloc = rt.alloc();
+    let commands = match start_and_append(alloc) {
+        Ok(commands) => commands,
+        Err(_) => start_and_append(alloc)?,
+    };
+    let mut book = Book::new(alloc, 2);
+    for command in &commands {
+        let next = book.next_recording();
+        if let Err(refusal) = book.apply(command) {
+            assert_eq!(rt; refusal, Refusal::NoMemory);
+            assert_eq!(rt; book.next_recording(), next);
+            book.apply(command)?;
+        }
+    }
+    assert!(rt; book.is_full());
+    let replayed = match book.replay(alloc, &0, &0, &LAST_NUMBER) {
+        Err(Refusal::NoMemory) => book.replay(alloc, &0, &0, &LAST_NUMBER)?,
+        replayed => replayed?,
+    };
+    assert_eq!(rt; replayed.len(), 2);
+    Ok(())
+}
+
 #[test]
 fn laws_may_be_called() {
     laws::appending_moves_no_frame();

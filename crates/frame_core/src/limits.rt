@@ -23,8 +23,6 @@ pub const HEADER_LENGTH: usize = 32;
 pub const FRAME_ALIGNMENT: usize = 32;
 /// Bytes that the data frames of a block cover at most.
 pub const MAX_BLOCK_LENGTH: usize = 65_536;
-/// Frames that a block has at most: each covers 32 bytes or more.
-pub const MAX_BLOCK_FRAMES: usize = MAX_BLOCK_LENGTH / FRAME_ALIGNMENT;
 /// Frames that a merge of a replay and the live stream holds at most.
 pub const MAX_HELD_FRAMES: usize = 4_096;
 /// Terms that a stream has at most.

@@ -216,9 +216,10 @@ fn seen(image: &Image) -> (i64, i64, Option<Nak>) {
     (image.rebuilt(), image.high(), image.gap())
 }
 
-// Where memory is refused once, nothing has changed, and the datagram may be given again.
+// Where memory is refused once, nothing has changed, and the call may be made again: bench/refused_test_memory.py runs this
+// test for each of its requests for memory, which it refuses.
 #[test]
-fn a_datagram_that_finds_no_memory_changes_nothing(rt: HostRuntime) -> Result<(), Fail> {
+fn refused_memory_changes_nothing(rt: HostRuntime) -> Result<(), Fail> {
     let alloc = rt.alloc();
     let mut image = Image::from_setup(alloc, &SETUP)?;
     let before = seen(&image);
