@@ -1,8 +1,9 @@
 -- What the book answers, and what stands in it then.
-use Rattle.std.proofs.Common.{false, ◌≡◌, ◌<◌, ◌+ℤ◌, ℕ, ℤ, pos, true, true≢false, List, ◌∷◌, Option, Some, None, Ok, length, IsTrue, IsFalse, refl, sym, ap, subst, ◌∙◌, arith, slice_get, slice_set, get_or, zero, suc, []}
+use Rattle.std.proofs.Common.{false, ◌≡◌, ◌<◌, ◌≤◌, ◌+ℤ◌, ℕ, ℤ, pos, true, true≢false, List, ◌∷◌, Option, Some, None, Ok, Err, length, IsTrue, IsFalse, refl, sym, ap, subst, ◌∙◌, arith, slice_get, slice_set, get_or, zero, suc, []}
 use Rattle.std.proofs.lemmas.Option.{slice_get_read}
 use Rattle.std.proofs.lemmas.Bool.Decides.{nat_tests}
 use Rattle.frame_core.specs.declared.block.Block.{Block}
+use Rattle.frame_core.specs.declared.refusal.Refusal.TheVariants.{HistoryFull}
 use Rattle.frame_core.specs.Block.{covered}
 use Rattle.archive_model.specs.declared.command.Command.TheVariants.{Append, Stop}
 use Rattle.archive_model.specs.declared.reply.Reply.TheVariants.{Settled, Stopped}
@@ -20,16 +21,27 @@ not_full b room full = grind (arith, nat_tests)
 nothing : ⊥ → ⊥
 nothing h = h
 
--- blocks that continue an active recording are accepted
-pub accepts_append : (b : BookState) (id : ℤ) (blocks : List Block) (r : Recording) (end : ℤ) → recording_in b id ≡ Some r → is_active r ≡ true → Continue r blocks → b.counted < b.limit
-    → end ≡ recorded_position r +ℤ pos (covered (frames_of blocks)) → Answers b (Append id blocks) (Ok (Settled end))
-accepts_append b id blocks r end found active next room ends =
-    let there : recording_in b id ≡ None → ⊥ = λ none. let clash : Some r ≡ None = sym found ∙ none in cc in
-    let runs : Of (recording_in b id) (λ x. IsFalse (is_active x)) → ⊥ =
-    λ h. let off : IsFalse (is_active r) = subst (λ (o : Option Recording). Of o (λ x. IsFalse (is_active x))) found h in grind (arith, active) in
-    let fits : Of (recording_in b id) (λ x. Continue x blocks → ⊥) → ⊥ = λ h. subst (λ (o : Option Recording). Of o (λ x. Continue x blocks → ⊥)) found h next in
-    let reply : Settled end ≡ Settled (recorded_in (recording_in b id) +ℤ pos (covered (frames_of blocks))) = rw found (ap Settled ends) in
-    ((nothing, (nothing, (there, (nothing, (runs, (nothing, (nothing, (nothing, (nothing, (fits, (nothing, (nothing, (nothing, (nothing, (not_full b room, tt))))))))))))))), reply)
+module _ (b : BookState) (id : ℤ) (blocks : List Block) (r : Recording) (found : recording_in b id ≡ Some r) (active : is_active r ≡ true) (next : Continue r blocks) where
+  there : recording_in b id ≡ None → ⊥
+  there none = let clash : Some r ≡ None = sym found ∙ none in cc
+
+  runs : Of (recording_in b id) (λ x. IsFalse (is_active x)) → ⊥
+  runs h = let off : IsFalse (is_active r) = subst (λ (o : Option Recording). Of o (λ x. IsFalse (is_active x))) found h in grind (arith, active)
+
+  fits : Of (recording_in b id) (λ x. Continue x blocks → ⊥) → ⊥
+  fits h = subst (λ (o : Option Recording). Of o (λ x. Continue x blocks → ⊥)) found h next
+
+  -- blocks that continue an active recording are accepted
+  pub accepts_append : (end : ℤ) → b.counted < b.limit → end ≡ recorded_position r +ℤ pos (covered (frames_of blocks)) → Answers b (Append id blocks) (Ok (Settled end))
+  accepts_append end room ends =
+      let reply : Settled end ≡ Settled (recorded_in (recording_in b id) +ℤ pos (covered (frames_of blocks))) = rw found (ap Settled ends) in
+      ((nothing, (nothing, (there, (nothing, (runs, (nothing, (nothing, (nothing, (nothing, (fits, (nothing, (nothing, (nothing, (nothing, (not_full b room, tt))))))))))))))), reply)
+
+  -- where the history is full they are refused
+  pub refuses_append : b.limit ≤ b.counted → Answers b (Append id blocks) (Err HistoryFull)
+  refuses_append over =
+      let full : IsTrue (is_full b) = grind (arith, nat_tests) in
+      (full, (nothing, (nothing, (there, (nothing, (runs, (nothing, (nothing, (nothing, (nothing, (fits, (nothing, (nothing, (nothing, (nothing, tt)))))))))))))))
 
 -- an active recording may be stopped
 pub accepts_stop : (b : BookState) (id timestamp : ℤ) (r : Recording) (position : ℤ) → is_negative timestamp ≡ false → recording_in b id ≡ Some r → is_active r ≡ true → b.counted < b.limit

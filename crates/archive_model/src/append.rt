@@ -1,6 +1,6 @@
 //! Blocks that join the end of a recording. docs/CONTROL.md, "Requests".
 
-ghost use Rattle.std.specs.Prelude.{◌≡◌, ◌++◌, ◌+ℤ◌, pos, MatchBool, MatchOption, IfOk, IfErr, OnOk, OnErr};
+ghost use Rattle.std.specs.Prelude.{◌≡◌, ◌+ℤ◌, pos, MatchBool, MatchOption, IfOk, IfErr};
 ghost use Rattle.frame_core.specs.declared.refusal.Refusal.TheVariants.{NoMemory};
 ghost use Rattle.frame_core.specs.Block.{covered};
 ghost use Rattle.archive_model.specs.State.{recorded_position};
@@ -8,7 +8,7 @@ ghost use Rattle.archive_model.specs.Commands.{frames_of};
 ghost use Rattle.archive_model.specs.Acceptance.{AreBlocksFrom, Continue};
 
 use crate::recording::Recording;
-use frame_core::{Block, Frame, Geometry, Publication, Refusal, block_end};
+use frame_core::{Block, Frame, Geometry, Items, Publication, Refusal, block_end};
 use std::alloc::Global;
 
 impl Recording {
@@ -65,25 +65,47 @@ fn begins_at(block: &Block, position: &i64) -> bool
     block.position == *position
 }
 
-/// Copies of the frames of blocks, one after another.
-pub(crate) fn copies_of(alloc: Global, blocks: &[Block]) -> Result<Vec<Frame>, Refusal>
-    ensures ok { IfOk result (λ copies. copies.items ≡ frames_of blocks.now) }
+/// The frames of blocks, one after another, with no copy of a frame. Takes no memory for one block.
+pub(crate) fn gathered(blocks: Items<Block>) -> Result<Vec<Frame>, Refusal>
+    ensures ok { IfOk result (λ frames. frames.items ≡ frames_of blocks) }
     ensures err { IfErr result (λ refusal. refusal ≡ NoMemory) }
 {
-    let mut copies = Vec::new(alloc);
+    let blocks = blocks.into_vec();
+    let alloc = *blocks.allocator();
+    let mut others = blocks.into_iter();
+    let Some(first) = others.next() else {
+        return Ok(Vec::new(alloc));
+    };
+    let mut frames = first.frames;
+    for block in others {
+        frames.append(block.frames.into_vec())?;
+    }
+    Ok(frames.into_vec())
+}
+
+/// Copies of blocks. Costs the lengths of their payloads.
+pub(crate) fn copies_of(alloc: Global, blocks: &[Block]) -> Result<Items<Block>, Refusal>
+    ensures ok { IfOk result (λ copies. copies ≡ blocks.now) }
+    ensures err { IfErr result (λ refusal. refusal ≡ NoMemory) }
+{
+    let mut copies = Items::new(alloc);
     for block in blocks {
-        copy_behind(alloc, &mut copies, block.frames.as_slice())?;
+        copies.push(copy_of(alloc, block)?)?;
     }
     Ok(copies)
 }
 
-/// Copies of frames join a list.
-fn copy_behind(alloc: Global, copies: &mut Vec<Frame>, frames: &[Frame]) -> Result<(), Refusal>
-    ensures ok { OnOk result (copies.new.items ≡ copies.old.items ++ frames.now) }
+/// A copy of a block.
+fn copy_of(alloc: Global, block: &Block) -> Result<Block, Refusal>
+    ensures ok { IfOk result (λ copy. copy ≡ block.now) }
     ensures err { IfErr result (λ refusal. refusal ≡ NoMemory) }
 {
-    for frame in frames {
-        copies.push(frame.as_ref().to_frame(alloc)?)?;
+    let mut frames = Items::new(alloc);
+    for frame in block.frames.as_slice() {
+        frames.push(frame.as_ref().to_frame(alloc)?)?;
     }
-    Ok(())
+    Ok(Block {
+        position: block.position,
+        frames,
+    })
 }

@@ -1,9 +1,8 @@
 //! An archive in memory: the book of its recordings, and the desk of its sessions and replays.
 
-ghost use Rattle.std.specs.Prelude.{◌≡◌, ◌∷◌, [], MatchOption, IfOk, OnOk, OnErr, IfErr};
+ghost use Rattle.std.specs.Prelude.{◌≡◌, ◌∷◌, [], MatchOption, IfOk};
 ghost use Rattle.frame_core.specs.Block.{end_position};
 ghost use Rattle.control_core.specs.Rules.{ContinuesAt};
-ghost use Rattle.archive_model.specs.Acceptance.{Accepts, Answers, book_after};
 ghost use Rattle.control_core.specs.Control.{new_archive};
 ghost use Rattle.control_core.specs.Calls.{OrNoMemory, StartEnds, ListEnds, OpenEnds, PollEnds, BytesEnd};
 ghost use Rattle.control_core.specs.Answers.{RequestEnds, EventEnds};
@@ -67,7 +66,7 @@ impl Archive {
             return Err(Refusal::MaxRecordings);
         }
         self.desk.add_session(recording)?;
-        if let Err(refusal) = begin(&mut self.book, fields) {
+        if let Err(refusal) = self.book.start(fields) {
             self.desk.withdraw_session(session);
             return Err(refusal);
         }
@@ -167,7 +166,7 @@ impl Archive {
             return Err(Refusal::HistoryFull);
         }
         let blocks = one(self.alloc, block)?;
-        self.book.append(&seat.recording, &blocks)
+        self.book.append(&seat.recording, blocks)
     }
 
     /// Answers a call. One that no line brings yet is `BadLine`.
@@ -206,17 +205,6 @@ impl Archive {
             | Request::Positions { .. } => Err(Refusal::BadLine),
         }
     }
-}
-
-/// Begins a recording in the book.
-fn begin(book: &mut Book, fields: &StartFields) -> Result<(), Refusal>
-    ensures accepted { OnOk result (Accepts book.old (Command.Start fields.now)) }
-    ensures ok { OnOk result (book.new ≡ book_after book.old (Command.Start fields.now)) }
-    ensures refused { IfErr result (λ refusal. Answers book.old (Command.Start fields.now) (Err refusal)) }
-    ensures err { OnErr result (book.new ≡ book.old) }
-{
-    let _ = book.start(fields)?;
-    Ok(())
 }
 
 /// Where a block ends that continues what a session has written of a recording, in bytes of the stream.
