@@ -7,7 +7,7 @@ ghost use Rattle.frame_core.specs.declared.refusal.Refusal.TheVariants.{NoMemory
 
 use crate::fields::{put_i32, put_i64, put_u16};
 use crate::items::Items;
-use crate::limits::HEADER_LENGTH;
+use crate::limits::{FRAME_ALIGNMENT, HEADER_LENGTH};
 use crate::refusal::Refusal;
 use std::alloc::Global;
 
@@ -203,7 +203,7 @@ impl Frame {
     }
 }
 
-// Whether a term offset is from 0 and a multiple of 32.
+/// Whether a term offset is from 0 and a multiple of [`FRAME_ALIGNMENT`]. Takes no memory.
 pub fn is_aligned(term_offset: &i32) -> bool
     ensures { let aligned = IsAligned term_offset.now in
         MatchBool result aligned (aligned → ⊥) }
@@ -211,5 +211,5 @@ pub fn is_aligned(term_offset: &i32) -> bool
     if *term_offset < 0 {
         return false;
     }
-    *term_offset as u32 % 32 == 0
+    *term_offset as u32 % FRAME_ALIGNMENT as u32 == 0
 }

@@ -58,11 +58,11 @@ pub fn is_term_length(length: i32) -> bool
 pub fn is_mtu(mtu: i32) -> bool
     ensures { result ≡ is_mtu mtu }
 {
-    if mtu <= 32 {
+    if mtu <= HEADER_LENGTH as i32 {
         return false;
     }
     if mtu > MAX_MTU {
         return false;
     }
-    mtu as u32 % 32 == 0
+    mtu as u32 % FRAME_ALIGNMENT as u32 == 0
 }

@@ -6,5 +6,4 @@ mod merge;
 #[cfg(test)]
 mod tests;
 
-pub use frame_core::limits::MAX_HELD_FRAMES;
 pub use merge::{Merge, Offered};

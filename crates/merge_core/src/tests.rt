@@ -1,6 +1,7 @@
 //! Scenarios at this crate's calls. Expected values are those of docs/SCENARIOS.md and docs/PROTOCOL.md.
 
-use crate::{MAX_HELD_FRAMES, Merge, Offered, laws};
+use crate::{Merge, Offered, laws};
+use frame_core::limits::MAX_HELD_FRAMES;
 use frame_core::{Frame, FrameKind, Geometry, Items, Refusal, decode_front};
 use std::alloc::Global;
 use std::process::Abort;
