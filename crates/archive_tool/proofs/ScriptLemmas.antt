@@ -17,7 +17,7 @@ use Rattle.archive_tool.specs.declared.fault.ScriptFault.TheVariants as faults
 use Rattle.archive_tool.specs.InputLines.{ReadsLine}
 use Rattle.archive_tool.specs.ScriptLines.{ScriptState, ReadLineEnds}
 use Rattle.archive_tool.specs.Transcript.{Serves, Replied, Writes, memory_line}
-use Rattle.archive_tool.specs.Script.{Answers, asked, outcome_text, beginning, quits, IsTranscript, EndsEarly, KeepsUnlessWrite}
+use Rattle.archive_tool.specs.Script.{Answers, asked, outcome_text, beginning, quits, IsTranscript, EndsEarly, FailsToAnswer}
 use Rattle.archive_tool.proofs.ProgressLemmas.{Progress, progress-kept, progress-more, progress-last, progress-fault}
 use Rattle.archive_tool.proofs.TranscriptLemmas.{EndsLine}
 
@@ -112,9 +112,9 @@ early_read before now contents written state faults.Read progress = progress-fau
 early_read before now contents written state faults.Memory progress = progress-fault beginning quits Answers answers_end before now contents written state progress
 
 -- so is it before an answer that found no memory
-pub early_answer : (before now contents written then : Option (List ℕ)) (state : ScriptState) (fault : ScriptFault) → Progress beginning quits Answers before now contents written state → KeepsUnlessWrite fault written then → EndsEarly fault before contents then
+pub early_answer : (before now contents written then : Option (List ℕ)) (state : ScriptState) (fault : ScriptFault) → Progress beginning quits Answers before now contents written state → FailsToAnswer fault written then → EndsEarly fault before contents then
 early_answer before now contents written then state faults.Write progress keeps = tt
-early_answer before now contents written then state faults.Read progress keeps = early_read before now contents then state faults.Read (progress-kept beginning quits Answers before now contents written then state progress keeps)
+early_answer before now contents written then state faults.Read progress fails = elim fails [ ]
 early_answer before now contents written then state faults.Memory progress keeps = early_read before now contents then state faults.Memory (progress-kept beginning quits Answers before now contents written then state progress keeps)
 
 -- a line is answered, and the next one is read

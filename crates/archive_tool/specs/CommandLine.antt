@@ -1,10 +1,13 @@
 -- The program's command line: docs/CONTROL.md, "The program".
-use Rattle.std.specs.Prelude.{◌≡◌, ℕ, true, List, Some, Result, Ok, Err, codes}
+use Rattle.std.specs.Prelude.{◌≡◌, ◌⊎◌, ℕ, true, List, Option, Some, Result, Ok, Err, codes}
 use Rattle.clap.specs.Simple.{on_top}
 use Rattle.clap.specs.Words.{App, HasMatchesOf, new_app, subcommand_name_of, with_subcommand}
 use Rattle.clap.specs.declared.parser.matches.ArgMatches.{ArgMatches}
+use Rattle.clap.specs.declared.error.ErrorKind.{ErrorKind}
+use Rattle.clap.specs.declared.error.ErrorKind.TheVariants.{DisplayHelp, DisplayVersion, OutOfMemory}
 use Rattle.archive_tool.specs.declared.fault.ScriptFault.{ScriptFault}
 use Rattle.archive_tool.specs.declared.fault.ScriptFault.TheVariants as faults
+use Rattle.archive_tool.specs.Script.{ScriptEnds}
 use Rattle.archive_tool.specs.declared.command.ToolCommand.{ToolCommand}
 use Rattle.archive_tool.specs.declared.command.ToolCommand.TheVariants.{Run}
 
@@ -32,3 +35,23 @@ status_of (Ok done) = 0
 status_of (Err faults.Read) = 3
 status_of (Err faults.Write) = 3
 status_of (Err faults.Memory) = 1
+
+-- a script may end with that status
+abbrev pub IsScriptStatus : ℕ → Type 0
+IsScriptStatus status = (outcome : Result (Unit {0}) ScriptFault) × (status ≡ status_of outcome)
+
+-- Status 0 is that of a script whose transcript is written, and any other that of one that ended early.
+abbrev pub EndsWith : ℕ → Option (List ℕ) → Option (List ℕ) → Option (List ℕ) → Type 0
+EndsWith status input contents written =
+    (outcome : Result (Unit {0}) ScriptFault) × (status ≡ status_of outcome) × ScriptEnds outcome input contents written
+
+-- the status where the words ask for no command: 0 for the help that they ask for, 1 where memory ran out, else 2
+abbrev pub status_of_kind : ErrorKind → ℕ
+status_of_kind DisplayHelp = 0
+status_of_kind DisplayVersion = 0
+status_of_kind OutOfMemory = 1
+status_of_kind kind = 2
+
+-- a script ends so, or a command line that asks for no command
+abbrev pub IsStatus : ℕ → Type 0
+IsStatus status = IsScriptStatus status ⊎ ((kind : ErrorKind) × (status ≡ status_of_kind kind))

@@ -50,8 +50,14 @@ EndsEarly faults.Write input contents written = Unit {0}
 EndsEarly faults.Read input contents written = Writes input contents written IsTranscriptOfFirst
 EndsEarly faults.Memory input contents written = Writes input contents written IsTranscriptOfFirst
 
--- a fault other than of writing left the writer as it was
-abbrev pub KeepsUnlessWrite : ScriptFault → Option (List ℕ) → Option (List ℕ) → Type 0
-KeepsUnlessWrite faults.Write contents written = Unit {0}
-KeepsUnlessWrite faults.Read contents written = Keeps contents written
-KeepsUnlessWrite faults.Memory contents written = Keeps contents written
+-- what a script has written that has ended so
+abbrev pub ScriptEnds : Result (Unit {0}) ScriptFault → Option (List ℕ) → Option (List ℕ) → Option (List ℕ) → Type 0
+ScriptEnds (Ok done) input contents written = Writes input contents written IsTranscript
+ScriptEnds (Err fault) input contents written = EndsEarly fault input contents written
+
+-- why a line was not answered: no input is read; where no memory was found, nothing was written; and nothing is said
+-- of a writer that failed
+abbrev pub FailsToAnswer : ScriptFault → Option (List ℕ) → Option (List ℕ) → Type 0
+FailsToAnswer faults.Read contents written = ⊥
+FailsToAnswer faults.Memory contents written = Keeps contents written
+FailsToAnswer faults.Write contents written = Unit {0}

@@ -1,9 +1,10 @@
 //! The program of the archive: it answers control lines from standard input on standard output.
 #![tactic(auto)]
 
-ghost use Rattle.std.specs.Prelude.{◌≡◌};
+ghost use Rattle.std.specs.Prelude.{◌≡◌, IfOk};
 ghost use Rattle.std.specs.Process.{exit_status};
-ghost use Rattle.archive_tool.specs.CommandLine.{status_of};
+ghost use Rattle.clap.specs.Words.{kind_of};
+ghost use Rattle.archive_tool.specs.CommandLine.{EndsWith, IsScriptStatus, IsStatus, status_of_kind};
 
 mod archive;
 mod command;
@@ -16,14 +17,16 @@ mod polling;
 mod script;
 mod state;
 
+use clap::Error;
 use clap::error::ErrorKind;
 use command::{ToolCommand, command_of};
 use control_core::print_refusal;
 use fault::ScriptFault;
 use frame_core::Refusal;
 use script::run_script;
+use std::alloc::Global;
 use std::env;
-use std::io::{self, BufWriter};
+use std::io::{self, BufWriter, Read, Write};
 use std::process::ExitCode;
 use std::rt::Env;
 
@@ -35,47 +38,67 @@ const USAGE: u8 = 2;
 const DEVICE: u8 = 3;
 
 fn main(rt: HostRuntime) -> ExitCode {
-    match commanded(&rt) {
+    ended(&rt)
+}
+
+/// Does what the command line asks for, and tells on standard error why it could not.
+fn ended<R: AllocGlobal + Env + Input + Print + Eprint>(rt: &R) -> ExitCode
+    ensures { IsStatus (exit_status result) }
+{
+    match commanded(rt) {
         Ok(code) => code,
         Err(error) if error.kind() == io::ErrorKind::OutOfMemory => {
-            refused(&rt, &Refusal::NoMemory, REFUSED)
+            refused(rt, &Refusal::NoMemory, REFUSED)
         }
-        Err(_) => refused(&rt, &Refusal::DeviceFault, DEVICE),
+        Err(_) => refused(rt, &Refusal::DeviceFault, DEVICE),
     }
 }
 
 /// Does what the command line asks for.
-fn commanded<R: AllocGlobal + Env + Input + Print + Eprint>(rt: &R) -> io::Result<ExitCode> {
-    let mut words = Vec::new(rt.alloc());
-    for word in env::args(rt)? {
-        words.push(word)?;
-    }
+fn commanded<R: AllocGlobal + Env + Input + Print + Eprint>(rt: &R) -> io::Result<ExitCode>
+    ensures { IfOk result (λ code. IsStatus (exit_status code)) }
+{
+    let words: Vec<String> = env::args(rt)?.collect(rt.alloc())?;
     match command_of(rt.alloc(), words.as_slice()) {
         Ok(ToolCommand::Run) => Ok(run(rt)),
-        Err(error) if error.kind() == ErrorKind::OutOfMemory => {
-            Ok(refused(rt, &Refusal::NoMemory, REFUSED))
-        }
-        Err(error) => {
-            let code = if error.use_stderr() { USAGE } else { 0 };
-            error.print(rt)?;
-            Ok(ExitCode::from(code))
-        }
+        Err(error) => told(rt, &error),
     }
 }
 
-/// Answers the control lines of standard input.
-fn run<R: AllocGlobal + Input + Print + Eprint>(rt: &R) -> ExitCode {
+/// Tells why a command line asks for no command, or gives the help that it asks for.
+fn told<R: Print + Eprint>(rt: &R, error: &Error) -> io::Result<ExitCode>
+    ensures { IfOk result (λ code. exit_status code ≡ status_of_kind (kind_of error.now)) }
+{
+    let code = match error.kind() {
+        ErrorKind::OutOfMemory => return Ok(refused(rt, &Refusal::NoMemory, REFUSED)),
+        ErrorKind::DisplayHelp | ErrorKind::DisplayVersion => 0,
+        _ => USAGE,
+    };
+    error.print(rt)?;
+    Ok(ExitCode::from(code))
+}
+
+/// Answers the control lines of standard input on standard output.
+fn run<R: AllocGlobal + Input + Print + Eprint>(rt: &R) -> ExitCode
+    ensures { IsScriptStatus (exit_status result) }
+{
     let Ok(mut writer) = BufWriter::new(rt.alloc(), io::writer(rt)) else {
         return refused(rt, &Refusal::NoMemory, REFUSED);
     };
-    ended(rt, run_script(rt.alloc(), rt.reader(), &mut writer))
+    answer_lines(rt, rt.alloc(), rt.reader(), &mut writer)
 }
 
-/// Tells why a script ended early, if it did.
-fn ended<R: Eprint>(rt: &R, outcome: Result<(), ScriptFault>) -> ExitCode
-    ensures { exit_status result ≡ status_of outcome }
+/// Answers the control lines of a reader on a writer, and tells on standard error why it ended early, if it did.
+fn answer_lines<E: Eprint, R: Read + Drop, W: Write>(
+    rt: &E,
+    alloc: Global,
+    reader: R,
+    writer: &mut W,
+) -> ExitCode
+    ensures { EndsWith (exit_status result) (R.remaining reader)
+        (W.contents writer.old) (W.contents writer.new) }
 {
-    match outcome {
+    match run_script(alloc, reader, writer) {
         Ok(()) => ExitCode::SUCCESS,
         Err(ScriptFault::Read | ScriptFault::Write) => refused(rt, &Refusal::DeviceFault, DEVICE),
         Err(ScriptFault::Memory) => refused(rt, &Refusal::NoMemory, REFUSED),

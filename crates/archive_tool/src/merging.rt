@@ -1,8 +1,9 @@
 //! Lines to the merge of a replay and the live stream: docs/CONTROL.md, "Merging".
 
-ghost use Rattle.std.specs.Prelude.{◌≡◌};
+ghost use Rattle.std.specs.Prelude.{◌≡◌, pos};
 ghost use Rattle.control_core.specs.Calls.{OrNoMemory};
-ghost use Rattle.archive_tool.specs.Merging.{MergeEnds, OpenEnds, IsOfferOrMemory, reply_to};
+ghost use Rattle.archive_tool.specs.Merging.{MergeEnds, OpenEnds, IsOfferOrMemory, reply_to, frame_at};
+ghost use Rattle.merge_core.specs.Merge.{next_frame, after_take};
 
 use archive_model::{PolledFrame, Reply, may_begin_at};
 use control_core::MergeLine;
@@ -19,16 +20,29 @@ pub fn answer_merge(
 ) -> Result<Reply, Refusal>
     ensures { OrNoMemory merge.old (MergeEnds merge.old line.now) result merge.new }
 {
+    if let MergeLine::Open {
+        initial_term_id,
+        term_length,
+        position,
+    } = line
+    {
+        return open(alloc, merge, initial_term_id, term_length, position);
+    }
+    let Some(merge) = merge else {
+        return Err(Refusal::UnknownReplay);
+    };
     match line {
-        MergeLine::Open {
-            initial_term_id,
-            term_length,
-            position,
-        } => open(alloc, merge, initial_term_id, term_length, position),
-        MergeLine::Replay(bytes) => offer_replay(alloc, merge, bytes.as_slice()),
-        MergeLine::Live(bytes) => offer_live(alloc, merge, bytes.as_slice()),
-        MergeLine::Take => take(merge),
-        MergeLine::State => state(merge),
+        MergeLine::Replay(bytes) => {
+            let frame = offer_of(alloc, bytes.as_slice())?;
+            Ok(reply_of(merge.replay_frame(frame)?))
+        }
+        MergeLine::Live(bytes) => {
+            let frame = offer_of(alloc, bytes.as_slice())?;
+            Ok(reply_of(merge.live_frame(frame)?))
+        }
+        MergeLine::Take => Ok(Reply::Taken(take(merge))),
+        MergeLine::State => Ok(state(merge)),
+        MergeLine::Open { .. } => unreachable!("a merge is opened above"),
     }
 }
 
@@ -78,49 +92,20 @@ fn reply_of(offered: Offered) -> Reply
     }
 }
 
-fn offer_replay(alloc: Global, merge: &mut Option<Merge>, bytes: &[u8]) -> Result<Reply, Refusal>
-    ensures { OrNoMemory merge.old
-        (MergeEnds merge.old (MergeLine.Replay bytes.now)) result merge.new }
+/// The next frame of the output, and where it begins.
+fn take(merge: &mut Merge) -> Option<PolledFrame>
+    ensures frame { result ≡ frame_at merge.old.cursor (next_frame merge.old) }
+    ensures after { merge.new ≡ after_take merge.old }
 {
-    let Some(merge) = merge else {
-        return Err(Refusal::UnknownReplay);
-    };
-    let frame = offer_of(alloc, bytes)?;
-    Ok(reply_of(merge.replay_frame(frame)?))
-}
-
-fn offer_live(alloc: Global, merge: &mut Option<Merge>, bytes: &[u8]) -> Result<Reply, Refusal>
-    ensures { OrNoMemory merge.old
-        (MergeEnds merge.old (MergeLine.Live bytes.now)) result merge.new }
-{
-    let Some(merge) = merge else {
-        return Err(Refusal::UnknownReplay);
-    };
-    let frame = offer_of(alloc, bytes)?;
-    Ok(reply_of(merge.live_frame(frame)?))
-}
-
-fn take(merge: &mut Option<Merge>) -> Result<Reply, Refusal>
-    ensures { MergeEnds merge.old MergeLine.Take result merge.new }
-{
-    let Some(merge) = merge else {
-        return Err(Refusal::UnknownReplay);
-    };
     let position = merge.cursor();
-    match merge.take() {
-        Some(frame) => Ok(Reply::Taken(Some(PolledFrame { position, frame }))),
-        None => Ok(Reply::Taken(None)),
-    }
+    merge.take().map(|frame| PolledFrame { position, frame })
 }
 
-fn state(merge: &Option<Merge>) -> Result<Reply, Refusal>
-    ensures { MergeEnds merge.now MergeLine.State result merge.now }
+fn state(merge: &Merge) -> Reply
+    ensures { result ≡ Reply.MergeState merge.now.is_merged (pos merge.now.cursor) }
 {
-    let Some(merge) = merge else {
-        return Err(Refusal::UnknownReplay);
-    };
-    Ok(Reply::MergeState {
+    Reply::MergeState {
         is_merged: merge.is_merged(),
         cursor: merge.cursor(),
-    })
+    }
 }

@@ -8,7 +8,7 @@ ghost use Rattle.control_core.specs.RefusalText.{refusal_text};
 ghost use Rattle.control_core.specs.Calls.{OrNoMemory};
 ghost use Rattle.archive_tool.specs.Transcript.{Writes, Replied};
 ghost use Rattle.archive_tool.specs.ScriptLines.{ReadLineEnds};
-ghost use Rattle.archive_tool.specs.Script.{Answers, asked, outcome_text, quits, KeepsUnlessWrite, IsTranscript, EndsEarly};
+ghost use Rattle.archive_tool.specs.Script.{Answers, asked, outcome_text, quits, FailsToAnswer, IsTranscript, EndsEarly};
 
 use crate::fault::ScriptFault;
 use crate::lines::{LineBuffer, read_line};
@@ -56,7 +56,7 @@ fn write_outcome<W: Write>(
     ensures ok { OnOk result
         (Appends (W.contents writer.old) (W.contents writer.new) (outcome_text outcome.now)) }
     ensures err { IfErr result
-        (λ fault. KeepsUnlessWrite fault (W.contents writer.old) (W.contents writer.new)) }
+        (λ fault. FailsToAnswer fault (W.contents writer.old) (W.contents writer.new)) }
 {
     match outcome {
         Ok(reply) => write_reply(alloc, reply, writer),
@@ -68,7 +68,7 @@ fn write_reply<W: Write>(alloc: Global, reply: &Reply, writer: &mut W) -> Result
     ensures ok { OnOk result
         (Appends (W.contents writer.old) (W.contents writer.new) (reply_text reply.now)) }
     ensures err { IfErr result
-        (λ fault. KeepsUnlessWrite fault (W.contents writer.old) (W.contents writer.new)) }
+        (λ fault. FailsToAnswer fault (W.contents writer.old) (W.contents writer.new)) }
 {
     let Ok(text) = print_reply(alloc, reply) else {
         return Err(ScriptFault::Memory);
@@ -82,8 +82,7 @@ fn write_reply<W: Write>(alloc: Global, reply: &Reply, writer: &mut W) -> Result
 fn write_refusal<W: Write>(refusal: &Refusal, writer: &mut W) -> Result<(), ScriptFault>
     ensures ok { OnOk result
         (Appends (W.contents writer.old) (W.contents writer.new) (refusal_text refusal.now)) }
-    ensures err { IfErr result
-        (λ fault. KeepsUnlessWrite fault (W.contents writer.old) (W.contents writer.new)) }
+    ensures err { IfErr result (λ fault. fault ≡ ScriptFault.Write) }
 {
     if writer.write_all(print_refusal(refusal).as_bytes()).is_err() {
         return Err(ScriptFault::Write);
@@ -101,7 +100,7 @@ fn answer_line<W: Write>(
     ensures ok { OnOk result (Replied Answers
         (W.contents writer.old) (W.contents writer.new) line.now state.old state.new) }
     ensures err { IfErr result
-        (λ fault. KeepsUnlessWrite fault (W.contents writer.old) (W.contents writer.new)) }
+        (λ fault. FailsToAnswer fault (W.contents writer.old) (W.contents writer.new)) }
 {
     let outcome = outcome_of(alloc, state, line);
     write_outcome(alloc, &outcome, writer)
