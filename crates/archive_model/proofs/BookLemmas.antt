@@ -1,12 +1,11 @@
 -- What the book answers, and what stands in it then.
-use Rattle.std.proofs.Common.{false, ◌≡◌, ◌<◌, ◌≤◌, ◌+ℤ◌, ℕ, ℤ, pos, true, true≢false, List, ◌∷◌, Option, Some, None, Ok, Err, length, IsTrue, IsFalse, refl, sym, ap, subst, ◌∙◌, arith, slice_get, slice_set, get_or, zero, suc, []}
+use Rattle.std.proofs.Common.{false, ◌≡◌, ◌<◌, ◌+ℤ◌, ℕ, ℤ, pos, true, true≢false, List, ◌∷◌, Option, Some, None, Ok, length, IsTrue, IsFalse, refl, sym, ap, subst, ◌∙◌, arith, slice_get, slice_set, get_or, zero, suc, []}
 use Rattle.std.proofs.lemmas.Option.{slice_get_read}
 use Rattle.std.proofs.lemmas.Bool.Decides.{nat_tests}
 use Rattle.frame_core.specs.declared.block.Block.{Block}
-use Rattle.frame_core.specs.declared.refusal.Refusal.TheVariants.{HistoryFull}
 use Rattle.frame_core.specs.Block.{covered}
-use Rattle.archive_model.specs.declared.command.Command.TheVariants.{Append, Stop}
-use Rattle.archive_model.specs.declared.reply.Reply.TheVariants.{Settled, Stopped}
+use Rattle.archive_model.specs.declared.command.Command.TheVariants.{Stop}
+use Rattle.archive_model.specs.declared.reply.Reply.TheVariants.{Stopped}
 use Rattle.archive_model.specs.State.{Recording, id_of, is_active, recorded_position}
 use Rattle.archive_model.specs.Descriptor.{is_negative}
 use Rattle.archive_model.specs.Commands.{frames_of, recorded_in}
@@ -14,34 +13,13 @@ use Rattle.archive_model.specs.Acceptance.{BookState, Answers, Continue, recordi
 use Rattle.archive_model.specs.Keyed.{find, change}
 use Rattle.archive_model.specs.Numbered.{IsPlaceOf}
 use Rattle.archive_model.specs.Histories.{AreRising}
+use Rattle.archive_model.specs.Kept.{Joins}
 
 not_full : (b : BookState) → b.counted < b.limit → IsTrue (is_full b) → ⊥
 not_full b room full = grind (arith, nat_tests)
 
 nothing : ⊥ → ⊥
 nothing h = h
-
-module _ (b : BookState) (id : ℤ) (blocks : List Block) (r : Recording) (found : recording_in b id ≡ Some r) (active : is_active r ≡ true) (next : Continue r blocks) where
-  there : recording_in b id ≡ None → ⊥
-  there none = let clash : Some r ≡ None = sym found ∙ none in cc
-
-  runs : Of (recording_in b id) (λ x. IsFalse (is_active x)) → ⊥
-  runs h = let off : IsFalse (is_active r) = subst (λ (o : Option Recording). Of o (λ x. IsFalse (is_active x))) found h in grind (arith, active)
-
-  fits : Of (recording_in b id) (λ x. Continue x blocks → ⊥) → ⊥
-  fits h = subst (λ (o : Option Recording). Of o (λ x. Continue x blocks → ⊥)) found h next
-
-  -- blocks that continue an active recording are accepted
-  pub accepts_append : (end : ℤ) → b.counted < b.limit → end ≡ recorded_position r +ℤ pos (covered (frames_of blocks)) → Answers b (Append id blocks) (Ok (Settled end))
-  accepts_append end room ends =
-      let reply : Settled end ≡ Settled (recorded_in (recording_in b id) +ℤ pos (covered (frames_of blocks))) = rw found (ap Settled ends) in
-      ((nothing, (nothing, (there, (nothing, (runs, (nothing, (nothing, (nothing, (nothing, (fits, (nothing, (nothing, (nothing, (nothing, (not_full b room, tt))))))))))))))), reply)
-
-  -- where the history is full they are refused
-  pub refuses_append : b.limit ≤ b.counted → Answers b (Append id blocks) (Err HistoryFull)
-  refuses_append over =
-      let full : IsTrue (is_full b) = grind (arith, nat_tests) in
-      (full, (nothing, (nothing, (there, (nothing, (runs, (nothing, (nothing, (nothing, (nothing, (fits, (nothing, (nothing, (nothing, (nothing, tt)))))))))))))))
 
 -- an active recording may be stopped
 pub accepts_stop : (b : BookState) (id timestamp : ℤ) (r : Recording) (position : ℤ) → is_negative timestamp ≡ false → recording_in b id ≡ Some r → is_active r ≡ true → b.counted < b.limit
@@ -68,6 +46,13 @@ read_at rs place r within is = slice_get_read rs (length rs) place r refl within
 -- which recording stands at a place
 stands : (id : ℤ) (rs : List Recording) (place : ℕ) (r : Recording) (at : IsPlaceOf id_of id rs place) → r ≡ get_or rs place r → at.value ≡ r
 stands id rs place r at is = let same : Some at.value ≡ Some r = sym at.at ∙ read_at rs place r at.within is in cc
+
+-- blocks join a recording that was read at its place
+pub joins_at : (b : BookState) (id : ℤ) (blocks : List Block) (place : ℕ) (end : ℤ) (r : Recording) → IsPlaceOf id_of id b.state.recordings place → r ≡ get_or b.state.recordings place r
+    → IsTrue (is_active r) → Continue r blocks → b.counted < b.limit → end ≡ recorded_position r +ℤ pos (covered (frames_of blocks)) → Joins b id blocks place end
+joins_at b id blocks place end r at is active next room ends =
+    let same : at.value ≡ r = stands id b.state.recordings place r at is in
+    record { at = at; active = rw same active; next = rw same next; room = room; end_is = rw same ends }
 
 -- a recording at its place
 pub found_at : (id : ℤ) (rs : List Recording) (place : ℕ) (r : Recording) → IsPlaceOf id_of id rs place → r ≡ get_or rs place r → find id_of id rs ≡ Some r

@@ -1,5 +1,5 @@
 -- Frames with where each begins, and those between two positions.
-use Rattle.std.proofs.Common.{◌≡◌, ◌<◌, ◌≤◌, ◌+◌, ℕ, ℤ, pos, negsuc, ◌+ℤ◌, ◌≤ℤ◌, ◌<ℤ◌, T, Bool, true, false, cond, ◌&&◌, ◌||◌, List, [], ◌∷◌, ◌++◌, length, get_or, take, drop, filter, refl, append-nil, sym, ap, subst, ◌∙◌, true≢false, int_le, int_lt, nat_lt, arith}
+use Rattle.std.proofs.Common.{◌≡◌, ◌<◌, ◌≤◌, ◌+◌, ℕ, zero, suc, ℤ, pos, negsuc, ◌+ℤ◌, ◌≤ℤ◌, ◌<ℤ◌, T, Bool, true, false, cond, ◌&&◌, ◌||◌, List, [], ◌∷◌, ◌++◌, length, get_or, take, drop, filter, refl, append-nil, sym, ap, subst, ◌∙◌, true≢false, int_le, int_lt, nat_lt, arith}
 use Rattle.std.proofs.lemmas.Int.{ints}
 use Rattle.std.proofs.lemmas.Bool.Decides.{nat_tests, Decides-int_eq}
 use Rattle.std.proofs.Math.Seq.{take-append_seam}
@@ -12,7 +12,7 @@ use Rattle.frame_core.specs.Block.{covered}
 use Rattle.archive_model.specs.declared.reply.PolledFrame.{PolledFrame}
 use Rattle.archive_model.specs.State.{Recording, recorded_position}
 use Rattle.archive_model.specs.Commands.{appended, frames_of}
-use Rattle.archive_model.specs.Replay.{placed, placed_frames, frames_in, is_between, replayed}
+use Rattle.archive_model.specs.Replay.{placed, placed_frames, frames_in, is_between, replayed, polled, EndBy}
 use Rattle.archive_model.proofs.ListLemmas.{rest_at, rest_past, take_whole}
 
 abbrev pub begins_at : ℤ → List PolledFrame → Bool
@@ -124,3 +124,31 @@ all_between from bound at (f ∷ fs) low high =
 
 pub all_replayed : (r : Recording) (from bound : ℤ) → from ≤ℤ r.descriptor.start_position → recorded_position r <ℤ bound → replayed from bound r ≡ r.frames
 all_replayed r from bound low high = all_between from bound r.descriptor.start_position r.frames low high
+
+-- frames end where the last of them does at the latest, and so do those of them that are given
+
+placed_end : (limit at : ℤ) (fs : List Frame) → (at +ℤ pos (covered fs)) ≤ℤ limit → EndBy limit (placed at fs)
+placed_end limit at [] within = tt
+placed_end limit at (f ∷ fs) within =
+    let here : (at +ℤ pos (aligned_length f)) ≤ℤ limit = omega (arith, ints, within) in
+    let rest : ((at +ℤ pos (aligned_length f)) +ℤ pos (covered fs)) ≤ℤ limit = omega (arith, ints, within) in
+    (here, placed_end limit (at +ℤ pos (aligned_length f)) fs rest)
+
+end_either : (limit : ℤ) (b : Bool) (f : PolledFrame) (rest : List PolledFrame) → (f.position +ℤ pos (aligned_length f.frame)) ≤ℤ limit → EndBy limit rest → EndBy limit (cond b (f ∷ rest) rest)
+end_either limit true f rest here more = (here, more)
+end_either limit false f rest here more = more
+
+filter_end : (limit : ℤ) (p : PolledFrame → Bool) (fs : List PolledFrame) → EndBy limit fs → EndBy limit (filter p fs)
+filter_end limit p [] ends = tt
+filter_end limit p (f ∷ fs) ends = end_either limit (p f) f (filter p fs) ends.0 (filter_end limit p fs ends.1)
+
+take_end : (limit : ℤ) (count : ℕ) (fs : List PolledFrame) → EndBy limit fs → EndBy limit (take count fs)
+take_end limit zero fs ends = tt
+take_end limit (suc count) [] ends = tt
+take_end limit (suc count) (f ∷ fs) ends = (ends.0, take_end limit count fs ends.1)
+
+-- a poll gives no frame that ends past the recorded position
+pub polled_end : (next bound : ℤ) (count : ℕ) (r : Recording) → EndBy (recorded_position r) (polled next bound count r)
+polled_end next bound count r =
+    let least : recorded_position r ≤ℤ recorded_position r = omega (arith, ints) in
+    take_end _ count _ (filter_end _ (is_between next bound) _ (placed_end _ r.descriptor.start_position r.frames least))

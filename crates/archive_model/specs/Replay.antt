@@ -1,5 +1,5 @@
 -- Replayed frames: Aeron Archive documentation, "Replay"; docs/CONTROL.md, "Replays".
-use Rattle.std.specs.Prelude.{ℕ, ℤ, pos, ◌+ℤ◌, ◌&&◌, ◌||◌, Bool, List, [], ◌∷◌, map, filter, take, int_le, int_lt, Option, Some, None, Result, Ok, Err, if◌then◌else◌}
+use Rattle.std.specs.Prelude.{ℕ, ℤ, pos, ◌+ℤ◌, ◌≤ℤ◌, ◌&&◌, ◌||◌, Bool, List, [], ◌∷◌, map, filter, take, int_le, int_lt, Option, Some, None, Result, Ok, Err, if◌then◌else◌}
 use Rattle.std.specs.Ordering.{int_eq}
 use Rattle.std.specs.List.{list_any}
 use Rattle.frame_core.specs.declared.frame.Frame.{Frame}
@@ -32,6 +32,11 @@ replayed from bound r = frames_in (filter (is_between from bound) (placed_frames
 -- the first of them, so many as there are or as are asked for, with where each begins
 abbrev pub polled : ℤ → ℤ → ℕ → Recording → List PolledFrame
 polled from bound count r = take count (filter (is_between from bound) (placed_frames r))
+
+-- each of these frames ends at or before a limit
+abbrev pub EndBy : ℤ → List PolledFrame → Type 0
+EndBy limit [] = Unit {0}
+EndBy limit (f ∷ fs) = ((f.position +ℤ pos (aligned_length f.frame)) ≤ℤ limit) × EndBy limit fs
 
 -- a recorded frame begins there
 abbrev pub begins_frame : ℤ → Recording → Bool

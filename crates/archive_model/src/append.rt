@@ -1,6 +1,6 @@
 //! Blocks that join the end of a recording. docs/CONTROL.md, "Requests".
 
-ghost use Rattle.std.specs.Prelude.{◌≡◌, ◌+ℤ◌, pos, MatchBool, MatchOption, IfOk, IfErr};
+ghost use Rattle.std.specs.Prelude.{◌≡◌, ◌++◌, ◌+ℤ◌, pos, MatchBool, MatchOption, IfOk, IfErr, OnOk, OnErr};
 ghost use Rattle.frame_core.specs.declared.refusal.Refusal.TheVariants.{NoMemory};
 ghost use Rattle.frame_core.specs.Block.{covered};
 ghost use Rattle.archive_model.specs.State.{recorded_position};
@@ -65,22 +65,22 @@ fn begins_at(block: &Block, position: &i64) -> bool
     block.position == *position
 }
 
-/// The frames of blocks, one after another, with no copy of a frame. Takes no memory for one block.
-pub(crate) fn gathered(blocks: Items<Block>) -> Result<Vec<Frame>, Refusal>
-    ensures ok { IfOk result (λ frames. frames.items ≡ frames_of blocks) }
-    ensures err { IfErr result (λ refusal. refusal ≡ NoMemory) }
+/// The frames of blocks join the end of a list, with no copy of a frame. Where memory is refused, those that had
+/// joined are taken back. Costs a step for each frame that joins.
+pub(crate) fn join_frames(frames: &mut Vec<Frame>, blocks: Items<Block>) -> Result<(), Refusal>
+    ensures ok { OnOk result (frames.new.items ≡ frames.old.items ++ frames_of blocks) }
+    ensures err { OnErr result (frames.new.items ≡ frames.old.items) }
+    ensures memory { IfErr result (λ refusal. refusal ≡ NoMemory) }
 {
-    let blocks = blocks.into_vec();
-    let alloc = *blocks.allocator();
-    let mut others = blocks.into_iter();
-    let Some(first) = others.next() else {
-        return Ok(Vec::new(alloc));
-    };
-    let mut frames = first.frames;
-    for block in others {
-        frames.append(block.frames.into_vec())?;
+    let before = frames.len();
+    for block in blocks.into_vec() {
+        let mut joining = block.frames.into_vec();
+        if frames.append(&mut joining).is_err() {
+            frames.truncate(before);
+            return Err(Refusal::NoMemory);
+        }
     }
-    Ok(frames.into_vec())
+    Ok(())
 }
 
 /// Copies of blocks. Costs the lengths of their payloads.

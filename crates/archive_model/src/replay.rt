@@ -4,7 +4,8 @@ ghost use Rattle.std.specs.Prelude.{◌≡◌, ◌<◌, ◌^◌, ℤ, pos, IfOk,
 ghost use Rattle.std.specs.Ordering.{int_eq};
 ghost use Rattle.std.specs.List.{list_any};
 ghost use Rattle.frame_core.specs.declared.refusal.Refusal.TheVariants.{NoMemory};
-ghost use Rattle.archive_model.specs.Replay.{placed, frames_in, is_between, replayed, polled, is_boundary};
+ghost use Rattle.archive_model.specs.Replay.{placed, frames_in, is_between, replayed, polled, EndBy, is_boundary};
+ghost use Rattle.archive_model.specs.State.{recorded_position};
 
 use crate::recording::Recording;
 use crate::reply::PolledFrame;
@@ -37,7 +38,8 @@ impl Recording {
     }
 
     /// Copies of the first frames that begin at or after a position and before a bound, so many as there are or as
-    /// are asked for, each with where it begins. Costs a look at each frame before the last of them, and the copies.
+    /// are asked for, each with where it begins. None of them ends past the recorded position. Costs a look at each
+    /// frame before the last of them, and the copies.
     pub fn poll(
         &self,
         alloc: Global,
@@ -46,6 +48,7 @@ impl Recording {
         count: usize,
     ) -> Result<Items<PolledFrame>, Refusal>
         ensures ok { IfOk result (λ frames. frames ≡ polled next.now bound.now count self.now) }
+        ensures ends { IfOk result (EndBy (recorded_position self.now)) }
         ensures err { IfErr result (λ refusal. refusal ≡ NoMemory) }
     {
         let frames = first_chosen(alloc, self.frames(), self.start(), next, bound, count)?;

@@ -6,4 +6,4 @@ use Rattle.archive_model.proofs.recording.Recording.fresh.Goals as goal
 pub invariant_of-result : goal.invariant_of-result
 invariant_of-result c =
     let fits : FitsSigned w64 c.args.fields.now.start_position = search rules in
-    keeps_fresh _ _ _ c.new.ensures refl (rw (to_z-of_z w64 c.args.fields.now.start_position fits) c.requires)
+    keeps_fresh _ _ _ c.new.ensures.items refl (rw (to_z-of_z w64 c.args.fields.now.start_position fits) c.requires)
