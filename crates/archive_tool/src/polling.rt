@@ -25,7 +25,8 @@ pub fn next_frames(
         end_of replay.now.next frames ≤ℤ pos 9223372036854775807) }
     ensures memory { IfErr result (λ refusal. refusal ≡ NoMemory) }
 {
-    let (_next, _end) = (replay.next, recording.recorded_position());
+    // Where the frames end lies between these two.
+    let (_next, _recorded) = (replay.next, recording.recorded_position());
     recording.poll(alloc, &replay.next, &replay.bound, *most as usize)
 }
 
