@@ -1,6 +1,6 @@
 -- What was taken makes no difference.
 use Rattle.std.proofs.Common.{◌≡◌, ◌∙◌, sym, ap, refl, subst, ◌+◌, ◌<◌, ◌≤◌, ℕ, List, [], ◌∷◌, ◌++◌, Bool, true, false, Some, None, append_assoc, pos, ◌+ℤ◌, arith}
-use Rattle.std.specs.Prelude.{◌&&◌, ◌||◌, nat_le, nat_lt, max, Option, if◌then◌else◌}
+use Rattle.std.specs.Prelude.{◌&&◌, ◌||◌, nat_le, max, Option, if◌then◌else◌}
 use Rattle.std.specs.Ordering.{nat_cmp}
 use Rattle.std.specs.BTreeMap.{insert_entry}
 use Rattle.frame_core.specs.declared.frame.FrameKind.{FrameKind}
@@ -19,12 +19,9 @@ use Rattle.image_core.specs.History.{IsChain, IsUnseen, StandsFor}
 use Rattle.image_core.specs.Take.{IsGap}
 use Rattle.frame_core.specs.declared.nak.Nak.{Nak}
 use Rattle.frame_core.specs.Position.{HasPosition}
-use Rattle.image_core.proofs.ChainLemmas.{chain_at, chain_low}
+use Rattle.image_core.proofs.ChainLemmas.{chain_at, chain_low, chain_up}
 use Rattle.image_core.proofs.KeptLemmas.{open_parts}
-
-pub chain_up : (p q : ℕ) (taken : List (ℕ × Frame)) → IsChain p taken q → p ≤ q
-chain_up p q [] chain = omega arith
-chain_up p q (m ∷ ms) chain = let rest = chain_up (end_of m) q ms chain.2 in omega arith
+use Rattle.image_core.proofs.RangeLemmas.{next_past}
 
 -- one chain behind another
 pub chain_append : (p q e : ℕ) (taken more : List (ℕ × Frame)) → IsChain p taken q → IsChain q more e → IsChain p (taken ++ more) e
@@ -50,15 +47,11 @@ insert_over p q x f (m ∷ taken) ms chain past =
     let behind : m.0 < x = omega arith in
     rw (greater_cmp x m.0 behind) (ap (λ (es : List (ℕ × Frame)). m ∷ es) (insert_over (end_of m) q x f taken ms chain.2 past))
 
-next_by : (x other : ℕ) (m : ℕ × Frame) (ms : List (ℕ × Frame)) (b : Bool) → nat_lt x m.0 ≡ b → m.0 ≤ x → (if b then m.0 else next_start x other ms) ≡ next_start x other ms
-next_by x other m ms true h past = absurd (grind arith)
-next_by x other m ms false h past = refl
-
 next_over : (p q x other : ℕ) (taken ms : List (ℕ × Frame)) → IsChain p taken q → q ≤ x → next_start x other (taken ++ ms) ≡ next_start x other ms
 next_over p q x other [] ms chain past = refl
 next_over p q x other (m ∷ taken) ms chain past =
     let up = chain_up (end_of m) q taken chain.2 in
-    next_by x other m (taken ++ ms) (nat_lt x m.0) refl (omega arith) ∙ next_over (end_of m) q x other taken ms chain.2 past
+    next_past x other m (taken ++ ms) (omega arith) ∙ next_over (end_of m) q x other taken ms chain.2 past
 
 and_same : (a b c d : Bool) → (a ≡ true → c ≡ d) → (a && b && c) ≡ (a && b && d)
 and_same true b c d h = ap (λ (x : Bool). b && x) (h refl)

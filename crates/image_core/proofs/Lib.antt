@@ -8,4 +8,5 @@ mod LawLemmas
 mod RangeLemmas
 mod SetupLemmas
 mod TakeLemmas
+mod TestLemmas
 mod UndoLemmas
