@@ -20,6 +20,7 @@ use Rattle.image_core.specs.Take.{IsGap}
 use Rattle.frame_core.specs.declared.nak.Nak.{Nak}
 use Rattle.frame_core.specs.Position.{HasPosition}
 use Rattle.image_core.proofs.ChainLemmas.{chain_at, chain_low, chain_up}
+use Rattle.image_core.proofs.FateLemmas.{by_kind}
 use Rattle.image_core.proofs.KeptLemmas.{open_parts}
 use Rattle.image_core.proofs.RangeLemmas.{next_past}
 
@@ -88,23 +89,13 @@ fate_same all r s f Heartbeat =
     ap (λ (u : Publication). heartbeat_fate (if is_of u f then frame_position all.geometry f else None)) s.publication
     ∙ ap (λ (g : Geometry). heartbeat_fate (if is_of r.publication f then frame_position g f else None)) s.geometry
 
-joins_if : (r : Received) (f : Frame) (p q : ℕ) (b : Bool) → is_open r q (q + aligned_length f) ≡ b → (if b then Joins q else Drops) ≡ Joins p → rebuilt r ≤ p
-joins_if r f p q true h is = let same : q ≡ p = cc in let beyond = (open_parts r q (q + aligned_length f) h).beyond in omega arith
-joins_if r f p q false h is = absurd cc
-
 -- a frame that joins lies past the rebuild position
-joins_by : (r : Received) (f : Frame) (p : ℕ) (o : Option ℕ) → frame_fate r f o ≡ Joins p → rebuilt r ≤ p
-joins_by r f p None is = absurd cc
-joins_by r f p (Some q) is = joins_if r f p q (is_open r q (q + aligned_length f)) refl is
-
-heartbeat_by : (p : ℕ) (o : Option ℕ) → heartbeat_fate o ≡ Joins p → ⊥
-heartbeat_by p None is = absurd cc
-heartbeat_by p (Some q) is = absurd cc
-
 joins_past : (r : Received) (f : Frame) (p : ℕ) (kind : FrameKind) → fate_of kind r f ≡ Joins p → rebuilt r ≤ p
-joins_past r f p Pad is = joins_by r f p (place_in r.geometry r.publication f) is
-joins_past r f p Message is = joins_by r f p (place_in r.geometry r.publication f) is
-joins_past r f p Heartbeat is = absurd (heartbeat_by p (if is_of r.publication f then frame_position r.geometry f else None) is)
+joins_past r f p kind =
+    by_kind (λ (it : Fate). it ≡ Joins p → rebuilt r ≤ p) r f kind
+    (λ q place opens is. let same : q ≡ p = cc in let beyond = (open_parts r q (q + aligned_length f) opens).beyond in omega arith)
+    (λ q is. absurd cc)
+    (λ is. absurd cc)
 
 after_stands : (all r : Received) → StandsFor all r → (f : Frame) (it : Fate) → ((p : ℕ) → it ≡ Joins p → rebuilt r ≤ p) → StandsFor (after all f it) (after r f it)
 after_stands all r s f (Joins p) past =

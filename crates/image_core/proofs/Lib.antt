@@ -1,5 +1,6 @@
 mod BlockLemmas
 mod ChainLemmas
+mod FateLemmas
 mod HistoryLemmas
 mod InsertLemmas
 mod JoinLemmas
