@@ -4,38 +4,30 @@
 Each run has to answer `error 18 NoMemory` on one line and go on, or to end with that line on standard error and status 1,
 what it wrote being a beginning of the right output. First: cd crates/archive_tool && rt run -- run < stdin
 """
-import os
-import subprocess
 import sys
-import tempfile
-from pathlib import Path
 
-ROOT = Path(__file__).resolve().parent.parent
-PROGRAM = ROOT / "crates/archive_tool/out/archive_tool"
+from refusing import ROOT, built_shim, request_count, run
+
+PROGRAM = [ROOT / "crates/archive_tool/out/archive_tool", "run"]
 HELLO = "2500000000c00100%s00000007000000e90300002a000000000000000000000068656c6c6f"
 LINES = ["start 1001 7 42 65536 1408 131072 0 1000 c", "block 0 " + HELLO % "00", "block 0 " + HELLO % "40", "list 0 10",
          "replay 0 0 -1", "poll 0 1", "poll 0 5", "no line", "block 0 " + HELLO % "00", "quit"]
+SCRIPT = "\n".join(LINES).encode()
 WANT = b"error 18 NoMemory\n"
 
 
-def run(shim: str, **extra: str) -> subprocess.CompletedProcess:
-    script = "\n".join(LINES).encode()
-    return subprocess.run([PROGRAM, "run"], input=script, capture_output=True, env={**os.environ, "LD_PRELOAD": shim, **extra})
-
-
 def main() -> int:
-    with tempfile.TemporaryDirectory() as room:
-        shim = f"{room}/refused_memory.so"
-        subprocess.run(["gcc", "-O1", "-shared", "-fPIC", "-o", shim, ROOT / "bench/refused_memory.c", "-ldl"], check=True)
-        whole = run(shim, SHOW="1")
+    with built_shim() as shim:
+        whole = run(shim, PROGRAM, SCRIPT)
+        count = request_count(whole)
         wrong = []
-        for number in range(1, int(whole.stderr.split()[-1]) + 1):
-            ran = run(shim, FAIL_AT=str(number))
+        for number in range(1, count + 1):
+            ran = run(shim, PROGRAM, SCRIPT, refused=number)
             goes_on = ran.returncode == 0 and ran.stdout.count(WANT) == 1 and ran.stderr == b""
             ends = ran.returncode == 1 and ran.stderr == WANT and whole.stdout.startswith(ran.stdout)
             if not goes_on and not ends:
                 wrong.append(number)
-        print(f"{number} requests refused in turn, {len(wrong)} answered wrongly {wrong or ''}")
+        print(f"{count} requests refused in turn, {len(wrong)} answered wrongly {wrong or ''}")
         return 1 if wrong else 0
 
 

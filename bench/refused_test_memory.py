@@ -1,16 +1,14 @@
 #!/usr/bin/env python3
-"""Refuses each request for memory of the tests `refused_memory_*` in turn, one a run, on the built tests of each crate.
+"""Refuses each request for memory of the tests `refused_memory_*` in turn, one a run, on each library's built tests.
 
 In each run a call that finds no memory has to say so and change nothing, and a second try has to succeed; the test says so
 and passes. First: rt ci, or rt test in the crates' folders
 """
-import os
 import subprocess
 import sys
-import tempfile
 from pathlib import Path
 
-ROOT = Path(__file__).resolve().parent.parent
+from refusing import ROOT, built_shim, request_count, run
 
 
 def names(tests: Path) -> list[str]:
@@ -19,25 +17,19 @@ def names(tests: Path) -> list[str]:
     return [line.removesuffix(": test") for line in listed if "::refused_memory_" in line]
 
 
-def run(tests: Path, name: str, shim: str, **extra: str) -> subprocess.CompletedProcess:
-    return subprocess.run([tests, name], capture_output=True, env={**os.environ, "LD_PRELOAD": shim, **extra})
-
-
 def failures(tests: Path, name: str, shim: str) -> list[int]:
     """The numbers of the refused requests for which the test fails; tells how many there were."""
-    whole = run(tests, name, shim, SHOW="1")
+    whole = run(shim, [tests, name])
     if whole.returncode:
         sys.exit(f"{tests.name} {name}: it fails where no request is refused: {whole.stderr.decode()}")
-    count = int(whole.stderr.split()[-1])
-    failed = [number for number in range(1, count + 1) if run(tests, name, shim, FAIL_AT=str(number)).returncode]
+    count = request_count(whole)
+    failed = [number for number in range(1, count + 1) if run(shim, [tests, name], refused=number).returncode]
     print(f"{tests.name} {name}: {count} requests refused in turn, it fails for {len(failed)} {failed or ''}")
     return failed
 
 
 def main() -> int:
-    with tempfile.TemporaryDirectory() as room:
-        shim = f"{room}/refused_memory.so"
-        subprocess.run(["gcc", "-O1", "-shared", "-fPIC", "-o", shim, ROOT / "bench/refused_memory.c", "-ldl"], check=True)
+    with built_shim() as shim:
         tried = [(tests, name) for tests in sorted(ROOT.glob("crates/*/out/*_tests")) for name in names(tests)]
         failed = [failures(tests, name, shim) for tests, name in tried]
         return 1 if not tried or any(failed) else 0

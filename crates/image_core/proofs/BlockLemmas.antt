@@ -1,8 +1,8 @@
 -- Blocks of the first frames that are held.
-use Rattle.std.proofs.Common.{◌≡◌, ◌∙◌, sym, ap, refl, subst, ◌+◌, ◌<◌, ◌≤◌, ◌≤ℤ◌, ◌+ℤ◌, ℕ, ℤ, pos, negsuc, List, [], ◌∷◌, ◌++◌, Bool, true, false, None, ◌⊎◌, inl, inr, length, arith}
-use Rattle.std.specs.Prelude.{map, min, unsigned_abs, ◌&&◌, int_le, Some, slice_get}
+use Rattle.std.proofs.Common.{◌≡◌, ◌∙◌, sym, ap, refl, subst, ◌+◌, ◌<◌, ◌≤◌, ◌≤ℤ◌, ◌+ℤ◌, ℕ, ℤ, pos, negsuc, List, [], ◌∷◌, ◌++◌, true, false, None, ◌⊎◌, inl, inr, length, arith}
+use Rattle.std.specs.Prelude.{map, min, unsigned_abs, int_le, Some, slice_get}
 use Rattle.std.proofs.lemmas.List.{length-map}
-use Rattle.std.specs.Ordering.{int_eq}
+use Rattle.std.proofs.lemmas.Bool.{and_from, and_parts, cond-true}
 use Rattle.std.proofs.lemmas.Int.{ints}
 use Rattle.std.proofs.lemmas.Bool.Decides.{Decides-int_eq}
 use Rattle.frame_core.specs.declared.block.Block.{Block}
@@ -24,8 +24,9 @@ use Rattle.image_core.specs.History.{IsChain}
 use Rattle.image_core.specs.Take.{GivesBlock, TakesBlock}
 use Rattle.image_core.proofs.ChainLemmas.{chain_below, chain_by, chain_low}
 use Rattle.image_core.proofs.HistoryLemmas.{chain_over, taken_stands}
-use Rattle.image_core.proofs.KeptLemmas.{IsPlaced, placed}
-use Rattle.image_core.proofs.TakeLemmas.{IsRun, first_of, follows_by, if_true, members_rest, next_parts, part_by, run_is, run_on, same_first, spaced_on, spaced_rest, taken_encodable}
+use Rattle.image_core.proofs.KeptLemmas.{IsPlaced, is_abs, placed}
+use Rattle.image_core.proofs.TakeLemmas.{IsRun, first_of, follows_by, members_rest, next_parts, run_is, run_on, same_first, spaced_on, spaced_rest, taken_encodable}
+use Rattle.image_core.proofs.TestLemmas.{part_by}
 
 -- the first frame that is held, where a chain begins with it
 pub record IsFirst (g : Geometry) (publication : Publication) (from : ℕ) (m : ℕ × Frame) : Type 0 where
@@ -75,23 +76,11 @@ has_first g publication from high ms m found spaced members some =
     let it = first_is g publication from high m first.0 spaced_it (subst (AreMembers g publication) first.1 members) (subst (λ (xs : List (ℕ × Frame)). from < chain_end from xs) first.1 some) in
     record { behind = first.0; is = first.1; first = it; ends = omega (arith, spaced_it.2, it.begins) }
 
-three_by : (t s k : Bool) → t ≡ true → (s && k) ≡ true → (t && s && k) ≡ true
-three_by true true true h is = refl
-three_by true true false h is = absurd cc
-three_by true false k h is = absurd cc
-three_by false s k h is = absurd cc
-
 of_place : (g : Geometry) (publication : Publication) (f : Frame) → is_of publication f ≡ true → is_of_place (place_of g publication f) f ≡ true
 unfolding is_of is_of_place
 of_place g publication f is =
-    three_by (int_eq f.term_id f.term_id) (int_eq f.session_id publication.session_id) (int_eq f.stream_id publication.stream_id) ((Decides-int_eq f.term_id f.term_id).1 refl) is
-
-four_by : (a b c d : Bool) → a ≡ true → b ≡ true → c ≡ true → d ≡ true → (a && b && c && d) ≡ true
-four_by true true true true ha hb hc hd = refl
-four_by true true true false ha hb hc hd = absurd cc
-four_by true true false d ha hb hc hd = absurd cc
-four_by true false c d ha hb hc hd = absurd cc
-four_by false b c d ha hb hc hd = absurd cc
+    let parts = and_parts _ _ is in
+    and_from _ _ (and_from _ _ ((Decides-int_eq f.term_id f.term_id).1 refl) parts.0) parts.1
 
 within_mtu : (kind : FrameKind) (mtu size : ℤ) → kind ≡ Message → is_within mtu kind size ≡ true → int_le size mtu ≡ true
 within_mtu Message mtu size kind is = is
@@ -102,15 +91,9 @@ first_part : (g : Geometry) (publication : Publication) (f : Frame) (p offset : 
     → is_part (place_of g publication f) offset f ≡ true
 unfolding is_part
 first_part g publication f p offset kind place begins =
-    four_by (is_message f.kind) (int_eq f.term_offset (pos offset)) (is_of_place (place_of g publication f) f) (int_le f.length g.mtu)
-    (ap is_message kind)
-    ((Decides-int_eq f.term_offset (pos offset)).1 begins)
-    (of_place g publication f place.of)
+    and_from _ _
+    (and_from _ _ (and_from _ _ (ap is_message kind) ((Decides-int_eq f.term_offset (pos offset)).1 begins)) (of_place g publication f place.of))
     (within_mtu f.kind g.mtu f.length kind place.within)
-
-is_abs : (z : ℤ) → pos 0 ≤ℤ z → z ≡ pos (unsigned_abs z)
-is_abs (pos n) low = refl
-is_abs (negsuc n) low = absurd (omega (arith, ints))
 
 -- an end in a term, over whole numbers
 pub inside_int : (offset size : ℤ) (covered : ℕ) → pos 0 ≤ℤ offset → pos 0 ≤ℤ size → unsigned_abs offset + covered ≤ unsigned_abs size → (offset +ℤ pos covered) ≤ℤ size
@@ -118,13 +101,9 @@ inside_int (pos o) (pos w) covered low high inside = omega (arith, ints)
 inside_int (negsuc o) size covered low high inside = absurd (omega (arith, ints, low))
 inside_int (pos o) (negsuc w) covered low high inside = absurd (omega (arith, ints, high))
 
-message_by : (a b c d : Bool) → (a && b && c && d) ≡ true → a ≡ true
-message_by true b c d is = refl
-message_by false b c d is = absurd cc
-
 part_message : (place : Place) (offset : ℕ) (f : Frame) → is_part place offset f ≡ true → is_message f.kind ≡ true
 unfolding is_part
-part_message place offset f part = message_by (is_message f.kind) (int_eq f.term_offset (pos offset)) (is_of_place place f) (int_le f.length place.mtu) part
+part_message place offset f part = (and_parts _ _ (and_parts _ _ (and_parts _ _ part).0).0).0
 
 -- no other block of the first frames ends further, if none does that goes on behind the first frame
 longest_by : (g : Geometry) (publication : Publication) (from to : ℕ) (m : ℕ × Frame) (before behind : List (ℕ × Frame)) → before ≡ m ∷ behind
@@ -256,7 +235,7 @@ takes_messages g publication from offset limit before behind m run terms members
           offset = offset;
           begins = begins;
           end = taken.last;
-          ends = if_true (is_part (place_of g publication m.1) offset m.1) (run_end (place_of g publication m.1) (offset + aligned_length m.1) (map (λ x. x.1) taken.taken)) None part ∙ taken.ends;
+          ends = cond-true (is_part (place_of g publication m.1) offset m.1) (run_end (place_of g publication m.1) (offset + aligned_length m.1) (map (λ x. x.1) taken.taken)) None part ∙ taken.ends;
           inside = inside_last taken.last g.term_length limit taken.few (omega (arith, limit_is)) (let least = terms.least in omega (arith, ints));
           covers = omega (arith, taken.few, limit_is);
         }),

@@ -1,14 +1,16 @@
 -- Chains of frames that are spaced.
-use Rattle.std.proofs.Common.{◌≡◌, ◌∙◌, sym, ap, refl, subst, ◌+◌, ◌<◌, ◌≤◌, ◌^◌, ℕ, List, [], ◌∷◌, Bool, true, false, Some, None, arith}
-use Rattle.std.specs.Prelude.{◌==◌, if◌then◌else◌, cond}
+use Rattle.std.proofs.Common.{◌≡◌, ◌∙◌, sym, ap, refl, subst, ◌+◌, ◌<◌, ◌≤◌, ◌^◌, ℕ, List, [], ◌∷◌, Some, None, arith}
+use Rattle.std.specs.Prelude.{◌==◌, cond}
 use Rattle.std.specs.Ordering.{nat_cmp, is_eq}
 use Rattle.std.specs.declared.cmp.Ordering.{Ordering}
 use Rattle.std.specs.Map.{lookup}
+use Rattle.std.proofs.lemmas.Bool.{cond-false, cond-true, cond_both}
 use Rattle.std.specs.BTreeMap.{is_at}
 use Rattle.frame_core.specs.declared.frame.Frame.{Frame}
 use Rattle.frame_core.specs.FrameEncoding.{aligned_length}
 use Rattle.frame_core.proofs.OrderLemmas.{by_cmp}
 use Rattle.image_core.specs.Rebuild.{end_of, chain_end}
+use Rattle.image_core.specs.History.{IsChain}
 use Rattle.image_core.specs.Kept.{AreSpaced}
 
 pub spaced_weaken : (low less high : ℕ) (ms : List (ℕ × Frame)) → less ≤ low → AreSpaced low high ms → AreSpaced less high ms
@@ -19,39 +21,31 @@ pub spaced_raise : (low high higher : ℕ) (ms : List (ℕ × Frame)) → high �
 spaced_raise low high higher [] above spaced = tt
 spaced_raise low high higher (m ∷ ms) above spaced = (spaced.0, spaced.1, omega arith, spaced_raise (end_of m) high higher ms above spaced.3)
 
--- a chain goes on at a frame that begins where it has come to
-step_at : (p : ℕ) (m : ℕ × Frame) (ms : List (ℕ × Frame)) (b : Bool) → (p == m.0) ≡ b → p ≡ m.0 → chain_end (if b then end_of m else p) ms ≡ chain_end (end_of m) ms
-step_at p m ms true h same = refl
-step_at p m ms false h same = absurd (grind arith)
+pub chain_up : (p q : ℕ) (ms : List (ℕ × Frame)) → IsChain p ms q → p ≤ q
+chain_up p q [] chain = omega (arith, chain)
+chain_up p q (m ∷ ms) chain = let low = chain_up (end_of m) q ms chain.2 in omega (arith, chain.0)
 
+-- a chain goes on at a frame that begins where it has come to
 pub chain_at : (p : ℕ) (m : ℕ × Frame) (ms : List (ℕ × Frame)) → p ≡ m.0 → chain_end p (m ∷ ms) ≡ chain_end (end_of m) ms
-chain_at p m ms same = step_at p m ms (p == m.0) refl same
+chain_at p m ms same = ap (λ (q : ℕ). chain_end q ms) (cond-true (p == m.0) (end_of m) p (grind arith))
 
 -- and passes by another
-step_by : (p : ℕ) (m : ℕ × Frame) (ms : List (ℕ × Frame)) (b : Bool) → (p == m.0) ≡ b → (p ≡ m.0 → ⊥) → chain_end (if b then end_of m else p) ms ≡ chain_end p ms
-step_by p m ms true h apart = absurd (apart (grind arith))
-step_by p m ms false h apart = refl
-
 pub chain_by : (p : ℕ) (m : ℕ × Frame) (ms : List (ℕ × Frame)) → (p ≡ m.0 → ⊥) → chain_end p (m ∷ ms) ≡ chain_end p ms
-chain_by p m ms apart = step_by p m ms (p == m.0) refl apart
-
-low_by : (p : ℕ) (m : ℕ × Frame) (ms : List (ℕ × Frame)) (b : Bool) → (p == m.0) ≡ b → ((q : ℕ) → q ≤ chain_end q ms) → p ≤ chain_end (if b then end_of m else p) ms
-low_by p m ms true h further = let same : p ≡ m.0 = grind arith in let up = further (end_of m) in omega arith
-low_by p m ms false h further = further p
+chain_by p m ms apart = ap (λ (q : ℕ). chain_end q ms) (cond-false (p == m.0) (end_of m) p (grind arith))
 
 pub chain_low : (p : ℕ) (ms : List (ℕ × Frame)) → p ≤ chain_end p ms
 chain_low p [] = omega arith
-chain_low p (m ∷ ms) = low_by p m ms (p == m.0) refl (λ q. chain_low q ms)
-
-high_by : (p high : ℕ) (m : ℕ × Frame) (ms : List (ℕ × Frame)) (b : Bool) → (p == m.0) ≡ b → p ≤ high → end_of m ≤ high
-    → ((q : ℕ) → q ≤ high → chain_end q ms ≤ high) → chain_end (if b then end_of m else p) ms ≤ high
-high_by p high m ms true h from end further = further (end_of m) end
-high_by p high m ms false h from end further = further p from
+chain_low p (m ∷ ms) =
+    cond_both (p == m.0) (end_of m) p (λ (q : ℕ). p ≤ chain_end q ms)
+    (λ at. let same : p ≡ m.0 = grind arith in let up = chain_low (end_of m) ms in omega arith)
+    (λ apart. chain_low p ms)
 
 pub chain_high : (low p high : ℕ) (ms : List (ℕ × Frame)) → p ≤ high → AreSpaced low high ms → chain_end p ms ≤ high
 chain_high low p high [] from spaced = from
 chain_high low p high (m ∷ ms) from spaced =
-    high_by p high m ms (p == m.0) refl from spaced.2 (λ q h. chain_high (end_of m) q high ms h spaced.3)
+    cond_both (p == m.0) (end_of m) p (λ (q : ℕ). chain_end q ms ≤ high)
+    (λ at. chain_high (end_of m) (end_of m) high ms spaced.2 spaced.3)
+    (λ apart. chain_high (end_of m) p high ms from spaced.3)
 
 -- no frame begins there
 pub chain_none : (p : ℕ) (ms : List (ℕ × Frame)) → lookup (is_at (nat_cmp p)) ms ≡ None → chain_end p ms ≡ p

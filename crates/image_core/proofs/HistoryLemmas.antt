@@ -1,6 +1,6 @@
 -- What was taken makes no difference.
 use Rattle.std.proofs.Common.{◌≡◌, ◌∙◌, sym, ap, refl, subst, ◌+◌, ◌<◌, ◌≤◌, ℕ, List, [], ◌∷◌, ◌++◌, Bool, true, false, Some, None, append_assoc, pos, ◌+ℤ◌, arith}
-use Rattle.std.specs.Prelude.{◌&&◌, ◌||◌, nat_le, nat_lt, max, Option, if◌then◌else◌}
+use Rattle.std.specs.Prelude.{◌&&◌, ◌||◌, nat_le, max, Option, if◌then◌else◌}
 use Rattle.std.specs.Ordering.{nat_cmp}
 use Rattle.std.specs.BTreeMap.{insert_entry}
 use Rattle.frame_core.specs.declared.frame.FrameKind.{FrameKind}
@@ -19,12 +19,10 @@ use Rattle.image_core.specs.History.{IsChain, IsUnseen, StandsFor}
 use Rattle.image_core.specs.Take.{IsGap}
 use Rattle.frame_core.specs.declared.nak.Nak.{Nak}
 use Rattle.frame_core.specs.Position.{HasPosition}
-use Rattle.image_core.proofs.ChainLemmas.{chain_at, chain_low}
+use Rattle.image_core.proofs.ChainLemmas.{chain_at, chain_low, chain_up}
+use Rattle.image_core.proofs.FateLemmas.{by_kind}
 use Rattle.image_core.proofs.KeptLemmas.{open_parts}
-
-pub chain_up : (p q : ℕ) (taken : List (ℕ × Frame)) → IsChain p taken q → p ≤ q
-chain_up p q [] chain = omega arith
-chain_up p q (m ∷ ms) chain = let rest = chain_up (end_of m) q ms chain.2 in omega arith
+use Rattle.image_core.proofs.RangeLemmas.{next_past}
 
 -- one chain behind another
 pub chain_append : (p q e : ℕ) (taken more : List (ℕ × Frame)) → IsChain p taken q → IsChain q more e → IsChain p (taken ++ more) e
@@ -50,15 +48,11 @@ insert_over p q x f (m ∷ taken) ms chain past =
     let behind : m.0 < x = omega arith in
     rw (greater_cmp x m.0 behind) (ap (λ (es : List (ℕ × Frame)). m ∷ es) (insert_over (end_of m) q x f taken ms chain.2 past))
 
-next_by : (x other : ℕ) (m : ℕ × Frame) (ms : List (ℕ × Frame)) (b : Bool) → nat_lt x m.0 ≡ b → m.0 ≤ x → (if b then m.0 else next_start x other ms) ≡ next_start x other ms
-next_by x other m ms true h past = absurd (grind arith)
-next_by x other m ms false h past = refl
-
 next_over : (p q x other : ℕ) (taken ms : List (ℕ × Frame)) → IsChain p taken q → q ≤ x → next_start x other (taken ++ ms) ≡ next_start x other ms
 next_over p q x other [] ms chain past = refl
 next_over p q x other (m ∷ taken) ms chain past =
     let up = chain_up (end_of m) q taken chain.2 in
-    next_by x other m (taken ++ ms) (nat_lt x m.0) refl (omega arith) ∙ next_over (end_of m) q x other taken ms chain.2 past
+    next_past x other m (taken ++ ms) (omega arith) ∙ next_over (end_of m) q x other taken ms chain.2 past
 
 and_same : (a b c d : Bool) → (a ≡ true → c ≡ d) → (a && b && c) ≡ (a && b && d)
 and_same true b c d h = ap (λ (x : Bool). b && x) (h refl)
@@ -95,23 +89,13 @@ fate_same all r s f Heartbeat =
     ap (λ (u : Publication). heartbeat_fate (if is_of u f then frame_position all.geometry f else None)) s.publication
     ∙ ap (λ (g : Geometry). heartbeat_fate (if is_of r.publication f then frame_position g f else None)) s.geometry
 
-joins_if : (r : Received) (f : Frame) (p q : ℕ) (b : Bool) → is_open r q (q + aligned_length f) ≡ b → (if b then Joins q else Drops) ≡ Joins p → rebuilt r ≤ p
-joins_if r f p q true h is = let same : q ≡ p = cc in let beyond = (open_parts r q (q + aligned_length f) h).beyond in omega arith
-joins_if r f p q false h is = absurd cc
-
 -- a frame that joins lies past the rebuild position
-joins_by : (r : Received) (f : Frame) (p : ℕ) (o : Option ℕ) → frame_fate r f o ≡ Joins p → rebuilt r ≤ p
-joins_by r f p None is = absurd cc
-joins_by r f p (Some q) is = joins_if r f p q (is_open r q (q + aligned_length f)) refl is
-
-heartbeat_by : (p : ℕ) (o : Option ℕ) → heartbeat_fate o ≡ Joins p → ⊥
-heartbeat_by p None is = absurd cc
-heartbeat_by p (Some q) is = absurd cc
-
 joins_past : (r : Received) (f : Frame) (p : ℕ) (kind : FrameKind) → fate_of kind r f ≡ Joins p → rebuilt r ≤ p
-joins_past r f p Pad is = joins_by r f p (place_in r.geometry r.publication f) is
-joins_past r f p Message is = joins_by r f p (place_in r.geometry r.publication f) is
-joins_past r f p Heartbeat is = absurd (heartbeat_by p (if is_of r.publication f then frame_position r.geometry f else None) is)
+joins_past r f p kind =
+    by_kind (λ (it : Fate). it ≡ Joins p → rebuilt r ≤ p) r f kind
+    (λ q place opens is. let same : q ≡ p = cc in let beyond = (open_parts r q (q + aligned_length f) opens).beyond in omega arith)
+    (λ q is. absurd cc)
+    (λ is. absurd cc)
 
 after_stands : (all r : Received) → StandsFor all r → (f : Frame) (it : Fate) → ((p : ℕ) → it ≡ Joins p → rebuilt r ≤ p) → StandsFor (after all f it) (after r f it)
 after_stands all r s f (Joins p) past =

@@ -1,6 +1,7 @@
 -- Frames that join.
-use Rattle.std.proofs.Common.{◌≡◌, ◌∙◌, sym, ap, refl, ◌+◌, ◌<◌, ◌≤◌, ℕ, List, [], ◌∷◌, Bool, true, false, Some, arith}
-use Rattle.std.specs.Prelude.{◌&&◌, ◌||◌, nat_le}
+use Rattle.std.proofs.Common.{◌≡◌, ◌∙◌, sym, ap, refl, ◌+◌, ◌<◌, ◌≤◌, ℕ, List, [], ◌∷◌, true, Some, inl, inr, arith}
+use Rattle.std.specs.Prelude.{◌||◌, nat_le}
+use Rattle.std.proofs.lemmas.Bool.{and_parts, or_cases}
 use Rattle.std.specs.Ordering.{nat_cmp, match_ordering}
 use Rattle.std.specs.declared.cmp.Ordering.{Ordering}
 use Rattle.std.specs.Map.{remove_entry}
@@ -20,16 +21,10 @@ pub data IsApart (p end : ℕ) (m : ℕ × Frame) : Type 0 where
   Ahead : end_of m ≤ p → IsApart p end m
   Behind : end ≤ m.0 → IsApart p end m
 
-apart_by : (p end : ℕ) (m : ℕ × Frame) (rest a b : Bool) → nat_le (end_of m) p ≡ a → nat_le end m.0 ≡ b → ((a || b) && rest) ≡ true → IsApart p end m × (rest ≡ true)
-apart_by p end m true true b ha hb h = (Ahead (grind arith), refl)
-apart_by p end m true false true ha hb h = (Behind (grind arith), refl)
-apart_by p end m true false false ha hb h = absurd cc
-apart_by p end m false true b ha hb h = absurd cc
-apart_by p end m false false true ha hb h = absurd cc
-apart_by p end m false false false ha hb h = absurd cc
-
 pub apart : (p end : ℕ) (m : ℕ × Frame) (ms : List (ℕ × Frame)) → is_free p end (m ∷ ms) ≡ true → IsApart p end m × (is_free p end ms ≡ true)
-apart p end m ms h = apart_by p end m (is_free p end ms) (nat_le (end_of m) p) (nat_le end m.0) refl refl h
+apart p end m ms h =
+    let parts = and_parts (nat_le (end_of m) p || nat_le end m.0) (is_free p end ms) h in
+    (elim (or_cases (nat_le (end_of m) p) (nat_le end m.0) parts.0) [ inl ahead ↦ Ahead (grind arith) | inr behind ↦ Behind (grind arith) ], parts.1)
 
 -- where the frame begins after the first one, it begins after that one's end
 behind_first : (p end : ℕ) (m : ℕ × Frame) → IsApart p end m → m.0 < p → p < end → end_of m ≤ p

@@ -1,6 +1,6 @@
 -- What an image keeps stays so.
-use Rattle.std.proofs.Common.{◌≡◌, ◌∙◌, ap, refl, ◌+◌, ◌*◌, ◌<◌, ◌≤◌, ◌^◌, ◌≤ℤ◌, ℕ, ℤ, pos, negsuc, List, [], ◌∷◌, ◌++◌, Bool, true, false, Some, None, arith}
-use Rattle.std.specs.Prelude.{◌&&◌, nat_le, max, unsigned_abs, Option, if◌then◌else◌}
+use Rattle.std.proofs.Common.{◌≡◌, ◌∙◌, ap, refl, ◌+◌, ◌*◌, ◌<◌, ◌≤◌, ◌^◌, ◌≤ℤ◌, ℕ, ℤ, pos, negsuc, List, [], ◌∷◌, ◌++◌, true, Some, arith}
+use Rattle.std.specs.Prelude.{nat_le, max, unsigned_abs}
 use Rattle.std.specs.Ordering.{nat_cmp}
 use Rattle.std.specs.BTreeMap.{insert_entry}
 use Rattle.std.proofs.lemmas.Int.{ints}
@@ -17,6 +17,7 @@ use Rattle.image_core.specs.Received.{Received, after, is_free, is_inside, is_of
 use Rattle.image_core.specs.Kept.{AreSpaced, IsJoining, IsKept, undone, without}
 use Rattle.image_core.proofs.ChainLemmas.{chain_high, chain_low, spaced_raise, spaced_wide}
 use Rattle.image_core.proofs.JoinLemmas.{chain_more, members_insert, remove_inserted, spaced_insert}
+use Rattle.image_core.proofs.TestLemmas.{all_parts, part_by}
 use Rattle.image_core.proofs.UndoLemmas.{without_push}
 
 -- a frame has a place only if it is of the publication, within the MTU and inside its term, and lies at its position
@@ -26,18 +27,18 @@ pub record IsPlaced (g : Geometry) (publication : Publication) (f : Frame) (p : 
   pub inside : is_inside g f ≡ true
   pub position : frame_position g f ≡ Some p
 
-placed_by : (a b c : Bool) (o : Option ℕ) (p : ℕ) → (if a then (if b then (if c then o else None) else None) else None) ≡ Some p
-    → (a ≡ true) × (b ≡ true) × (c ≡ true) × (o ≡ Some p)
-placed_by true true true o p is = (refl, refl, refl, is)
-placed_by true true false o p is = absurd cc
-placed_by true false c o p is = absurd cc
-placed_by false b c o p is = absurd cc
-
 pub placed : (g : Geometry) (publication : Publication) (f : Frame) (p : ℕ) → place_in g publication f ≡ Some p → IsPlaced g publication f p
 unfolding place_in
 placed g publication f p is =
-    let parts = placed_by (is_of publication f) (is_within g.mtu f.kind f.length) (is_inside g f) (frame_position g f) p is in
-    record { of = parts.0; within = parts.1; inside = parts.2; position = parts.3 }
+    let of = part_by _ _ p is in
+    let within = part_by _ _ p of.1 in
+    let inside = part_by _ _ p within.1 in
+    record { of = of.0; within = within.0; inside = inside.0; position = inside.1 }
+
+-- a number that is not negative is its size
+pub is_abs : (z : ℤ) → pos 0 ≤ℤ z → z ≡ pos (unsigned_abs z)
+is_abs (pos n) low = refl
+is_abs (negsuc n) low = absurd (omega (arith, ints))
 
 abs_low : (z : ℤ) → pos 32 ≤ℤ z → 32 ≤ unsigned_abs z
 abs_low (pos n) low = omega (arith, ints)
@@ -59,15 +60,9 @@ pub record IsOpen (r : Received) (p end : ℕ) : Type 0 where
   pub within : end ≤ rebuilt r + window r.geometry
   pub free : is_free p end r.joined ≡ true
 
-all_by : (a b c : Bool) → (a && b && c) ≡ true → (a ≡ true) × (b ≡ true) × (c ≡ true)
-all_by true true true h = (refl, refl, refl)
-all_by true true false h = absurd cc
-all_by true false c h = absurd cc
-all_by false b c h = absurd cc
-
 pub open_parts : (r : Received) (p end : ℕ) → is_open r p end ≡ true → IsOpen r p end
 open_parts r p end is =
-    let parts = all_by (nat_le (rebuilt r) p) (nat_le end (rebuilt r + window r.geometry)) (is_free p end r.joined) is in
+    let parts = all_parts (nat_le (rebuilt r) p) (nat_le end (rebuilt r + window r.geometry)) (is_free p end r.joined) is in
     let low = parts.0 in
     let high = parts.1 in
     record { beyond = grind arith; within = grind arith; free = parts.2 }

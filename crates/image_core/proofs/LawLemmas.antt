@@ -1,6 +1,7 @@
 -- The names of the rebuild position, the high mark and the gap.
-use Rattle.std.proofs.Common.{◌≡◌, ◌∙◌, sym, ap, refl, subst, ◌+◌, ◌<◌, ◌≤◌, ◌⊎◌, inl, inr, ℕ, List, [], ◌∷◌, ◌++◌, Bool, true, false, Some, None, append_assoc, append-nil, arith}
+use Rattle.std.proofs.Common.{◌≡◌, ◌∙◌, sym, ap, refl, subst, ◌+◌, ◌<◌, ◌≤◌, ◌⊎◌, inl, inr, ℕ, List, [], ◌∷◌, ◌++◌, true, Some, None, append_assoc, append-nil, arith}
 use Rattle.std.specs.Prelude.{◌==◌, map, max, min, nat_lt, Option, if◌then◌else◌}
+use Rattle.std.proofs.lemmas.Bool.{cond_both}
 use Rattle.std.specs.Ordering.{nat_cmp, match_ordering}
 use Rattle.std.specs.declared.cmp.Ordering.{Ordering}
 use Rattle.std.specs.BTreeMap.{insert_entry}
@@ -16,11 +17,12 @@ use Rattle.frame_core.proofs.OrderLemmas.{by_cmp}
 use Rattle.image_core.specs.declared.fate.Fate.{Fate}
 use Rattle.image_core.specs.declared.fate.Fate.TheVariants.{Joins, Tells, Drops}
 use Rattle.image_core.specs.Rebuild.{end_of, chain_end, next_start, term_end}
-use Rattle.image_core.specs.Received.{Received, after, begun, fate, fate_of, frame_fate, gap_end, heartbeat_fate, is_free, is_of, is_open, place_in, rebuilt, received, received_all}
+use Rattle.image_core.specs.Received.{Received, after, begun, fate, fate_of, frame_fate, gap_end, heartbeat_fate, is_free, is_of, place_in, rebuilt, received, received_all}
 use Rattle.image_core.specs.History.{IsChain}
 use Rattle.image_core.specs.Kept.{AreMembers, AreSpaced}
 use Rattle.image_core.specs.Laws.{AreAmong, HasGap, HasHighMark, HasLongestChain, IsAmong, LieApart, greatest, heard, heartbeat_at}
 use Rattle.image_core.proofs.ChainLemmas.{chain_at, chain_below, chain_by, chain_low, spaced_raise}
+use Rattle.image_core.proofs.FateLemmas.{by_kind, by_place}
 use Rattle.image_core.proofs.JoinLemmas.{apart, members_insert, not_at_first}
 use Rattle.image_core.proofs.KeptLemmas.{has_size, open_parts, spaced_join}
 
@@ -61,52 +63,35 @@ among_more x [] ms among = tt
 among_more x (m ∷ xs) ms among = (inr among.0, among_more x xs ms among.1)
 
 -- the frames of the longest chain
-record IsRun (p : ℕ) (ms : List (ℕ × Frame)) : Type 0 where
+record IsRun (p end : ℕ) (ms : List (ℕ × Frame)) : Type 0 where
   chain : List (ℕ × Frame)
   among : AreAmong chain ms
-  follows : IsChain p chain (chain_end p ms)
+  follows : IsChain p chain end
 
-run_by : (low high p : ℕ) (m : ℕ × Frame) (ms : List (ℕ × Frame)) (b : Bool) → (p == m.0) ≡ b → 0 < aligned_length m.1 → ((q : ℕ) → IsRun q ms) → IsRun p (m ∷ ms)
-run_by low high p m ms true h some further =
-    let same : p ≡ m.0 = grind arith in
-    let rest = further (end_of m) in
-    record { chain = m ∷ rest.chain; among = (inl refl, among_more m rest.chain ms rest.among); follows = rw (chain_at p m ms same) (same, some, rest.follows) }
-run_by low high p m ms false h some further =
-    let rest = further p in
-    let by = chain_by p m ms (λ same. grind arith) in
-    record { chain = rest.chain; among = among_more m rest.chain ms rest.among; follows = rw by rest.follows }
-
-run : (low high p : ℕ) (ms : List (ℕ × Frame)) → AreSpaced low high ms → IsRun p ms
+run : (low high p : ℕ) (ms : List (ℕ × Frame)) → AreSpaced low high ms → IsRun p (chain_end p ms) ms
 run low high p [] spaced = record { chain = []; among = tt; follows = refl }
-run low high p (m ∷ ms) spaced = run_by low high p m ms (p == m.0) refl spaced.1 (λ q. run (end_of m) high q ms spaced.3)
+run low high p (m ∷ ms) spaced =
+    cond_both (p == m.0) (end_of m) p (λ (q : ℕ). IsRun p (chain_end q ms) (m ∷ ms))
+    (λ at. let rest = run (end_of m) high (end_of m) ms spaced.3 in
+    record { chain = m ∷ rest.chain; among = (inl refl, among_more m rest.chain ms rest.among); follows = (grind arith, spaced.1, rest.follows) })
+    (λ apart. let rest = run (end_of m) high p ms spaced.3 in
+    record { chain = rest.chain; among = among_more m rest.chain ms rest.among; follows = rest.follows })
 
 -- frames that joined stay spaced
 AreSpacedIn : Received → Type 0
 AreSpacedIn r = AreSpaced r.from r.high r.joined
 
-spaced_if : (r : Received) (f : Frame) (p : ℕ) (b : Bool) → is_open r p (p + aligned_length f) ≡ b → AreSpacedIn r → IsEncodable f → place_in r.geometry r.publication f ≡ Some p
-    → AreSpacedIn (after r f (if b then Joins p else Drops))
+spaced_received : (r : Received) (f : Frame) → AreSpacedIn r → IsEncodable f → AreSpacedIn (received r f)
 unfolding AreSpacedIn
-spaced_if r f p true opens spaced encodable place = spaced_join r p f spaced encodable place opens
-spaced_if r f p false opens spaced encodable place = spaced
-
-spaced_frame : (r : Received) (f : Frame) (o : Option ℕ) → AreSpacedIn r → IsEncodable f → place_in r.geometry r.publication f ≡ o → AreSpacedIn (after r f (frame_fate r f o))
-spaced_frame r f None spaced encodable place = spaced
-spaced_frame r f (Some p) spaced encodable place = spaced_if r f p (is_open r p (p + aligned_length f)) refl spaced encodable place
-
-spaced_heartbeat : (r : Received) (f : Frame) (o : Option ℕ) → AreSpacedIn r → AreSpacedIn (after r f (heartbeat_fate o))
-unfolding AreSpacedIn
-spaced_heartbeat r f None spaced = spaced
-spaced_heartbeat r f (Some p) spaced = spaced_raise r.from r.high (max r.high p) r.joined (omega arith) spaced
-
-spaced_kind : (r : Received) (f : Frame) (kind : FrameKind) → AreSpacedIn r → IsEncodable f → AreSpacedIn (after r f (fate_of kind r f))
-spaced_kind r f Pad spaced encodable = spaced_frame r f (place_in r.geometry r.publication f) spaced encodable refl
-spaced_kind r f Message spaced encodable = spaced_frame r f (place_in r.geometry r.publication f) spaced encodable refl
-spaced_kind r f Heartbeat spaced encodable = spaced_heartbeat r f (if is_of r.publication f then frame_position r.geometry f else None) spaced
+spaced_received r f spaced encodable =
+    by_kind (λ (it : Fate). AreSpacedIn (after r f it)) r f f.kind
+    (λ p place opens. spaced_join r p f spaced encodable place opens)
+    (λ p. spaced_raise r.from r.high (max r.high p) r.joined (omega arith) spaced)
+    spaced
 
 spaced_all : (r : Received) (fs : List Frame) → AreSpacedIn r → AreEncodable fs → AreSpacedIn (received_all r fs)
 spaced_all r [] spaced encodable = spaced
-spaced_all r (f ∷ fs) spaced encodable = spaced_all (received r f) fs (spaced_kind r f f.kind spaced encodable.0) encodable.1
+spaced_all r (f ∷ fs) spaced encodable = spaced_all (received r f) fs (spaced_received r f spaced encodable.0) encodable.1
 
 pub longest_chain : (g : Geometry) (publication : Publication) (p : ℕ) (fs : List Frame) → AreEncodable fs → HasLongestChain (received_all (begun g publication p) fs)
 unfolding AreSpacedIn
@@ -167,41 +152,29 @@ not_at_end low high p m ms spaced from among at =
     omega (arith, goes, still, up, it.some, at)
 
 -- what begins next, begins first
-next_most : (p other : ℕ) (m x : ℕ × Frame) (ms : List (ℕ × Frame)) (b : Bool) → nat_lt p x.0 ≡ b → x.0 ≤ m.0 → p < m.0 → (IsAmong m ms → next_start p other ms ≤ m.0) → (b ≡ false → IsAmong m ms)
-    → (if b then x.0 else next_start p other ms) ≤ m.0
-next_most p other m x ms true h order past further among = order
-next_most p other m x ms false h order past further among = further (among refl)
-
 next_least : (low high p other : ℕ) (m : ℕ × Frame) (ms : List (ℕ × Frame)) → AreSpaced low high ms → IsAmong m ms → p < m.0 → next_start p other ms ≤ m.0
 next_least low high p other m [] spaced among past = elim among [ ]
 next_least low high p other m (x ∷ ms) spaced (inl same) past =
     let at : m.0 ≡ x.0 = ap (λ (y : ℕ × Frame). y.0) same in
-    next_most p other m x ms (nat_lt p x.0) refl (omega arith) past (λ rest. next_least (end_of x) high p other m ms spaced.3 rest past) (λ h. absurd (grind arith))
+    cond_both (nat_lt p x.0) x.0 (next_start p other ms) (λ (n : ℕ). n ≤ m.0) (λ before. omega arith) (λ after. absurd (grind arith))
 next_least low high p other m (x ∷ ms) spaced (inr among) past =
-    let it = among_inside (end_of x) high m ms spaced.3 among in
-    let above = it.above in
-    next_most p other m x ms (nat_lt p x.0) refl (omega arith) past (λ rest. next_least (end_of x) high p other m ms spaced.3 rest past) (λ h. among)
+    let above = (among_inside (end_of x) high m ms spaced.3 among).above in
+    cond_both (nat_lt p x.0) x.0 (next_start p other ms) (λ (n : ℕ). n ≤ m.0) (λ before. omega arith) (λ after. next_least (end_of x) high p other m ms spaced.3 among past)
 
 -- and it is one of the frames, or the other position
 NextIs : ℕ → ℕ → List (ℕ × Frame) → ℕ → Type 0
 NextIs p other ms n = (n ≡ other) ⊎ ((m : ℕ × Frame) × IsAmong m ms × (p < m.0) × (n ≡ m.0))
 
-next_by : (p other : ℕ) (x : ℕ × Frame) (ms : List (ℕ × Frame)) (b : Bool) → nat_lt p x.0 ≡ b → NextIs p other ms (next_start p other ms) → NextIs p other (x ∷ ms) (if b then x.0 else next_start p other ms)
-unfolding NextIs
-next_by p other x ms true h further = inr (x, inl refl, grind arith, refl)
-next_by p other x ms false h (inl is) = inl is
-next_by p other x ms false h (inr found) = inr (found.0, inr found.1, found.2, found.3)
-
 next_is : (p other : ℕ) (ms : List (ℕ × Frame)) → NextIs p other ms (next_start p other ms)
 unfolding NextIs
 next_is p other [] = inl refl
-next_is p other (x ∷ ms) = next_by p other x ms (nat_lt p x.0) refl (next_is p other ms)
+next_is p other (x ∷ ms) =
+    cond_both (nat_lt p x.0) x.0 (next_start p other ms) (λ (n : ℕ). NextIs p other (x ∷ ms) n)
+    (λ before. inr (x, inl refl, grind arith, refl))
+    (λ after. elim (next_is p other ms) [ inl is ↦ inl is | inr found ↦ inr (found.0, inr found.1, found.2, found.3) ])
 
-min_is : (a b c : ℕ) → (min a (min b c) ≡ a) ⊎ ((min a (min b c) ≡ b) ⊎ (min a (min b c) ≡ c))
-min_is a b c = by_cmp (λ (o : Ordering). (min a (min b c) ≡ a) ⊎ ((min a (min b c) ≡ b) ⊎ (min a (min b c) ≡ c))) b c
-    (λ below. by_cmp (λ (o : Ordering). (min a (min b c) ≡ a) ⊎ ((min a (min b c) ≡ b) ⊎ (min a (min b c) ≡ c))) a b (λ l. inl (omega arith)) (λ e. inl (omega arith)) (λ g. inr (inl (omega arith))))
-    (λ same. by_cmp (λ (o : Ordering). (min a (min b c) ≡ a) ⊎ ((min a (min b c) ≡ b) ⊎ (min a (min b c) ≡ c))) a b (λ l. inl (omega arith)) (λ e. inl (omega arith)) (λ g. inr (inl (omega arith))))
-    (λ above. by_cmp (λ (o : Ordering). (min a (min b c) ≡ a) ⊎ ((min a (min b c) ≡ b) ⊎ (min a (min b c) ≡ c))) a c (λ l. inl (omega arith)) (λ e. inl (omega arith)) (λ g. inr (inr (omega arith))))
+min_is : (a b : ℕ) → (min a b ≡ a) ⊎ (min a b ≡ b)
+min_is a b = by_cmp (λ (o : Ordering). (min a b ≡ a) ⊎ (min a b ≡ b)) a b (λ below. inl (omega arith)) (λ same. inl (omega arith)) (λ above. inr (omega arith))
 
 pub gap_of : (g : Geometry) (publication : Publication) (p : ℕ) (fs : List Frame) → AreEncodable fs → HasGap (received_all (begun g publication p) fs)
 unfolding AreSpacedIn NextIs
@@ -217,9 +190,9 @@ gap_of g publication p fs encodable =
           (λ before. inl (out r.from r.high r.from m r.joined spaced (omega arith) among before));
       high = omega arith;
       term = omega arith;
-      first = elim (min_is next r.high term) [
+      first = elim (min_is next (min r.high term)) [
         | inl is ↦ elim (next_is (rebuilt r) r.high r.joined) [ inl other ↦ inl (is ∙ other) | inr found ↦ inr (inr (found.0, found.1, found.2, is ∙ found.3)) ]
-        | inr rest ↦ elim rest [ inl is ↦ inl is | inr is ↦ inr (inl is) ]
+        | inr rest ↦ elim (min_is r.high term) [ inl is ↦ inl (rest ∙ is) | inr is ↦ inr (inl (rest ∙ is)) ]
       ];
     }
 
@@ -243,19 +216,15 @@ ends_insert high p f low (m ∷ ms) spaced some free =
 IsMark : ℕ → List ℕ → Received → Type 0
 IsMark join told r = r.high ≡ max join (max (greatest (map end_of r.joined)) (greatest told))
 
-mark_if : (join : ℕ) (told : List ℕ) (r : Received) (f : Frame) (p : ℕ) (b : Bool) → is_open r p (p + aligned_length f) ≡ b → AreSpacedIn r → IsEncodable f
-    → place_in r.geometry r.publication f ≡ Some p → IsMark join told r → IsMark join told (after r f (if b then Joins p else Drops))
+mark_place : (join : ℕ) (told : List ℕ) (r : Received) (f : Frame) → AreSpacedIn r → IsEncodable f → IsMark join told r
+    → IsMark join told (after r f (frame_fate r f (place_in r.geometry r.publication f)))
 unfolding AreSpacedIn IsMark
-mark_if join told r f p true opens spaced encodable place mark =
-    let parts = open_parts r p (p + aligned_length f) opens in
+mark_place join told r f spaced encodable mark =
+    by_place (λ (it : Fate). IsMark join told (after r f it)) r f (place_in r.geometry r.publication f) refl
+    (λ p place opens. let parts = open_parts r p (p + aligned_length f) opens in
     let ends = ends_insert r.high p f r.from r.joined spaced (has_size r.geometry r.publication f p encodable place) parts.free in
-    omega (arith, mark, ends)
-mark_if join told r f p false opens spaced encodable place mark = mark
-
-mark_frame : (join : ℕ) (told : List ℕ) (r : Received) (f : Frame) (o : Option ℕ) → AreSpacedIn r → IsEncodable f → place_in r.geometry r.publication f ≡ o → IsMark join told r
-    → IsMark join told (after r f (frame_fate r f o))
-mark_frame join told r f None spaced encodable place mark = mark
-mark_frame join told r f (Some p) spaced encodable place mark = mark_if join told r f p (is_open r p (p + aligned_length f)) refl spaced encodable place mark
+    omega (arith, mark, ends))
+    mark
 
 mark_heartbeat : (join : ℕ) (told : List ℕ) (r : Received) (f : Frame) (o : Option ℕ) → IsMark join told r → IsMark join (told ++ heartbeat_at Heartbeat o) (after r f (heartbeat_fate o))
 unfolding IsMark
@@ -264,52 +233,48 @@ mark_heartbeat join told r f (Some p) mark = let all = greatest-append told (p �
 
 mark_kind : (join : ℕ) (told : List ℕ) (r : Received) (f : Frame) (kind : FrameKind) → AreSpacedIn r → IsEncodable f → IsMark join told r
     → IsMark join (told ++ heartbeat_at kind (if is_of r.publication f then frame_position r.geometry f else None)) (after r f (fate_of kind r f))
-mark_kind join told r f Pad spaced encodable mark =
-    rw (append-nil told) (mark_frame join told r f (place_in r.geometry r.publication f) spaced encodable refl mark)
-mark_kind join told r f Message spaced encodable mark =
-    rw (append-nil told) (mark_frame join told r f (place_in r.geometry r.publication f) spaced encodable refl mark)
+mark_kind join told r f Pad spaced encodable mark = rw (append-nil told) (mark_place join told r f spaced encodable mark)
+mark_kind join told r f Message spaced encodable mark = rw (append-nil told) (mark_place join told r f spaced encodable mark)
 mark_kind join told r f Heartbeat spaced encodable mark = mark_heartbeat join told r f (if is_of r.publication f then frame_position r.geometry f else None) mark
 
--- whose frames are received stays
-geometry_same : (r : Received) (f : Frame) (it : Fate) → (after r f it).geometry ≡ r.geometry
-geometry_same r f (Joins p) = refl
-geometry_same r f (Tells p) = refl
-geometry_same r f Drops = refl
+-- whose frames are received stays, and from where
+record IsSame (old new : Received) : Type 0 where
+  geometry : new.geometry ≡ old.geometry
+  publication : new.publication ≡ old.publication
+  from : new.from ≡ old.from
 
-publication_same : (r : Received) (f : Frame) (it : Fate) → (after r f it).publication ≡ r.publication
-publication_same r f (Joins p) = refl
-publication_same r f (Tells p) = refl
-publication_same r f Drops = refl
+same_after : (r : Received) (f : Frame) (it : Fate) → IsSame r (after r f it)
+same_after r f (Joins p) = record { geometry = refl; publication = refl; from = refl }
+same_after r f (Tells p) = record { geometry = refl; publication = refl; from = refl }
+same_after r f Drops = record { geometry = refl; publication = refl; from = refl }
 
-heard_same : (r : Received) (f : Frame) (fs : List Frame) → heard (received r f).geometry (received r f).publication fs ≡ heard r.geometry r.publication fs
-heard_same r f fs =
-    ap (λ (g : Geometry). heard g (received r f).publication fs) (geometry_same r f (fate r f)) ∙ ap (λ (u : Publication). heard r.geometry u fs) (publication_same r f (fate r f))
+same_all : (r : Received) (fs : List Frame) → IsSame r (received_all r fs)
+same_all r [] = record { geometry = refl; publication = refl; from = refl }
+same_all r (f ∷ fs) =
+    let here = same_after r f (fate r f) in
+    let rest = same_all (received r f) fs in
+    record { geometry = rest.geometry ∙ here.geometry; publication = rest.publication ∙ here.publication; from = rest.from ∙ here.from }
+
+heard_same : (old new : Received) → IsSame old new → (fs : List Frame) → heard new.geometry new.publication fs ≡ heard old.geometry old.publication fs
+heard_same old new same fs =
+    ap (λ (g : Geometry). heard g new.publication fs) same.geometry ∙ ap (λ (u : Publication). heard old.geometry u fs) same.publication
 
 mark_all : (join : ℕ) (told : List ℕ) (r : Received) (fs : List Frame) → AreSpacedIn r → AreEncodable fs → IsMark join told r
     → IsMark join (told ++ heard r.geometry r.publication fs) (received_all r fs)
 mark_all join told r [] spaced encodable mark = rw (append-nil told) mark
 mark_all join told r (f ∷ fs) spaced encodable mark =
     let now : List ℕ = heartbeat_at f.kind (if is_of r.publication f then frame_position r.geometry f else None) in
-    let further = mark_all join (told ++ now) (received r f) fs (spaced_kind r f f.kind spaced encodable.0) encodable.1 (mark_kind join told r f f.kind spaced encodable.0 mark) in
+    let further = mark_all join (told ++ now) (received r f) fs (spaced_received r f spaced encodable.0) encodable.1 (mark_kind join told r f f.kind spaced encodable.0 mark) in
     let all : (told ++ now) ++ heard (received r f).geometry (received r f).publication fs ≡ told ++ (now ++ heard r.geometry r.publication fs) =
-    ap (λ (ns : List ℕ). (told ++ now) ++ ns) (heard_same r f fs) ∙ append_assoc told now (heard r.geometry r.publication fs) in
+    ap (λ (ns : List ℕ). (told ++ now) ++ ns) (heard_same r (received r f) (same_after r f (fate r f)) fs) ∙ append_assoc told now (heard r.geometry r.publication fs) in
     subst (λ (ns : List ℕ). IsMark join ns (received_all (received r f) fs)) all further
-
-all_geometry : (r : Received) (fs : List Frame) → (received_all r fs).geometry ≡ r.geometry
-all_geometry r [] = refl
-all_geometry r (f ∷ fs) = all_geometry (received r f) fs ∙ geometry_same r f (fate r f)
-
-all_publication : (r : Received) (fs : List Frame) → (received_all r fs).publication ≡ r.publication
-all_publication r [] = refl
-all_publication r (f ∷ fs) = all_publication (received r f) fs ∙ publication_same r f (fate r f)
 
 pub high_mark : (g : Geometry) (publication : Publication) (p : ℕ) (fs : List Frame) → AreEncodable fs → HasHighMark p fs (received_all (begun g publication p) fs)
 unfolding AreSpacedIn IsMark
 high_mark g publication p fs encodable =
     let r : Received = received_all (begun g publication p) fs in
     let mark = mark_all p [] (begun g publication p) fs tt encodable (omega arith) in
-    let said : heard r.geometry r.publication fs ≡ heard g publication fs =
-    ap (λ (h : Geometry). heard h r.publication fs) (all_geometry (begun g publication p) fs) ∙ ap (λ (u : Publication). heard g u fs) (all_publication (begun g publication p) fs) in
+    let said = heard_same (begun g publication p) r (same_all (begun g publication p) fs) fs in
     let both = greatest-append (map end_of r.joined) (heard r.geometry r.publication fs) in
     let same : greatest (heard r.geometry r.publication fs) ≡ greatest (heard g publication fs) = ap greatest said in
     omega (arith, mark, both, same)
@@ -318,43 +283,23 @@ high_mark g publication p fs encodable =
 AreMembersIn : Received → Type 0
 AreMembersIn r = AreMembers r.geometry r.publication r.joined
 
-members_if : (r : Received) (f : Frame) (p : ℕ) (b : Bool) → AreMembersIn r → IsEncodable f → place_in r.geometry r.publication f ≡ Some p → AreMembersIn (after r f (if b then Joins p else Drops))
+members_received : (r : Received) (f : Frame) → AreMembersIn r → IsEncodable f → AreMembersIn (received r f)
 unfolding AreMembersIn
-members_if r f p true members encodable place = members_insert r.geometry r.publication p f r.joined members encodable place
-members_if r f p false members encodable place = members
-
-members_frame : (r : Received) (f : Frame) (o : Option ℕ) → AreMembersIn r → IsEncodable f → place_in r.geometry r.publication f ≡ o → AreMembersIn (after r f (frame_fate r f o))
-members_frame r f None members encodable place = members
-members_frame r f (Some p) members encodable place = members_if r f p (is_open r p (p + aligned_length f)) members encodable place
-
-members_heartbeat : (r : Received) (f : Frame) (o : Option ℕ) → AreMembersIn r → AreMembersIn (after r f (heartbeat_fate o))
-unfolding AreMembersIn
-members_heartbeat r f None members = members
-members_heartbeat r f (Some p) members = members
-
-members_kind : (r : Received) (f : Frame) (kind : FrameKind) → AreMembersIn r → IsEncodable f → AreMembersIn (after r f (fate_of kind r f))
-members_kind r f Pad members encodable = members_frame r f (place_in r.geometry r.publication f) members encodable refl
-members_kind r f Message members encodable = members_frame r f (place_in r.geometry r.publication f) members encodable refl
-members_kind r f Heartbeat members encodable = members_heartbeat r f (if is_of r.publication f then frame_position r.geometry f else None) members
+members_received r f members encodable =
+    by_kind (λ (it : Fate). AreMembersIn (after r f it)) r f f.kind
+    (λ p place opens. members_insert r.geometry r.publication p f r.joined members encodable place)
+    (λ p. members)
+    members
 
 members_all : (r : Received) (fs : List Frame) → AreMembersIn r → AreEncodable fs → AreMembersIn (received_all r fs)
 members_all r [] members encodable = members
-members_all r (f ∷ fs) members encodable = members_all (received r f) fs (members_kind r f f.kind members encodable.0) encodable.1
-
-from_same : (r : Received) (f : Frame) (it : Fate) → (after r f it).from ≡ r.from
-from_same r f (Joins p) = refl
-from_same r f (Tells p) = refl
-from_same r f Drops = refl
-
-all_from : (r : Received) (fs : List Frame) → (received_all r fs).from ≡ r.from
-all_from r [] = refl
-all_from r (f ∷ fs) = all_from (received r f) fs ∙ from_same r f (fate r f)
+members_all r (f ∷ fs) members encodable = members_all (received r f) fs (members_received r f members encodable.0) encodable.1
 
 pub lie_apart : (g : Geometry) (publication : Publication) (p : ℕ) (fs : List Frame) → AreEncodable fs → LieApart p (received_all (begun g publication p) fs)
 unfolding AreSpacedIn AreMembersIn
 lie_apart g publication p fs encodable =
     let r : Received = received_all (begun g publication p) fs in
     record {
-      spaced = subst (λ (q : ℕ). AreSpaced q r.high r.joined) (all_from (begun g publication p) fs) (spaced_all (begun g publication p) fs tt encodable);
+      spaced = subst (λ (q : ℕ). AreSpaced q r.high r.joined) (same_all (begun g publication p) fs).from (spaced_all (begun g publication p) fs tt encodable);
       members = members_all (begun g publication p) fs tt encodable;
     }

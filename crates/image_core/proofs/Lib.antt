@@ -1,5 +1,6 @@
 mod BlockLemmas
 mod ChainLemmas
+mod FateLemmas
 mod HistoryLemmas
 mod InsertLemmas
 mod JoinLemmas
@@ -8,4 +9,5 @@ mod LawLemmas
 mod RangeLemmas
 mod SetupLemmas
 mod TakeLemmas
+mod TestLemmas
 mod UndoLemmas

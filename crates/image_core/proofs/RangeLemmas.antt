@@ -1,8 +1,9 @@
 -- What the first and the last frame of a range tell.
 use Rattle.std.proofs.Common.{◌≡◌, ◌∙◌, ap, refl, subst, ◌+◌, ◌<◌, ◌≤◌, ℕ, List, [], ◌∷◌, ◌++◌, Bool, true, false, arith}
-use Rattle.std.specs.Prelude.{cond, not, ◌&&◌, ◌||◌, nat_le, nat_lt, if◌then◌else◌}
+use Rattle.std.specs.Prelude.{cond, not, ◌&&◌, ◌||◌, nat_le, nat_lt}
 use Rattle.std.specs.Ordering.{nat_cmp, is_le}
 use Rattle.std.specs.BTreeMap.Range.{entries_between}
+use Rattle.std.proofs.lemmas.Bool.{cond-false, cond-true, cond_both, or_right}
 use Rattle.std.specs.declared.cmp.Ordering.{Ordering}
 use Rattle.std.specs.declared.ops.Bound.TheVariants.{Included, Excluded, Unbounded}
 use Rattle.frame_core.specs.declared.frame.Frame.{Frame}
@@ -19,14 +20,9 @@ before end ms = entries_between nat_cmp Unbounded (Excluded end) ms
 abbrev pub since : ℕ → List (ℕ × Frame) → List (ℕ × Frame)
 since p ms = entries_between nat_cmp (Included p) Unbounded ms
 
-or_and : (a b c : Bool) → b ≡ true → ((a || b) && c) ≡ c
-or_and true b c h = refl
-or_and false true c h = refl
-or_and false false c h = absurd cc
-
 -- a frame that begins at or after a range's end leaves it free
 free_above : (p end : ℕ) (m : ℕ × Frame) (ms : List (ℕ × Frame)) → end ≤ m.0 → is_free p end (m ∷ ms) ≡ is_free p end ms
-free_above p end m ms above = or_and (nat_le (end_of m) p) (nat_le end m.0) (is_free p end ms) (grind arith)
+free_above p end m ms above = ap (λ (b : Bool). b && is_free p end ms) (or_right (nat_le (end_of m) p) (nat_le end m.0) (grind arith))
 
 -- no frame begins before the range's end
 pub free_none : (p end : ℕ) (ms : List (ℕ × Frame)) → before end ms ≡ [] → is_free p end ms ≡ true
@@ -99,13 +95,13 @@ free_last p end low high (m ∷ ms) t e spaced is =
     record { free = last.free; begins = let begins = last.begins in omega arith; ends = last.ends })
     is
 
-if_lt : (p other : ℕ) (m : ℕ × Frame) (ms : List (ℕ × Frame)) (b : Bool) → nat_lt p m.0 ≡ b → p < m.0 → (if b then m.0 else next_start p other ms) ≡ m.0
-if_lt p other m ms true h past = refl
-if_lt p other m ms false h past = absurd (grind arith)
+-- a frame that begins past a position begins next
+next_here : (p other : ℕ) (m : ℕ × Frame) (ms : List (ℕ × Frame)) → p < m.0 → next_start p other (m ∷ ms) ≡ m.0
+next_here p other m ms past = cond-true (nat_lt p m.0) m.0 (next_start p other ms) (grind arith)
 
-if_not_lt : (p other : ℕ) (m : ℕ × Frame) (ms : List (ℕ × Frame)) (b : Bool) → nat_lt p m.0 ≡ b → m.0 ≤ p → (if b then m.0 else next_start p other ms) ≡ next_start p other ms
-if_not_lt p other m ms true h past = absurd (grind arith)
-if_not_lt p other m ms false h past = refl
+-- and another is passed by
+pub next_past : (p other : ℕ) (m : ℕ × Frame) (ms : List (ℕ × Frame)) → m.0 ≤ p → next_start p other (m ∷ ms) ≡ next_start p other ms
+next_past p other m ms past = cond-false (nat_lt p m.0) m.0 (next_start p other ms) (grind arith)
 
 pub next_none : (p other : ℕ) (ms : List (ℕ × Frame)) → since (p + 1) ms ≡ [] → next_start p other ms ≡ other
 next_none p other [] none = refl
@@ -113,23 +109,19 @@ next_none p other (m ∷ ms) none =
     by_cmp (λ (o : Ordering). cond (is_le o && not false) (m ∷ since (p + 1) ms) (since (p + 1) ms) ≡ [] → next_start p other (m ∷ ms) ≡ other) (p + 1) m.0
     (λ past h. absurd cc)
     (λ same h. absurd cc)
-    (λ below h. if_not_lt p other m ms (nat_lt p m.0) refl (omega arith) ∙ next_none p other ms h)
+    (λ below h. next_past p other m ms (omega arith) ∙ next_none p other ms h)
     none
 
 pub next_some : (p other : ℕ) (ms t : List (ℕ × Frame)) (e : ℕ × Frame) → since (p + 1) ms ≡ e ∷ t → next_start p other ms ≡ e.0
 next_some p other [] t e is = absurd cc
 next_some p other (m ∷ ms) t e is =
     by_cmp (λ (o : Ordering). cond (is_le o && not false) (m ∷ since (p + 1) ms) (since (p + 1) ms) ≡ e ∷ t → next_start p other (m ∷ ms) ≡ e.0) (p + 1) m.0
-    (λ past h. let same : m ≡ e = cc in if_lt p other m ms (nat_lt p m.0) refl (omega arith) ∙ ap (λ (x : ℕ × Frame). x.0) same)
-    (λ same h. let it : m ≡ e = cc in if_lt p other m ms (nat_lt p m.0) refl (omega arith) ∙ ap (λ (x : ℕ × Frame). x.0) it)
-    (λ below h. if_not_lt p other m ms (nat_lt p m.0) refl (omega arith) ∙ next_some p other ms t e h)
+    (λ past h. let same : m ≡ e = cc in next_here p other m ms (omega arith) ∙ ap (λ (x : ℕ × Frame). x.0) same)
+    (λ same h. let it : m ≡ e = cc in next_here p other m ms (omega arith) ∙ ap (λ (x : ℕ × Frame). x.0) it)
+    (λ below h. next_past p other m ms (omega arith) ∙ next_some p other ms t e h)
     is
-
-beyond_by : (p other : ℕ) (m : ℕ × Frame) (ms : List (ℕ × Frame)) (b : Bool) → nat_lt p m.0 ≡ b → p < next_start p other ms → p < (if b then m.0 else next_start p other ms)
-beyond_by p other m ms true h further = grind arith
-beyond_by p other m ms false h further = further
 
 -- what begins next begins past the position
 pub next_beyond : (p other : ℕ) (ms : List (ℕ × Frame)) → p < other → p < next_start p other ms
 next_beyond p other [] past = past
-next_beyond p other (m ∷ ms) past = beyond_by p other m ms (nat_lt p m.0) refl (next_beyond p other ms past)
+next_beyond p other (m ∷ ms) past = cond_both (nat_lt p m.0) m.0 (next_start p other ms) (λ (n : ℕ). p < n) (λ before. grind arith) (λ after. next_beyond p other ms past)

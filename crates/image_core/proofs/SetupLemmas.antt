@@ -1,6 +1,6 @@
 -- Where an image begins.
-use Rattle.std.proofs.Common.{rules, ◌≡◌, refl, ◌+◌, ◌*◌, ◌<◌, ◌≤◌, ◌^◌, ◌≤ℤ◌, ◌<ℤ◌, ◌+ℤ◌, ◌*ℤ◌, ℕ, ℤ, pos, negsuc, Bool, true, false, FitsSigned, w32, arith}
-use Rattle.std.specs.Prelude.{unsigned_abs, nat_le, nat_lt, ◌&&◌, ◌%◌, ◌==◌}
+use Rattle.std.proofs.Common.{rules, ◌≡◌, ◌+◌, ◌*◌, ◌<◌, ◌≤◌, ◌^◌, ◌≤ℤ◌, ◌<ℤ◌, ◌+ℤ◌, ◌*ℤ◌, ℕ, ℤ, pos, negsuc, true, FitsSigned, w32, arith}
+use Rattle.std.specs.Prelude.{unsigned_abs, nat_le, nat_lt, ◌%◌, ◌==◌}
 use Rattle.std.specs.Int.{is_power_of_two}
 use Rattle.std.proofs.lemmas.Int.{ints, wraps}
 use Rattle.std.proofs.lemmas.Nat.{mul-add-lt}
@@ -9,16 +9,12 @@ use Rattle.frame_core.specs.Limits.{is_mtu, is_term_length}
 use Rattle.frame_core.specs.Position.{terms_since}
 use Rattle.frame_core.specs.Setup.{HasJoinPosition, geometry_of}
 use Rattle.image_core.specs.Kept.{HasTerms}
-
-both : (a b c : Bool) → (a && b && c) ≡ true → (a ≡ true) × (b ≡ true)
-both true true c h = (refl, refl)
-both true false c h = absurd cc
-both false b c h = absurd cc
+use Rattle.image_core.proofs.TestLemmas.{all_parts}
 
 terms_of : (z : ℤ) → is_term_length z ≡ true → (pos 65536 ≤ℤ z) × (z ≤ℤ pos 1073741824)
 unfolding is_term_length
 terms_of (pos n) is =
-    let parts = both (nat_le 65536 n) (nat_le n 1073741824) (is_power_of_two n) is in
+    let parts = all_parts (nat_le 65536 n) (nat_le n 1073741824) (is_power_of_two n) is in
     let low : 65536 ≤ n = (let h = parts.0 in grind arith) in
     let high : n ≤ 1073741824 = (let h = parts.1 in grind arith) in
     (omega (arith, ints), omega (arith, ints))
@@ -27,7 +23,7 @@ terms_of (negsuc n) is = absurd cc
 mtu_of : (z : ℤ) → is_mtu z ≡ true → z ≤ℤ pos 65504
 unfolding is_mtu
 mtu_of (pos n) is =
-    let parts = both (nat_lt 32 n) (nat_le n 65504) ((n % 32) == 0) is in
+    let parts = all_parts (nat_lt 32 n) (nat_le n 65504) ((n % 32) == 0) is in
     let high : n ≤ 65504 = (let h = parts.1 in grind arith) in
     omega (arith, ints)
 mtu_of (negsuc n) is = absurd cc

@@ -1,6 +1,7 @@
 -- Frames that are taken.
-use Rattle.std.proofs.Common.{◌≡◌, ◌∙◌, sym, ap, refl, subst, ◌+◌, ◌<◌, ◌≤◌, ℕ, List, [], ◌∷◌, ◌++◌, Bool, true, false, Some, None, length, append_assoc, arith}
-use Rattle.std.specs.Prelude.{Option, map, if◌then◌else◌, slice_get, nat_le, ◌&&◌, ◌==◌}
+use Rattle.std.proofs.Common.{◌≡◌, ◌∙◌, sym, ap, refl, subst, ◌+◌, ◌<◌, ◌≤◌, ℕ, List, [], ◌∷◌, ◌++◌, true, Some, None, length, append_assoc, arith}
+use Rattle.std.specs.Prelude.{map, slice_get, nat_le, ◌==◌}
+use Rattle.std.proofs.lemmas.Bool.{and_from, cond-true, cond_both}
 use Rattle.std.proofs.lemmas.List.{length-append, map-append}
 use Rattle.frame_core.specs.declared.block.Place.{Place}
 use Rattle.frame_core.specs.declared.block.Publication.{Publication}
@@ -12,6 +13,8 @@ use Rattle.image_core.specs.Rebuild.{end_of}
 use Rattle.image_core.specs.History.{IsChain}
 use Rattle.image_core.specs.Kept.{AreMembers, AreSpaced, MovesFirst, TakesFirst, follows, longest_run}
 use Rattle.image_core.specs.declared.taking.Run.{Run}
+use Rattle.image_core.proofs.ChainLemmas.{chain_up}
+use Rattle.image_core.proofs.TestLemmas.{all_parts, part_by}
 
 -- what is left of spaced frames where a chain of the first was taken
 pub spaced_rest : (p q high : ℕ) (taken after : List (ℕ × Frame)) → AreSpaced p high (taken ++ after) → IsChain p taken q → AreSpaced q high after
@@ -26,37 +29,12 @@ pub taken_encodable : (g : Geometry) (publication : Publication) (taken after : 
 taken_encodable g publication [] after members = tt
 taken_encodable g publication (m ∷ taken) after members = (members.0, taken_encodable g publication taken after members.2)
 
-pub if_true : (b : Bool) (x y : Option ℕ) → b ≡ true → (if b then x else y) ≡ x
-if_true true x y h = refl
-if_true false x y h = absurd cc
-
--- what a run's end tells of its first frame
-pub part_by : (b : Bool) (o : Option ℕ) (stop : ℕ) → (if b then o else None) ≡ Some stop → (b ≡ true) × (o ≡ Some stop)
-part_by true o stop is = (refl, is)
-part_by false o stop is = absurd cc
-
 run_low : (place : Place) (offset stop : ℕ) (fs : List Frame) → run_end place offset fs ≡ Some stop → offset ≤ stop
 run_low place offset stop [] run = let same : offset ≡ stop = cc in omega arith
 run_low place offset stop (f ∷ fs) run =
     let parts = part_by (is_part place offset f) (run_end place (offset + aligned_length f) fs) stop run in
     let low = run_low place (offset + aligned_length f) stop fs parts.1 in
     omega arith
-
-pub chain_grows : (p q : ℕ) (ms : List (ℕ × Frame)) → IsChain p ms q → p ≤ q
-chain_grows p q [] chain = omega (arith, chain)
-chain_grows p q (m ∷ ms) chain = let low = chain_grows (end_of m) q ms chain.2 in omega (arith, chain.0)
-
-three_by : (a b c : Bool) → (a && b && c) ≡ true → (a ≡ true) × (b ≡ true) × (c ≡ true)
-three_by true true true is = (refl, refl, refl)
-three_by true true false is = absurd cc
-three_by true false c is = absurd cc
-three_by false b c is = absurd cc
-
-three : (a b c : Bool) → a ≡ true → b ≡ true → c ≡ true → (a && b && c) ≡ true
-three true true true ha hb hc = refl
-three true true false ha hb hc = absurd cc
-three true false c ha hb hc = absurd cc
-three false b c ha hb hc = absurd cc
 
 -- a frame that is the next message of a block
 pub record IsNext (place : Place) (at offset limit : ℕ) (m : ℕ × Frame) : Type 0 where
@@ -67,7 +45,7 @@ pub record IsNext (place : Place) (at offset limit : ℕ) (m : ℕ × Frame) : T
 pub next_parts : (place : Place) (at offset limit : ℕ) (m : ℕ × Frame) → follows place at offset limit m ≡ true → IsNext place at offset limit m
 unfolding follows
 next_parts place at offset limit m is =
-    let parts = three_by (m.0 == at) (is_part place offset m.1) (nat_le (offset + aligned_length m.1) limit) is in
+    let parts = all_parts (m.0 == at) (is_part place offset m.1) (nat_le (offset + aligned_length m.1) limit) is in
     let begins = parts.0 in
     let few = parts.2 in
     record { begins = grind arith; part = parts.1; few = grind arith }
@@ -77,7 +55,7 @@ unfolding follows
 follows_by place at offset limit m next =
     let begins = next.begins in
     let few = next.few in
-    three (m.0 == at) (is_part place offset m.1) (nat_le (offset + aligned_length m.1) limit) (grind arith) next.part (grind arith)
+    and_from _ _ (and_from _ _ (grind arith) next.part) (grind arith)
 
 -- the longest run of the first of some frames, behind one that ends where they begin
 pub record IsRun (place : Place) (run : Run) (offset limit : ℕ) (ms : List (ℕ × Frame)) (to : Run) : Type 0 where
@@ -119,7 +97,7 @@ more_longer : (place : Place) (run to : Run) (offset limit : ℕ) (m : ℕ × Fr
     → IsRun place (record { count = run.count + 1; end = run.end + aligned_length m.1 }) (offset + aligned_length m.1) limit ms to
     → (other more : List (ℕ × Frame)) (end stop : ℕ) → (m ∷ ms) ≡ other ++ more → IsChain run.end other end → run_end place offset (map (λ x. x.1) other) ≡ Some stop → stop ≤ limit → end ≤ to.end
 more_longer place run to offset limit m ms next is [] more end stop left chain ends few =
-    let grows = chain_grows (run.end + aligned_length m.1) to.end is.taken is.chain in
+    let grows = chain_up (run.end + aligned_length m.1) to.end is.taken is.chain in
     omega (arith, chain)
 more_longer place run to offset limit m ms next is (x ∷ other) more end stop left chain ends few =
     let same : x ≡ m = cc in
@@ -142,36 +120,29 @@ run_goes place run to offset limit m ms some next is =
       count = let count = is.count in omega arith;
       chain = (sym next.begins, some, subst (λ (p : ℕ). IsChain p is.taken to.end) at is.chain);
       last = is.last;
-      ends = if_true (is_part place offset m.1) (run_end place (offset + aligned_length m.1) (map (λ x. x.1) is.taken)) None next.part ∙ is.ends;
+      ends = cond-true (is_part place offset m.1) (run_end place (offset + aligned_length m.1) (map (λ x. x.1) is.taken)) None next.part ∙ is.ends;
       few = is.few;
       longest = more_longer place run to offset limit m ms next is;
     }
 
-run_by : (place : Place) (run to : Run) (offset limit : ℕ) (m : ℕ × Frame) (ms : List (ℕ × Frame)) (b : Bool) → follows place run.end offset limit m ≡ b → offset ≤ limit
-    → (follows place run.end offset limit m ≡ true → IsRun place run offset limit (m ∷ ms) to) → IsRun place run offset limit (m ∷ ms) (if b then to else run)
-run_by place run to offset limit m ms true is few goes = goes is
-run_by place run to offset limit m ms false is few goes =
-    run_stays place run offset limit (m ∷ ms) few (λ x rest first goes_on. let same : m ≡ x = cc in let no : follows place run.end offset limit m ≡ true = subst (λ (y : ℕ × Frame). follows place run.end offset limit y ≡ true) (sym same) goes_on in cc)
-
 pub run_is : (place : Place) (run : Run) (offset limit high : ℕ) (ms : List (ℕ × Frame)) → offset ≤ limit → AreSpaced run.end high ms → IsRun place run offset limit ms (longest_run place run offset limit ms)
 run_is place run offset limit high [] few spaced = run_stays place run offset limit [] few (λ m rest first goes. absurd cc)
 run_is place run offset limit high (m ∷ ms) few spaced =
-    run_by place run (longest_run place (record { count = run.count + 1; end = run.end + aligned_length m.1 }) (offset + aligned_length m.1) limit ms) offset limit m ms (follows place run.end offset limit m) refl few
+    let more : Run = record { count = run.count + 1; end = run.end + aligned_length m.1 } in
+    let to : Run = longest_run place more (offset + aligned_length m.1) limit ms in
+    cond_both (follows place run.end offset limit m) to run (λ (found : Run). IsRun place run offset limit (m ∷ ms) found)
     (λ goes. let next = next_parts place run.end offset limit m goes in
-    run_goes place run (longest_run place (record { count = run.count + 1; end = run.end + aligned_length m.1 }) (offset + aligned_length m.1) limit ms) offset limit m ms spaced.1 next
-    (run_is place (record { count = run.count + 1; end = run.end + aligned_length m.1 }) (offset + aligned_length m.1) limit high ms next.few
-    (subst (λ (p : ℕ). AreSpaced p high ms) (ap (λ (p : ℕ). p + aligned_length m.1) next.begins) spaced.3)))
-
-run_if : (b : Bool) (x y : Run) → b ≡ true → (if b then x else y) ≡ x
-run_if true x y h = refl
-run_if false x y h = absurd cc
+    run_goes place run to offset limit m ms spaced.1 next
+    (run_is place more (offset + aligned_length m.1) limit high ms next.few (subst (λ (p : ℕ). AreSpaced p high ms) (ap (λ (p : ℕ). p + aligned_length m.1) next.begins) spaced.3)))
+    (λ stops. run_stays place run offset limit (m ∷ ms) few (λ x rest first goes_on. let same : m ≡ x = cc in
+    let no : follows place run.end offset limit m ≡ true = subst (λ (y : ℕ × Frame). follows place run.end offset limit y ≡ true) (sym same) goes_on in cc))
 
 -- one frame more at the beginning of a run
 pub run_on : (place : Place) (run : Run) (offset limit : ℕ) (m : ℕ × Frame) (ms all : List (ℕ × Frame)) → all ≡ m ∷ ms → follows place run.end offset limit m ≡ true
     → longest_run place run offset limit all ≡ longest_run place (record { count = run.count + 1; end = run.end + aligned_length m.1 }) (offset + aligned_length m.1) limit ms
 run_on place run offset limit m ms all is goes =
     ap (longest_run place run offset limit) is
-    ∙ run_if (follows place run.end offset limit m) (longest_run place (record { count = run.count + 1; end = run.end + aligned_length m.1 }) (offset + aligned_length m.1) limit ms) run goes
+    ∙ cond-true (follows place run.end offset limit m) (longest_run place (record { count = run.count + 1; end = run.end + aligned_length m.1 }) (offset + aligned_length m.1) limit ms) run goes
 
 -- the frames behind the next one are spaced behind it
 pub spaced_on : (place : Place) (at offset limit high : ℕ) (m : ℕ × Frame) (ms all : List (ℕ × Frame)) → all ≡ m ∷ ms → follows place at offset limit m ≡ true → AreSpaced at high all

@@ -1,5 +1,5 @@
 -- Taking out what was put in.
-use Rattle.std.proofs.Common.{◌≡◌, ap, refl, ℕ, List, [], ◌∷◌, ◌++◌}
+use Rattle.std.proofs.Common.{◌≡◌, ◌∙◌, sym, ap, refl, ℕ, List, [], ◌∷◌, ◌++◌}
 use Rattle.std.specs.Ordering.{nat_cmp}
 use Rattle.std.specs.Map.{remove_entry}
 use Rattle.std.specs.BTreeMap.{is_at}
@@ -10,3 +10,7 @@ use Rattle.image_core.specs.Kept.{without}
 pub without_push : (ps : List ℕ) (p : ℕ) (ms : List (ℕ × Frame)) → without (ps ++ p ∷ []) ms ≡ without ps (remove_entry (is_at (nat_cmp p)) ms)
 without_push [] p ms = refl
 without_push (q ∷ ps) p ms = ap (remove_entry (is_at (nat_cmp q))) (without_push ps p ms)
+
+-- the last of some positions took its frame out, and the others take out the rest
+pub without_last : (ps all : List ℕ) (p : ℕ) (old new : List (ℕ × Frame)) → all ≡ ps ++ p ∷ [] → new ≡ remove_entry (is_at (nat_cmp p)) old → without ps new ≡ without all old
+without_last ps all p old new last out = ap (without ps) out ∙ sym (without_push ps p old) ∙ ap (λ (qs : List ℕ). without qs old) (sym last)

@@ -152,8 +152,9 @@ impl Image {
 
     /// What becomes of the frames of a datagram, in order. One of at least 8 bytes whose type is neither that of data
     /// nor that of pads is foreign, and changes nothing. BadFrame, with the offset in bytes, where another one is
-    /// refused: docs/PROTOCOL.md, "Datagrams". NoMemory where a frame can't be kept. A refused datagram changes nothing.
-    /// Costs for each frame the logarithm of how many are held; a frame is copied only if it joins.
+    /// refused: docs/PROTOCOL.md, "Datagrams". NoMemory where the frames can't be listed or one that joins can't be kept.
+    /// A refused datagram changes nothing. Costs for each frame the logarithm of how many are held, and that once more
+    /// for each frame by which the rebuild position moves on; a frame is copied only if it joins.
     pub fn insert(&mut self, datagram: &[u8]) -> Result<Inserted, Refusal>
         ensures inserted { IfOk result (λ i. Inserts self.old datagram.now i self.new) }
         ensures refused { IfErr result (IsInsertRefusal datagram.now) }
@@ -318,8 +319,7 @@ impl Image {
         ensures coming { IsComing self.now (frame_of frame.now) result }
     {
         match frame.kind {
-            FrameKind::Pad => self.frame_fate(frame),
-            FrameKind::Message => self.frame_fate(frame),
+            FrameKind::Pad | FrameKind::Message => self.frame_fate(frame),
             FrameKind::Heartbeat => self.heartbeat_fate(frame),
         }
     }

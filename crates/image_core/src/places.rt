@@ -5,6 +5,7 @@ ghost use Rattle.frame_core.specs.FrameEncoding.{aligned_length, frame_of};
 ghost use Rattle.frame_core.specs.Position.{frame_position};
 ghost use Rattle.image_core.specs.Received.{is_inside, is_of, is_within, place_in, window};
 
+use frame_core::limits::HEADER_LENGTH;
 use frame_core::{FrameKind, FrameRef, Geometry, Publication};
 
 // Whether a frame is of the publication's session and stream.
@@ -24,7 +25,7 @@ fn is_within(geometry: &Geometry, frame: &FrameRef<'_>) -> bool
         result ≡ is_within geometry.now.mtu it.kind it.length }
 {
     match frame.kind {
-        FrameKind::Pad => 32 <= geometry.mtu,
+        FrameKind::Pad => HEADER_LENGTH as i32 <= geometry.mtu,
         FrameKind::Message => frame.length <= geometry.mtu,
         FrameKind::Heartbeat => false,
     }

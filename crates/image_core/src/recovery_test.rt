@@ -1,7 +1,8 @@
 //! A stream over a bad line: shuffled, with repeats and losses, until all of it has come.
 
-use crate::{Image, repair};
-use frame_core::{Frame, FrameKind, Items, Nak, Setup, are_encodable};
+use crate::Image;
+use crate::tests::{SETUP, datagram, message, repaired};
+use frame_core::{Frame, FrameKind, Items, Nak, Setup};
 use std::alloc::{AllocError, Global};
 use std::process::Abort;
 use std::test::Fail;
@@ -11,32 +12,18 @@ const FRAMES: u32 = 100_000;
 
 const TOGETHER: u32 = 250;
 
-// Session 7 and stream 1,001, terms of 65,536 bytes from the largest term id on.
-const SETUP: Setup = Setup {
-    flags: 0,
-    term_offset: 0,
-    session_id: 7,
-    stream_id: 1_001,
+// The vectors' publication, from the largest term id on.
+const FROM_THE_LARGEST: Setup = Setup {
     initial_term_id: i32::MAX,
     active_term_id: i32::MAX,
-    term_length: 65_536,
-    mtu: 1_408,
-    ttl: 0,
+    ..SETUP
 };
 
 // The frame of a number: what it carries is the number.
 fn frame(alloc: Global, number: u32) -> Result<Frame, AllocError> {
-    Ok(Frame {
-        kind: FrameKind::Message,
-        flags: 0xC0,
-        length: 36,
-        term_offset: (number % 1_024 * 64) as i32,
-        session_id: 7,
-        stream_id: 1_001,
-        term_id: i32::MAX.wrapping_add((number / 1_024) as i32),
-        reserved: 0,
-        payload: Items::from_vec(number.to_le_bytes().to_vec(alloc)?),
-    })
+    let term_id = i32::MAX.wrapping_add((number / 1_024) as i32);
+    let offset = (number % 1_024 * 64) as i32;
+    message(alloc, term_id, offset, &number.to_le_bytes())
 }
 
 // A heartbeat before the frame of a number.
@@ -47,12 +34,6 @@ fn heartbeat(alloc: Global, number: u32) -> Result<Frame, AllocError> {
         payload: Items::new(alloc),
         ..frame(alloc, number)?
     })
-}
-
-fn datagram(alloc: Global, frame: &Frame) -> Result<Vec<u8>, AllocError> {
-    let mut bytes = frame.header().to_vec(alloc)?;
-    bytes.extend_from_slice(frame.payload.as_slice())?;
-    Ok(bytes)
 }
 
 // The frames of some numbers, from the first on.
@@ -89,10 +70,7 @@ fn send(alloc: Global, image: &mut Image, frames: &[Frame], mut seed: u32) -> Re
 
 // Fills the gap that a request names.
 fn fill(alloc: Global, image: &mut Image, frames: &[Frame], nak: &Nak) -> Result<(), Fail> {
-    if !are_encodable(frames) {
-        return Err("a frame has no encoding".into());
-    }
-    for bytes in repair(alloc, frames, nak)?.as_slice() {
+    for bytes in repaired(alloc, frames, nak)?.as_slice() {
         image.insert(bytes.as_slice())?;
     }
     Ok(())
@@ -127,7 +105,7 @@ fn take_all(rt: &impl Abort, image: &mut Image, mut number: u32) -> Result<u32, 
 #[test]
 fn a_stream_comes_whole_over_a_bad_line(rt: HostRuntime) -> Result<(), Fail> {
     let alloc = rt.alloc();
-    let mut image = Image::from_setup(alloc, &SETUP)?;
+    let mut image = Image::from_setup(alloc, &FROM_THE_LARGEST)?;
     let mut seed = 1;
     let mut taken = 0;
     for group in 0..FRAMES / TOGETHER {

@@ -6,7 +6,7 @@ use std::alloc::{AllocError, Global};
 use std::test::Fail;
 
 // Session 7 and stream 1,001, terms of 65,536 bytes from term 42 on, an MTU of 1,408, joined at the beginning.
-const SETUP: Setup = Setup {
+pub const SETUP: Setup = Setup {
     flags: 0,
     term_offset: 0,
     session_id: 7,
@@ -54,7 +54,7 @@ const fn counted(held: usize, dropped: usize) -> Inserted {
 }
 
 // A message of the vectors' session and stream.
-fn message(alloc: Global, term_id: i32, offset: i32, body: &[u8]) -> Result<Frame, AllocError> {
+pub fn message(alloc: Global, term_id: i32, offset: i32, body: &[u8]) -> Result<Frame, AllocError> {
     Ok(Frame {
         kind: FrameKind::Message,
         flags: 0xC0,
@@ -69,7 +69,7 @@ fn message(alloc: Global, term_id: i32, offset: i32, body: &[u8]) -> Result<Fram
 }
 
 // A datagram of one frame.
-fn datagram(alloc: Global, frame: &Frame) -> Result<Vec<u8>, AllocError> {
+pub fn datagram(alloc: Global, frame: &Frame) -> Result<Vec<u8>, AllocError> {
     let mut bytes = frame.header().to_vec(alloc)?;
     bytes.extend_from_slice(frame.payload.as_slice())?;
     Ok(bytes)
@@ -144,7 +144,7 @@ fn a_request_is_answered_by_its_frames(rt: HostRuntime) -> Result<(), Fail> {
 }
 
 // The datagrams of the frames that a request asks for.
-fn repaired(alloc: Global, frames: &[Frame], nak: &Nak) -> Result<Items<Items<u8>>, Fail> {
+pub fn repaired(alloc: Global, frames: &[Frame], nak: &Nak) -> Result<Items<Items<u8>>, Fail> {
     if !are_encodable(frames) {
         return Err("a frame has no encoding".into());
     }

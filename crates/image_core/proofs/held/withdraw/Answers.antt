@@ -1,18 +1,9 @@
-use Rattle.std.proofs.Common.{◌∙◌, sym, ap, ℕ, List}
-use Rattle.image_core.specs.Kept.{without}
-use Rattle.image_core.proofs.UndoLemmas.{without_push}
+use Rattle.std.proofs.Common.{◌∙◌}
+use Rattle.image_core.proofs.UndoLemmas.{without_last}
 use Rattle.image_core.proofs.held.withdraw.Goals as goal
 
 pub each-preserved : goal.each-preserved
-each-preserved c =
-    ap (without c.pop.new.self.items) c.remove.ensures.entries
-    ∙ sym (without_push c.pop.new.self.items c.in-Some.position c.each.held.entries)
-    ∙ ap (λ (ps : List ℕ). without ps c.each.held.entries) (sym c.in-Some.ensures.items)
-    ∙ c.each.invariant
+each-preserved c = without_last c.pop.new.self.items _ c.in-Some.position c.each.held.entries _ c.in-Some.ensures.items c.remove.ensures.entries ∙ c.each.invariant
 
 pub each-preserved-in-Some : goal.each-preserved-in-Some
-each-preserved-in-Some c =
-    ap (without c.pop.new.self.items) c.remove.ensures.entries
-    ∙ sym (without_push c.pop.new.self.items c.in-Some.position c.each.held.entries)
-    ∙ ap (λ (ps : List ℕ). without ps c.each.held.entries) (sym c.in-Some.ensures.items)
-    ∙ c.each.invariant
+each-preserved-in-Some c = without_last c.pop.new.self.items _ c.in-Some.position c.each.held.entries _ c.in-Some.ensures.items c.remove.ensures.entries ∙ c.each.invariant

@@ -1,14 +1,10 @@
-use Rattle.std.proofs.Common.{rules, ◌≡◌, ◌∙◌, refl, subst, ◌≤ℤ◌, ℤ, pos, negsuc, w64, w32, FitsSigned, arith}
+use Rattle.std.proofs.Common.{rules, ◌∙◌, refl, subst, w64, w32, FitsSigned}
 use Rattle.std.specs.Prelude.{unsigned_abs}
-use Rattle.std.proofs.lemmas.Int.{ints, to_z-of_z}
+use Rattle.std.proofs.lemmas.Int.{to_z-of_z}
 use Rattle.frame_core.specs.Setup.{HasJoinPosition}
+use Rattle.image_core.proofs.KeptLemmas.{is_abs}
 use Rattle.image_core.proofs.SetupLemmas.{joined_below, joined_terms}
 use Rattle.image_core.proofs.image.Image.from_setup.Goals as goal
-
--- a number that is not negative is its size
-is_abs : (z : ℤ) → pos 0 ≤ℤ z → z ≡ pos (unsigned_abs z)
-is_abs (pos n) low = refl
-is_abs (negsuc n) low = absurd (omega (arith, ints))
 
 pub begun-requires-clause-terms : goal.begun-requires-clause-terms
 begun-requires-clause-terms c = rw c.geometry.ensures (joined_terms c.args.setup.now c.in-Some.position c.in-Some.ensures.value)
