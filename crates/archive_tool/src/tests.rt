@@ -1,5 +1,6 @@
 //! What no clause says: the worked scenarios, and what failing readers, writers and requests for memory lead to.
 
+mod command;
 mod faults;
 mod lines;
 mod merging;

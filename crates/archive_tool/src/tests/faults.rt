@@ -6,11 +6,11 @@ use crate::script::run_script;
 use std::io::{Error, ErrorKind, Read, Write};
 use std::test::*;
 
-// Gives its bytes a few at a time, and then fails.
+/// Gives its bytes a few at a time, and then fails.
 #[derive(Drop)]
-struct FailingReader<'a> {
-    bytes: &'a [u8],
-    at_once: usize,
+pub struct FailingReader<'a> {
+    pub bytes: &'a [u8],
+    pub at_once: usize,
 }
 
 impl Read for FailingReader<'_> {
@@ -26,10 +26,10 @@ impl Read for FailingReader<'_> {
     }
 }
 
-// Takes a few bytes, and then fails.
+/// Takes a few bytes, and then fails.
 #[derive(Drop)]
-struct FailingWriter {
-    room: usize,
+pub struct FailingWriter {
+    pub room: usize,
 }
 
 impl Write for FailingWriter {
