@@ -2,33 +2,43 @@
 """Refuses each request for memory of a script that reaches every line, one a run, on the built program.
 
 Each run has to answer `error 18 NoMemory` on one line and go on, or to end with that line on standard error and status 1,
-what it wrote being a beginning of the right output. First: cd crates/archive_tool && rt run -- run < stdin
+what it wrote being a beginning of the right output; or it gives the right output, another request having made good for the
+refused one. First: cd crates/archive_tool && rt run -- run < stdin
 """
 import sys
+from collections import Counter
+from subprocess import CompletedProcess
 
 from refusing import ROOT, built_shim, request_count, run
 
 PROGRAM = [ROOT / "crates/archive_tool/out/archive_tool", "run"]
 HELLO = "2500000000c00100%s00000007000000e90300002a000000000000000000000068656c6c6f"
 LINES = ["start 1001 7 42 65536 1408 131072 0 1000 c", "block 0 " + HELLO % "00", "block 0 " + HELLO % "40", "list 0 10",
-         "replay 0 0 -1", "poll 0 1", "poll 0 5", "no line", "block 0 " + HELLO % "00", "quit"]
+         "replay 0 0 -1", "poll 0 1", "poll 0 5", "merge 42 65536 0", "merge-replay " + HELLO % "00", "merge-live " + HELLO % "40",
+         "merge-take", "merge-state", "no line", "block 0 " + HELLO % "00", "quit"]
 SCRIPT = "\n".join(LINES).encode()
 WANT = b"error 18 NoMemory\n"
+
+
+def told(ran: CompletedProcess, right: bytes) -> str:
+    """How a run told of the request that was refused."""
+    if ran.returncode == 0 and ran.stderr == b"":
+        if ran.stdout == right:
+            return "made good"
+        if ran.stdout.count(WANT) == 1:
+            return "on one line"
+    if ran.returncode == 1 and ran.stderr == WANT and right.startswith(ran.stdout):
+        return "at the end"
+    return "wrongly"
 
 
 def main() -> int:
     with built_shim() as shim:
         whole = run(shim, PROGRAM, SCRIPT)
         count = request_count(whole)
-        wrong = []
-        for number in range(1, count + 1):
-            ran = run(shim, PROGRAM, SCRIPT, refused=number)
-            goes_on = ran.returncode == 0 and ran.stdout.count(WANT) == 1 and ran.stderr == b""
-            ends = ran.returncode == 1 and ran.stderr == WANT and whole.stdout.startswith(ran.stdout)
-            if not goes_on and not ends:
-                wrong.append(number)
-        print(f"{count} requests refused in turn, {len(wrong)} answered wrongly {wrong or ''}")
-        return 1 if wrong else 0
+        ways = Counter(told(run(shim, PROGRAM, SCRIPT, refused=number), whole.stdout) for number in range(1, count + 1))
+        print(f"{count} requests refused in turn, told " + ", ".join(f"{way}: {number}" for way, number in sorted(ways.items())))
+        return 1 if ways["wrongly"] else 0
 
 
 if __name__ == "__main__":
