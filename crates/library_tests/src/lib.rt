@@ -7,4 +7,8 @@ mod disks;
 #[cfg(test)]
 mod frames;
 #[cfg(test)]
+mod images;
+#[cfg(test)]
+mod merges;
+#[cfg(test)]
 mod vectors;

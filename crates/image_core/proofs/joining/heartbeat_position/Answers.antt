@@ -6,7 +6,7 @@ use Rattle.frame_core.specs.declared.geometry.Geometry.{Geometry}
 use Rattle.frame_core.specs.FrameEncoding.{frame_of}
 use Rattle.frame_core.specs.Position.{HasRoom, frame_position}
 use Rattle.frame_core.proofs.PositionLemmas.{given}
-use Rattle.image_core.proofs.places.heartbeat_position.Goals as goal
+use Rattle.image_core.proofs.joining.heartbeat_position.Goals as goal
 
 -- an offset in a term is below the term's length
 below : (offset size : ℤ) → pos 0 ≤ℤ offset → offset <ℤ size → unsigned_abs offset < unsigned_abs size
@@ -22,6 +22,6 @@ room_by g f (Some p) is room =
     let high = below f.term_offset g.term_length here.low here.high in
     omega (arith, high, room)
 
-pub returns-clause-room : goal.returns-clause-room
-returns-clause-room c =
+pub returns-then-is_of-clause-room : goal.returns-then-is_of-clause-room
+returns-then-is_of-clause-room c =
     room_by c.args.geometry.now (frame_of c.args.frame.now) c.position_in.result c.position_in.ensures.value c.position_in.ensures.room

@@ -14,8 +14,8 @@ use Rattle.frame_core.proofs.OrderLemmas.{greater_cmp}
 use Rattle.image_core.specs.declared.fate.Fate.{Fate}
 use Rattle.image_core.specs.declared.fate.Fate.TheVariants.{Joins, Tells, Drops}
 use Rattle.image_core.specs.Rebuild.{end_of, chain_end, next_start}
-use Rattle.image_core.specs.Received.{Received, after, fate, fate_of, frame_fate, gap_end, heartbeat_fate, is_free, is_of, is_open, place_in, rebuilt, received, received_all, window}
-use Rattle.image_core.specs.History.{IsChain, IsUnseen, StandsFor}
+use Rattle.image_core.specs.Received.{Received, after, fate, fate_of, frame_fate, gap_end, heartbeat_fate, is_free, is_of, is_open, joining_position, rebuilt, received, received_all, window}
+use Rattle.image_core.specs.Received.{IsChain, IsUnseen, StandsFor}
 use Rattle.image_core.specs.Take.{IsGap}
 use Rattle.frame_core.specs.declared.nak.Nak.{Nak}
 use Rattle.frame_core.specs.Position.{HasPosition}
@@ -76,11 +76,11 @@ frame_same : (all r : Received) → StandsFor all r → (f : Frame) (o : Option 
 frame_same all r s f None = refl
 frame_same all r s f (Some p) = ap (λ (b : Bool). if b then Joins p else Drops) (open_same all r s p (p + aligned_length f))
 
-placed_same : (all r : Received) → StandsFor all r → (f : Frame) → frame_fate all f (place_in all.geometry all.publication f) ≡ frame_fate r f (place_in r.geometry r.publication f)
+placed_same : (all r : Received) → StandsFor all r → (f : Frame) → frame_fate all f (joining_position all.geometry all.publication f) ≡ frame_fate r f (joining_position r.geometry r.publication f)
 placed_same all r s f =
-    frame_same all r s f (place_in all.geometry all.publication f)
-    ∙ ap (λ (g : Geometry). frame_fate r f (place_in g all.publication f)) s.geometry
-    ∙ ap (λ (u : Publication). frame_fate r f (place_in r.geometry u f)) s.publication
+    frame_same all r s f (joining_position all.geometry all.publication f)
+    ∙ ap (λ (g : Geometry). frame_fate r f (joining_position g all.publication f)) s.geometry
+    ∙ ap (λ (u : Publication). frame_fate r f (joining_position r.geometry u f)) s.publication
 
 fate_same : (all r : Received) → StandsFor all r → (f : Frame) (kind : FrameKind) → fate_of kind all f ≡ fate_of kind r f
 fate_same all r s f Pad = placed_same all r s f
@@ -93,7 +93,7 @@ fate_same all r s f Heartbeat =
 joins_past : (r : Received) (f : Frame) (p : ℕ) (kind : FrameKind) → fate_of kind r f ≡ Joins p → rebuilt r ≤ p
 joins_past r f p kind =
     by_kind (λ (it : Fate). it ≡ Joins p → rebuilt r ≤ p) r f kind
-    (λ q place opens is. let same : q ≡ p = cc in let beyond = (open_parts r q (q + aligned_length f) opens).beyond in omega arith)
+    (λ q lies opens is. let same : q ≡ p = cc in let beyond = (open_parts r q (q + aligned_length f) opens).beyond in omega arith)
     (λ q is. absurd cc)
     (λ is. absurd cc)
 
