@@ -20,11 +20,11 @@ use Rattle.image_core.specs.Rebuild.{chain_end, end_of}
 use Rattle.image_core.specs.Received.{Received, is_inside, is_of, is_within, rebuilt}
 use Rattle.image_core.specs.Kept.{AreMembers, AreSpaced, CountsBlock, HasTerms, IsKept, TakesFirst, longest_run}
 use Rattle.image_core.specs.declared.taking.Run.{Run}
-use Rattle.image_core.specs.History.{IsChain}
+use Rattle.image_core.specs.Received.{IsChain}
 use Rattle.image_core.specs.Take.{GivesBlock, TakesBlock}
 use Rattle.image_core.proofs.ChainLemmas.{chain_below, chain_by, chain_low}
-use Rattle.image_core.proofs.HistoryLemmas.{chain_over, taken_stands}
-use Rattle.image_core.proofs.KeptLemmas.{IsPlaced, is_abs, placed}
+use Rattle.image_core.proofs.ReceivedLemmas.{chain_over, taken_stands}
+use Rattle.image_core.proofs.KeptLemmas.{IsAdmitted, is_abs, admitted}
 use Rattle.image_core.proofs.TakeLemmas.{IsRun, first_of, follows_by, members_rest, next_parts, run_is, run_on, same_first, spaced_on, spaced_rest, taken_encodable}
 use Rattle.image_core.proofs.TestLemmas.{part_by}
 
@@ -33,7 +33,7 @@ pub record IsFirst (g : Geometry) (publication : Publication) (from : ℕ) (m : 
   pub begins : from ≡ m.0
   pub some : 0 < aligned_length m.1
   pub encodable : IsEncodable m.1
-  pub place : IsPlaced g publication m.1 m.0
+  pub admitted : IsAdmitted g publication m.1 m.0
   pub position : HasPosition g m.1.term_id m.1.term_offset (pos from)
   pub inside : unsigned_abs m.1.term_offset + aligned_length m.1 ≤ unsigned_abs g.term_length
 
@@ -51,14 +51,14 @@ first_is : (g : Geometry) (publication : Publication) (from high : ℕ) (m : ℕ
 first_is g publication from high m ms spaced members some =
     let late = begins_by from high m ms spaced some in
     let begins : from ≡ m.0 = omega (arith, spaced.0, late) in
-    let place = placed g publication m.1 m.0 members.1 in
+    let fits = admitted g publication m.1 m.0 members.1 in
     record {
       begins = begins;
       some = spaced.1;
       encodable = members.0;
-      place = place;
-      position = subst (λ (p : ℕ). HasPosition g m.1.term_id m.1.term_offset (pos p)) (sym begins) (given g m.1.term_id m.1.term_offset m.0 place.position);
-      inside = inside_term g m.1 place.inside;
+      admitted = fits;
+      position = subst (λ (p : ℕ). HasPosition g m.1.term_id m.1.term_offset (pos p)) (sym begins) (given g m.1.term_id m.1.term_offset m.0 fits.position);
+      inside = inside_term g m.1 fits.inside;
     }
 
 -- the first of the frames that are held, and those behind it
@@ -87,7 +87,7 @@ within_mtu Message mtu size kind is = is
 within_mtu Pad mtu size kind is = absurd cc
 within_mtu Heartbeat mtu size kind is = absurd cc
 
-first_part : (g : Geometry) (publication : Publication) (f : Frame) (p offset : ℕ) → f.kind ≡ Message → IsPlaced g publication f p → f.term_offset ≡ pos offset
+first_part : (g : Geometry) (publication : Publication) (f : Frame) (p offset : ℕ) → f.kind ≡ Message → IsAdmitted g publication f p → f.term_offset ≡ pos offset
     → is_part (place_of g publication f) offset f ≡ true
 unfolding is_part
 first_part g publication f p offset kind place begins =
@@ -144,7 +144,7 @@ takes_pad g publication from size before after m terms is first kind covers =
         inl (record {
           alone = refl;
           kind = kind;
-          of_place = of_place g publication m.1 first.place.of;
+          of_place = of_place g publication m.1 first.admitted.of;
           inside = inside_int m.1.term_offset g.term_length (aligned_length m.1) first.position.low (let least = terms.least in omega (arith, ints)) first.inside;
         }),
       );
@@ -169,7 +169,7 @@ kind_by kind mtu size (inr heartbeat) within = absurd (let no : is_within mtu He
 
 -- a frame that has a place and is no message is a pad
 pub pad_kind : (g : Geometry) (publication : Publication) (from : ℕ) (m : ℕ × Frame) → IsFirst g publication from m → (m.1.kind ≡ Pad) ⊎ (m.1.kind ≡ Heartbeat) → m.1.kind ≡ Pad
-pad_kind g publication from m first kind = kind_by m.1.kind g.mtu m.1.length kind first.place.within
+pad_kind g publication from m first kind = kind_by m.1.kind g.mtu m.1.length kind first.admitted.within
 
 -- a message's aligned length in a block
 size_by : (kind : FrameKind) (mtu size : ℤ) (payload : List ℕ) → kind ≡ Message → HasLength kind size payload → is_within mtu kind size ≡ true → mtu ≤ℤ pos 65504 → aligned (unsigned_abs size) ≤ 65504
@@ -183,7 +183,7 @@ size_by Heartbeat mtu size payload kind has within most = absurd cc
 
 message_size : (g : Geometry) (publication : Publication) (from : ℕ) (m : ℕ × Frame) → HasTerms g → IsFirst g publication from m → m.1.kind ≡ Message → aligned_length m.1 ≤ 65504
 message_size g publication from m terms first kind =
-    size_by m.1.kind g.mtu m.1.length m.1.payload kind first.encodable.length first.place.within terms.mtu
+    size_by m.1.kind g.mtu m.1.length m.1.payload kind first.encodable.length first.admitted.within terms.mtu
 
 inside_last : (last : ℕ) (size : ℤ) (limit : ℕ) → last ≤ limit → limit ≤ unsigned_abs size → pos 0 ≤ℤ size → pos last ≤ℤ size
 inside_last last (pos w) limit few inside high = omega (arith, ints)
@@ -222,7 +222,7 @@ takes_messages : (g : Geometry) (publication : Publication) (from offset limit :
 takes_messages g publication from offset limit before behind m run terms members is first kind begins limit_is taken =
     let all : before ≡ (m ∷ taken.taken) ++ taken.rest = is ∙ ap (λ (ms : List (ℕ × Frame)). m ∷ ms) taken.left in
     let next : from + aligned_length m.1 ≡ end_of m = ap (λ (p : ℕ). p + aligned_length m.1) first.begins in
-    let part = first_part g publication m.1 m.0 offset kind first.place begins in
+    let part = first_part g publication m.1 m.0 offset kind first.admitted begins in
     record {
       taken = m ∷ taken.taken;
       left = all;
@@ -259,7 +259,7 @@ counts_messages g publication from offset limit high before behind m run terms m
     let size = message_size g publication from m terms first kind in
     let next = follows_by place from offset limit m (record {
       begins = sym first.begins;
-      part = first_part g publication m.1 m.0 offset kind first.place begins;
+      part = first_part g publication m.1 m.0 offset kind first.admitted begins;
       few = omega (arith, first.inside, size, limit_is, offset_is);
     }) in
     let behind_it = spaced_on place from offset limit high m behind before is next spaced in

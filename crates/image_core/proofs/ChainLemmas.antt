@@ -10,7 +10,7 @@ use Rattle.frame_core.specs.declared.frame.Frame.{Frame}
 use Rattle.frame_core.specs.FrameEncoding.{aligned_length}
 use Rattle.frame_core.proofs.OrderLemmas.{by_cmp}
 use Rattle.image_core.specs.Rebuild.{end_of, chain_end}
-use Rattle.image_core.specs.History.{IsChain}
+use Rattle.image_core.specs.Received.{IsChain}
 use Rattle.image_core.specs.Kept.{AreSpaced}
 
 pub spaced_weaken : (low less high : ℕ) (ms : List (ℕ × Frame)) → less ≤ low → AreSpaced low high ms → AreSpaced less high ms

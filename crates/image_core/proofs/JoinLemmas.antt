@@ -12,7 +12,7 @@ use Rattle.frame_core.specs.declared.geometry.Geometry.{Geometry}
 use Rattle.frame_core.specs.FrameEncoding.{IsEncodable, aligned_length}
 use Rattle.frame_core.proofs.OrderLemmas.{by_cmp, equal_cmp, greater_cmp}
 use Rattle.image_core.specs.Rebuild.{end_of, chain_end}
-use Rattle.image_core.specs.Received.{is_free, place_in}
+use Rattle.image_core.specs.Received.{is_free, joining_position}
 use Rattle.image_core.specs.Kept.{AreSpaced, AreMembers}
 use Rattle.image_core.proofs.ChainLemmas.{chain_at, chain_by, chain_low, chain_below}
 
@@ -63,13 +63,13 @@ remove_inserted low high p f (m ∷ ms) spaced some free =
     (λ after. rw (greater_cmp p m.0 after) (ap (λ (es : List (ℕ × Frame)). m ∷ es) (remove_inserted (end_of m) high p f ms spaced.3 some parts.1)))
 
 pub members_insert : (g : Geometry) (publication : Publication) (p : ℕ) (f : Frame) (ms : List (ℕ × Frame)) → AreMembers g publication ms → IsEncodable f
-    → place_in g publication f ≡ Some p → AreMembers g publication (insert_entry nat_cmp ms p f)
-members_insert g publication p f [] members encodable place = (encodable, place, tt)
-members_insert g publication p f (m ∷ ms) members encodable place =
+    → joining_position g publication f ≡ Some p → AreMembers g publication (insert_entry nat_cmp ms p f)
+members_insert g publication p f [] members encodable lies = (encodable, lies, tt)
+members_insert g publication p f (m ∷ ms) members encodable lies =
     by_cmp (λ (o : Ordering). AreMembers g publication (match_ordering o ((p, f) ∷ m ∷ ms) ((m.0, f) ∷ ms) (m ∷ insert_entry nat_cmp ms p f))) p m.0
-    (λ before. (encodable, place, members))
-    (λ same. (encodable, place ∙ ap (λ (q : ℕ). Some q) same, members.2))
-    (λ after. (members.0, members.1, members_insert g publication p f ms members.2 encodable place))
+    (λ before. (encodable, lies, members))
+    (λ same. (encodable, lies ∙ ap (λ (q : ℕ). Some q) same, members.2))
+    (λ after. (members.0, members.1, members_insert g publication p f ms members.2 encodable lies))
 
 -- the first frame begins where the chain does
 chain_more_at : (high p q : ℕ) (f : Frame) (m : ℕ × Frame) (ms : List (ℕ × Frame)) → 0 < aligned_length m.1 → AreSpaced (end_of m) high ms → p ≡ m.0 → chain_end p (m ∷ ms) ≤ q

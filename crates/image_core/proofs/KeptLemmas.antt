@@ -1,6 +1,6 @@
 -- What an image keeps stays so.
 use Rattle.std.proofs.Common.{◌≡◌, ◌∙◌, ap, refl, ◌+◌, ◌*◌, ◌<◌, ◌≤◌, ◌^◌, ◌≤ℤ◌, ℕ, ℤ, pos, negsuc, List, [], ◌∷◌, ◌++◌, true, Some, arith}
-use Rattle.std.specs.Prelude.{nat_le, max, unsigned_abs}
+use Rattle.std.specs.Prelude.{◌&&◌, nat_le, max, unsigned_abs}
 use Rattle.std.specs.Ordering.{nat_cmp}
 use Rattle.std.specs.BTreeMap.{insert_entry}
 use Rattle.std.proofs.lemmas.Int.{ints}
@@ -13,27 +13,26 @@ use Rattle.frame_core.specs.FrameEncoding.{HasLength, IsEncodable, aligned, alig
 use Rattle.frame_core.specs.Position.{frame_position}
 use Rattle.image_core.specs.declared.fate.Fate.TheVariants.{Joins}
 use Rattle.image_core.specs.Rebuild.{chain_end}
-use Rattle.image_core.specs.Received.{Received, after, is_free, is_inside, is_of, is_open, is_within, place_in, rebuilt, window}
+use Rattle.image_core.specs.Received.{Received, after, is_free, is_inside, is_of, is_open, is_within, joining_position, rebuilt, window}
 use Rattle.image_core.specs.Kept.{AreSpaced, IsJoining, IsKept, undone, without}
 use Rattle.image_core.proofs.ChainLemmas.{chain_high, chain_low, spaced_raise, spaced_wide}
 use Rattle.image_core.proofs.JoinLemmas.{chain_more, members_insert, remove_inserted, spaced_insert}
 use Rattle.image_core.proofs.TestLemmas.{all_parts, part_by}
 use Rattle.image_core.proofs.UndoLemmas.{without_push}
 
--- a frame has a place only if it is of the publication, within the MTU and inside its term, and lies at its position
-pub record IsPlaced (g : Geometry) (publication : Publication) (f : Frame) (p : ℕ) : Type 0 where
+-- a frame may join only if it is of the publication, within the MTU and inside its term, and lies at its position
+pub record IsAdmitted (g : Geometry) (publication : Publication) (f : Frame) (p : ℕ) : Type 0 where
   pub of : is_of publication f ≡ true
   pub within : is_within g.mtu f.kind f.length ≡ true
   pub inside : is_inside g f ≡ true
   pub position : frame_position g f ≡ Some p
 
-pub placed : (g : Geometry) (publication : Publication) (f : Frame) (p : ℕ) → place_in g publication f ≡ Some p → IsPlaced g publication f p
-unfolding place_in
-placed g publication f p is =
-    let of = part_by _ _ p is in
-    let within = part_by _ _ p of.1 in
-    let inside = part_by _ _ p within.1 in
-    record { of = of.0; within = within.0; inside = inside.0; position = inside.1 }
+pub admitted : (g : Geometry) (publication : Publication) (f : Frame) (p : ℕ) → joining_position g publication f ≡ Some p → IsAdmitted g publication f p
+unfolding joining_position
+admitted g publication f p is =
+    let found = part_by (is_of publication f && is_within g.mtu f.kind f.length && is_inside g f) (frame_position g f) p is in
+    let tests = all_parts (is_of publication f) (is_within g.mtu f.kind f.length) (is_inside g f) found.0 in
+    record { of = tests.0; within = tests.1; inside = tests.2; position = found.1 }
 
 -- a number that is not negative is its size
 pub is_abs : (z : ℤ) → pos 0 ≤ℤ z → z ≡ pos (unsigned_abs z)
@@ -49,10 +48,10 @@ size_by Pad mtu size payload has within = let low = abs_low size has.0 in omega 
 size_by Message mtu size payload has within = rw has (omega arith)
 size_by Heartbeat mtu size payload has within = absurd cc
 
--- a frame that has a place covers something
-pub has_size : (g : Geometry) (publication : Publication) (f : Frame) (p : ℕ) → IsEncodable f → place_in g publication f ≡ Some p → 0 < aligned_length f
-has_size g publication f p encodable place =
-    size_by f.kind g.mtu f.length f.payload encodable.length (placed g publication f p place).within
+-- a frame that may join covers something
+pub has_size : (g : Geometry) (publication : Publication) (f : Frame) (p : ℕ) → IsEncodable f → joining_position g publication f ≡ Some p → 0 < aligned_length f
+has_size g publication f p encodable lies =
+    size_by f.kind g.mtu f.length f.payload encodable.length (admitted g publication f p lies).within
 
 -- what an open range is
 pub record IsOpen (r : Received) (p end : ℕ) : Type 0 where
@@ -101,15 +100,15 @@ kept_hear r at p kept room = record {
 }
 
 -- the frames are spaced as before, and the one more
-pub spaced_join : (r : Received) (p : ℕ) (f : Frame) → AreSpaced r.from r.high r.joined → IsEncodable f → place_in r.geometry r.publication f ≡ Some p
+pub spaced_join : (r : Received) (p : ℕ) (f : Frame) → AreSpaced r.from r.high r.joined → IsEncodable f → joining_position r.geometry r.publication f ≡ Some p
     → is_open r p (p + aligned_length f) ≡ true → AreSpaced r.from (max r.high (p + aligned_length f)) (insert_entry nat_cmp r.joined p f)
-spaced_join r p f spaced encodable place opens =
+spaced_join r p f spaced encodable lies opens =
     let parts = open_parts r p (p + aligned_length f) opens in
     let low = chain_low r.from r.joined in
     spaced_insert r.from (max r.high (p + aligned_length f)) p f r.joined
     (spaced_raise r.from r.high (max r.high (p + aligned_length f)) r.joined (omega arith) spaced)
     (let beyond = parts.beyond in omega arith)
-    (has_size r.geometry r.publication f p encodable place)
+    (has_size r.geometry r.publication f p encodable lies)
     (omega arith)
     parts.free
 
@@ -119,8 +118,8 @@ kept_join r at p f kept encodable joining =
     let parts = open_parts r p (p + aligned_length f) joining.opens in
     record {
       terms = kept.terms;
-      spaced = spaced_join r p f kept.spaced encodable joining.place joining.opens;
-      members = members_insert r.geometry r.publication p f r.joined kept.members encodable joining.place;
+      spaced = spaced_join r p f kept.spaced encodable joining.lies joining.opens;
+      members = members_insert r.geometry r.publication p f r.joined kept.members encodable joining.lies;
       rebuilt = ap (λ (q : ℕ). chain_end q (insert_entry nat_cmp r.joined p f)) kept.rebuilt ∙ chain_more r.from r.high r.from p f r.joined kept.spaced (omega arith) parts.beyond;
       begins = let begins = kept.begins in omega arith;
       limit = let limit = kept.limit in let room = joining.room in omega arith;
@@ -132,14 +131,14 @@ wide_join r at p f kept encodable joining =
     let small = kept_small r at kept in
     let terms = terms_abs r.geometry.term_length kept.terms.most kept.terms.least in
     spaced_wide r.from (max r.high (p + aligned_length f)) (insert_entry nat_cmp r.joined p f) (let high = small.high in let room = joining.room in omega arith)
-    (spaced_join r p f kept.spaced encodable joining.place joining.opens)
+    (spaced_join r p f kept.spaced encodable joining.lies joining.opens)
 
 -- a frame that joined and was noted goes out as it came in
 pub undone_join : (ps noted : List ℕ) (high : ℕ) (r : Received) (at p : ℕ) (f : Frame) → IsKept r at → IsEncodable f → IsJoining r f p → noted ≡ ps ++ p ∷ []
     → undone noted high (after r f (Joins p)) ≡ undone ps high r
 undone_join ps noted high r at p f kept encodable joining is =
     let parts = open_parts r p (p + aligned_length f) joining.opens in
-    let size = has_size r.geometry r.publication f p encodable joining.place in
+    let size = has_size r.geometry r.publication f p encodable joining.lies in
     let goes : without noted (insert_entry nat_cmp r.joined p f) ≡ without ps r.joined =
     ap (λ (qs : List ℕ). without qs (insert_entry nat_cmp r.joined p f)) is
     ∙ without_push ps p (insert_entry nat_cmp r.joined p f)

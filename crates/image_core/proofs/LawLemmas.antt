@@ -1,4 +1,4 @@
--- The names of the rebuild position, the high mark and the gap.
+-- The names of the rebuild position, the high-water mark and the gap.
 use Rattle.std.proofs.Common.{◌≡◌, ◌∙◌, sym, ap, refl, subst, ◌+◌, ◌<◌, ◌≤◌, ◌⊎◌, inl, inr, ℕ, List, [], ◌∷◌, ◌++◌, true, Some, None, append_assoc, append-nil, arith}
 use Rattle.std.specs.Prelude.{◌==◌, map, max, min, nat_lt, Option, if◌then◌else◌}
 use Rattle.std.proofs.lemmas.Bool.{cond_both}
@@ -17,12 +17,12 @@ use Rattle.frame_core.proofs.OrderLemmas.{by_cmp}
 use Rattle.image_core.specs.declared.fate.Fate.{Fate}
 use Rattle.image_core.specs.declared.fate.Fate.TheVariants.{Joins, Tells, Drops}
 use Rattle.image_core.specs.Rebuild.{end_of, chain_end, next_start, term_end}
-use Rattle.image_core.specs.Received.{Received, after, begun, fate, fate_of, frame_fate, gap_end, heartbeat_fate, is_free, is_of, place_in, rebuilt, received, received_all}
-use Rattle.image_core.specs.History.{IsChain}
+use Rattle.image_core.specs.Received.{Received, after, begun, fate, fate_of, frame_fate, gap_end, heartbeat_fate, is_free, is_of, joining_position, rebuilt, received, received_all}
+use Rattle.image_core.specs.Received.{IsChain}
 use Rattle.image_core.specs.Kept.{AreMembers, AreSpaced}
-use Rattle.image_core.specs.Laws.{AreAmong, HasGap, HasHighMark, HasLongestChain, IsAmong, LieApart, greatest, heard, heartbeat_at}
+use Rattle.image_core.specs.Laws.{AreAmong, HasGap, HasHighWaterMark, HasLongestChain, IsAmong, LieApart, greatest, heard, heartbeat_at}
 use Rattle.image_core.proofs.ChainLemmas.{chain_at, chain_below, chain_by, chain_low, spaced_raise}
-use Rattle.image_core.proofs.FateLemmas.{by_kind, by_place}
+use Rattle.image_core.proofs.FateLemmas.{by_kind, by_joining_position}
 use Rattle.image_core.proofs.JoinLemmas.{apart, members_insert, not_at_first}
 use Rattle.image_core.proofs.KeptLemmas.{has_size, open_parts, spaced_join}
 
@@ -85,7 +85,7 @@ spaced_received : (r : Received) (f : Frame) → AreSpacedIn r → IsEncodable f
 unfolding AreSpacedIn
 spaced_received r f spaced encodable =
     by_kind (λ (it : Fate). AreSpacedIn (after r f it)) r f f.kind
-    (λ p place opens. spaced_join r p f spaced encodable place opens)
+    (λ p lies opens. spaced_join r p f spaced encodable lies opens)
     (λ p. spaced_raise r.from r.high (max r.high p) r.joined (omega arith) spaced)
     spaced
 
@@ -212,17 +212,17 @@ ends_insert high p f low (m ∷ ms) spaced some free =
     (λ same. absurd (not_at_first p (p + aligned_length f) m parts.0 same spaced.1 (omega arith)))
     (λ above. let rest = ends_insert high p f (end_of m) ms spaced.3 some parts.1 in omega (arith, rest))
 
--- the high mark is the greatest of the join position, the ends, and what was heard
+-- the high-water mark is the greatest of the join position, the ends, and what was heard
 IsMark : ℕ → List ℕ → Received → Type 0
 IsMark join told r = r.high ≡ max join (max (greatest (map end_of r.joined)) (greatest told))
 
 mark_place : (join : ℕ) (told : List ℕ) (r : Received) (f : Frame) → AreSpacedIn r → IsEncodable f → IsMark join told r
-    → IsMark join told (after r f (frame_fate r f (place_in r.geometry r.publication f)))
+    → IsMark join told (after r f (frame_fate r f (joining_position r.geometry r.publication f)))
 unfolding AreSpacedIn IsMark
 mark_place join told r f spaced encodable mark =
-    by_place (λ (it : Fate). IsMark join told (after r f it)) r f (place_in r.geometry r.publication f) refl
-    (λ p place opens. let parts = open_parts r p (p + aligned_length f) opens in
-    let ends = ends_insert r.high p f r.from r.joined spaced (has_size r.geometry r.publication f p encodable place) parts.free in
+    by_joining_position (λ (it : Fate). IsMark join told (after r f it)) r f (joining_position r.geometry r.publication f) refl
+    (λ p lies opens. let parts = open_parts r p (p + aligned_length f) opens in
+    let ends = ends_insert r.high p f r.from r.joined spaced (has_size r.geometry r.publication f p encodable lies) parts.free in
     omega (arith, mark, ends))
     mark
 
@@ -269,9 +269,9 @@ mark_all join told r (f ∷ fs) spaced encodable mark =
     ap (λ (ns : List ℕ). (told ++ now) ++ ns) (heard_same r (received r f) (same_after r f (fate r f)) fs) ∙ append_assoc told now (heard r.geometry r.publication fs) in
     subst (λ (ns : List ℕ). IsMark join ns (received_all (received r f) fs)) all further
 
-pub high_mark : (g : Geometry) (publication : Publication) (p : ℕ) (fs : List Frame) → AreEncodable fs → HasHighMark p fs (received_all (begun g publication p) fs)
+pub high_water_mark : (g : Geometry) (publication : Publication) (p : ℕ) (fs : List Frame) → AreEncodable fs → HasHighWaterMark p fs (received_all (begun g publication p) fs)
 unfolding AreSpacedIn IsMark
-high_mark g publication p fs encodable =
+high_water_mark g publication p fs encodable =
     let r : Received = received_all (begun g publication p) fs in
     let mark = mark_all p [] (begun g publication p) fs tt encodable (omega arith) in
     let said = heard_same (begun g publication p) r (same_all (begun g publication p) fs) fs in
@@ -287,7 +287,7 @@ members_received : (r : Received) (f : Frame) → AreMembersIn r → IsEncodable
 unfolding AreMembersIn
 members_received r f members encodable =
     by_kind (λ (it : Fate). AreMembersIn (after r f it)) r f f.kind
-    (λ p place opens. members_insert r.geometry r.publication p f r.joined members encodable place)
+    (λ p lies opens. members_insert r.geometry r.publication p f r.joined members encodable lies)
     (λ p. members)
     members
 

@@ -1,7 +1,7 @@
 mod BlockLemmas
 mod ChainLemmas
 mod FateLemmas
-mod HistoryLemmas
+mod ReceivedLemmas
 mod InsertLemmas
 mod JoinLemmas
 mod KeptLemmas

@@ -10,7 +10,7 @@ use Rattle.frame_core.specs.declared.geometry.Geometry.{Geometry}
 use Rattle.frame_core.specs.Block.{AreEncodable, is_part, run_end}
 use Rattle.frame_core.specs.FrameEncoding.{aligned_length}
 use Rattle.image_core.specs.Rebuild.{end_of}
-use Rattle.image_core.specs.History.{IsChain}
+use Rattle.image_core.specs.Received.{IsChain}
 use Rattle.image_core.specs.Kept.{AreMembers, AreSpaced, MovesFirst, TakesFirst, follows, longest_run}
 use Rattle.image_core.specs.declared.taking.Run.{Run}
 use Rattle.image_core.proofs.ChainLemmas.{chain_up}

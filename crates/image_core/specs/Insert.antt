@@ -9,7 +9,7 @@ use Rattle.image_core.specs.declared.inserted.Inserted.{Inserted}
 use Rattle.image_core.specs.declared.fate.Fate.{Fate}
 use Rattle.image_core.specs.declared.fate.Fate.TheVariants.{Joins, Tells, Drops}
 use Rattle.image_core.specs.Received.{Received, fate, received, received_all}
-use Rattle.image_core.specs.History.{StandsFor}
+use Rattle.image_core.specs.Received.{StandsFor}
 
 -- its header's type is neither that of pads nor that of data
 abbrev pub IsForeign : List ℕ → Type 0
@@ -44,6 +44,6 @@ Inserts old bytes i new =
 
 -- why a datagram isn't inserted
 abbrev pub IsInsertRefusal : List ℕ → Refusal → Type 0
-IsInsertRefusal bytes NoMemory = Unit {0}
+IsInsertRefusal bytes NoMemory = IsForeign bytes → ⊥
 IsInsertRefusal bytes (BadFrame offset) = (IsForeign bytes → ⊥) × IsBadAt bytes offset
 IsInsertRefusal bytes _ = ⊥

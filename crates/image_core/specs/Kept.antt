@@ -12,7 +12,7 @@ use Rattle.frame_core.specs.FrameEncoding.{IsEncodable, aligned_length}
 use Rattle.image_core.specs.Rebuild.{end_of, chain_end}
 use Rattle.image_core.specs.declared.fate.Fate.{Fate}
 use Rattle.image_core.specs.declared.fate.Fate.TheVariants.{Joins, Tells, Drops}
-use Rattle.image_core.specs.Received.{Received, is_open, place_in}
+use Rattle.image_core.specs.Received.{Received, is_open, joining_position}
 use Rattle.image_core.specs.declared.taking.Run.{Run}
 use Rattle.image_core.specs.Take.{TakesBlock}
 
@@ -24,7 +24,7 @@ AreSpaced low high (m ∷ ms) = (low ≤ m.0) × (0 < aligned_length m.1) × (en
 -- each has an encoding, and lies where it may join
 abbrev pub AreMembers : Geometry → Publication → List (ℕ × Frame) → Type 0
 AreMembers g publication [] = Unit {0}
-AreMembers g publication (m ∷ ms) = IsEncodable m.1 × (place_in g publication m.1 ≡ Some m.0) × AreMembers g publication ms
+AreMembers g publication (m ∷ ms) = IsEncodable m.1 × (joining_position g publication m.1 ≡ Some m.0) × AreMembers g publication ms
 
 -- a term and a message have so many bytes
 pub record HasTerms (g : Geometry) : Type 0 where
@@ -52,7 +52,7 @@ undone ps high r = record r { joined = without ps r.joined; high = high }
 
 -- a frame joins at a position, inside the stream
 pub record IsJoining (r : Received) (f : Frame) (p : ℕ) : Type 0 where
-  pub place : place_in r.geometry r.publication f ≡ Some p
+  pub lies : joining_position r.geometry r.publication f ≡ Some p
   pub opens : is_open r p (p + aligned_length f) ≡ true
   pub room : p + aligned_length f ≤ 2 ^ 31 * unsigned_abs r.geometry.term_length
 

@@ -1,4 +1,4 @@
--- What gives the rebuild position, the high mark and the gap their names: docs/PROTOCOL.md, "Images".
+-- What gives the rebuild position, the high-water mark and the gap their names: docs/PROTOCOL.md, "Images".
 use Rattle.std.specs.Prelude.{◌≡◌, ◌<◌, ◌≤◌, ◌⊎◌, ℕ, max, if◌then◌else◌, List, [], ◌∷◌, ◌++◌, Option, None, Some, map}
 use Rattle.frame_core.specs.declared.frame.FrameKind.{FrameKind}
 use Rattle.frame_core.specs.declared.frame.FrameKind.TheVariants.{Pad, Message, Heartbeat}
@@ -8,7 +8,7 @@ use Rattle.frame_core.specs.declared.geometry.Geometry.{Geometry}
 use Rattle.frame_core.specs.Position.{frame_position}
 use Rattle.image_core.specs.Rebuild.{end_of, term_end}
 use Rattle.image_core.specs.Received.{Received, gap_end, is_of, rebuilt}
-use Rattle.image_core.specs.History.{IsChain}
+use Rattle.image_core.specs.Received.{IsChain}
 use Rattle.image_core.specs.Kept.{AreMembers, AreSpaced}
 
 -- one of the frames, at its position
@@ -32,7 +32,7 @@ pub record HasLongestChain (r : Received) : Type 0 where
   pub follows : IsChain r.from chain (rebuilt r)
   pub longest : (other : List (ℕ × Frame)) (end : ℕ) → AreAmong other r.joined → IsChain r.from other end → end ≤ rebuilt r
 
--- the gap holds no received frame, and ends at the first of the high mark, the end of the term and the received frames behind the rebuild position
+-- the gap holds no received frame, and ends at the first of the high-water mark, the end of the term and the received frames behind the rebuild position
 pub record HasGap (r : Received) : Type 0 where
   pub empty : (m : ℕ × Frame) → IsAmong m r.joined → (end_of m ≤ rebuilt r) ⊎ (gap_end r ≤ m.0)
   pub high : gap_end r ≤ r.high
@@ -57,6 +57,6 @@ abbrev pub heard : Geometry → Publication → List Frame → List ℕ
 heard g publication [] = []
 heard g publication (f ∷ fs) = heartbeat_at f.kind (if is_of publication f then frame_position g f else None) ++ heard g publication fs
 
--- the high mark is the greatest of the join position, the ends of the received frames, and the positions of the publication's heartbeats among all frames
-abbrev pub HasHighMark : ℕ → List Frame → Received → Type 0
-HasHighMark join fs r = r.high ≡ greatest (join ∷ map end_of r.joined ++ heard r.geometry r.publication fs)
+-- the high-water mark is the greatest of the join position, the ends of the received frames, and the positions of the publication's heartbeats among all frames
+abbrev pub HasHighWaterMark : ℕ → List Frame → Received → Type 0
+HasHighWaterMark join fs r = r.high ≡ greatest (join ∷ map end_of r.joined ++ heard r.geometry r.publication fs)

@@ -1,7 +1,6 @@
 -- What a reader has to believe: which frames an image receives, how far its stream is rebuilt, what is given and what is missing.
 pub mod Rebuild
 pub mod Received
-pub mod History
 pub mod Insert
 pub mod Take
 pub mod Repair

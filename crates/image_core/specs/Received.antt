@@ -1,5 +1,5 @@
 -- The frames that an image received, over all datagrams in order: docs/PROTOCOL.md, "Images".
-use Rattle.std.specs.Prelude.{◌≡◌, ◌+◌, ◌/◌, ◌||◌, ◌&&◌, ℕ, ℤ, pos, max, min, nat_le, int_le, unsigned_abs, Bool, true, false, if◌then◌else◌, List, [], ◌∷◌, Option, None, Some}
+use Rattle.std.specs.Prelude.{◌≡◌, ◌<◌, ◌+◌, ◌++◌, ◌/◌, ◌||◌, ◌&&◌, ℕ, ℤ, pos, max, min, nat_le, int_le, unsigned_abs, Bool, true, false, if◌then◌else◌, List, [], ◌∷◌, Option, None, Some}
 use Rattle.std.specs.Ordering.{nat_cmp, int_eq}
 use Rattle.std.specs.BTreeMap.{insert_entry}
 use Rattle.frame_core.specs.declared.frame.FrameKind.{FrameKind}
@@ -15,7 +15,7 @@ use Rattle.image_core.specs.declared.fate.Fate.{Fate}
 use Rattle.image_core.specs.declared.fate.Fate.TheVariants.{Joins, Tells, Drops}
 use Rattle.image_core.specs.Rebuild.{end_of, chain_end, next_start, term_end}
 
--- whose frames an image receives, the frames that joined from a position on, each at its position and by rising position, and the high mark
+-- whose frames an image receives, the frames that joined from a position on, each at its position and by rising position, and the high-water mark
 pub record Received : Type 0 where
   pub geometry : Geometry
   pub publication : Publication
@@ -56,9 +56,9 @@ unfoldable pub is_inside : Geometry → Frame → Bool
 is_inside g f = nat_le (unsigned_abs f.term_offset + aligned_length f) (unsigned_abs g.term_length)
 
 -- the position at which a message or pad may join, if nothing that was received speaks against it
-unfoldable pub place_in : Geometry → Publication → Frame → Option ℕ
-place_in g publication f =
-    if is_of publication f then (if is_within g.mtu f.kind f.length then (if is_inside g f then frame_position g f else None) else None) else None
+unfoldable pub joining_position : Geometry → Publication → Frame → Option ℕ
+joining_position g publication f =
+    if is_of publication f && is_within g.mtu f.kind f.length && is_inside g f then frame_position g f else None
 
 -- a range overlaps no frame that joined
 abbrev pub is_free : ℕ → ℕ → List (ℕ × Frame) → Bool
@@ -79,10 +79,10 @@ abbrev pub heartbeat_fate : Option ℕ → Fate
 heartbeat_fate None = Drops
 heartbeat_fate (Some p) = Tells p
 
--- a heartbeat of the image's session and stream that has a position counts for the high mark alone
+-- a heartbeat of the image's session and stream that has a position counts for the high-water mark alone
 abbrev pub fate_of : FrameKind → Received → Frame → Fate
-fate_of Pad r f = frame_fate r f (place_in r.geometry r.publication f)
-fate_of Message r f = frame_fate r f (place_in r.geometry r.publication f)
+fate_of Pad r f = frame_fate r f (joining_position r.geometry r.publication f)
+fate_of Message r f = frame_fate r f (joining_position r.geometry r.publication f)
 fate_of Heartbeat r f = heartbeat_fate (if is_of r.publication f then frame_position r.geometry f else None)
 
 abbrev pub fate : Received → Frame → Fate
@@ -102,6 +102,27 @@ abbrev pub received_all : Received → List Frame → Received
 received_all r [] = r
 received_all r (f ∷ fs) = received_all (received r f) fs
 
--- where the gap ends that begins at the rebuild position: at the nearest received frame, the high mark or the end of the term, whichever is first
+-- where the gap ends that begins at the rebuild position: at the nearest received frame, the high-water mark or the end of the term, whichever is first
 abbrev pub gap_end : Received → ℕ
 gap_end r = min (next_start (rebuilt r) r.high r.joined) (min r.high (term_end r.geometry (rebuilt r)))
+
+-- frames that follow one another from a position to another
+abbrev pub IsChain : ℕ → List (ℕ × Frame) → ℕ → Type 0
+IsChain p [] q = p ≡ q
+IsChain p (m ∷ ms) q = (p ≡ m.0) × (0 < aligned_length m.1) × IsChain (end_of m) ms q
+
+-- the first is all that was received, and the second what is left of it where a chain of frames was taken
+pub record StandsFor (all r : Received) : Type 0 where
+  pub taken : List (ℕ × Frame)
+  pub geometry : all.geometry ≡ r.geometry
+  pub publication : all.publication ≡ r.publication
+  pub chain : IsChain all.from taken r.from
+  pub joined : all.joined ≡ taken ++ r.joined
+  pub high : all.high ≡ r.high
+
+-- what was taken makes no difference: the rebuild position, the gap, what becomes of each further frame, and what is received with it
+pub record IsUnseen (all r : Received) : Type 0 where
+  pub rebuilt : rebuilt all ≡ rebuilt r
+  pub gap : gap_end all ≡ gap_end r
+  pub fates : (f : Frame) → fate all f ≡ fate r f
+  pub further : (fs : List Frame) → StandsFor (received_all all fs) (received_all r fs)

@@ -8,7 +8,7 @@ use Rattle.frame_core.specs.declared.nak.Nak.{Nak}
 use Rattle.frame_core.specs.Block.{AreBlockOf}
 use Rattle.frame_core.specs.Nak.{HasRange}
 use Rattle.frame_core.specs.Position.{HasPosition}
-use Rattle.image_core.specs.History.{IsChain, StandsFor}
+use Rattle.image_core.specs.Received.{IsChain, StandsFor}
 use Rattle.image_core.specs.Received.{Received, gap_end, rebuilt}
 
 -- the first frames were taken from those that are held: a block of the publication, whose frames follow one another from where it begins to where the rest does, and the longest one
@@ -27,7 +27,7 @@ pub record GivesBlock (old : Received) (b : Block) (new : Received) : Type 0 whe
   pub same : new ≡ record old { from = new.from; joined = new.joined }
   pub whole : (all : Received) → StandsFor all old → StandsFor all new
 
--- a request for what is missing first: from the rebuild position, which lies below the high mark, to the gap's end
+-- a request for what is missing first: from the rebuild position, which lies below the high-water mark, to the gap's end
 pub record IsGap (r : Received) (n : Nak) : Type 0 where
   pub missing : rebuilt r < r.high
   pub session_id : n.session_id ≡ r.publication.session_id

@@ -23,7 +23,7 @@ pub fn term_end(geometry: &Geometry, position: u64) -> u64
 // A request for the range from a position to an end.
 pub fn nak_over(geometry: &Geometry, publication: &Publication, position: u64, end: u64) -> Nak
     requires terms { HasTerms geometry.now }
-    requires place { position < 2 ^ 31 * unsigned_abs geometry.now.term_length }
+    requires position { position < 2 ^ 31 * unsigned_abs geometry.now.term_length }
     requires some { position < end }
     requires few { end ≤ position + unsigned_abs geometry.now.term_length }
     ensures session { result.session_id ≡ publication.now.session_id }

@@ -9,16 +9,16 @@ ghost use Rattle.frame_core.specs.Block.{AreEncodable};
 ghost use Rattle.frame_core.specs.declared.refusal.Refusal.TheVariants.{NoMemory};
 ghost use Rattle.frame_core.specs.Setup.{IsUsable};
 ghost use Rattle.image_core.specs.Take.{GivesBlock, IsGap, TakesBlock};
-ghost use Rattle.image_core.specs.History.{StandsFor};
+ghost use Rattle.image_core.specs.Received.{StandsFor};
 ghost use Rattle.image_core.specs.Insert.{Inserts, IsForeign, IsInsertRefusal, tally, uncounted};
 ghost use Rattle.image_core.specs.Kept.{CountsBlock, HasTerms, IsComing, IsJoining, IsKept, undone};
-ghost use Rattle.image_core.specs.Received.{IsBegun, Received, after, begun, fate, frame_fate, gap_end, heartbeat_fate, is_of, is_open, place_in, rebuilt, received, received_all};
+ghost use Rattle.image_core.specs.Received.{IsBegun, Received, after, begun, fate, frame_fate, gap_end, heartbeat_fate, is_of, is_open, joining_position, rebuilt, received, received_all};
 
 use crate::fate::Fate;
 use crate::gaps::{nak_over, term_end};
 use crate::held::{chain_end, is_free, next_start, put, withdraw};
 use crate::inserted::Inserted;
-use crate::places::{heartbeat_position, place_of, window};
+use crate::joining::{heartbeat_position, joining_position, window};
 use crate::taking::{Run, longest_block, take_frames};
 use byteorder::{ByteOrder, LittleEndian};
 use frame_core::{
@@ -30,7 +30,7 @@ use std::collections::BTreeMap;
 use std::marker::Model;
 
 /// What a receiver knows of one publication: the frames that joined and that were not taken yet, how far the stream is
-/// rebuilt, and its high mark. It keeps each frame until it is taken; frames that joined lie at most half a term past
+/// rebuilt, and its high-water mark. It keeps each frame until it is taken; frames that joined lie at most half a term past
 /// the rebuild position, so it keeps what was rebuilt and not taken, and half a term.
 #[derive(Drop)]
 pub struct Image {
@@ -110,7 +110,7 @@ impl Image {
         self.rebuilt as i64
     }
 
-    /// The high mark, in bytes of the stream: the greatest of the position where the image joined, the ends of the
+    /// The high-water mark, in bytes of the stream: the greatest of the position where the image joined, the ends of the
     /// received frames, and the positions of the publication's heartbeats. Takes no memory.
     pub fn high(&self) -> i64
         ensures here { result ≡ pos self.now.high }
@@ -120,7 +120,7 @@ impl Image {
     }
 
     /// A request for what is missing first: from the rebuild position to the nearest received frame behind it, the high
-    /// mark or the end of the term, whichever is first. None where the rebuild position is the high mark. Takes no
+    /// mark or the end of the term, whichever is first. None where the rebuild position is the high-water mark. Takes no
     /// memory. Costs the logarithm of how many frames are held.
     pub fn gap(&self) -> Option<Nak>
         ensures here { MatchOption result (rebuilt self.now ≡ self.now.high) (IsGap self.now) }
@@ -177,6 +177,7 @@ impl Image {
             ((rebuilt self.old ≡ self.old.from) × (self.new ≡ self.old))
             (λ block. GivesBlock self.old block self.new)) }
         ensures memory { IfErr result (λ refusal. refusal ≡ NoMemory) }
+        ensures some { OnErr result (rebuilt self.old ≢ self.old.from) }
         ensures same { OnErr result (self.new ≡ self.old) }
     {
         if self.from == self.rebuilt {
@@ -249,6 +250,9 @@ impl Image {
         ensures after { OnOk result (self.new ≡ received self.old (frame_of frame.now)) }
         ensures back { OnOk result ((high : ℕ)
             → undone noted.new.items high self.new ≡ undone noted.old.items high self.old) }
+        // Only a frame that joins is copied.
+        ensures joins { OnErr result
+            ((p : ℕ) × (fate self.old (frame_of frame.now) ≡ Fate.Joins p)) }
         ensures memory { IfErr result (λ refusal. refusal ≡ NoMemory) }
         ensures same { OnErr result (self.new ≡ self.old) }
         ensures unnoted { OnErr result (noted.new.items ≡ noted.old.items) }
@@ -294,7 +298,7 @@ impl Image {
         Ok(())
     }
 
-    // Raises the high mark to where a heartbeat tells that the publication stands.
+    // Raises the high-water mark to where a heartbeat tells that the publication stands.
     fn hear(&mut self, position: u64)
         requires { position ≤ 2 ^ 31 * unsigned_abs self.old.geometry.term_length }
         ensures { self.new ≡ record self.old { high = max self.old.high position } }
@@ -328,16 +332,15 @@ impl Image {
     fn frame_fate(&self, frame: &FrameRef<'_>) -> Fate
         requires { IsEncodable (frame_of frame.now) }
         ensures fate { result ≡ frame_fate self.now (frame_of frame.now)
-            (place_in self.now.geometry self.now.publication (frame_of frame.now)) }
+            (joining_position self.now.geometry self.now.publication (frame_of frame.now)) }
         ensures coming { IsComing self.now (frame_of frame.now) result }
     {
-        let Some(position) = place_of(&self.geometry, &self.publication, frame) else {
-            return Fate::Drops;
-        };
-        if !self.is_open(position, position + frame.aligned_length()) {
-            return Fate::Drops;
+        match joining_position(&self.geometry, &self.publication, frame) {
+            Some(position) if self.is_open(position, position + frame.aligned_length()) => {
+                Fate::Joins { position }
+            }
+            _ => Fate::Drops,
         }
-        Fate::Joins { position }
     }
 
     // What becomes of a heartbeat.
@@ -359,13 +362,9 @@ impl Image {
         requires { position < end }
         ensures { result ≡ is_open self.now position end }
     {
-        if position < self.rebuilt {
-            return false;
-        }
-        if end > self.rebuilt + window(&self.geometry) {
-            return false;
-        }
-        is_free(&self.held, position, end)
+        self.rebuilt <= position
+            && end <= self.rebuilt + window(&self.geometry)
+            && is_free(&self.held, position, end)
     }
 }
 
@@ -374,8 +373,5 @@ impl Image {
 fn is_foreign(datagram: &[u8]) -> bool
     ensures { MatchBool result (IsForeign datagram.now) (IsForeign datagram.now → ⊥) }
 {
-    if datagram.len() < 8 {
-        return false;
-    }
-    LittleEndian::read_u16(&datagram[6..]) > 1
+    datagram.len() >= 8 && LittleEndian::read_u16(&datagram[6..]) > 1
 }

@@ -5,8 +5,8 @@ ghost use Rattle.frame_core.specs.Block.{AreEncodable};
 ghost use Rattle.frame_core.specs.declared.block.Publication.{Publication};
 ghost use Rattle.frame_core.specs.declared.frame.Frame.{Frame};
 ghost use Rattle.frame_core.specs.declared.geometry.Geometry.{Geometry};
-ghost use Rattle.image_core.specs.History.{IsUnseen, StandsFor};
-ghost use Rattle.image_core.specs.Laws.{HasGap, HasHighMark, HasLongestChain, LieApart};
+ghost use Rattle.image_core.specs.Received.{IsUnseen, StandsFor};
+ghost use Rattle.image_core.specs.Laws.{HasGap, HasHighWaterMark, HasLongestChain, LieApart};
 ghost use Rattle.image_core.specs.Received.{Received, begun, received_all};
 
 /// What was taken of an image makes no difference. An image holds what it received, as long as nothing is taken. Where
@@ -36,14 +36,14 @@ pub fn the_longest_chain_ends_at_the_rebuild_position()
         → AreEncodable fs → HasLongestChain (received_all (begun g publication join) fs) }
 {}
 
-/// After any frames the high mark is the greatest of the join position, the ends of the received frames, and the
+/// After any frames the high-water mark is the greatest of the join position, the ends of the received frames, and the
 /// positions of the publication's heartbeats.
-pub fn the_high_mark_is_the_greatest()
+pub fn the_high_water_mark_is_the_greatest()
     ensures { (g : Geometry) (publication : Publication) (join : ℕ) (fs : List Frame)
-        → AreEncodable fs → HasHighMark join fs (received_all (begun g publication join) fs) }
+        → AreEncodable fs → HasHighWaterMark join fs (received_all (begun g publication join) fs) }
 {}
 
-/// After any frames no received frame lies in the gap, which ends at the first of the high mark, the end of the term
+/// After any frames no received frame lies in the gap, which ends at the first of the high-water mark, the end of the term
 /// and the received frames behind the rebuild position.
 pub fn a_gap_holds_no_received_frame()
     ensures { (g : Geometry) (publication : Publication) (join : ℕ) (fs : List Frame)

@@ -6,14 +6,10 @@ mod gaps;
 mod held;
 mod image;
 mod inserted;
+mod joining;
 pub mod laws;
-mod places;
-#[cfg(test)]
-mod recovery_test;
 mod repairs;
 mod taking;
-#[cfg(test)]
-mod tests;
 
 pub use image::Image;
 pub use inserted::Inserted;

@@ -44,10 +44,7 @@ fn datagram_of(alloc: Global, frame: &Frame) -> Result<Items<u8>, Refusal>
 fn is_asked_for(nak: &Nak, frame: &Frame) -> bool
     ensures { result ≡ is_asked nak.now frame.now }
 {
-    if !is_of_request(nak, frame) {
-        return false;
-    }
-    is_in_range(nak, frame)
+    is_of_request(nak, frame) && is_in_range(nak, frame)
 }
 
 // Whether a frame is of a request's session, stream and term.
@@ -55,13 +52,9 @@ fn is_asked_for(nak: &Nak, frame: &Frame) -> bool
 fn is_of_request(nak: &Nak, frame: &Frame) -> bool
     ensures { result ≡ is_of_request nak.now frame.now }
 {
-    if frame.session_id != nak.session_id {
-        return false;
-    }
-    if frame.stream_id != nak.stream_id {
-        return false;
-    }
-    frame.term_id == nak.term_id
+    frame.session_id == nak.session_id
+        && frame.stream_id == nak.stream_id
+        && frame.term_id == nak.term_id
 }
 
 // Whether a frame covers a byte of a request's range.

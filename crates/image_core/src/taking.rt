@@ -102,13 +102,7 @@ fn longest_run(
 fn follows(place: &Place, at: u64, offset: u64, limit: u64, start: &u64, frame: &Frame) -> bool
     ensures { result ≡ follows place.now at offset limit (start.now, frame.now) }
 {
-    if *start != at {
-        return false;
-    }
-    if !is_next(place, offset, frame) {
-        return false;
-    }
-    offset + frame.aligned_length() <= limit
+    *start == at && is_next(place, offset, frame) && offset + frame.aligned_length() <= limit
 }
 
 // Takes so many of the first frames into a list that has room for them.

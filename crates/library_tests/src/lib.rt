@@ -3,6 +3,12 @@
 #![tactic(auto)]
 
 #[cfg(test)]
+mod disks;
+#[cfg(test)]
 mod frames;
+#[cfg(test)]
+mod images;
+#[cfg(test)]
+mod merges;
 #[cfg(test)]
 mod vectors;

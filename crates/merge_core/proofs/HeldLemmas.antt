@@ -1,5 +1,5 @@
 -- Frames that are held, where one is put in or taken out.
-use Rattle.std.proofs.Common.{◌≡◌, ℕ, Bool, true, false, List, [], ◌∷◌, Option, None, Some, is_some, sym, subst, if◌then◌else◌, nat_lt, length, refl, ap, rules}
+use Rattle.std.proofs.Common.{◌≡◌, ◌||◌, ℕ, Bool, true, false, List, [], ◌∷◌, Option, None, Some, is_some, sym, subst, if◌then◌else◌, nat_lt, length, refl, ap, rules}
 use Rattle.std.specs.Prelude.{nat_le}
 use Rattle.std.specs.Ordering.{nat_cmp, match_ordering, is_eq}
 use Rattle.std.specs.Prelude.{cond}
@@ -53,8 +53,7 @@ remove_inserted (e ∷ es) p f none =
     (λ h. λ none. rw (greater_cmp p e.0 h) (ap (λ rest. e ∷ rest) (remove_inserted es p f none)))
     none
 
-held_when : (below full : Bool) (found : Option Frame) → (if below then Ignored else (if is_some found then Ignored else (if full then Full else Held))) ≡ Held
-    → found ≡ None
+held_when : (below full : Bool) (found : Option Frame) → (if below || is_some found then Ignored else (if full then Full else Held)) ≡ Held → found ≡ None
 held_when below full None held = refl
 held_when true full (Some f) held = search (rules, held)
 held_when false full (Some f) held = search (rules, held)

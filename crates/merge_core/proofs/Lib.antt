@@ -3,4 +3,3 @@ pub mod StreamLemmas
 pub mod EndLemmas
 pub mod JoinLemmas
 pub mod BoundLemmas
-pub mod ChangeLemmas

@@ -36,10 +36,8 @@ held_at p m = lookup (is_at (nat_cmp p)) m.held
 -- what becomes of a frame that is offered at a position
 abbrev pub offered_at : ℕ → Merging → Offered
 offered_at p m =
-    if nat_lt p m.cursor then Ignored
-    else (if is_some (held_at p m) then Ignored
-    else (if nat_le 4096 (length m.held) then Full
-    else Held))
+    if nat_lt p m.cursor || is_some (held_at p m) then Ignored
+    else (if nat_le 4096 (length m.held) then Full else Held)
 
 -- why a frame can't be offered, or its position
 abbrev pub offer_of : FrameKind → Option ℕ → Result ℕ Refusal
@@ -65,6 +63,10 @@ abbrev pub with_frame : ℕ → Frame → Offered → Merging → Merging
 with_frame p f Held m = record m { held = insert_entry nat_cmp m.held p f }
 with_frame p f Ignored m = m
 with_frame p f Full m = m
+
+-- whether a number is one of these
+abbrev pub is_among : ℕ → List ℕ → Bool
+is_among q ks = list_any (is_at (nat_cmp q)) ks
 
 -- whether the frame that is held at a position ends there
 abbrev pub ends_at : ℕ → ℕ → Option Frame → Bool
@@ -117,7 +119,7 @@ past None m = m
 past (Some f) m = record m {
   cursor = m.cursor + aligned_length f;
   held = remove_entry (is_at (nat_cmp m.cursor)) m.held;
-  is_merged = m.is_merged || list_any (is_at (nat_cmp (m.cursor + aligned_length f))) m.live_ends;
+  is_merged = m.is_merged || is_among (m.cursor + aligned_length f) m.live_ends;
 }
 
 abbrev pub after_take : Merging → Merging

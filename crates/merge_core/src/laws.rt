@@ -4,7 +4,7 @@ ghost use Rattle.std.specs.Prelude.{◌≤◌, ℕ, List, length, IsTrue, ◌↔
 ghost use Rattle.frame_core.specs.declared.frame.Frame.{Frame};
 ghost use Rattle.frame_core.specs.declared.geometry.Geometry.{Geometry};
 ghost use Rattle.merge_core.specs.Merge.{opened};
-ghost use Rattle.merge_core.specs.Histories.{Step, after, output, Follow, AreOf, from, IsBeginning, IsJoined};
+ghost use Rattle.merge_core.specs.Runs.{Step, after, output, Follow, AreOf, from, IsBeginning, IsJoined};
 
 /// Where all frames that are offered are of one stream, what comes out is a beginning of that stream from the position
 /// at which the merge began, whatever was offered and taken, and in whatever order: no gap, no repeat.
@@ -24,11 +24,9 @@ pub fn merged_is_where_the_live_stream_is_joined()
         → IsTrue (after steps (opened g position)).is_merged ↔ IsJoined steps (opened g position) }
 {}
 
-/// At most 4,096 frames are held, and at most 4,096 ends of live frames are kept, whatever was offered and taken.
-#[tactic(auto, using(crate::proofs::BoundLemmas::few_frames, crate::proofs::BoundLemmas::few_live_ends))]
+/// At most 4,096 frames are held, whatever was offered and taken.
+#[tactic(auto, using(crate::proofs::BoundLemmas::few_frames))]
 pub fn at_most_4096_are_held()
-    ensures frames { (g : Geometry) (position : ℕ) (steps : List Step)
+    ensures { (g : Geometry) (position : ℕ) (steps : List Step)
         → length (after steps (opened g position)).held ≤ 4096 }
-    ensures live_ends { (g : Geometry) (position : ℕ) (steps : List Step)
-        → length (after steps (opened g position)).live_ends ≤ 4096 }
 {}

@@ -3,7 +3,5 @@
 
 pub mod laws;
 mod merge;
-#[cfg(test)]
-mod tests;
 
 pub use merge::{Merge, Offered};

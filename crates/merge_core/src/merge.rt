@@ -1,15 +1,14 @@
 //! A merge of a replay and the live stream: docs/PROTOCOL.md, "Merging a replay into the live stream".
 
-ghost use Rattle.std.specs.Prelude.{◌≡◌, ◌≢◌, false, ◌<◌, ◌≤◌, ◌^◌, ◌+◌, ◌||◌, ◌==◌, ◌≤ℤ◌, ◌<ℤ◌, ◌*ℤ◌, pos, unsigned_abs, OnOk, OnErr, IfOk, IfErr, if◌then◌else◌};
+ghost use Rattle.std.specs.Prelude.{◌≡◌, ◌≢◌, ◌⊎◌, false, Ok, ◌<◌, ◌≤◌, ◌^◌, ◌+◌, ◌||◌, ◌==◌, ◌≤ℤ◌, ◌<ℤ◌, ◌*ℤ◌, pos, unsigned_abs, OnOk, OnErr, IfOk, IfErr, if◌then◌else◌};
 ghost use Rattle.std.specs.Ordering.{nat_cmp};
-ghost use Rattle.std.specs.List.{list_any};
 ghost use Rattle.std.specs.BTreeMap.{is_at};
 ghost use Rattle.std.specs.Map.{remove_entry};
 ghost use Rattle.std.specs.BTreeSet.{insert_key};
 ghost use Rattle.frame_core.specs.FrameEncoding.{aligned_length};
 ghost use Rattle.frame_core.specs.declared.refusal.Refusal.TheVariants.{NoMemory};
 ghost use Rattle.frame_core.specs.Outcome.{Gives};
-ghost use Rattle.merge_core.specs.Merge.{Merging, offer_position, offered_at, held_at, ends_at};
+ghost use Rattle.merge_core.specs.Merge.{Merging, offer_position, offered_at, held_at, ends_at, is_among};
 
 use frame_core::limits::MAX_HELD_FRAMES;
 use frame_core::{Frame, FrameKind, Geometry, Refusal};
@@ -31,8 +30,8 @@ pub enum Offered {
 /// A replay of a recording and the live stream, which come out as one stream. To a contract it is the cursor, the
 /// frames that are held, where the live stream may be joined, and whether it has been.
 ///
-/// At most [`MAX_HELD_FRAMES`] frames are held, and at most as many ends of live frames: each such end is that of a
-/// frame which is held, and none is kept any more once the live stream is joined.
+/// At most [`MAX_HELD_FRAMES`] frames are held. An end of a live frame is kept only beside a held frame that ends there,
+/// and none is added once the live stream is joined.
 #[derive(Drop)]
 pub struct Merge {
     geometry: Geometry,
@@ -101,9 +100,9 @@ impl Merge {
         ensures answer { Gives (λ offered. offered) result (answer_to frame self.old) }
         ensures ok { OnOk result (self.new ≡ after_replay_frame frame self.old) }
         ensures err { OnErr result (self.new ≡ self.old) }
-        // Want of memory is answered only where the offer would change something.
+        // Want of memory is answered only where the frame would be held.
         ensures memory { IfErr result (λ refusal. refusal ≡ NoMemory
-            → after_replay_frame frame self.old ≢ self.old) }
+            → answer_to frame self.old ≡ Ok Offered.Held) }
     {
         let position = position_of(&self.geometry, &frame)?;
         match outcome(self.cursor, &self.held, position) {
@@ -121,9 +120,10 @@ impl Merge {
         ensures answer { Gives (λ offered. offered) result (answer_to frame self.old) }
         ensures ok { OnOk result (self.new ≡ after_live_frame frame self.old) }
         ensures err { OnErr result (self.new ≡ self.old) }
-        // Want of memory is answered only where the offer would change something.
+        // Want of memory is answered only where the frame would be held, or the live stream isn't
+        // joined.
         ensures memory { IfErr result (λ refusal. refusal ≡ NoMemory
-            → after_live_frame frame self.old ≢ self.old) }
+            → (answer_to frame self.old ≡ Ok Offered.Held) ⊎ (self.old.is_merged ≡ false)) }
     {
         let position = position_of(&self.geometry, &frame)?;
         let end = position + frame.aligned_length();
@@ -169,29 +169,25 @@ fn position_of(geometry: &Geometry, frame: &Frame) -> Result<u64, Refusal>
     ensures refusal { IfErr result (λ refusal. refusal ≢ NoMemory) }
 {
     match frame.kind {
-        FrameKind::Heartbeat => return Err(Refusal::BadBlock),
-        FrameKind::Pad | FrameKind::Message => {}
-    }
-    match frame.position_in(geometry) {
-        Some(position) => Ok(position),
-        None => Err(Refusal::BadPosition),
+        FrameKind::Heartbeat => Err(Refusal::BadBlock),
+        FrameKind::Pad | FrameKind::Message => {
+            frame.position_in(geometry).ok_or(Refusal::BadPosition)
+        }
     }
 }
 
 // What becomes of a frame that is offered at a position.
 fn outcome(cursor: u64, held: &BTreeMap<u64, Frame>, position: u64) -> Offered
-    ensures { (m : Merging) → m.cursor ≡ cursor → m.held ≡ held.now.entries → result ≡ offered_at position m }
+    ensures { (m : Merging) → m.cursor ≡ cursor → m.held ≡ held.now.entries
+        → result ≡ offered_at position m }
 {
-    if position < cursor {
-        return Offered::Ignored;
+    if position < cursor || held.contains_key(&position) {
+        Offered::Ignored
+    } else if held.len() >= MAX_HELD_FRAMES {
+        Offered::Full
+    } else {
+        Offered::Held
     }
-    if held.contains_key(&position) {
-        return Offered::Ignored;
-    }
-    if held.len() >= MAX_HELD_FRAMES {
-        return Offered::Full;
-    }
-    Offered::Held
 }
 
 // Whether an end is the cursor, or that of the frame that is held at the position.
@@ -200,13 +196,11 @@ fn joins_there(cursor: u64, held: &BTreeMap<u64, Frame>, position: u64, end: u64
     ensures { (m : Merging) → m.cursor ≡ cursor → m.held ≡ held.now.entries
         → result ≡ (end == m.cursor || ends_at end position (held_at position m)) }
 {
-    if end == cursor {
-        return true;
-    }
-    match held.get(&position) {
-        Some(frame) => position + frame.aligned_length() == end,
-        None => false,
-    }
+    end == cursor
+        || match held.get(&position) {
+            Some(frame) => position + frame.aligned_length() == end,
+            None => false,
+        }
 }
 
 // Keeps an end at which the live stream may be joined, unless it is joined; and says whether it is.
@@ -222,12 +216,8 @@ fn keep_end(
         else insert_key nat_cmp live_ends.old.keys end)) }
     ensures err { OnErr result (live_ends.new.keys ≡ live_ends.old.keys) }
     ensures unjoined { OnErr result ((is_merged || end == cursor) ≡ false) }
-    ensures absent { OnErr result (list_any (is_at (nat_cmp end)) live_ends.old.keys ≡ false) }
 {
-    if is_merged {
-        return Ok(true);
-    }
-    if end == cursor {
+    if is_merged || end == cursor {
         return Ok(true);
     }
     live_ends.insert(end)?;
@@ -245,10 +235,7 @@ fn let_go(held: &mut BTreeMap<u64, Frame>, position: u64) -> Refusal
 
 // Whether the live stream is joined where the cursor is.
 fn has_joined(is_merged: bool, live_ends: &BTreeSet<u64>, cursor: u64) -> bool
-    ensures { result ≡ (is_merged || list_any (is_at (nat_cmp cursor)) live_ends.now.keys) }
+    ensures { result ≡ (is_merged || is_among cursor live_ends.now.keys) }
 {
-    if is_merged {
-        return true;
-    }
-    live_ends.contains(&cursor)
+    is_merged || live_ends.contains(&cursor)
 }

@@ -1,5 +1,5 @@
 use Rattle.std.proofs.Common.{[], refl}
-use Rattle.image_core.proofs.HistoryLemmas.{unseen}
+use Rattle.image_core.proofs.ReceivedLemmas.{unseen}
 use Rattle.image_core.proofs.laws.what_was_taken_makes_no_difference.Goals as goal
 
 pub returns-clause-begins : goal.returns-clause-begins

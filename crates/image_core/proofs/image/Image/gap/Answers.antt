@@ -1,7 +1,7 @@
 use Rattle.std.proofs.Common.{rules, ◌≡◌, ◌∙◌, ap, sym, arith}
 use Rattle.image_core.specs.Received.{Received, rebuilt}
 use Rattle.image_core.specs.Take.{IsGap}
-use Rattle.image_core.proofs.HistoryLemmas.{gap_whole, none_whole}
+use Rattle.image_core.proofs.ReceivedLemmas.{gap_whole, none_whole}
 use Rattle.image_core.proofs.KeptLemmas.{kept_small}
 use Rattle.image_core.proofs.image.Image.gap.Goals as goal
 

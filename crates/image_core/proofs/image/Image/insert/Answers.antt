@@ -7,7 +7,7 @@ use Rattle.frame_core.specs.Datagram.{IsDatagram}
 use Rattle.image_core.specs.declared.inserted.Inserted.{Inserted}
 use Rattle.image_core.specs.Insert.{Inserts, IsForeign, tally, uncounted}
 use Rattle.image_core.specs.Received.{Received, received_all}
-use Rattle.image_core.proofs.HistoryLemmas.{all_stand}
+use Rattle.image_core.proofs.ReceivedLemmas.{all_stand}
 use Rattle.image_core.proofs.InsertLemmas.{datagram_encodable}
 use Rattle.image_core.proofs.image.Image.insert.Goals as goal
 

@@ -2,7 +2,7 @@ use Rattle.std.proofs.Common.{rules, ◌∙◌, ap, pos, w64, arith}
 use Rattle.std.proofs.lemmas.Int.{to_z_pos}
 use Rattle.image_core.specs.Received.{rebuilt}
 use Rattle.image_core.proofs.KeptLemmas.{kept_small}
-use Rattle.image_core.proofs.HistoryLemmas.{rebuilt_whole}
+use Rattle.image_core.proofs.ReceivedLemmas.{rebuilt_whole}
 use Rattle.image_core.proofs.image.Image.rebuilt.Goals as goal
 
 pub overflow_cast-result : goal.overflow_cast-result

@@ -1,0 +1,67 @@
+//! Merges: the scenario of docs/SCENARIOS.md, and each request for memory refused.
+
+use crate::vectors::{HELLO_AT_0, HELLO_AT_64};
+use frame_core::{Frame, FrameKind, Geometry, Items, decode_front};
+use merge_core::{Merge, Offered};
+use std::alloc::Global;
+use std::test::Fail;
+
+const GEOMETRY: Geometry = Geometry {
+    initial_term_id: 42,
+    term_length: 65_536,
+    mtu: 1_408,
+};
+
+fn frame(alloc: Global, vector: &[u8]) -> Result<Frame, Fail> {
+    Ok(decode_front(vector)?.0.to_frame(alloc)?)
+}
+
+// A frame is taken at a term offset.
+fn takes(merge: &mut Merge, term_offset: i32) -> bool {
+    merge
+        .take()
+        .is_some_and(|frame| frame.term_offset == term_offset)
+}
+
+#[test]
+fn merge_into_the_live_stream(rt: HostRuntime) -> Result<(), Fail> {
+    let alloc = rt.alloc();
+    let mut merge = Merge::new(alloc, GEOMETRY, 0);
+    assert!(rt; merge.replay_frame(frame(alloc, HELLO_AT_0)?)? == Offered::Held);
+    assert!(rt; merge.live_frame(frame(alloc, HELLO_AT_64)?)? == Offered::Held);
+    assert!(rt; takes(&mut merge, 0));
+    assert!(rt; merge.replay_frame(frame(alloc, HELLO_AT_64)?)? == Offered::Ignored);
+    assert!(rt; takes(&mut merge, 64));
+    assert!(rt; merge.take().is_none());
+    assert!(rt; merge.is_merged() && merge.cursor() == 128);
+    Ok(())
+}
+
+// A message of 64 bytes with no payload at hand, of term 42, offset 64.
+fn empty_frame(alloc: Global) -> Frame {
+    Frame {
+        kind: FrameKind::Message,
+        flags: 0,
+        length: 64,
+        term_offset: 64,
+        session_id: 7,
+        stream_id: 1_001,
+        term_id: 42,
+        reserved: 0,
+        payload: Items::new(alloc),
+    }
+}
+
+// Where memory is refused once, nothing has changed, and the frame may be offered again: bench/refused_test_memory.py
+// runs this test for each of its requests for memory, which it refuses.
+#[test]
+fn refused_memory_changes_nothing(rt: HostRuntime) -> Result<(), Fail> {
+    let alloc = rt.alloc();
+    let mut merge = Merge::new(alloc, GEOMETRY, 0);
+    if merge.live_frame(empty_frame(alloc)).is_err() {
+        assert!(rt; merge.take().is_none() && !merge.is_merged());
+        assert!(rt; merge.live_frame(empty_frame(alloc))? == Offered::Held);
+    }
+    assert!(rt; merge.live_frame(empty_frame(alloc))? == Offered::Ignored);
+    Ok(())
+}
