@@ -13,8 +13,6 @@ mod recording;
 mod replay;
 mod reply;
 mod stream;
-#[cfg(test)]
-mod tests;
 
 pub use book::Book;
 pub use channel::Channel;
