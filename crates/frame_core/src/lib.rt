@@ -14,6 +14,7 @@ pub mod limits;
 mod nak;
 mod positions;
 mod refusal;
+mod segments;
 mod setup;
 
 pub use block::{
@@ -27,4 +28,5 @@ pub use items::Items;
 pub use nak::Nak;
 pub use positions::{position, term_of};
 pub use refusal::Refusal;
+pub use segments::segment_base;
 pub use setup::Setup;
