@@ -23,8 +23,8 @@ use Rattle.control_core.specs.declared.event.Event.TheVariants.{Ask, ReplayOpen,
 use Rattle.control_core.specs.declared.line.Line.{Line}
 use Rattle.control_core.specs.declared.line.Line.TheVariants as lines
 use Rattle.control_core.specs.declared.merge_line.MergeLine.TheVariants as merges
-use Rattle.control_core.specs.Lines.{merge_of, merge_replay_of, merge_live_of, merging_of, has_blank, word_at, long_at, int_at, line_of, text_of, words_of, reading_of, start_of, block_of, list_of, replay_of, poll_of, word_of}
-use Rattle.control_core.proofs.LinesLemmas.{line_of-text}
+use Rattle.control_core.specs.Lines.{merge_of, merge_replay_of, merge_live_of, merging_of, has_blank, word_at, long_at, int_at, read_of, text_of, words_of, reading_of, start_of, block_of, list_of, replay_of, poll_of, word_of}
+use Rattle.control_core.proofs.LinesLemmas.{read_of-text}
 use Rattle.control_core.specs.LineText.{IsInt, IsLong, AreStartFields, IsLine, field, IsTextOf}
 use Rattle.control_core.proofs.NumbersLemmas.{mag_below}
 use Rattle.control_core.proofs.HexCaseLemmas.{decode_of-lowered, decode_of-either, digit_ascii}
@@ -158,12 +158,12 @@ IsUtf8-int : (z : ℤ) (rest : List ℕ) → IsInt z → IsUtf8 rest → IsUtf8 
 IsUtf8-int z rest fit h = IsUtf8-long z rest (IsLong-int z fit) h
 
 -- a first word, and the rest
-line_of-words : (word rest : List ℕ) → is_plain word ≡ true → IsUtf8 rest → line_of (word ++ 32 ∷ rest) ≡ words_of word rest
+read_of-words : (word rest : List ℕ) → is_plain word ≡ true → IsUtf8 rest → read_of (word ++ 32 ∷ rest) ≡ words_of word rest
 unfolding text_of
-line_of-words word rest h text =
+read_of-words word rest h text =
     let first = plain word h in
     let parts = splits word rest first.no_blank in
-    line_of-text _ (IsUtf8-append word (32 ∷ rest) (IsUtf8-from_ascii word first.ascii) (IsUtf8-blank rest text))
+    read_of-text _ (IsUtf8-append word (32 ∷ rest) (IsUtf8-from_ascii word first.ascii) (IsUtf8-blank rest text))
     ∙ rw (parts.found, parts.front, parts.back)
 
 -- ---- lines
@@ -171,24 +171,24 @@ line_of-words word rest h text =
 some_bytes : (text : List ℕ) → 0 < length text → (length text == 0) ≡ false
 some_bytes text some = ne_eqb (length text) 0 (λ e. absurd (omega (arith, e)))
 
-list_text : (from count : ℤ) → IsLong from → IsLong count → line_of (codes "list " ++ field from (signed_decimal count)) ≡ Ok (lines.Event (Ask (AskList from count)))
+list_text : (from count : ℤ) → IsLong from → IsLong count → read_of (codes "list " ++ field from (signed_decimal count)) ≡ Ok (lines.Event (Ask (AskList from count)))
 unfolding words_of reading_of list_of
 list_text from count a b =
-    line_of-words (codes "list") (field from (signed_decimal count)) refl (IsUtf8-long from _ a (IsUtf8-number count b))
+    read_of-words (codes "list") (field from (signed_decimal count)) refl (IsUtf8-long from _ a (IsUtf8-number count b))
     ∙ rw (long_at-text from (signed_decimal count) a, long_of-text count b)
 
 replay_text : (recording position size : ℤ) → IsLong recording → IsLong position → IsLong size
-    → line_of (codes "replay " ++ field recording (field position (signed_decimal size))) ≡ Ok (lines.Event (ReplayOpen recording position size))
+    → read_of (codes "replay " ++ field recording (field position (signed_decimal size))) ≡ Ok (lines.Event (ReplayOpen recording position size))
 unfolding words_of reading_of replay_of
 replay_text recording position size a b d =
     let last = signed_decimal size in
-    line_of-words (codes "replay") (field recording (field position last)) refl (IsUtf8-long recording _ a (IsUtf8-long position _ b (IsUtf8-number size d)))
+    read_of-words (codes "replay") (field recording (field position last)) refl (IsUtf8-long recording _ a (IsUtf8-long position _ b (IsUtf8-number size d)))
     ∙ rw (long_at-text recording (field position last) a, long_at-text position last b, long_of-text size d)
 
-poll_text : (replay most : ℤ) → IsLong replay → IsLong most → line_of (codes "poll " ++ field replay (signed_decimal most)) ≡ Ok (lines.Event (ReplayPoll replay most))
+poll_text : (replay most : ℤ) → IsLong replay → IsLong most → read_of (codes "poll " ++ field replay (signed_decimal most)) ≡ Ok (lines.Event (ReplayPoll replay most))
 unfolding words_of reading_of poll_of
 poll_text replay most a b =
-    line_of-words (codes "poll") (field replay (signed_decimal most)) refl (IsUtf8-long replay _ a (IsUtf8-number most b))
+    read_of-words (codes "poll") (field replay (signed_decimal most)) refl (IsUtf8-long replay _ a (IsUtf8-number most b))
     ∙ rw (long_at-text replay (signed_decimal most) a, long_of-text most b)
 
 -- digits in either case that stand for bytes
@@ -200,24 +200,24 @@ IsAscii-digits : (digits : List ℕ) → AllPass is_hex_digit digits → IsAscii
 IsAscii-digits digits h = IsAscii-from_all digits (All-from_get_or (λ b. b < 128) digits 0 (λ i lt. digit_ascii (get_or digits i 0) (All-get_or (λ b. is_hex_digit b ≡ true) digits i 0 lt h)))
 
 digits_text : (session : ℤ) (digits bytes : List ℕ) → IsLong session → IsUtf8 digits → 0 < length digits → decode_of digits ≡ Ok bytes
-    → line_of (codes "block " ++ field session digits) ≡ Ok (lines.Block session bytes)
+    → read_of (codes "block " ++ field session digits) ≡ Ok (lines.Block session bytes)
 unfolding words_of block_of
 digits_text session digits bytes a text some is =
-    line_of-words (codes "block") (field session digits) refl (IsUtf8-long session digits a text)
+    read_of-words (codes "block") (field session digits) refl (IsUtf8-long session digits a text)
     ∙ rw (long_at-text session digits a, bytes_of-digits digits bytes some is)
 
 -- hex digits in either case
 pub digits_is_read : (session : ℤ) (digits bytes : List ℕ) → IsLong session → 0 < length bytes → IsBytes bytes → map to_ascii_lowercase digits ≡ encode_lower bytes
-    → line_of (codes "block " ++ field session digits) ≡ Ok (lines.Block session bytes)
+    → read_of (codes "block " ++ field session digits) ≡ Ok (lines.Block session bytes)
 digits_is_read session digits bytes a some fit lowered =
     let read = decode_of-either digits bytes fit lowered in
     let shape = decode_of-ok digits bytes read in
     digits_text session digits bytes a (IsUtf8-from_ascii digits (IsAscii-digits digits shape.1)) (omega (arith, shape.2)) read
 
-block_text : (session : ℤ) (bytes : List ℕ) → IsLong session → 0 < length bytes → IsBytes bytes → line_of (codes "block " ++ field session (encode_lower bytes)) ≡ Ok (lines.Block session bytes)
+block_text : (session : ℤ) (bytes : List ℕ) → IsLong session → 0 < length bytes → IsBytes bytes → read_of (codes "block " ++ field session (encode_lower bytes)) ≡ Ok (lines.Block session bytes)
 block_text session bytes a some fit = digits_is_read session (encode_lower bytes) bytes a some fit (decode_of-lowered (encode_lower bytes) bytes (decode_of-encode_lower bytes fit))
 
-start_text : (s : StartFields) (text : List ℕ) → AreStartFields s → IsTextOf (lines.Event (Ask (Start s))) text → line_of text ≡ Ok (lines.Event (Ask (Start s)))
+start_text : (s : StartFields) (text : List ℕ) → AreStartFields s → IsTextOf (lines.Event (Ask (Start s))) text → read_of text ≡ Ok (lines.Event (Ask (Start s)))
 unfolding words_of start_of
 start_text s text is e =
     let r8 = s.channel in
@@ -233,7 +233,7 @@ start_text s text is e =
     IsUtf8-int s.stream_id r1 is.stream_id (IsUtf8-int s.session_id r2 is.session_id (IsUtf8-int s.initial_term_id r3 is.initial_term_id (
     IsUtf8-int s.term_length r4 is.term_length (IsUtf8-int s.mtu r5 is.mtu (IsUtf8-int s.segment_length r6 is.segment_length (
     IsUtf8-long s.start_position r7 is.start_position (IsUtf8-long s.timestamp r8 is.timestamp is.channel_text))))))) in
-    ap line_of e ∙ line_of-words (codes "start") r0 refl utf8
+    ap read_of e ∙ read_of-words (codes "start") r0 refl utf8
     ∙ rw (
       int_at-text s.stream_id r1 is.stream_id,
       int_at-text s.session_id r2 is.session_id,
@@ -247,11 +247,11 @@ start_text s text is e =
     )
 
 merge_text : (term term_length position : ℤ) → IsInt term → IsInt term_length → IsLong position
-    → line_of (codes "merge " ++ field term (field term_length (signed_decimal position))) ≡ Ok (lines.Merge (merges.Open term term_length position))
+    → read_of (codes "merge " ++ field term (field term_length (signed_decimal position))) ≡ Ok (lines.Merge (merges.Open term term_length position))
 unfolding words_of reading_of merging_of merge_of
 merge_text term term_length position a b d =
     let last = signed_decimal position in
-    line_of-words (codes "merge") (field term (field term_length last)) refl (IsUtf8-int term _ a (IsUtf8-int term_length _ b (IsUtf8-number position d)))
+    read_of-words (codes "merge") (field term (field term_length last)) refl (IsUtf8-int term _ a (IsUtf8-int term_length _ b (IsUtf8-number position d)))
     ∙ rw (int_at-text term (field term_length last) a, int_at-text term_length last b, long_of-text position d)
 
 -- digits that stand for bytes are read behind a word by what reads bytes
@@ -267,50 +267,50 @@ digits_of digits bytes some fit lowered =
     record { some = omega (arith, shape.2); read = read; utf8 = IsUtf8-from_ascii digits (IsAscii-digits digits shape.1) }
 
 pub replayed_is_read : (digits bytes : List ℕ) → 0 < length bytes → IsBytes bytes → map to_ascii_lowercase digits ≡ encode_lower bytes
-    → line_of (codes "merge-replay " ++ digits) ≡ Ok (lines.Merge (merges.Replay bytes))
+    → read_of (codes "merge-replay " ++ digits) ≡ Ok (lines.Merge (merges.Replay bytes))
 unfolding words_of reading_of merging_of merge_replay_of
 replayed_is_read digits bytes some fit lowered =
     let is = digits_of digits bytes some fit lowered in
-    line_of-words (codes "merge-replay") digits refl is.utf8 ∙ rw (bytes_of-digits digits bytes is.some is.read)
+    read_of-words (codes "merge-replay") digits refl is.utf8 ∙ rw (bytes_of-digits digits bytes is.some is.read)
 
 pub live_is_read : (digits bytes : List ℕ) → 0 < length bytes → IsBytes bytes → map to_ascii_lowercase digits ≡ encode_lower bytes
-    → line_of (codes "merge-live " ++ digits) ≡ Ok (lines.Merge (merges.Live bytes))
+    → read_of (codes "merge-live " ++ digits) ≡ Ok (lines.Merge (merges.Live bytes))
 unfolding words_of reading_of merging_of merge_live_of
 live_is_read digits bytes some fit lowered =
     let is = digits_of digits bytes some fit lowered in
-    line_of-words (codes "merge-live") digits refl is.utf8 ∙ rw (bytes_of-digits digits bytes is.some is.read)
+    read_of-words (codes "merge-live") digits refl is.utf8 ∙ rw (bytes_of-digits digits bytes is.some is.read)
 
 lowered_self : (bytes : List ℕ) → IsBytes bytes → map to_ascii_lowercase (encode_lower bytes) ≡ encode_lower bytes
 lowered_self bytes fit = decode_of-lowered (encode_lower bytes) bytes (decode_of-encode_lower bytes fit)
 
 -- a word alone
-line_of-word : (word : List ℕ) → is_plain word ≡ true → has_blank word ≡ false → line_of word ≡ word_of word
+read_of-word : (word : List ℕ) → is_plain word ≡ true → has_blank word ≡ false → read_of word ≡ word_of word
 unfolding text_of
-line_of-word word h none = line_of-text word (IsUtf8-from_ascii word (plain word h).ascii) ∙ rw none
+read_of-word word h none = read_of-text word (IsUtf8-from_ascii word (plain word h).ascii) ∙ rw none
 
-take_text : line_of (codes "merge-take") ≡ Ok (lines.Merge merges.Take)
+take_text : read_of (codes "merge-take") ≡ Ok (lines.Merge merges.Take)
 unfolding word_of
-take_text = line_of-word (codes "merge-take") refl refl
+take_text = read_of-word (codes "merge-take") refl refl
 
-state_text : line_of (codes "merge-state") ≡ Ok (lines.Merge merges.State)
+state_text : read_of (codes "merge-state") ≡ Ok (lines.Merge merges.State)
 unfolding word_of
-state_text = line_of-word (codes "merge-state") refl refl
+state_text = read_of-word (codes "merge-state") refl refl
 
-quit_text : line_of (codes "quit") ≡ Ok lines.Quit
+quit_text : read_of (codes "quit") ≡ Ok lines.Quit
 unfolding text_of word_of
-quit_text = line_of-text (codes "quit") (IsUtf8-from_ascii (codes "quit") (plain (codes "quit") refl).ascii)
+quit_text = read_of-text (codes "quit") (IsUtf8-from_ascii (codes "quit") (plain (codes "quit") refl).ascii)
 
 -- the text of a line is read as that line
-pub text_is_read : (line : Line) (text : List ℕ) → IsLine line → IsTextOf line text → line_of text ≡ Ok line
+pub text_is_read : (line : Line) (text : List ℕ) → IsLine line → IsTextOf line text → read_of text ≡ Ok line
 text_is_read (lines.Event (Ask (Start s))) text is e = start_text s text is e
-text_is_read (lines.Event (Ask (AskList from count))) text is e = ap line_of e ∙ list_text from count is.0 is.1
-text_is_read (lines.Event (ReplayOpen recording position size)) text is e = ap line_of e ∙ replay_text recording position size is.0 is.1 is.2
-text_is_read (lines.Event (ReplayPoll replay most)) text is e = ap line_of e ∙ poll_text replay most is.0 is.1
+text_is_read (lines.Event (Ask (AskList from count))) text is e = ap read_of e ∙ list_text from count is.0 is.1
+text_is_read (lines.Event (ReplayOpen recording position size)) text is e = ap read_of e ∙ replay_text recording position size is.0 is.1 is.2
+text_is_read (lines.Event (ReplayPoll replay most)) text is e = ap read_of e ∙ poll_text replay most is.0 is.1
 text_is_read (lines.Event event) text is e = absurd is
-text_is_read (lines.Block session bytes) text is e = ap line_of e ∙ block_text session bytes is.0 is.1 is.2
-text_is_read (lines.Merge (merges.Open term term_length position)) text is e = ap line_of e ∙ merge_text term term_length position is.0 is.1 is.2
-text_is_read (lines.Merge (merges.Replay bytes)) text is e = ap line_of e ∙ replayed_is_read (encode_lower bytes) bytes is.0 is.1 (lowered_self bytes is.1)
-text_is_read (lines.Merge (merges.Live bytes)) text is e = ap line_of e ∙ live_is_read (encode_lower bytes) bytes is.0 is.1 (lowered_self bytes is.1)
-text_is_read (lines.Merge merges.Take) text is e = ap line_of e ∙ take_text
-text_is_read (lines.Merge merges.State) text is e = ap line_of e ∙ state_text
-text_is_read lines.Quit text is e = ap line_of e ∙ quit_text
+text_is_read (lines.Block session bytes) text is e = ap read_of e ∙ block_text session bytes is.0 is.1 is.2
+text_is_read (lines.Merge (merges.Open term term_length position)) text is e = ap read_of e ∙ merge_text term term_length position is.0 is.1 is.2
+text_is_read (lines.Merge (merges.Replay bytes)) text is e = ap read_of e ∙ replayed_is_read (encode_lower bytes) bytes is.0 is.1 (lowered_self bytes is.1)
+text_is_read (lines.Merge (merges.Live bytes)) text is e = ap read_of e ∙ live_is_read (encode_lower bytes) bytes is.0 is.1 (lowered_self bytes is.1)
+text_is_read (lines.Merge merges.Take) text is e = ap read_of e ∙ take_text
+text_is_read (lines.Merge merges.State) text is e = ap read_of e ∙ state_text
+text_is_read lines.Quit text is e = ap read_of e ∙ quit_text

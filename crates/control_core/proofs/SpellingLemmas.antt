@@ -1,5 +1,5 @@
 -- What is read as a line is a spelling of it.
-use Rattle.std.proofs.Common.{◌≡◌, ◌↔◌, ◌⊎◌, inl, inr, ℕ, ◌+◌, ◌<◌, zero, suc, ℤ, Bool, true, false, not, if◌then◌else◌, ◌&&◌, ◌==◌, eqb-true, ltb-true, List, ◌∷◌, ◌++◌, length, map, get_or, Result, Ok, Err, codes, refl, sym, ◌∙◌, ap, subst, arith, length-append}
+use Rattle.std.proofs.Common.{◌≡◌, ◌↔◌, ◌⊎◌, inl, inr, ℕ, ◌+◌, ◌<◌, ◌≤◌, nat_le, leb-true, le-leb, zero, suc, ℤ, Bool, true, false, not, if◌then◌else◌, ◌&&◌, ◌==◌, eqb-true, ltb-true, List, ◌∷◌, ◌++◌, length, map, get_or, Result, Ok, Err, codes, refl, sym, ◌∙◌, ap, subst, arith, length-append}
 use Rattle.std.specs.List.{position_or_len, before_first, after_first}
 use Rattle.std.specs.Str.{bytes_eq, is_utf8, IsUtf8}
 use Rattle.std.specs.Char.{to_ascii_lowercase}
@@ -23,7 +23,7 @@ use Rattle.control_core.specs.declared.line.Line.{Line}
 use Rattle.control_core.specs.declared.line.Line.TheVariants as lines
 use Rattle.control_core.specs.Numbers.{fits, long_of, int_of, decoded, bytes_of}
 use Rattle.control_core.specs.declared.merge_line.MergeLine.TheVariants as merges
-use Rattle.control_core.specs.Lines.{merge_of, merge_replay_of, merge_live_of, merging_of, has_blank, word_at, long_at, int_at, channel_of, line_of, text_of, words_of, reading_of, start_of, block_of, list_of, replay_of, poll_of, word_of}
+use Rattle.control_core.specs.Lines.{line_of, merge_of, merge_replay_of, merge_live_of, merging_of, has_blank, word_at, long_at, int_at, channel_of, read_of, text_of, words_of, reading_of, start_of, block_of, list_of, replay_of, poll_of, word_of}
 use Rattle.control_core.specs.LineText.{AreStartFields, IsLine, field, IsTextOf, IsSpelling}
 use Rattle.control_core.proofs.HexCaseLemmas.{decode_of-lowered}
 use Rattle.control_core.proofs.LineTextLemmas.{text_is_read, digits_is_read, replayed_is_read, live_is_read}
@@ -388,26 +388,54 @@ unfolding text_of
 line_by true text line is h = text_by (has_blank text) text line (IsUtf8-from_is_utf8 text is) refl h
 line_by false text line is h = absurd (cc h)
 
-line_ok : (text : List ℕ) (line : Line) → line_of text ≡ Ok line → IsSpelled line text
-unfolding line_of
+line_ok : (text : List ℕ) (line : Line) → read_of text ≡ Ok line → IsSpelled line text
+unfolding read_of
 line_ok text line h = line_by (is_utf8 text) text line refl h
 
 -- and every spelling is read
-spelling_read : (line : Line) (text : List ℕ) → IsLine line → IsSpelling line text → line_of text ≡ Ok line
+spelling_read : (line : Line) (text : List ℕ) → IsLine line → IsSpelling line text → read_of text ≡ Ok line
 spelling_read (lines.Event (Ask (Start s))) text is e = text_is_read (lines.Event (Ask (Start s))) text is e
 spelling_read (lines.Event (Ask (AskList from count))) text is e = text_is_read (lines.Event (Ask (AskList from count))) text is e
 spelling_read (lines.Event (ReplayOpen recording position size)) text is e = text_is_read (lines.Event (ReplayOpen recording position size)) text is e
 spelling_read (lines.Event (ReplayPoll replay most)) text is e = text_is_read (lines.Event (ReplayPoll replay most)) text is e
 spelling_read (lines.Event event) text is e = absurd is
 spelling_read (lines.Merge (merges.Open term term_length position)) text is e = text_is_read (lines.Merge (merges.Open term term_length position)) text is e
-spelling_read (lines.Merge (merges.Replay bytes)) text is e = ap line_of e.1 ∙ replayed_is_read e.0 bytes is.0 is.1 e.2
-spelling_read (lines.Merge (merges.Live bytes)) text is e = ap line_of e.1 ∙ live_is_read e.0 bytes is.0 is.1 e.2
+spelling_read (lines.Merge (merges.Replay bytes)) text is e = ap read_of e.1 ∙ replayed_is_read e.0 bytes is.0 is.1 e.2
+spelling_read (lines.Merge (merges.Live bytes)) text is e = ap read_of e.1 ∙ live_is_read e.0 bytes is.0 is.1 e.2
 spelling_read (lines.Merge merges.Take) text is e = text_is_read (lines.Merge merges.Take) text is e
 spelling_read (lines.Merge merges.State) text is e = text_is_read (lines.Merge merges.State) text is e
 spelling_read lines.Quit text is e = text_is_read lines.Quit text is e
-spelling_read (lines.Block session bytes) text is e = ap line_of e.1 ∙ digits_is_read session e.0 bytes is.0 is.1 is.2 e.2
+spelling_read (lines.Block session bytes) text is e = ap read_of e.1 ∙ digits_is_read session e.0 bytes is.0 is.1 is.2 e.2
 
 -- exactly the spellings of a line are read as it
-pub spelling_is_read : (line : Line) (text : List ℕ) → (line_of text ≡ Ok line) ↔ (IsLine line × IsSpelling line text)
+pub spelling_is_read : (line : Line) (text : List ℕ) → (read_of text ≡ Ok line) ↔ (IsLine line × IsSpelling line text)
 spelling_is_read line text =
     (λ h. let is = line_ok text line h in (is.is_line, is.spelling), λ h. spelling_read line text h.0 h.1)
+
+-- ---- lines that are not too long
+
+short_by : (t : Bool) (text : List ℕ) (line : Line) → nat_le (length text) 262144 ≡ t → (if t then read_of text else Err BadLine) ≡ ok line → (length text ≤ 262144) × (read_of text ≡ ok line)
+short_by true text line is h = (leb-true _ _ is, h)
+short_by false text line is h = absurd (cc h)
+
+short_ok : (text : List ℕ) (line : Line) → line_of text ≡ ok line → (length text ≤ 262144) × (read_of text ≡ ok line)
+unfolding line_of
+short_ok text line h = short_by (nat_le (length text) 262144) text line refl h
+
+short_read : (text : List ℕ) (line : Line) → length text ≤ 262144 → read_of text ≡ ok line → line_of text ≡ ok line
+unfolding line_of
+short_read text line short h = rw (le-leb _ _ short) h
+
+-- the text of a line is read as that line, where it is not too long
+pub short_text_is_read : (line : Line) (text : List ℕ) → IsLine line → IsTextOf line text → length text ≤ 262144 → line_of text ≡ Ok line
+short_text_is_read line text is e short = short_read text line short (text_is_read line text is e)
+
+-- exactly the spellings of a line that are not too long are read as it
+pub line_is_read : (line : Line) (text : List ℕ) → (line_of text ≡ Ok line) ↔ (IsLine line × IsSpelling line text × (length text ≤ 262144))
+line_is_read line text =
+    let both = spelling_is_read line text in (
+      λ h. let parts = short_ok text line h in
+          let read = both.0 parts.1 in
+          (read.0, read.1, parts.0),
+      λ h. short_read text line h.2 (both.1 (h.0, h.1)),
+    )

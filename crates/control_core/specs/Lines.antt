@@ -1,5 +1,5 @@
 -- Control lines: docs/CONTROL.md, "Lines".
-use Rattle.std.specs.Prelude.{◌==◌, ℕ, ℤ, nat_lt, Bool, List, length, codes, Result, Ok, Err, bytes_eq, if◌then◌else◌}
+use Rattle.std.specs.Prelude.{◌==◌, ℕ, ℤ, nat_lt, nat_le, Bool, List, length, codes, Result, Ok, Err, bytes_eq, if◌then◌else◌}
 use Rattle.std.specs.List.{position_or_len, before_first, after_first}
 use Rattle.std.specs.Str.{is_utf8}
 use Rattle.frame_core.specs.declared.refusal.Refusal.{Refusal}
@@ -149,6 +149,10 @@ text_of text =
     if has_blank text then words_of (before_first (λ b. b == 32) text) (after_first (λ b. b == 32) text)
     else word_of text
 
--- a line's bytes, without its end
+-- bytes that are text
+unfoldable pub read_of : List ℕ → Result Line Refusal
+read_of bytes = if is_utf8 bytes then text_of bytes else Err BadLine
+
+-- a line's bytes, without its end: no more than 262,144
 unfoldable pub line_of : List ℕ → Result Line Refusal
-line_of bytes = if is_utf8 bytes then text_of bytes else Err BadLine
+line_of bytes = if nat_le (length bytes) 262144 then read_of bytes else Err BadLine

@@ -20,6 +20,3 @@ pub use parse::parse_line;
 pub use print::print_reply;
 pub use refusal_line::{RefusalLine, print_refusal};
 pub use request::{FindFields, Request};
-
-#[cfg(test)]
-mod tests;

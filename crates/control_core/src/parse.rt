@@ -2,7 +2,7 @@
 
 ghost use Rattle.std.specs.Prelude.{◌≡◌};
 ghost use Rattle.frame_core.specs.Outcome.{Gives, Shows};
-ghost use Rattle.control_core.specs.Lines.{word_at, long_at, int_at, channel_of, start_of, block_of, list_of, replay_of, poll_of, reading_of, merge_of, merge_replay_of, merge_live_of, merging_of, words_of, word_of, text_of, line_of};
+ghost use Rattle.control_core.specs.Lines.{word_at, long_at, int_at, channel_of, start_of, block_of, list_of, replay_of, poll_of, reading_of, merge_of, merge_replay_of, merge_live_of, merging_of, words_of, word_of, text_of, read_of, line_of};
 
 use crate::event::Event;
 use crate::line::Line;
@@ -11,6 +11,7 @@ use crate::number::{bytes, int, long};
 use crate::request::Request;
 use archive_model::{Channel, StartFields};
 use frame_core::Refusal;
+use frame_core::limits::MAX_LINE_LENGTH;
 use std::alloc::Global;
 
 // The first word, and what stands behind its blank.
@@ -195,16 +196,26 @@ fn line_of_text(alloc: Global, text: &str) -> Result<Line, Refusal>
     }
 }
 
-/// The line that these bytes are, their end not among them: docs/CONTROL.md, "Lines". Costs their length.
-///
-/// `BadLine` where they are none that the grammar has, also where its first word is one that nothing answers yet;
-/// `NoMemory` where a channel or the bytes of a block find no memory.
-#[tactic(auto, unfolding(crate::specs::Lines::line_of))]
-pub fn parse_line(alloc: Global, line: &[u8]) -> Result<Line, Refusal>
-    ensures { Gives (λ x. x) result (line_of line.now) }
+#[tactic(auto, unfolding(crate::specs::Lines::read_of))]
+fn line_of_bytes(alloc: Global, line: &[u8]) -> Result<Line, Refusal>
+    ensures { Gives (λ x. x) result (read_of line.now) }
 {
     match std::str::from_utf8(line) {
         Ok(text) => line_of_text(alloc, text),
         Err(_) => Err(Refusal::BadLine),
     }
+}
+
+/// The line that these bytes are, their end not among them: docs/CONTROL.md, "Lines". Costs their length.
+///
+/// `BadLine` where they are none that the grammar has, also where they are more than 262,144 or the first word is one
+/// that nothing answers yet; `NoMemory` where a channel or the bytes of a block find no memory.
+#[tactic(auto, unfolding(crate::specs::Lines::line_of))]
+pub fn parse_line(alloc: Global, line: &[u8]) -> Result<Line, Refusal>
+    ensures { Gives (λ x. x) result (line_of line.now) }
+{
+    if line.len() > MAX_LINE_LENGTH {
+        return Err(Refusal::BadLine);
+    }
+    line_of_bytes(alloc, line)
 }
