@@ -11,6 +11,7 @@ mod parse;
 mod print;
 mod refusal_line;
 mod request;
+mod words;
 
 pub use desk::{Desk, OpenReplay, RecorderSession, Written};
 pub use event::Event;

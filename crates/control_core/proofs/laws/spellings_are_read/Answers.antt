@@ -1,4 +1,4 @@
-use Rattle.control_core.proofs.SpellingLemmas.{line_is_read}
+use Rattle.control_core.proofs.LineTextLemmas.{line_is_read}
 use Rattle.control_core.proofs.laws.spellings_are_read.Goals as goal
 
 pub returns : goal.returns
