@@ -1,6 +1,7 @@
 -- What each line of a script is answered, and the script's state after it. docs/CONTROL.md, "Lines".
 use Rattle.std.specs.Prelude.{◌≡◌, Option, None, Result, Ok, Err, ℕ}
 use Rattle.frame_core.specs.declared.refusal.Refusal.{Refusal}
+use Rattle.frame_core.specs.declared.refusal.Refusal.TheVariants.{BadLine}
 use Rattle.archive_model.specs.declared.reply.Reply.TheVariants.{Bye}
 use Rattle.merge_core.specs.Merge.{Merging}
 use Rattle.control_core.specs.declared.line.Line.{Line}
@@ -25,6 +26,9 @@ LineEnds s (lines.Event event) outcome new = EventEnds s.archive event outcome n
 LineEnds s (lines.Block session bytes) outcome new = BytesEnd s.archive session bytes outcome new.archive × (new.merge ≡ s.merge)
 LineEnds s (lines.Merge line) outcome new = MergeEnds s.merge line outcome new.merge × (new.archive ≡ s.archive)
 LineEnds s lines.Quit outcome new = Answered s Bye outcome new
+LineEnds s (lines.Write session bytes) outcome new = Refused s BadLine outcome new
+LineEnds s lines.Reopen outcome new = Refused s BadLine outcome new
+LineEnds s lines.Compact outcome new = Refused s BadLine outcome new
 
 -- a line that was read, or bytes that are none
 abbrev pub ReadLineEnds : ScriptState → Result Line Refusal → EndsIn ScriptState

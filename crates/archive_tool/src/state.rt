@@ -41,7 +41,7 @@ impl ScriptState {
         }
     }
 
-    /// Answers a line that was read.
+    /// Answers a line that was read. One that nothing answers yet is `BadLine`.
     pub fn answer(&mut self, line: &Line) -> Result<Reply, Refusal>
         ensures { OrNoMemory self.old (LineEnds self.old line.now) result self.new }
     {
@@ -50,6 +50,7 @@ impl ScriptState {
             Line::Block { session, bytes } => self.archive.block(session, bytes.as_slice()),
             Line::Merge(line) => answer_merge(self.alloc, &mut self.merge, line),
             Line::Quit => Ok(Reply::Bye),
+            Line::Write { .. } | Line::Reopen | Line::Compact => Err(Refusal::BadLine),
         }
     }
 }

@@ -1,5 +1,5 @@
 -- Hex digits in either case.
-use Rattle.std.proofs.Common.{◌≡◌, inl, inr, ℕ, zero, suc, ◌+◌, ◌*◌, ◌/◌, ◌%◌, ◌<◌, nat_lt, ◌==◌, Bool, true, ◌&&◌, List, [], ◌∷◌, length, map, slice_index, drop, Option, Some, None, Result, Ok, Err, refl, sym, ap, ◌∙◌, arith, eqb-true, ltb-true}
+use Rattle.std.proofs.Common.{◌≡◌, ◌≢◌, subst, inl, inr, ℕ, zero, suc, ◌+◌, ◌*◌, ◌/◌, ◌%◌, ◌<◌, nat_lt, ◌==◌, Bool, true, ◌&&◌, List, [], ◌∷◌, length, map, slice_index, drop, Option, Some, None, Result, Ok, Err, refl, sym, ap, ◌∙◌, arith, eqb-true, ltb-true}
 use Rattle.std.specs.Char.{to_ascii_lowercase}
 use Rattle.std.specs.Result.{result_unwrap_or}
 use Rattle.std.proofs.lemmas.Bool.{and_parts, cases_lt}
@@ -48,8 +48,8 @@ digit_lowered c v h =
 digit_either : (c : ℕ) → hex_digit_value (to_ascii_lowercase c) ≡ hex_digit_value c
 digit_either c = grind (arith)
 
-pub digit_ascii : (c : ℕ) → is_hex_digit c ≡ true → c < 128
-digit_ascii c h = grind (arith)
+pub digit_no_blank : (c : ℕ) → is_hex_digit c ≡ true → c ≢ 32
+digit_no_blank c h e = let no : is_hex_digit 32 ≡ true = subst (λ d. is_hex_digit d ≡ true) e h in absurd (cc no)
 
 -- ---- pairs of digits
 

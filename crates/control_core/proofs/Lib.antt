@@ -1,6 +1,6 @@
 mod NumbersLemmas
 mod LinesLemmas
-mod LineTextLemmas
-mod SpellingLemmas
 mod HexCaseLemmas
+mod WordLemmas
+mod LineTextLemmas
 pub mod ChangeLemmas

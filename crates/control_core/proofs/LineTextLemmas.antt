@@ -1,316 +1,260 @@
--- The text of a line is read as that line.
-use Rattle.std.proofs.Common.{◌≡◌, ◌≢◌, ℕ, ◌+◌, ◌^◌, ◌<◌, suc, ℤ, pos, negsuc, neg_ℤ, Bool, true, false, not, ◌&&◌, nat_lt, ◌==◌, eq-eqb, ltb-true, lit<, List, [], ◌∷◌, ◌++◌, length, map, get_or, Ok, codes, refl, ◌∙◌, ap, arith, rules, tests, length-append, ne_eqb}
-use Rattle.std.specs.List.{All, AllPass, position_or_len, before_first, after_first}
-use Rattle.std.specs.Str.{bytes_eq, IsUtf8, IsAscii}
-use Rattle.std.specs.Str.Parse.{AllDigits, digits_value, signed_digits_value}
-use Rattle.std.specs.Fmt.{decimal, signed_decimal}
-use Rattle.std.specs.Int.{IsInRange}
-use Rattle.std.specs.Char.{to_ascii_lowercase}
-use Rattle.std.proofs.lemmas.Fmt.{decimal_is_IsNumeral, IsAscii-signed}
-use Rattle.std.proofs.lemmas.Str.{IsUtf8-append, IsUtf8-from_ascii}
-use Rattle.std.proofs.lemmas.Str.Parse.{digit_at}
-use Rattle.std.proofs.lemmas.Str.Ascii.{IsAscii-nil, IsAscii-cons, IsAscii-from_all}
+-- Exactly the spellings of a line are read as it.
+use Rattle.std.proofs.Common.{◌≡◌, ◌≢◌, ◌↔◌, ℕ, ◌<◌, ◌≤◌, zero, suc, Bool, true, false, not, if◌then◌else◌, ◌&&◌, ◌||◌, ◌==◌, nat_le, eq-eqb, leb-true, le-leb, List, [], ◌∷◌, ◌++◌, length, drop, Option, Some, None, Ok, Err, refl, sym, ◌∙◌, ap, subst, arith, rules, ne_eqb}
+use Rattle.std.specs.List.{Contains}
+use Rattle.std.specs.Str.{bytes_eq, is_utf8, IsUtf8}
+use Rattle.std.proofs.lemmas.Str.{IsUtf8-from_is_utf8, is_utf8-from_IsUtf8}
 use Rattle.std.proofs.lemmas.Bool.{and_parts}
-use Rattle.std.proofs.Math.Seq.{take-append_seam, drop-append-add}
-use Rattle.std.proofs.lemmas.List.Elements.{All-head, All-tail, All-cons, All-get_or, All-from_get_or}
+use Rattle.std.proofs.lemmas.List.Elements.{All-cons}
 use Rattle.std.proofs.lemmas.Slice.Eq.{bytes_eq-Decides}
-use Rattle.hex.specs.Hex.{IsBytes, decode_of, encode_lower, is_hex_digit}
-use Rattle.hex.proofs.HexLemmas.{decode_of-encode_lower, decode_of-ok}
-use Rattle.archive_model.specs.declared.command.StartFields.{StartFields}
-use Rattle.control_core.specs.Numbers.{long_of, int_of, bytes_of}
-use Rattle.control_core.specs.declared.request.Request.TheVariants.{Start, List as AskList}
-use Rattle.control_core.specs.declared.event.Event.TheVariants.{Ask, ReplayOpen, ReplayPoll}
+use Rattle.frame_core.specs.declared.refusal.Refusal.TheVariants.{BadLine}
 use Rattle.control_core.specs.declared.line.Line.{Line}
-use Rattle.control_core.specs.declared.line.Line.TheVariants as lines
-use Rattle.control_core.specs.declared.merge_line.MergeLine.TheVariants as merges
-use Rattle.control_core.specs.Lines.{merge_of, merge_replay_of, merge_live_of, merging_of, has_blank, word_at, long_at, int_at, line_of, text_of, words_of, reading_of, start_of, block_of, list_of, replay_of, poll_of, word_of}
-use Rattle.control_core.proofs.LinesLemmas.{line_of-text}
-use Rattle.control_core.specs.LineText.{IsInt, IsLong, AreStartFields, IsLine, field, IsTextOf}
-use Rattle.control_core.proofs.NumbersLemmas.{mag_below}
-use Rattle.control_core.proofs.HexCaseLemmas.{decode_of-lowered, decode_of-either, digit_ascii}
+use Rattle.control_core.specs.Table.{Fields, none, text, ◌&◌, Makes, Row, rows, is_served}
+use Rattle.control_core.specs.Lines.{word_at, text_at, value_at, read, read_by, whole, text_of, read_of, line_of}
+use Rattle.control_core.specs.LineText.{Values, line_with, AreFit, text_with, word_of, AreSpelled, IsShortText, IsSpelling}
+use Rattle.control_core.proofs.WordLemmas.{ok, ok_same, some_length, bind_ok, if_ok, HasNoBlank, behind, word_at-ok, word_at-text, value_at-ok, value_at-word, word_of-spelled}
 
--- no blank is in it
-abbrev pub HasNoBlank : List ℕ → Type 0
-HasNoBlank word = All (λ b. b ≢ 32) word
+-- ---- fields
 
-position_or_len-word : (word rest : List ℕ) → HasNoBlank word → position_or_len (λ b. b == 32) (word ++ 32 ∷ rest) ≡ length word
-position_or_len-word [] rest h = refl
-position_or_len-word (b ∷ word) rest h =
-    let other = ne_eqb b 32 (All-head (λ x. x ≢ 32) b word h) in
-    let more = position_or_len-word word rest (All-tail (λ x. x ≢ 32) b word h) in
-    rw (other, more) (omega arith)
+-- what was read as fields, and nothing is left
+record AreRead (fields : Fields) (make : Makes fields) (rest : Option (List ℕ)) (line : Line) : Type 0 where
+  values : Values fields
+  fit : AreFit fields values
+  spelled : AreSpelled fields values (behind rest)
+  made : line ≡ line_with fields make values
 
--- where a text has its first blank behind a word
-record Splits (text word rest : List ℕ) : Type 0 where
-  found : has_blank text ≡ true
-  front : before_first (λ b. b == 32) text ≡ word
-  back : after_first (λ b. b == 32) text ≡ rest
+text_by : (t : Bool) (s : List ℕ) (r : List ℕ × Option (List ℕ)) → (length s == 0) ≡ t → (if t then Err BadLine else ok (s, None)) ≡ ok r → (s ≡ r.0) × (0 < length s)
+text_by true s r is h = absurd (cc h)
+text_by false s r is h =
+    let same : (s, None) ≡ r = ok_same _ r h in
+    (ap (λ (v : List ℕ × Option (List ℕ)). v.0) same, some_length (length s) is)
 
-splits : (word rest : List ℕ) → HasNoBlank word → Splits (word ++ 32 ∷ rest) word rest
-splits word rest h =
-    let text = word ++ 32 ∷ rest in
-    let place = position_or_len-word word rest h in
-    let long : length text ≡ length word + suc (length rest) = length-append word (32 ∷ rest) in
-    let inside : length word < length text = omega arith in record {
-      found = rw place (search (rules, tests));
-      front = rw place (take-append_seam word (32 ∷ rest));
-      back = rw place (drop-append-add word (32 ∷ rest) 1);
-    }
+text_at-ok : (rest : Option (List ℕ)) (r : List ℕ × Option (List ℕ)) → text_at rest ≡ ok r → (behind rest ≡ 32 ∷ r.0) × (0 < length r.0)
+text_at-ok None r h = absurd (cc h)
+text_at-ok (Some s) r h =
+    let is = text_by (length s == 0) s r refl h in
+    (ap (λ v. 32 ∷ v) is.0, subst (λ v. 0 < length v) is.0 is.1)
 
--- a word in front of a blank is read, and what stands behind it
-pub word_at-text : (word rest : List ℕ) → HasNoBlank word → word_at (word ++ 32 ∷ rest) ≡ Ok (word, rest)
-word_at-text word rest h =
-    let parts = splits word rest h in
-    rw (parts.found, parts.front, parts.back)
+read-ok : (fields : Fields) (make : Makes fields) (rest : Option (List ℕ)) (r : Line × Option (List ℕ)) → read fields make rest ≡ ok r → r.1 ≡ None → AreRead fields make rest r.0
+read-ok none make rest r h end =
+    let same : (make, rest) ≡ r = ok_same _ r h in
+    let left : rest ≡ None = ap (λ (v : Line × Option (List ℕ)). v.1) same ∙ end in
+    record { values = tt; fit = tt; spelled = ap behind left; made = ap (λ (v : Line × Option (List ℕ)). v.0) (sym same) }
+read-ok text make rest r h end =
+    let last = bind_ok (text_at rest) _ r h in
+    let is = text_at-ok rest last.0 last.1 in
+    let same = ok_same _ r last.2 in
+    record { values = last.0.0; fit = is.1; spelled = is.0; made = ap (λ (v : Line × Option (List ℕ)). v.0) (sym same) }
+read-ok (k & fields) make rest r h end =
+    let first = bind_ok (value_at k rest) _ r h in
+    let is = value_at-ok k rest first.0 first.1 in
+    let more = read-ok fields (make first.0.0) first.0.1 r first.2 end in
+    record { values = (first.0.0, more.values); fit = (is.fit, more.fit); spelled = (is.word, behind first.0.1, is.split, is.spelled, more.spelled); made = more.made }
 
--- ---- numbers
+-- a spelling of fields is nothing, or begins with a blank
+rest_of : (fields : Fields) (values : Values fields) (s : List ℕ) → AreSpelled fields values s → (rest : Option (List ℕ)) × (s ≡ behind rest)
+rest_of none values s is = (None, is)
+rest_of text values s is = (Some values, is)
+rest_of (k & fields) values s is = (Some (is.0 ++ is.1), is.2)
 
-no_blank : (b : ℕ) → IsInRange 48 57 b → b ≢ 32
-no_blank b range e = absurd (omega (arith, range.0, range.1))
+some_text : (s : List ℕ) → 0 < length s → (length s == 0) ≡ false
+some_text s some = ne_eqb (length s) 0 (λ e. absurd (omega (arith, e)))
 
-HasNoBlank-digits : (ds : List ℕ) → AllDigits 10 ds → HasNoBlank ds
-HasNoBlank-digits ds h = All-from_get_or (λ b. b ≢ 32) ds 0 (λ i lt. no_blank (get_or ds i 0) (digit_at ds i h lt))
+behind_same : (rest : Option (List ℕ)) (s : List ℕ) → behind rest ≡ 32 ∷ s → rest ≡ Some s
+behind_same None s e = absurd (cc e)
+behind_same (Some r) s e = ap Some (ap (λ (v : List ℕ). drop 1 v) e)
 
--- digits without a sign
-value_of_digits : (ds : List ℕ) → 0 < length ds → AllDigits 10 ds → signed_digits_value 10 ds ≡ pos (digits_value 10 ds)
-value_of_digits [] some h = absurd (omega arith)
-value_of_digits (c ∷ cs) some h =
-    let range : IsInRange 48 57 c = digit_at (c ∷ cs) 0 h some in
-    let no_minus : c ≢ 45 = λ e. absurd (omega (arith, range.0, range.1)) in
-    let no_plus : c ≢ 43 = λ e. absurd (omega (arith, range.0, range.1)) in
-    rw (ne_eqb c 45 no_minus, ne_eqb c 43 no_plus)
+behind_none : (rest : Option (List ℕ)) → behind rest ≡ [] → rest ≡ None
+behind_none None e = refl
+behind_none (Some r) e = absurd (cc e)
 
-record IsNumberText (z : ℤ) (text : List ℕ) : Type 0 where
-  no_blank : HasNoBlank text
-  value : signed_digits_value 10 text ≡ z
+read-spelled : (fields : Fields) (make : Makes fields) (values : Values fields) (rest : Option (List ℕ)) → AreFit fields values → AreSpelled fields values (behind rest)
+    → read fields make rest ≡ Ok (line_with fields make values, None)
+read-spelled none make values rest fit is = ap (λ r. ok (make, r)) (behind_none rest is)
+read-spelled text make values rest fit is = ap (λ r. read text make r) (behind_same rest values is) ∙ rw (some_text values fit)
+read-spelled (k & fields) make values rest fit is =
+    let tail = rest_of fields values.1 is.1 is.4 in
+    let here : rest ≡ Some (is.0 ++ behind tail.0) = behind_same rest _ (is.2 ∙ ap (λ t. 32 ∷ (is.0 ++ t)) tail.1) in
+    let more = read-spelled fields (make values.0) values.1 tail.0 fit.1 (subst (AreSpelled fields values.1) tail.1 is.4) in
+    ap (λ r. read (k & fields) make r) here ∙ rw (value_at-word k values.0 is.0 tail.0 fit.0 is.3) more
 
-signed_decimal_is_text : (z : ℤ) → IsLong z → IsNumberText z (signed_decimal z)
-signed_decimal_is_text (pos n) fit =
-    let small : n < 2 ^ 63 = mag_below (pos n) fit in
-    let text = decimal_is_IsNumeral n (omega arith) in record {
-      no_blank = HasNoBlank-digits (decimal n) text.0.1;
-      value = value_of_digits (decimal n) text.0.0 text.0.1 ∙ ap pos text.1;
-    }
-signed_decimal_is_text (negsuc n) fit =
-    let small : n < 2 ^ 63 = mag_below (negsuc n) fit in
-    let text = decimal_is_IsNumeral (suc n) (omega arith) in record {
-      no_blank = All-cons (λ b. b ≢ 32) 45 (decimal (suc n)) (λ e. absurd (omega (arith, e))) (HasNoBlank-digits (decimal (suc n)) text.0.1);
-      value = ap (λ v. neg_ℤ (pos v)) text.1;
-    }
+-- the one text is a spelling
+pub text_with-spelled : (fields : Fields) (values : Values fields) → AreFit fields values → AreSpelled fields values (text_with fields values)
+text_with-spelled none values fit = refl
+text_with-spelled text values fit = refl
+text_with-spelled (k & fields) values fit =
+    (word_of k values.0, text_with fields values.1, refl, word_of-spelled k values.0 fit.0, text_with-spelled fields values.1 fit.1)
 
--- a number's text is read as it
-pub long_of-text : (z : ℤ) → IsLong z → long_of (signed_decimal z) ≡ Ok z
-unfolding long_of
-long_of-text z fit =
-    let value = (signed_decimal_is_text z fit).value in
-    let same : bytes_eq (signed_decimal z) (signed_decimal z) ≡ true = (bytes_eq-Decides (signed_decimal z) (signed_decimal z)).1 refl in
-    rw (value, same, fit)
+-- ---- rows
 
-IsLong-int : (z : ℤ) → IsInt z → IsLong z
-IsLong-int (pos n) fit = search (rules, tests)
-IsLong-int (negsuc n) fit = search (rules, tests)
+abbrev is_named : List Row → List ℕ → Bool
+is_named [] word = false
+is_named (row ∷ others) word = bytes_eq word row.word || is_named others word
 
-pub int_of-text : (z : ℤ) → IsInt z → int_of (signed_decimal z) ≡ Ok z
-unfolding int_of
-int_of-text z fit = rw (long_of-text z (IsLong-int z fit), fit)
+abbrev has_no_blank : List ℕ → Bool
+has_no_blank [] = true
+has_no_blank (b ∷ word) = not (b == 32) && has_no_blank word
 
-pub long_at-text : (z : ℤ) (rest : List ℕ) → IsLong z → long_at (field z rest) ≡ Ok (z, rest)
-long_at-text z rest fit = rw (word_at-text (signed_decimal z) rest (signed_decimal_is_text z fit).no_blank, long_of-text z fit)
-
-pub int_at-text : (z : ℤ) (rest : List ℕ) → IsInt z → int_at (field z rest) ≡ Ok (z, rest)
-int_at-text z rest fit = rw (word_at-text (signed_decimal z) rest (signed_decimal_is_text z (IsLong-int z fit)).no_blank, int_of-text z fit)
-
--- ---- bytes
-
--- ASCII without a blank, as a test
-abbrev is_plain : List ℕ → Bool
-is_plain [] = true
-is_plain (b ∷ bs) = nat_lt b 128 && (not (b == 32) && is_plain bs)
+-- each row has a word of its own, without a blank
+abbrev are_apart : List Row → Bool
+are_apart [] = true
+are_apart (row ∷ others) = (has_no_blank row.word && not (is_named others row.word)) && are_apart others
 
 no_eq : (b : ℕ) → not (b == 32) ≡ true → b ≢ 32
 no_eq b h e = let same = eq-eqb b 32 e in cc
 
-record IsPlain (word : List ℕ) : Type 0 where
-  no_blank : HasNoBlank word
-  ascii : IsAscii word
-
-plain : (word : List ℕ) → is_plain word ≡ true → IsPlain word
-plain [] h = record { no_blank = search rules; ascii = IsAscii-nil }
+plain : (word : List ℕ) → has_no_blank word ≡ true → HasNoBlank word
+plain [] h = search rules
 plain (b ∷ word) h =
-    let first = and_parts (nat_lt b 128) (not (b == 32) && is_plain word) h in
-    let second = and_parts (not (b == 32)) (is_plain word) first.1 in
-    let rest = plain word second.1 in
-    record {
-      no_blank = All-cons (λ x. x ≢ 32) b word (no_eq b second.0) rest.no_blank;
-      ascii = IsAscii-cons b word (ltb-true b 128 first.0) rest.ascii;
-    }
+    let parts = and_parts (not (b == 32)) (has_no_blank word) h in
+    All-cons (λ x. x ≢ 32) b word (no_eq b parts.0) (plain word parts.1)
 
-IsUtf8-blank : (rest : List ℕ) → IsUtf8 rest → IsUtf8 (32 ∷ rest)
-IsUtf8-blank rest h = IsUtf8-append (32 ∷ []) rest (IsUtf8-from_ascii (32 ∷ []) (IsAscii-cons 32 [] (lit< tt) IsAscii-nil)) h
+or_left : (a b : Bool) → a ≡ true → (a || b) ≡ true
+or_left true b h = refl
+or_left false b h = absurd (cc h)
 
-IsUtf8-number : (z : ℤ) → IsLong z → IsUtf8 (signed_decimal z)
-IsUtf8-number z fit = IsUtf8-from_ascii (signed_decimal z) (IsAscii-signed z (mag_below z fit))
+or_right : (a b : Bool) → b ≡ true → (a || b) ≡ true
+or_right true b h = refl
+or_right false b h = h
 
-IsUtf8-long : (z : ℤ) (rest : List ℕ) → IsLong z → IsUtf8 rest → IsUtf8 (field z rest)
-IsUtf8-long z rest fit h = IsUtf8-append (signed_decimal z) (32 ∷ rest) (IsUtf8-number z fit) (IsUtf8-blank rest h)
+same_word : (word : List ℕ) → bytes_eq word word ≡ true
+same_word word = (bytes_eq-Decides word word).1 refl
 
-IsUtf8-int : (z : ℤ) (rest : List ℕ) → IsInt z → IsUtf8 rest → IsUtf8 (field z rest)
-IsUtf8-int z rest fit h = IsUtf8-long z rest (IsLong-int z fit) h
+named : (rs : List Row) (row : Row) → Contains rs row → is_named rs row.word ≡ true
+named [] row (k, lt, e) = absurd (omega (arith, lt))
+named (r ∷ rs) row (zero, lt, e) = or_left _ _ (subst (λ (q : Row). bytes_eq row.word q.word ≡ true) (sym e) (same_word row.word))
+named (r ∷ rs) row (suc k, lt, e) = or_right _ _ (named rs row (k, omega (arith, lt), e))
 
--- a first word, and the rest
-line_of-words : (word rest : List ℕ) → is_plain word ≡ true → IsUtf8 rest → line_of (word ++ 32 ∷ rest) ≡ words_of word rest
-unfolding text_of
-line_of-words word rest h text =
-    let first = plain word h in
-    let parts = splits word rest first.no_blank in
-    line_of-text _ (IsUtf8-append word (32 ∷ rest) (IsUtf8-from_ascii word first.ascii) (IsUtf8-blank rest text))
-    ∙ rw (parts.found, parts.front, parts.back)
+-- a row of the table reads what stands behind its word
+record IsRowOf (rs : List Row) (row : Row) : Type 0 where
+  no_blank : HasNoBlank row.word
+  reads : (rest : Option (List ℕ)) → read_by rs row.word rest ≡ read row.fields row.line rest
+
+other_word : (t : Bool) (rs : List Row) (row r : Row) → bytes_eq row.word r.word ≡ t → is_named rs row.word ≡ true → not (is_named rs r.word) ≡ true → t ≡ false
+other_word false rs row r is among apart = refl
+other_word true rs row r is among apart =
+    let same = (bytes_eq-Decides row.word r.word).0 is in
+    let again : is_named rs r.word ≡ true = subst (λ w. is_named rs w ≡ true) same among in
+    let no : not true ≡ true = subst (λ t. not t ≡ true) again apart in
+    absurd (cc no)
+
+row_of : (rs : List Row) (row : Row) → Contains rs row → are_apart rs ≡ true → IsRowOf rs row
+row_of [] row (k, lt, e) apart = absurd (omega (arith, lt))
+row_of (r ∷ rs) row (zero, lt, e) apart =
+    let parts = and_parts (has_no_blank r.word && not (is_named rs r.word)) (are_apart rs) apart in
+    let own = and_parts (has_no_blank r.word) (not (is_named rs r.word)) parts.0 in
+    subst (λ (q : Row). IsRowOf (r ∷ rs) q) e (record { no_blank = plain r.word own.0; reads = λ rest. rw (same_word r.word) refl })
+row_of (r ∷ rs) row (suc k, lt, e) apart =
+    let parts = and_parts (has_no_blank r.word && not (is_named rs r.word)) (are_apart rs) apart in
+    let own = and_parts (has_no_blank r.word) (not (is_named rs r.word)) parts.0 in
+    let inner : Contains rs row = (k, omega (arith, lt), e) in
+    let more = row_of rs row inner parts.1 in
+    let other = other_word (bytes_eq row.word r.word) rs row r refl (named rs row inner) own.1 in
+    record { no_blank = more.no_blank; reads = λ rest. rw other (more.reads rest) }
+
+-- what is read is read by a row
+record IsReadBy (rs : List Row) (word : List ℕ) (rest : Option (List ℕ)) (r : Line × Option (List ℕ)) : Type 0 where
+  row : Row
+  listed : Contains rs row
+  same : word ≡ row.word
+  reads : read row.fields row.line rest ≡ ok r
+
+read_by-case : (t : Bool) (row : Row) (rs : List Row) (word : List ℕ) (rest : Option (List ℕ)) (r : Line × Option (List ℕ)) → bytes_eq word row.word ≡ t
+    → (read_by rs word rest ≡ ok r → IsReadBy rs word rest r)
+    → (if t then read row.fields row.line rest else read_by rs word rest) ≡ ok r → IsReadBy (row ∷ rs) word rest r
+read_by-case true row rs word rest r is later h =
+    record { row = row; listed = (0, omega arith, refl); same = (bytes_eq-Decides word row.word).0 is; reads = h }
+read_by-case false row rs word rest r is later h =
+    let more = later h in
+    let at = more.listed in
+    record { row = more.row; listed = (suc at.0, omega (arith, at.1), at.2); same = more.same; reads = more.reads }
+
+read_by-ok : (rs : List Row) (word : List ℕ) (rest : Option (List ℕ)) (r : Line × Option (List ℕ)) → read_by rs word rest ≡ ok r → IsReadBy rs word rest r
+read_by-ok [] word rest r h = absurd (cc h)
+read_by-ok (row ∷ rs) word rest r h = read_by-case (bytes_eq word row.word) row rs word rest r refl (read_by-ok rs word rest r) h
 
 -- ---- lines
 
-some_bytes : (text : List ℕ) → 0 < length text → (length text == 0) ≡ false
-some_bytes text some = ne_eqb (length text) 0 (λ e. absurd (omega (arith, e)))
+whole_by : (r : Line × Option (List ℕ)) (line : Line) → whole r ≡ ok line → (r.0 ≡ line) × (r.1 ≡ None)
+whole_by (l, None) line h = (ok_same l line h, refl)
+whole_by (l, Some s) line h = absurd (cc h)
 
-list_text : (from count : ℤ) → IsLong from → IsLong count → line_of (codes "list " ++ field from (signed_decimal count)) ≡ Ok (lines.Event (Ask (AskList from count)))
-unfolding words_of reading_of list_of
-list_text from count a b =
-    line_of-words (codes "list") (field from (signed_decimal count)) refl (IsUtf8-long from _ a (IsUtf8-number count b))
-    ∙ rw (long_at-text from (signed_decimal count) a, long_of-text count b)
-
-replay_text : (recording position size : ℤ) → IsLong recording → IsLong position → IsLong size
-    → line_of (codes "replay " ++ field recording (field position (signed_decimal size))) ≡ Ok (lines.Event (ReplayOpen recording position size))
-unfolding words_of reading_of replay_of
-replay_text recording position size a b d =
-    let last = signed_decimal size in
-    line_of-words (codes "replay") (field recording (field position last)) refl (IsUtf8-long recording _ a (IsUtf8-long position _ b (IsUtf8-number size d)))
-    ∙ rw (long_at-text recording (field position last) a, long_at-text position last b, long_of-text size d)
-
-poll_text : (replay most : ℤ) → IsLong replay → IsLong most → line_of (codes "poll " ++ field replay (signed_decimal most)) ≡ Ok (lines.Event (ReplayPoll replay most))
-unfolding words_of reading_of poll_of
-poll_text replay most a b =
-    line_of-words (codes "poll") (field replay (signed_decimal most)) refl (IsUtf8-long replay _ a (IsUtf8-number most b))
-    ∙ rw (long_at-text replay (signed_decimal most) a, long_of-text most b)
-
--- digits in either case that stand for bytes
-bytes_of-digits : (digits bytes : List ℕ) → 0 < length digits → decode_of digits ≡ Ok bytes → bytes_of digits ≡ Ok bytes
-unfolding bytes_of
-bytes_of-digits digits bytes some is = rw (some_bytes digits some, is)
-
-IsAscii-digits : (digits : List ℕ) → AllPass is_hex_digit digits → IsAscii digits
-IsAscii-digits digits h = IsAscii-from_all digits (All-from_get_or (λ b. b < 128) digits 0 (λ i lt. digit_ascii (get_or digits i 0) (All-get_or (λ b. is_hex_digit b ≡ true) digits i 0 lt h)))
-
-digits_text : (session : ℤ) (digits bytes : List ℕ) → IsLong session → IsUtf8 digits → 0 < length digits → decode_of digits ≡ Ok bytes
-    → line_of (codes "block " ++ field session digits) ≡ Ok (lines.Block session bytes)
-unfolding words_of block_of
-digits_text session digits bytes a text some is =
-    line_of-words (codes "block") (field session digits) refl (IsUtf8-long session digits a text)
-    ∙ rw (long_at-text session digits a, bytes_of-digits digits bytes some is)
-
--- hex digits in either case
-pub digits_is_read : (session : ℤ) (digits bytes : List ℕ) → IsLong session → 0 < length bytes → IsBytes bytes → map to_ascii_lowercase digits ≡ encode_lower bytes
-    → line_of (codes "block " ++ field session digits) ≡ Ok (lines.Block session bytes)
-digits_is_read session digits bytes a some fit lowered =
-    let read = decode_of-either digits bytes fit lowered in
-    let shape = decode_of-ok digits bytes read in
-    digits_text session digits bytes a (IsUtf8-from_ascii digits (IsAscii-digits digits shape.1)) (omega (arith, shape.2)) read
-
-block_text : (session : ℤ) (bytes : List ℕ) → IsLong session → 0 < length bytes → IsBytes bytes → line_of (codes "block " ++ field session (encode_lower bytes)) ≡ Ok (lines.Block session bytes)
-block_text session bytes a some fit = digits_is_read session (encode_lower bytes) bytes a some fit (decode_of-lowered (encode_lower bytes) bytes (decode_of-encode_lower bytes fit))
-
-start_text : (s : StartFields) (text : List ℕ) → AreStartFields s → IsTextOf (lines.Event (Ask (Start s))) text → line_of text ≡ Ok (lines.Event (Ask (Start s)))
-unfolding words_of start_of
-start_text s text is e =
-    let r8 = s.channel in
-    let r7 = field s.timestamp r8 in
-    let r6 = field s.start_position r7 in
-    let r5 = field s.segment_length r6 in
-    let r4 = field s.mtu r5 in
-    let r3 = field s.term_length r4 in
-    let r2 = field s.initial_term_id r3 in
-    let r1 = field s.session_id r2 in
-    let r0 = field s.stream_id r1 in
-    let utf8 : IsUtf8 r0 =
-    IsUtf8-int s.stream_id r1 is.stream_id (IsUtf8-int s.session_id r2 is.session_id (IsUtf8-int s.initial_term_id r3 is.initial_term_id (
-    IsUtf8-int s.term_length r4 is.term_length (IsUtf8-int s.mtu r5 is.mtu (IsUtf8-int s.segment_length r6 is.segment_length (
-    IsUtf8-long s.start_position r7 is.start_position (IsUtf8-long s.timestamp r8 is.timestamp is.channel_text))))))) in
-    ap line_of e ∙ line_of-words (codes "start") r0 refl utf8
-    ∙ rw (
-      int_at-text s.stream_id r1 is.stream_id,
-      int_at-text s.session_id r2 is.session_id,
-      int_at-text s.initial_term_id r3 is.initial_term_id,
-      int_at-text s.term_length r4 is.term_length,
-      int_at-text s.mtu r5 is.mtu,
-      int_at-text s.segment_length r6 is.segment_length,
-      long_at-text s.start_position r7 is.start_position,
-      long_at-text s.timestamp r8 is.timestamp,
-      some_bytes s.channel is.channel_some,
-    )
-
-merge_text : (term term_length position : ℤ) → IsInt term → IsInt term_length → IsLong position
-    → line_of (codes "merge " ++ field term (field term_length (signed_decimal position))) ≡ Ok (lines.Merge (merges.Open term term_length position))
-unfolding words_of reading_of merging_of merge_of
-merge_text term term_length position a b d =
-    let last = signed_decimal position in
-    line_of-words (codes "merge") (field term (field term_length last)) refl (IsUtf8-int term _ a (IsUtf8-int term_length _ b (IsUtf8-number position d)))
-    ∙ rw (int_at-text term (field term_length last) a, int_at-text term_length last b, long_of-text position d)
-
--- digits that stand for bytes are read behind a word by what reads bytes
-record AreDigitsOf (digits bytes : List ℕ) : Type 0 where
-  some : 0 < length digits
-  read : decode_of digits ≡ Ok bytes
-  utf8 : IsUtf8 digits
-
-digits_of : (digits bytes : List ℕ) → 0 < length bytes → IsBytes bytes → map to_ascii_lowercase digits ≡ encode_lower bytes → AreDigitsOf digits bytes
-digits_of digits bytes some fit lowered =
-    let read = decode_of-either digits bytes fit lowered in
-    let shape = decode_of-ok digits bytes read in
-    record { some = omega (arith, shape.2); read = read; utf8 = IsUtf8-from_ascii digits (IsAscii-digits digits shape.1) }
-
-pub replayed_is_read : (digits bytes : List ℕ) → 0 < length bytes → IsBytes bytes → map to_ascii_lowercase digits ≡ encode_lower bytes
-    → line_of (codes "merge-replay " ++ digits) ≡ Ok (lines.Merge (merges.Replay bytes))
-unfolding words_of reading_of merging_of merge_replay_of
-replayed_is_read digits bytes some fit lowered =
-    let is = digits_of digits bytes some fit lowered in
-    line_of-words (codes "merge-replay") digits refl is.utf8 ∙ rw (bytes_of-digits digits bytes is.some is.read)
-
-pub live_is_read : (digits bytes : List ℕ) → 0 < length bytes → IsBytes bytes → map to_ascii_lowercase digits ≡ encode_lower bytes
-    → line_of (codes "merge-live " ++ digits) ≡ Ok (lines.Merge (merges.Live bytes))
-unfolding words_of reading_of merging_of merge_live_of
-live_is_read digits bytes some fit lowered =
-    let is = digits_of digits bytes some fit lowered in
-    line_of-words (codes "merge-live") digits refl is.utf8 ∙ rw (bytes_of-digits digits bytes is.some is.read)
-
-lowered_self : (bytes : List ℕ) → IsBytes bytes → map to_ascii_lowercase (encode_lower bytes) ≡ encode_lower bytes
-lowered_self bytes fit = decode_of-lowered (encode_lower bytes) bytes (decode_of-encode_lower bytes fit)
-
--- a word alone
-line_of-word : (word : List ℕ) → is_plain word ≡ true → has_blank word ≡ false → line_of word ≡ word_of word
+-- a text that is read is a spelling, if it is short
+text_ok : (s : List ℕ) (line : Line) → IsShortText s → text_of s ≡ ok line → IsSpelling line s
 unfolding text_of
-line_of-word word h none = line_of-text word (IsUtf8-from_ascii word (plain word h).ascii) ∙ rw none
+text_ok s line short h =
+    let first = bind_ok (word_at (Some s)) _ line h in
+    let later = bind_ok (if is_served first.0.0 then read_by rows first.0.0 first.0.1 else Err BadLine) _ line first.2 in
+    let served = if_ok (is_served first.0.0) (read_by rows first.0.0 first.0.1) later.0 later.1 in
+    let end = whole_by later.0 line later.2 in
+    let by = read_by-ok rows first.0.0 first.0.1 later.0 served.1 in
+    let is = read-ok by.row.fields by.row.line first.0.1 later.0 by.reads end.1 in
+    record {
+      row = by.row;
+      listed = by.listed;
+      served = subst (λ w. is_served w ≡ true) by.same served.0;
+      values = is.values;
+      fit = is.fit;
+      made = sym end.0 ∙ is.made;
+      rest = behind first.0.1;
+      split = word_at-ok s first.0 first.1 ∙ ap (λ w. w ++ behind first.0.1) by.same;
+      spelled = is.spelled;
+      short = short;
+    }
 
-take_text : line_of (codes "merge-take") ≡ Ok (lines.Merge merges.Take)
-unfolding word_of
-take_text = line_of-word (codes "merge-take") refl refl
+text_read : (s : List ℕ) (line : Line) → IsSpelling line s → text_of s ≡ ok line
+unfolding text_of
+text_read s line is =
+    let row = is.row in
+    let of = row_of rows row is.listed refl in
+    let tail = rest_of row.fields is.values is.rest is.spelled in
+    let word = word_at-text row.word tail.0 of.no_blank in
+    let fields = read-spelled row.fields row.line is.values tail.0 is.fit (subst (AreSpelled row.fields is.values) tail.1 is.spelled) in
+    ap text_of (is.split ∙ ap (λ t. row.word ++ t) tail.1) ∙ rw (word, is.served, of.reads tail.0, fields) (ap ok (sym is.made))
 
-state_text : line_of (codes "merge-state") ≡ Ok (lines.Merge merges.State)
-unfolding word_of
-state_text = line_of-word (codes "merge-state") refl refl
+utf8_by : (t : Bool) (s : List ℕ) (line : Line) → is_utf8 s ≡ t → (if t then text_of s else Err BadLine) ≡ ok line → IsUtf8 s × (text_of s ≡ ok line)
+utf8_by true s line is h = (IsUtf8-from_is_utf8 s is, h)
+utf8_by false s line is h = absurd (cc h)
 
-quit_text : line_of (codes "quit") ≡ Ok lines.Quit
-unfolding text_of word_of
-quit_text = line_of-text (codes "quit") (IsUtf8-from_ascii (codes "quit") (plain (codes "quit") refl).ascii)
+utf8_ok : (s : List ℕ) (line : Line) → read_of s ≡ ok line → IsUtf8 s × (text_of s ≡ ok line)
+unfolding read_of
+utf8_ok s line h = utf8_by (is_utf8 s) s line refl h
 
--- the text of a line is read as that line
-pub text_is_read : (line : Line) (text : List ℕ) → IsLine line → IsTextOf line text → line_of text ≡ Ok line
-text_is_read (lines.Event (Ask (Start s))) text is e = start_text s text is e
-text_is_read (lines.Event (Ask (AskList from count))) text is e = ap line_of e ∙ list_text from count is.0 is.1
-text_is_read (lines.Event (ReplayOpen recording position size)) text is e = ap line_of e ∙ replay_text recording position size is.0 is.1 is.2
-text_is_read (lines.Event (ReplayPoll replay most)) text is e = ap line_of e ∙ poll_text replay most is.0 is.1
-text_is_read (lines.Event event) text is e = absurd is
-text_is_read (lines.Block session bytes) text is e = ap line_of e ∙ block_text session bytes is.0 is.1 is.2
-text_is_read (lines.Merge (merges.Open term term_length position)) text is e = ap line_of e ∙ merge_text term term_length position is.0 is.1 is.2
-text_is_read (lines.Merge (merges.Replay bytes)) text is e = ap line_of e ∙ replayed_is_read (encode_lower bytes) bytes is.0 is.1 (lowered_self bytes is.1)
-text_is_read (lines.Merge (merges.Live bytes)) text is e = ap line_of e ∙ live_is_read (encode_lower bytes) bytes is.0 is.1 (lowered_self bytes is.1)
-text_is_read (lines.Merge merges.Take) text is e = ap line_of e ∙ take_text
-text_is_read (lines.Merge merges.State) text is e = ap line_of e ∙ state_text
-text_is_read lines.Quit text is e = ap line_of e ∙ quit_text
+utf8_read : (s : List ℕ) (line : Line) → IsUtf8 s → text_of s ≡ ok line → read_of s ≡ ok line
+unfolding read_of
+utf8_read s line utf8 h = rw (is_utf8-from_IsUtf8 s utf8) h
+
+short_by : (t : Bool) (s : List ℕ) (line : Line) → nat_le (length s) 262144 ≡ t → (if t then read_of s else Err BadLine) ≡ ok line → (length s ≤ 262144) × (read_of s ≡ ok line)
+short_by true s line is h = (leb-true _ _ is, h)
+short_by false s line is h = absurd (cc h)
+
+line_ok : (s : List ℕ) (line : Line) → line_of s ≡ ok line → IsSpelling line s
+unfolding line_of
+line_ok s line h =
+    let short = short_by (nat_le (length s) 262144) s line refl h in
+    let utf8 = utf8_ok s line short.1 in
+    text_ok s line (utf8.0, short.0) utf8.1
+
+line_read : (s : List ℕ) (line : Line) → IsSpelling line s → line_of s ≡ ok line
+unfolding line_of
+line_read s line is = rw (le-leb _ _ is.short.1) (utf8_read s line is.short.0 (text_read s line is))
+
+-- exactly the spellings of a line are read as it
+pub line_is_read : (line : Line) (s : List ℕ) → (line_of s ≡ Ok line) ↔ IsSpelling line s
+line_is_read line s = (line_ok s line, line_read s line)
+
+-- the one text of a row's values is read as their line
+pub text_is_read : (row : Row) (values : Values row.fields) → Contains rows row → is_served row.word ≡ true → AreFit row.fields values → IsShortText (row.word ++ text_with row.fields values)
+    → line_of (row.word ++ text_with row.fields values) ≡ Ok (line_with row.fields row.line values)
+text_is_read row values listed served fit short =
+    line_read _ _ (record {
+      row = row;
+      listed = listed;
+      served = served;
+      values = values;
+      fit = fit;
+      made = refl;
+      rest = text_with row.fields values;
+      split = refl;
+      spelled = text_with-spelled row.fields values fit;
+      short = short;
+    })

@@ -22,10 +22,20 @@ Answered a reply outcome new = (outcome ≡ Ok reply) × (new ≡ a)
 abbrev pub RequestEnds : Control → Request → Ends
 RequestEnds a (requests.Start f) = StartEnds a f
 RequestEnds a (requests.List from count) = ListEnds a from count
-RequestEnds a _ = Refused a BadLine
+RequestEnds a (requests.Stop recording timestamp) = Refused a BadLine
+RequestEnds a (requests.Extend fields) = Refused a BadLine
+RequestEnds a (requests.Truncate recording position) = Refused a BadLine
+RequestEnds a (requests.PurgeSegments recording position) = Refused a BadLine
+RequestEnds a (requests.PurgeRecording recording) = Refused a BadLine
+RequestEnds a (requests.Find fields) = Refused a BadLine
+RequestEnds a (requests.Positions recording) = Refused a BadLine
 
 abbrev pub EventEnds : Control → Event → Ends
 EventEnds a (events.Ask request) = RequestEnds a request
 EventEnds a (events.ReplayOpen recording position size) = OpenEnds a recording position size
 EventEnds a (events.ReplayPoll replay most) = PollEnds a replay most
-EventEnds a _ = Refused a BadLine
+EventEnds a (events.Write session block) = Refused a BadLine
+EventEnds a (events.Settle session) = Refused a BadLine
+EventEnds a (events.ReplayClose replay) = Refused a BadLine
+EventEnds a events.Sweep = Refused a BadLine
+EventEnds a (events.Verify recording) = Refused a BadLine

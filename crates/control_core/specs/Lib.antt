@@ -1,6 +1,7 @@
 -- What a reader has to believe: numbers and lines as text, the text of replies and refusals, the control state, and what
 -- each call is answered.
 pub mod Numbers
+pub mod Table
 pub mod Lines
 pub mod LineText
 pub mod ReplyText

@@ -1,80 +1,72 @@
 -- Which texts control lines have: docs/CONTROL.md, "Lines".
-use Rattle.std.specs.Prelude.{◌≡◌, ◌<◌, ◌++◌, ℕ, ℤ, true, List, length, map, codes, IsUtf8}
+use Rattle.std.specs.Prelude.{◌≡◌, ◌<◌, ◌≤◌, ◌++◌, [], ◌∷◌, ℕ, true, List, length, map, IsUtf8, Contains}
 use Rattle.std.specs.Fmt.{signed_decimal}
 use Rattle.std.specs.Char.{to_ascii_lowercase}
 use Rattle.hex.specs.Hex.{encode_lower, IsBytes}
-use Rattle.archive_model.specs.declared.command.StartFields.{StartFields}
-use Rattle.control_core.specs.declared.request.Request.TheVariants.{Start, List as AskList}
-use Rattle.control_core.specs.declared.event.Event.TheVariants.{Ask, ReplayOpen, ReplayPoll}
 use Rattle.control_core.specs.declared.line.Line.{Line}
-use Rattle.control_core.specs.declared.line.Line.TheVariants as lines
-use Rattle.control_core.specs.declared.merge_line.MergeLine.TheVariants as merges
 use Rattle.control_core.specs.Numbers.{fits}
+use Rattle.control_core.specs.Table.{Kind, int, long, hex, Value, Fields, none, text, ◌&◌, Makes, Row, rows, is_served}
 
--- numbers of 32 and of 64 bits
-abbrev pub IsInt : ℤ → Type 0
-IsInt z = fits 31 z ≡ true
+-- a value for each field
+abbrev pub Values : Fields → Type 0
+Values none = Unit {0}
+Values text = List ℕ
+Values (k & fields) = Value k × Values fields
 
-abbrev pub IsLong : ℤ → Type 0
-IsLong z = fits 63 z ≡ true
+-- the line of these values
+abbrev pub line_with : (fields : Fields) → Makes fields → Values fields → Line
+line_with none line values = line
+line_with text make values = make values
+line_with (k & fields) make values = line_with fields (make values.0) values.1
 
--- fields that a line may have
-pub record AreStartFields (s : StartFields) : Type 0 where
-  pub stream_id : IsInt s.stream_id
-  pub session_id : IsInt s.session_id
-  pub initial_term_id : IsInt s.initial_term_id
-  pub term_length : IsInt s.term_length
-  pub mtu : IsInt s.mtu
-  pub segment_length : IsInt s.segment_length
-  pub start_position : IsLong s.start_position
-  pub timestamp : IsLong s.timestamp
-  pub channel_some : 0 < length s.channel
-  pub channel_text : IsUtf8 s.channel
+-- the values that a word may stand for
+abbrev pub IsFit : (k : Kind) → Value k → Type 0
+IsFit int z = fits 31 z ≡ true
+IsFit long z = fits 63 z ≡ true
+IsFit hex bytes = (0 < length bytes) × IsBytes bytes
 
--- the values that a line may have, for each line that is known
-abbrev pub IsLine : Line → Type 0
-IsLine (lines.Event (Ask (Start s))) = AreStartFields s
-IsLine (lines.Event (Ask (AskList from count))) = IsLong from × IsLong count
-IsLine (lines.Event (ReplayOpen recording position size)) = IsLong recording × IsLong position × IsLong size
-IsLine (lines.Event (ReplayPoll replay most)) = IsLong replay × IsLong most
-IsLine (lines.Event event) = ⊥
-IsLine (lines.Block session bytes) = IsLong session × (0 < length bytes) × IsBytes bytes
-IsLine (lines.Merge (merges.Open term term_length position)) = IsInt term × IsInt term_length × IsLong position
-IsLine (lines.Merge (merges.Replay bytes)) = (0 < length bytes) × IsBytes bytes
-IsLine (lines.Merge (merges.Live bytes)) = (0 < length bytes) × IsBytes bytes
-IsLine (lines.Merge merges.Take) = Unit {0}
-IsLine (lines.Merge merges.State) = Unit {0}
-IsLine lines.Quit = Unit {0}
+abbrev pub AreFit : (fields : Fields) → Values fields → Type 0
+AreFit none values = Unit {0}
+AreFit text values = 0 < length values
+AreFit (k & fields) values = IsFit k values.0 × AreFit fields values.1
 
--- a number, and what stands behind its blank
-abbrev pub field : ℤ → List ℕ → List ℕ
-field z rest = signed_decimal z ++ (codes " " ++ rest)
+-- a value's one word
+abbrev pub word_of : (k : Kind) → Value k → List ℕ
+word_of int z = signed_decimal z
+word_of long z = signed_decimal z
+word_of hex bytes = encode_lower bytes
 
--- the text of a line; none where it is not known
-abbrev pub IsTextOf : Line → List ℕ → Type 0
-IsTextOf (lines.Event (Ask (Start s))) text =
-    text ≡ codes "start " ++ field s.stream_id (field s.session_id (field s.initial_term_id (field s.term_length (
-    field s.mtu (field s.segment_length (field s.start_position (field s.timestamp s.channel)))))))
-IsTextOf (lines.Event (Ask (AskList from count))) text = text ≡ codes "list " ++ field from (signed_decimal count)
-IsTextOf (lines.Event (ReplayOpen recording position size)) text =
-    text ≡ codes "replay " ++ field recording (field position (signed_decimal size))
-IsTextOf (lines.Event (ReplayPoll replay most)) text = text ≡ codes "poll " ++ field replay (signed_decimal most)
-IsTextOf (lines.Event event) text = ⊥
-IsTextOf (lines.Block session bytes) text = text ≡ codes "block " ++ field session (encode_lower bytes)
-IsTextOf (lines.Merge (merges.Open term term_length position)) text =
-    text ≡ codes "merge " ++ field term (field term_length (signed_decimal position))
-IsTextOf (lines.Merge (merges.Replay bytes)) text = text ≡ codes "merge-replay " ++ encode_lower bytes
-IsTextOf (lines.Merge (merges.Live bytes)) text = text ≡ codes "merge-live " ++ encode_lower bytes
-IsTextOf (lines.Merge merges.Take) text = text ≡ codes "merge-take"
-IsTextOf (lines.Merge merges.State) text = text ≡ codes "merge-state"
-IsTextOf lines.Quit text = text ≡ codes "quit"
+-- the one text of fields, each behind a blank
+abbrev pub text_with : (fields : Fields) → Values fields → List ℕ
+text_with none values = []
+text_with text values = 32 ∷ values
+text_with (k & fields) values = 32 ∷ (word_of k values.0 ++ text_with fields values.1)
 
--- the same, with hex digits in either case
-abbrev pub IsSpelling : Line → List ℕ → Type 0
-IsSpelling (lines.Block session bytes) text =
-    (digits : List ℕ) × (text ≡ codes "block " ++ field session digits) × (map to_ascii_lowercase digits ≡ encode_lower bytes)
-IsSpelling (lines.Merge (merges.Replay bytes)) text =
-    (digits : List ℕ) × (text ≡ codes "merge-replay " ++ digits) × (map to_ascii_lowercase digits ≡ encode_lower bytes)
-IsSpelling (lines.Merge (merges.Live bytes)) text =
-    (digits : List ℕ) × (text ≡ codes "merge-live " ++ digits) × (map to_ascii_lowercase digits ≡ encode_lower bytes)
-IsSpelling line text = IsTextOf line text
+-- a value's word, with hexadecimal digits in either case
+abbrev pub IsWordOf : (k : Kind) → Value k → List ℕ → Type 0
+IsWordOf int z word = word ≡ signed_decimal z
+IsWordOf long z word = word ≡ signed_decimal z
+IsWordOf hex bytes word = map to_ascii_lowercase word ≡ encode_lower bytes
+
+abbrev pub AreSpelled : (fields : Fields) → Values fields → List ℕ → Type 0
+AreSpelled none values s = s ≡ []
+AreSpelled text values s = s ≡ 32 ∷ values
+AreSpelled (k & fields) values s =
+    (word rest : List ℕ) × (s ≡ 32 ∷ (word ++ rest)) × IsWordOf k values.0 word × AreSpelled fields values.1 rest
+
+-- text that is short enough for a line
+abbrev pub IsShortText : List ℕ → Type 0
+IsShortText s = IsUtf8 s × (length s ≤ 262144)
+
+-- a row that is served, and values of its fields, which give the line and the text
+pub record IsSpelling (line : Line) (s : List ℕ) : Type 0 where
+  pub row : Row
+  pub listed : Contains rows row
+  pub served : is_served row.word ≡ true
+  pub values : Values row.fields
+  pub fit : AreFit row.fields values
+  pub made : line ≡ line_with row.fields row.line values
+  pub rest : List ℕ
+  pub split : s ≡ row.word ++ rest
+  pub spelled : AreSpelled row.fields values rest
+  pub short : IsShortText s

@@ -11,6 +11,7 @@ mod parse;
 mod print;
 mod refusal_line;
 mod request;
+mod words;
 
 pub use desk::{Desk, OpenReplay, RecorderSession, Written};
 pub use event::Event;
@@ -20,6 +21,3 @@ pub use parse::parse_line;
 pub use print::print_reply;
 pub use refusal_line::{RefusalLine, print_refusal};
 pub use request::{FindFields, Request};
-
-#[cfg(test)]
-mod tests;

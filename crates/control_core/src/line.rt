@@ -9,6 +9,13 @@ use frame_core::Items;
 pub enum Line {
     /// A call on the archive.
     Event(Event),
+    /// Write the bytes of a block.
+    Write {
+        /// The recorder session's number.
+        session: i64,
+        /// The block as bytes; at least one.
+        bytes: Items<u8>,
+    },
     /// Write the bytes of a block, and settle it.
     Block {
         /// The recorder session's number.
@@ -16,6 +23,10 @@ pub enum Line {
         /// The block as bytes; at least one.
         bytes: Items<u8>,
     },
+    /// Close the archive and open it again.
+    Reopen,
+    /// Close the archive, write its history anew, and open it again.
+    Compact,
     /// A line to the merge of a replay and the live stream.
     Merge(MergeLine),
     /// Read no further line.

@@ -11,6 +11,8 @@ mod frames;
 #[cfg(test)]
 mod images;
 #[cfg(test)]
+mod lines;
+#[cfg(test)]
 mod merges;
 #[cfg(test)]
 mod vectors;

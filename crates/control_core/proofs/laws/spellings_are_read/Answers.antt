@@ -1,5 +1,5 @@
-use Rattle.control_core.proofs.SpellingLemmas.{spelling_is_read}
+use Rattle.control_core.proofs.LineTextLemmas.{line_is_read}
 use Rattle.control_core.proofs.laws.spellings_are_read.Goals as goal
 
 pub returns : goal.returns
-returns c = spelling_is_read
+returns c = line_is_read

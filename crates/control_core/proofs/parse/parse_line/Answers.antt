@@ -1,8 +1,0 @@
-use Rattle.control_core.proofs.LinesLemmas.{line_of-text, line_of-bytes}
-use Rattle.control_core.proofs.parse.parse_line.Goals as goal
-
-pub returns-in-Ok : goal.returns-in-Ok
-returns-in-Ok c = rw (line_of-text c.args.line.now c.in-Ok.ensures.cases.1, ← c.in-Ok.ensures.cases.0) c.line_of_text.ensures
-
-pub returns-in-Err : goal.returns-in-Err
-returns-in-Err c = line_of-bytes c.args.line.now c.in-Err.ensures.cases.0
