@@ -10,9 +10,8 @@ use Rattle.archive_model.specs.State.{Recording, id_of, is_active, recorded_posi
 use Rattle.archive_model.specs.Descriptor.{is_negative}
 use Rattle.archive_model.specs.Commands.{frames_of, recorded_in}
 use Rattle.archive_model.specs.Acceptance.{BookState, Answers, Continue, recording_in, is_full, Of}
-use Rattle.archive_model.specs.Keyed.{find, change}
+use Rattle.archive_model.specs.Keyed.{find, change, Rise}
 use Rattle.archive_model.specs.Numbered.{IsPlaceOf}
-use Rattle.archive_model.specs.Histories.{AreRising}
 use Rattle.archive_model.specs.Kept.{Joins}
 
 not_full : (b : BookState) → b.counted < b.limit → IsTrue (is_full b) → ⊥
@@ -33,8 +32,8 @@ accepts_stop b id timestamp r position time found active room stops =
     ((nothing, (in_range, (there, (nothing, (runs, (nothing, (nothing, (nothing, (nothing, (nothing, (nothing, (nothing, (nothing, (nothing, (not_full b room, tt))))))))))))))), reply)
 
 -- a recording that is changed under its id stays in order
-pub rising_set : (low : ℤ) (rs : List Recording) (place : ℕ) (r new : Recording) (next : ℤ) → AreRising low rs next → slice_get rs place ≡ Some r → id_of new ≡ id_of r
-    → AreRising low (slice_set rs place new) next
+pub rising_set : (low : ℤ) (rs : List Recording) (place : ℕ) (r new : Recording) (next : ℤ) → Rise id_of low rs next → slice_get rs place ≡ Some r → id_of new ≡ id_of r
+    → Rise id_of low (slice_set rs place new) next
 rising_set low [] place r new next rising gets same = rising
 rising_set low (x ∷ rs) zero r new next rising gets same = let is : x ≡ r = cc in let ids : id_of new ≡ id_of x = same ∙ ap id_of (sym is) in rw ids rising
 rising_set low (x ∷ rs) (suc place) r new next rising gets same = (rising.0, rising_set (id_of x +ℤ pos 1) rs place r new next rising.1 gets same)

@@ -6,10 +6,10 @@ use Rattle.frame_core.specs.declared.block.Block.{Block}
 use Rattle.archive_model.specs.declared.command.Command.{Command}
 use Rattle.archive_model.specs.declared.command.Command.TheVariants.{Start, Append, Stop, Extend, Truncate, PurgeSegments, PurgeRecording, Restart}
 use Rattle.archive_model.specs.State.{Recording, State, empty, id_of, is_active, recorded_position}
-use Rattle.archive_model.specs.Keyed.{find, change, without}
+use Rattle.archive_model.specs.Keyed.{find, change, without, Rise}
 use Rattle.archive_model.specs.Commands.{after, after_all, appended, frames_of, fresh, stopped, extended, truncated, purged, restarted}
 use Rattle.archive_model.specs.Acceptance.{Of}
-use Rattle.archive_model.specs.Histories.{AreRising, Records}
+use Rattle.archive_model.specs.Histories.{Records}
 use Rattle.archive_model.proofs.HistoriesLemmas.{covered-append}
 use Rattle.archive_model.proofs.KeptLemmas.{rising_push}
 
@@ -61,21 +61,21 @@ never_falls s Restart records id r found = absurd records
 
 -- ids
 
-rising_or : (low high : ℤ) (b : Bool) (xs ys : List Recording) → AreRising low xs high → AreRising low ys high → AreRising low (cond b xs ys) high
+rising_or : (low high : ℤ) (b : Bool) (xs ys : List Recording) → Rise id_of low xs high → Rise id_of low ys high → Rise id_of low (cond b xs ys) high
 rising_or low high true xs ys here there = here
 rising_or low high false xs ys here there = there
 
-rising_change : (low id high : ℤ) (f : Recording → Recording) (rs : List Recording) → ((r : Recording) → id_of (f r) ≡ id_of r) → AreRising low rs high → AreRising low (change id_of id f rs) high
+rising_change : (low id high : ℤ) (f : Recording → Recording) (rs : List Recording) → ((r : Recording) → id_of (f r) ≡ id_of r) → Rise id_of low rs high → Rise id_of low (change id_of id f rs) high
 rising_change low id high f [] same rising = rising
 rising_change low id high f (r ∷ rs) same rising =
     rising_or low high (int_eq id (id_of r)) (f r ∷ rs) (r ∷ change id_of id f rs) (rw (same r) rising)
     (rising.0, rising_change (id_of r +ℤ pos 1) id high f rs same rising.1)
 
-rising_lower : (low least high : ℤ) (rs : List Recording) → least ≤ℤ low → AreRising low rs high → AreRising least rs high
+rising_lower : (low least high : ℤ) (rs : List Recording) → least ≤ℤ low → Rise id_of low rs high → Rise id_of least rs high
 rising_lower low least high [] lower rising = omega (arith, ints)
 rising_lower low least high (r ∷ rs) lower rising = (omega (arith, ints, rising.0), rising.1)
 
-rising_without : (low id high : ℤ) (rs : List Recording) → AreRising low rs high → AreRising low (without id_of id rs) high
+rising_without : (low id high : ℤ) (rs : List Recording) → Rise id_of low rs high → Rise id_of low (without id_of id rs) high
 rising_without low id high [] rising = rising
 rising_without low id high (r ∷ rs) rising =
     let first = rising.0 in
@@ -86,11 +86,11 @@ restarted_id : (r : Recording) (b : Bool) → id_of (cond b (stopped (negsuc 0) 
 restarted_id r true = refl
 restarted_id r false = refl
 
-rising_map : (low high : ℤ) (rs : List Recording) → AreRising low rs high → AreRising low (map restarted rs) high
+rising_map : (low high : ℤ) (rs : List Recording) → Rise id_of low rs high → Rise id_of low (map restarted rs) high
 rising_map low high [] rising = rising
 rising_map low high (r ∷ rs) rising = rw (restarted_id r (is_active r)) (rising.0, rising_map (id_of r +ℤ pos 1) high rs rising.1)
 
-rising_after : (s : State) (c : Command) → AreRising (pos 0) s.recordings s.next → AreRising (pos 0) (after s c).recordings (after s c).next
+rising_after : (s : State) (c : Command) → Rise id_of (pos 0) s.recordings s.next → Rise id_of (pos 0) (after s c).recordings (after s c).next
 rising_after s (Start f) rising = rising_push (pos 0) s.recordings (fresh s.next f) s.next rising refl
 rising_after s (Append id blocks) rising = rising_change (pos 0) id s.next (appended blocks) s.recordings (λ r. refl) rising
 rising_after s (Stop id timestamp) rising = rising_change (pos 0) id s.next (stopped timestamp) s.recordings (λ r. refl) rising
@@ -100,9 +100,9 @@ rising_after s (PurgeSegments id position) rising = rising_change (pos 0) id s.n
 rising_after s (PurgeRecording id) rising = rising_without (pos 0) id s.next s.recordings rising
 rising_after s Restart rising = rising_map (pos 0) s.next s.recordings rising
 
-rising_from : (s : State) (cs : List Command) → AreRising (pos 0) s.recordings s.next → AreRising (pos 0) (after_all s cs).recordings (after_all s cs).next
+rising_from : (s : State) (cs : List Command) → Rise id_of (pos 0) s.recordings s.next → Rise id_of (pos 0) (after_all s cs).recordings (after_all s cs).next
 rising_from s [] rising = rising
 rising_from s (c ∷ cs) rising = rising_from (after s c) cs (rising_after s c rising)
 
-pub ids_rise : (cs : List Command) → AreRising (pos 0) (after_all empty cs).recordings (after_all empty cs).next
+pub ids_rise : (cs : List Command) → Rise id_of (pos 0) (after_all empty cs).recordings (after_all empty cs).next
 ids_rise cs = rising_from empty cs (omega (arith, ints))

@@ -2,6 +2,7 @@
 use Rattle.std.proofs.Common.{◌≡◌, ◌≤ℤ◌, ◌+ℤ◌, ℤ, pos, List, [], ◌∷◌, ◌++◌, refl, arith}
 use Rattle.std.proofs.lemmas.Int.{ints}
 use Rattle.frame_core.specs.declared.frame.Frame.{Frame}
+use Rattle.archive_model.specs.Keyed.{Rise}
 use Rattle.archive_model.specs.declared.descriptor.Descriptor.{Descriptor}
 use Rattle.frame_core.specs.declared.block.Block.{Block}
 use Rattle.frame_core.specs.Block.{covered}
@@ -9,7 +10,6 @@ use Rattle.archive_model.specs.State.{Recording, id_of, recorded_position, geome
 use Rattle.archive_model.specs.Commands.{frames_of, appended}
 use Rattle.archive_model.specs.Acceptance.{Continue}
 use Rattle.archive_model.proofs.HistoriesLemmas.{covered-append, contiguous_append, blocks_contiguous}
-use Rattle.archive_model.specs.Histories.{AreRising}
 use Rattle.archive_model.specs.Kept.{Keeps}
 
 -- a recording without frames
@@ -19,7 +19,7 @@ keeps_fresh d fs recorded none at low =
     record { recorded_is = rw none whole; start = low; contiguous = rw none tt }
 
 -- one more recording, of the next id
-pub rising_push : (low : ℤ) (rs : List Recording) (r : Recording) (next : ℤ) → AreRising low rs next → id_of r ≡ next → AreRising low (rs ++ r ∷ []) (next +ℤ pos 1)
+pub rising_push : (low : ℤ) (rs : List Recording) (r : Recording) (next : ℤ) → Rise id_of low rs next → id_of r ≡ next → Rise id_of low (rs ++ r ∷ []) (next +ℤ pos 1)
 rising_push low [] r next rising is = (omega (arith, ints), omega (arith, ints))
 rising_push low (x ∷ rs) r next rising is = (rising.0, rising_push (id_of x +ℤ pos 1) rs r next rising.1 is)
 

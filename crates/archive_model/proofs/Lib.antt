@@ -7,3 +7,6 @@ pub mod AcceptanceLemmas
 pub mod BookLemmas
 pub mod CommandsLemmas
 pub mod RegisterLemmas
+pub mod CutLemmas
+pub mod WellLemmas
+pub mod StateLemmas

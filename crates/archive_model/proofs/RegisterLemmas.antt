@@ -12,7 +12,7 @@ use Rattle.indexmap.specs.IndexMap.{insert_entry}
 use Rattle.archive_model.specs.declared.registration.Registration.{Registration}
 use Rattle.archive_model.specs.declared.registration.Change.{Change}
 use Rattle.archive_model.specs.declared.registration.Change.TheVariants.{Settle, Stop, Extend, Truncate, PurgeSegments}
-use Rattle.archive_model.specs.Keyed.{change, without, Each, Rise}
+use Rattle.archive_model.specs.Keyed.{find, change, without, Each, Rise}
 use Rattle.archive_model.specs.Register.{HasLayout, changed_by, id_of, is_active, restarted}
 use Rattle.archive_model.specs.Registered.{KeepsRegister}
 use Rattle.archive_model.specs.Numbered.{IsPlaceOf, IsNone}
@@ -20,7 +20,7 @@ use Rattle.archive_model.specs.Numbered.{IsPlaceOf, IsNone}
 module _ {X : Type 0} (number : X → ℤ) where
   place_first : (n : ℤ) (x : X) (xs : List X) → int_eq n (number x) ≡ true → IsPlaceOf number n (x ∷ xs) 0
   place_first n x xs is =
-      record { value = x; within = omega arith; at = refl; found = rw is refl; changed = λ f. rw is refl; removed = rw is refl }
+      record { value = x; within = omega arith; at = refl; found = rw is refl; changed = λ f. rw is refl }
 
   place_later : (n : ℤ) (x : X) (xs : List X) (i : ℕ) → int_eq n (number x) ≡ false → IsPlaceOf number n xs i → IsPlaceOf number n (x ∷ xs) (suc i)
   place_later n x xs i other place = record {
@@ -29,21 +29,19 @@ module _ {X : Type 0} (number : X → ℤ) where
     at = place.at;
     found = rw other place.found;
     changed = λ f. rw other (ap (λ ys. x ∷ ys) (place.changed f));
-    removed = rw other (ap (λ ys. x ∷ ys) place.removed);
   }
 
   none_later : (n : ℤ) (x : X) (xs : List X) → int_eq n (number x) ≡ false → IsNone number n xs → IsNone number n (x ∷ xs)
   none_later n x xs other none = record {
     found = rw other none.found;
     changed = λ f. rw other (ap (λ ys. x ∷ ys) (none.changed f));
-    removed = rw other (ap (λ ys. x ∷ ys) none.removed);
   }
 
   abbrev pub IsPlacedBy : ℤ → List X → ℕ → Type 0
   IsPlacedBy n xs i = (i < length xs → IsPlaceOf number n xs i) × (length xs ≤ i → IsNone number n xs)
 
   placed_by : (n : ℤ) (xs : List X) → IsPlacedBy n xs (position_or_len (int_eq n) (map number xs))
-  placed_by n [] = (λ within. absurd (omega arith), λ past. record { found = refl; changed = λ f. refl; removed = refl })
+  placed_by n [] = (λ within. absurd (omega arith), λ past. record { found = refl; changed = λ f. refl })
   placed_by n (x ∷ xs) = by (int_eq n (number x)) refl (placed_by n xs)
     where
       by : (b : Bool) → int_eq n (number x) ≡ b → IsPlacedBy n xs (position_or_len (int_eq n) (map number xs)) → IsPlacedBy n (x ∷ xs) (cond (not b) (1 + position_or_len (int_eq n) (map number xs)) 0)
@@ -88,6 +86,41 @@ module _ {X : Type 0} (number : X → ℤ) where
   least_next : (low next : ℤ) (xs : List X) → Rise number low xs next → low ≤ℤ next
   least_next low next [] rising = rising
   least_next low next (y ∷ ys) rising = let more = least_next (number y +ℤ pos 1) next ys rising.1 in omega (arith, ints, rising.0)
+
+  rise_at : (low next : ℤ) (xs : List X) (i : ℕ) (x : X) → Rise number low xs next → slice_get xs i ≡ Some x → low ≤ℤ number x
+  rise_at low next [] i x rising gets = absurd cc
+  rise_at low next (y ∷ ys) zero x rising gets = let same : number y ≡ number x = (let is : y ≡ x = cc in ap number is) in let first = rising.0 in omega (arith, ints)
+  rise_at low next (y ∷ ys) (suc i) x rising gets = let later = rise_at (number y +ℤ pos 1) next ys i x rising.1 gets in let first = rising.0 in omega (arith, ints)
+
+  -- of numbers that rise, to remove the value at its index is to remove the value of its number
+  pub without_at : (low next n : ℤ) (xs : List X) (i : ℕ) (x : X) → Rise number low xs next → slice_get xs i ≡ Some x → number x ≡ n → without number n xs ≡ remove xs i
+  without_at low next n [] i x rising gets is = absurd cc
+  without_at low next n (y ∷ ys) zero x rising gets is =
+      let same : n ≡ number y = (let this : y ≡ x = cc in sym is ∙ ap number (sym this)) in
+      let here : int_eq n (number y) ≡ true = (Decides-int_eq n (number y)).1 same in rw here refl
+  without_at low next n (y ∷ ys) (suc i) x rising gets is = by (int_eq n (number y)) refl (without_at (number y +ℤ pos 1) next n ys i x rising.1 gets is) (rise_at (number y +ℤ pos 1) next ys i x rising.1 gets)
+    where
+      by : (b : Bool) → int_eq n (number y) ≡ b → without number n ys ≡ remove ys i → (number y +ℤ pos 1) ≤ℤ number x → cond b ys (y ∷ without number n ys) ≡ y ∷ remove ys i
+      by true e later above = let same : n ≡ number y = (Decides-int_eq n (number y)).0 e in absurd (omega (arith, ints))
+      by false e later above = ap (λ zs. y ∷ zs) later
+
+  -- what is found of a number has it
+  pub found_number : (n : ℤ) (xs : List X) (x : X) → find number n xs ≡ Some x → number x ≡ n
+  found_number n [] x found = absurd cc
+  found_number n (y ∷ ys) x found = by (int_eq n (number y)) refl found (found_number n ys x)
+    where
+      by : (b : Bool) → int_eq n (number y) ≡ b → cond b (Some y) (find number n ys) ≡ Some x → (find number n ys ≡ Some x → number x ≡ n) → number x ≡ n
+      by true e is later = let same : n ≡ number y = (Decides-int_eq n (number y)).0 e in let this : y ≡ x = cc in sym (ap number this) ∙ sym same
+      by false e is later = later is
+
+  -- where nothing is found there is nothing to remove
+  pub without_none : (n : ℤ) (xs : List X) → find number n xs ≡ None → without number n xs ≡ xs
+  without_none n [] none = refl
+  without_none n (y ∷ ys) none = by (int_eq n (number y)) none (without_none n ys)
+    where
+      by : (b : Bool) → cond b (Some y) (find number n ys) ≡ None → (find number n ys ≡ None → without number n ys ≡ ys) → cond b ys (y ∷ without number n ys) ≡ y ∷ ys
+      by true is later = absurd cc
+      by false is later = ap (λ zs. y ∷ zs) (later is)
 
 module _ {X : Type 0} (P : X → Type 0) where
   pub each_push : (xs : List X) (x : X) → Each P xs → P x → Each P (xs ++ x ∷ [])
@@ -179,8 +212,9 @@ written_is_changed id es i f r new place gets is =
     let made : new ≡ f place.value = cc in
     values_set es i new ∙ ap (slice_set (values_of es) i) made ∙ sym (place.changed f)
 
-pub removed_there : (id : ℤ) (es : List (ℤ × Registration)) (i : ℕ) → IsPlaceOf id_of id (values_of es) i → values_of (remove es i) ≡ without id_of id (values_of es)
-removed_there id es i place = map-remove (λ e. e.1) es i ∙ sym place.removed
+pub removed_there : (id next : ℤ) (es : List (ℤ × Registration)) (i : ℕ) → KeepsRegister es next → IsPlaceOf id_of id (values_of es) i → values_of (remove es i) ≡ without id_of id (values_of es)
+removed_there id next es i keeps place =
+    map-remove (λ e. e.1) es i ∙ sym (without_at id_of (pos 0) next id (values_of es) i place.value keeps.rising place.at (found_number id_of id (values_of es) place.value place.found))
 
 pub keeps_removed : (es : List (ℤ × Registration)) (next : ℤ) (i : ℕ) → KeepsRegister es next → KeepsRegister (remove es i) next
 keeps_removed es next i keeps =

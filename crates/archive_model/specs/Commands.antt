@@ -13,7 +13,8 @@ use Rattle.archive_model.specs.declared.reply.Reply.{Reply}
 use Rattle.archive_model.specs.declared.reply.Reply.TheVariants.{Started, Settled, Stopped, Extended, Truncated, Purged, PurgedRecording, Reopened}
 use Rattle.archive_model.specs.State.{Recording, State, id_of, is_active, active_count, recorded_position, registration_of}
 use Rattle.archive_model.specs.Register as register
-use Rattle.archive_model.specs.Register.{begun, stopped_at, active_in}
+use Rattle.archive_model.specs.Register.{begun, stopped_at, active_in, RegisterState, registered, with_one, with_out, all_stopped}
+use Rattle.archive_model.specs.declared.registration.Change.TheVariants as changes
 use Rattle.archive_model.specs.Keyed.{find, change, without}
 use Rattle.archive_model.specs.Replay.{placed_frames, frames_in}
 
@@ -98,3 +99,14 @@ reply_to s (Truncate id position) = Truncated position
 reply_to s (PurgeSegments id position) = Purged (segments_before (find id_of id s.recordings) position)
 reply_to s (PurgeRecording id) = PurgedRecording
 reply_to s Restart = Reopened (pos (active_count s))
+
+-- what an accepted command of a state makes of the register
+abbrev pub register_after : State → Command → RegisterState → RegisterState
+register_after s (Start f) g = with_one (registered g.next f) g
+register_after s (Append id blocks) g = register.changed id (changes.Settle (recorded_in (find id_of id s.recordings) +ℤ pos (covered (frames_of blocks)))) g
+register_after s (Stop id timestamp) g = register.changed id (changes.Stop timestamp) g
+register_after s (Extend f) g = register.changed f.recording (changes.Extend f.session_id) g
+register_after s (Truncate id position) g = register.changed id (changes.Truncate position) g
+register_after s (PurgeSegments id position) g = register.changed id (changes.PurgeSegments position) g
+register_after s (PurgeRecording id) g = with_out id g
+register_after s Restart g = all_stopped g

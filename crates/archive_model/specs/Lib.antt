@@ -10,6 +10,7 @@ pub mod Checks
 pub mod Acceptance
 pub mod Accepting
 pub mod Histories
+pub mod WellFormed
 -- Representation: what the values of src/ keep.
 pub mod Kept
 pub mod Registered

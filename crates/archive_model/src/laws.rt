@@ -1,14 +1,19 @@
 //! Laws of the definitions, each the contract of a function that does nothing.
 
-ghost use Rattle.std.specs.Prelude.{◌≡◌, ◌≤ℤ◌, ◌<ℤ◌, ◌++◌, ℕ, ℤ, pos, List, Some};
+ghost use Rattle.std.specs.Prelude.{◌≡◌, ◌≤ℤ◌, ◌<ℤ◌, ◌++◌, ℕ, ℤ, pos, IsTrue, List, Some};
 ghost use Rattle.frame_core.specs.declared.block.Block.{Block};
 ghost use Rattle.archive_model.specs.declared.command.Command.{Command};
-ghost use Rattle.archive_model.specs.State.{Recording as Recorded, State, empty, id_of, recorded_position};
-ghost use Rattle.archive_model.specs.Keyed.{find};
-ghost use Rattle.archive_model.specs.Replay.{placed, placed_frames, replayed};
-ghost use Rattle.archive_model.specs.Commands.{after, after_all, appended, frames_of};
+ghost use Rattle.archive_model.specs.State.{Recording as Recorded, State, empty, id_of, recorded_position, register_of, registration_of};
+ghost use Rattle.archive_model.specs.Keyed.{find, Rise};
+ghost use Rattle.archive_model.specs.Replay.{begins_frame, placed, placed_frames, replayed};
+ghost use Rattle.archive_model.specs.Commands.{after, after_all, appended, frames_of, purged, register_after, truncated};
 ghost use Rattle.archive_model.specs.Acceptance.{Of};
-ghost use Rattle.archive_model.specs.Histories.{AllContiguous, AllRecord, AreAccepted, AreRising, Records, new_book};
+ghost use Rattle.archive_model.specs.Histories.{Records, new_book};
+ghost use Rattle.archive_model.specs.Acceptance.{BookState};
+ghost use Rattle.archive_model.specs.Accepting.{Accepts};
+ghost use Rattle.archive_model.specs.Checks.{is_boundary_by};
+ghost use Rattle.archive_model.specs.Register.{is_later_base};
+ghost use Rattle.archive_model.specs.WellFormed.{AreAccepted, IsKept, IsWell};
 
 /// Blocks that join a recording move no frame that is there: the new ones stand behind, from the recorded position on.
 #[tactic(auto, using(crate::proofs::ReplayLemmas::placed_appended))]
@@ -25,14 +30,6 @@ pub fn the_recorded_position_never_falls()
         Of (find id_of id (after s c).recordings) (λ new. recorded_position r ≤ℤ recorded_position new) }
 {}
 
-/// Accepted commands that record make recordings whose frames go without a gap from the start to the recorded
-/// position.
-#[tactic(auto, using(crate::proofs::HistoriesLemmas::all_contiguous))]
-pub fn frames_follow_one_another()
-    ensures { (limit : ℕ) (cs : List Command) → AllRecord cs → AreAccepted (new_book limit) cs →
-        AllContiguous (after_all empty cs).recordings }
-{}
-
 /// A replay from the start to behind the recorded position gives all frames.
 #[tactic(auto, using(crate::proofs::ReplayLemmas::all_replayed))]
 pub fn the_whole_range_is_all_frames()
@@ -45,5 +42,42 @@ pub fn the_whole_range_is_all_frames()
 #[tactic(auto, using(crate::proofs::CommandsLemmas::ids_rise))]
 pub fn ids_rise()
     ensures { (cs : List Command) →
-        AreRising (pos 0) (after_all empty cs).recordings (after_all empty cs).next }
+        Rise id_of (pos 0) (after_all empty cs).recordings (after_all empty cs).next }
+{}
+
+/// An accepted command leaves a well-formed state well-formed: ids rise, frames go without a gap from the start to the
+/// recorded position, each inside its term, and where a recording isn't active it stopped at its recorded position.
+pub fn an_accepted_command_keeps_states_well_formed()
+    ensures { (b : BookState) (c : Command) →
+        IsWell b.state → Accepts b c → IsWell (after b.state c) }
+{}
+
+/// So each state that accepted commands make is well-formed.
+#[tactic(auto, using(crate::proofs::StateLemmas::all_well))]
+pub fn accepted_commands_make_well_formed_states()
+    ensures { (limit : ℕ) (cs : List Command) →
+        AreAccepted (new_book limit) cs → IsWell (after_all empty cs) }
+{}
+
+/// The register after an accepted command is the one of the state after it.
+#[tactic(auto, using(crate::proofs::StateLemmas::register_follows))]
+pub fn the_register_follows_the_state()
+    ensures { (b : BookState) (c : Command) → IsWell b.state → Accepts b c →
+        register_of (after b.state c) ≡ register_after b.state c (register_of b.state) }
+{}
+
+/// A truncation at a boundary ends at its position.
+#[tactic(auto, using(crate::proofs::StateLemmas::truncated_ends))]
+pub fn a_truncation_ends_at_its_position()
+    ensures { (r : Recorded) (position : ℤ) → IsKept r →
+        IsTrue (is_boundary_by (begins_frame position r) position (registration_of r)) →
+        recorded_position (truncated position r) ≡ position }
+{}
+
+/// A purge of segments leaves the recorded position.
+#[tactic(auto, using(crate::proofs::StateLemmas::purged_ends))]
+pub fn a_purge_of_segments_leaves_the_recorded_position()
+    ensures { (r : Recorded) (position : ℤ) → IsKept r →
+        IsTrue (is_later_base position (registration_of r)) →
+        recorded_position (purged position r) ≡ recorded_position r }
 {}

@@ -1,0 +1,31 @@
+-- States that accepted commands make.
+use Rattle.std.specs.Prelude.{◌≡◌, ◌≤ℤ◌, pos, true, false, List, [], ◌∷◌}
+use Rattle.frame_core.specs.Block.{AreEncodable}
+use Rattle.frame_core.specs.Limits.{is_term_length}
+use Rattle.archive_model.specs.declared.command.Command.{Command}
+use Rattle.archive_model.specs.Keyed.{Each, Rise}
+use Rattle.archive_model.specs.State.{Recording, State, id_of, is_active, recorded_position}
+use Rattle.archive_model.specs.Acceptance.{BookState, book_after}
+use Rattle.archive_model.specs.Accepting.{Accepts}
+use Rattle.archive_model.specs.Histories.{IsContiguous}
+
+-- The frames of a recording have encodings and go without a gap from its start, each inside its term; its terms and
+-- segments have lengths in their limits; where it isn't active it stopped at its recorded position.
+pub record IsKept (r : Recording) : Type 0 where
+  pub start : pos 0 ≤ℤ r.descriptor.start_position
+  pub term : is_term_length r.descriptor.term_length ≡ true
+  pub segment : is_term_length r.descriptor.segment_length ≡ true
+  pub no_less : r.descriptor.term_length ≤ℤ r.descriptor.segment_length
+  pub encodable : AreEncodable r.frames
+  pub contiguous : IsContiguous r
+  pub stopped : is_active r ≡ false → r.descriptor.stop_position ≡ recorded_position r
+
+-- ids rise and are below the next one, and each recording is kept
+pub record IsWell (s : State) : Type 0 where
+  pub rising : Rise id_of (pos 0) s.recordings s.next
+  pub kept : Each IsKept s.recordings
+
+-- each command is accepted by what those before it made
+abbrev pub AreAccepted : BookState → List Command → Type 0
+AreAccepted b [] = Unit {0}
+AreAccepted b (c ∷ cs) = Accepts b c × AreAccepted (book_after b c) cs
