@@ -1,13 +1,17 @@
--- The program's command line: docs/CONTROL.md, "The program".
-use Rattle.std.specs.Prelude.{◌≡◌, ◌⊎◌, ℕ, true, List, Option, Some, Result, Ok, Err, codes}
+-- The program's command line, and how it ends: docs/CONTROL.md, "The program".
+use Rattle.std.specs.Prelude.{◌≡◌, ◌⊎◌, ℕ, true, List, [], ◌∷◌, Option, Some, None, codes}
+use Rattle.std.specs.declared.io.ErrorKind.{ErrorKind as IoErrorKind}
+use Rattle.std.specs.declared.io.ErrorKind.TheVariants as io
 use Rattle.clap.specs.Simple.{on_top}
-use Rattle.clap.specs.Words.{App, HasMatchesOf, new_app, subcommand_name_of, with_subcommand}
+use Rattle.clap.specs.Words.{App, HasMatchesOf, IsAmong, Kinds, fault_of, new_app, subcommand_name_of, with_subcommand}
 use Rattle.clap.specs.declared.parser.matches.ArgMatches.{ArgMatches}
 use Rattle.clap.specs.declared.error.ErrorKind.{ErrorKind}
-use Rattle.clap.specs.declared.error.ErrorKind.TheVariants.{DisplayHelp, DisplayVersion, OutOfMemory}
-use Rattle.archive_tool.specs.declared.fault.ScriptFault.{ScriptFault}
+use Rattle.clap.specs.declared.error.ErrorKind.TheVariants as kinds
+use Rattle.frame_core.specs.declared.refusal.Refusal.{Refusal}
+use Rattle.frame_core.specs.declared.refusal.Refusal.TheVariants.{DeviceFault, NoMemory}
 use Rattle.archive_tool.specs.declared.fault.ScriptFault.TheVariants as faults
-use Rattle.archive_tool.specs.Script.{ScriptEnds}
+use Rattle.archive_tool.specs.declared.status.Ending.{Ending}
+use Rattle.archive_tool.specs.declared.status.Ending.TheVariants.{Done, Cut, NoCommand, Failed}
 use Rattle.archive_tool.specs.declared.command.ToolCommand.{ToolCommand}
 use Rattle.archive_tool.specs.declared.command.ToolCommand.TheVariants.{Run}
 
@@ -23,35 +27,51 @@ named_tool = on_top (λ s. record s { subcommand_required = true; arg_required_e
 abbrev pub tool_app : App
 tool_app = with_subcommand named_tool (new_app (name_of Run)).top
 
--- clap's matches of the words hold the command
+-- clap takes the words, and its matches of them hold the command
 pub record IsHeld (words : List (List ℕ)) (command : ToolCommand) : Type 0 where
+  pub taken : fault_of tool_app words ≡ []
   pub matches : ArgMatches
   pub parsed : HasMatchesOf tool_app words matches
   pub name : subcommand_name_of matches ≡ Some (name_of command)
 
--- the status with which the program ends, by how its script ended
-abbrev pub status_of : Result (Unit {0}) ScriptFault → ℕ
-status_of (Ok done) = 0
-status_of (Err faults.Read) = 3
-status_of (Err faults.Write) = 3
-status_of (Err faults.Memory) = 1
+-- The kind of the error: one of those that clap gives to the words, or none that a command is missing where it takes
+-- them; else memory ran out.
+abbrev pub IsWordsFault : Kinds → ErrorKind → Type 0
+IsWordsFault [] kind = (kind ≡ kinds.MissingSubcommand) ⊎ (kind ≡ kinds.OutOfMemory)
+IsWordsFault (k ∷ ks) kind = IsAmong kind (k ∷ ks) ⊎ (kind ≡ kinds.OutOfMemory)
 
--- a script may end with that status
-abbrev pub IsScriptStatus : ℕ → Type 0
-IsScriptStatus status = (outcome : Result (Unit {0}) ScriptFault) × (status ≡ status_of outcome)
+-- the status with which the program ends: 0 done, 1 refused, 2 a wrong command line, 3 a stream failed
+abbrev pub status_of : Ending → ℕ
+status_of Done = 0
+status_of (Cut faults.Memory) = 1
+status_of (Cut faults.Read) = 3
+status_of (Cut faults.Write) = 3
+status_of (NoCommand kinds.DisplayHelp) = 0
+status_of (NoCommand kinds.DisplayVersion) = 0
+status_of (NoCommand kinds.OutOfMemory) = 1
+status_of (NoCommand kind) = 2
+status_of (Failed io.OutOfMemory) = 1
+status_of (Failed kind) = 3
 
--- Status 0 is that of a script whose transcript is written, and any other that of one that ended early.
-abbrev pub EndsWith : ℕ → Option (List ℕ) → Option (List ℕ) → Option (List ℕ) → Type 0
-EndsWith status input contents written =
-    (outcome : Result (Unit {0}) ScriptFault) × (status ≡ status_of outcome) × ScriptEnds outcome input contents written
+-- the refusal that is told on standard error
+abbrev pub refusal_of : Ending → Option Refusal
+refusal_of Done = None
+refusal_of (Cut faults.Memory) = Some NoMemory
+refusal_of (Cut faults.Read) = Some DeviceFault
+refusal_of (Cut faults.Write) = Some DeviceFault
+refusal_of (NoCommand kinds.OutOfMemory) = Some NoMemory
+refusal_of (NoCommand kind) = None
+refusal_of (Failed io.OutOfMemory) = Some NoMemory
+refusal_of (Failed kind) = Some DeviceFault
 
--- the status where the words ask for no command: 0 for the help that they ask for, 1 where memory ran out, else 2
-abbrev pub status_of_kind : ErrorKind → ℕ
-status_of_kind DisplayHelp = 0
-status_of_kind DisplayVersion = 0
-status_of_kind OutOfMemory = 1
-status_of_kind kind = 2
-
--- a script ends so, or a command line that asks for no command
+-- some ending has that status
 abbrev pub IsStatus : ℕ → Type 0
-IsStatus status = IsScriptStatus status ⊎ ((kind : ErrorKind) × (status ≡ status_of_kind kind))
+IsStatus status = (ending : Ending) × (status ≡ status_of ending)
+
+-- an error of that kind was told, or could not be
+abbrev pub IsTold : ErrorKind → Ending → Type 0
+IsTold kind Done = ⊥
+IsTold kind (Cut fault) = ⊥
+IsTold kind (NoCommand told) = told ≡ kind
+IsTold kinds.OutOfMemory (Failed fault) = ⊥
+IsTold kind (Failed fault) = Unit {0}

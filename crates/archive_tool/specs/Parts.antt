@@ -1,7 +1,9 @@
 -- A line that is put together from the parts that a reader shows.
-use Rattle.std.specs.Prelude.{◌≡◌, ◌≢◌, ◌++◌, ℕ, List, [], ◌∷◌, Option}
+use Rattle.std.specs.Prelude.{◌≡◌, ◌≢◌, ◌++◌, ℕ, List, [], ◌∷◌, Option, Result, Err}
 use Rattle.std.specs.List.{All}
 use Rattle.std.specs.Io.KnownBytes.{Keeps, Consumes, IsAtEnd}
+use Rattle.archive_tool.specs.declared.fault.ScriptFault.{ScriptFault}
+use Rattle.archive_tool.specs.declared.fault.ScriptFault.TheVariants.{Read}
 use Rattle.archive_tool.specs.declared.lines.Part.{Part}
 use Rattle.archive_tool.specs.declared.lines.Part.TheVariants.{More, Ended, AtEnd}
 use Rattle.archive_tool.specs.InputLines.{kept}
@@ -26,3 +28,7 @@ abbrev pub TakesPart : Part → Option (List ℕ) → Option (List ℕ) → Opti
 TakesPart More old new line_old line_new = Moves old new line_old line_new []
 TakesPart Ended old new line_old line_new = Moves old new line_old line_new (10 ∷ [])
 TakesPart AtEnd old new line_old line_new = IsAtEnd old × Keeps old new × (line_new ≡ line_old)
+
+-- an input that was looked at as often as may be is refused, and nothing is taken of it
+abbrev pub IsSpent : {T : Type 0} → Result T ScriptFault → Option (List ℕ) → Option (List ℕ) → Type 0
+IsSpent result old new = (result ≡ Err Read) × Keeps old new

@@ -1,5 +1,5 @@
 -- A script's output is the transcript of its lines. docs/CONTROL.md, "Scripts".
-use Rattle.std.specs.Prelude.{◌≡◌, ℕ, Bool, false, List, Option, Some, None, Result, Ok, Err, bytes_eq, codes}
+use Rattle.std.specs.Prelude.{◌≡◌, ℕ, Bool, true, false, List, Option, Some, None, Result, Ok, Err, bytes_eq, codes}
 use Rattle.std.specs.Io.KnownBytes.{Keeps}
 use Rattle.frame_core.specs.declared.refusal.Refusal.{Refusal}
 use Rattle.frame_core.specs.declared.refusal.Refusal.TheVariants.{BadLine}
@@ -50,10 +50,11 @@ EndsEarly faults.Write input contents written = Unit {0}
 EndsEarly faults.Read input contents written = Writes input contents written IsTranscriptOfFirst
 EndsEarly faults.Memory input contents written = Writes input contents written IsTranscriptOfFirst
 
--- what a script has written that has ended so
-abbrev pub ScriptEnds : Result (Unit {0}) ScriptFault → Option (List ℕ) → Option (List ℕ) → Option (List ℕ) → Type 0
-ScriptEnds (Ok done) input contents written = Writes input contents written IsTranscript
-ScriptEnds (Err fault) input contents written = EndsEarly fault input contents written
+-- A script ends by its first fault; one that was read to its end, and whose output could not be handed on, by Write.
+abbrev pub ended_by : Result (Unit {0}) ScriptFault → Bool → Result (Unit {0}) ScriptFault
+ended_by (Err fault) is_flushed = Err fault
+ended_by (Ok done) true = Ok done
+ended_by (Ok done) false = Err faults.Write
 
 -- why a line was not answered: no input is read; where no memory was found, nothing was written; and nothing is said
 -- of a writer that failed

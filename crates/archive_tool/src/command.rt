@@ -1,8 +1,8 @@
 //! The program's command line: docs/CONTROL.md, "The program".
 
 ghost use Rattle.std.specs.Prelude.{◌≡◌, ◌∷◌, [], ℕ, List, Some, IfOk, IfErr, MatchOption, map, string_bytes};
-ghost use Rattle.clap.specs.Words.{app_of, kind_of, subcommand_name_of};
-ghost use Rattle.archive_tool.specs.CommandLine.{IsHeld, name_of, tool_app};
+ghost use Rattle.clap.specs.Words.{app_of, fault_of, kind_of, subcommand_name_of};
+ghost use Rattle.archive_tool.specs.CommandLine.{IsHeld, IsWordsFault, name_of, tool_app};
 
 use clap::error::ErrorKind;
 use clap::{ArgMatches, Command, Error};
@@ -53,10 +53,12 @@ fn held(matches: &ArgMatches<'_>) -> Option<ToolCommand>
 
 /// What the words of a command line ask for, the program's name first.
 ///
-/// An error says what is wrong with the words, or is the help that they ask for. A command's word alone is its command,
-/// unless memory runs out.
+/// An error says what is wrong with the words, or is the help that they ask for; its kind is the one that clap gives to
+/// these words. A command's word alone is its command, unless memory runs out.
 pub fn command_of(alloc: Global, words: &[String]) -> Result<ToolCommand, Error>
     ensures held { IfOk result (IsHeld (map string_bytes words.now)) }
+    ensures kind { IfErr result (λ e.
+        IsWordsFault (fault_of tool_app (map string_bytes words.now)) (kind_of e)) }
     ensures alone { IfErr result (λ e. (program : List ℕ) (command : ToolCommand)
         → map string_bytes words.now ≡ program ∷ name_of command ∷ []
         → kind_of e ≡ ErrorKind.OutOfMemory) }
@@ -69,5 +71,21 @@ pub fn command_of(alloc: Global, words: &[String]) -> Result<ToolCommand, Error>
     match held(&matches) {
         Some(command) => Ok(command),
         None => Err(tool.error(ErrorKind::MissingSubcommand, "a command is missing")?),
+    }
+}
+
+/// What is told of words that cannot be read, since they are no UTF-8.
+pub fn unreadable_words(alloc: Global) -> Error
+    ensures { IsWordsFault (ErrorKind.InvalidValue ∷ []) (kind_of result) }
+{
+    match tool(alloc) {
+        Ok(mut tool) => match tool.error(
+            ErrorKind::InvalidValue,
+            "a word of the command line is not UTF-8",
+        ) {
+            Ok(error) => error,
+            Err(error) => Error::from(error),
+        },
+        Err(error) => Error::from(error),
     }
 }

@@ -1,9 +1,9 @@
 //! The lines of an input, one after another. docs/CONTROL.md, "Scripts".
 
-ghost use Rattle.std.specs.Prelude.{◌≡◌, ◌≢◌, ◌↔◌, ◌<◌, ◌≤◌, ℕ, [], take, slice_index, length, IsTrue, IfOk, IfErr, OnOk, IfSome, IfNone, MatchOption, MatchBool};
+ghost use Rattle.std.specs.Prelude.{◌≡◌, ◌≢◌, ◌↔◌, ◌<◌, ◌≤◌, ◌+◌, ℕ, [], take, slice_index, length, IsTrue, IfOk, IfErr, OnOk, IfSome, IfNone, MatchOption, MatchBool};
 ghost use Rattle.std.specs.Io.KnownBytes.{IsAtEnd};
 ghost use Rattle.archive_tool.specs.InputLines.{kept, ReadsLine};
-ghost use Rattle.archive_tool.specs.Parts.{HasNoEnd, Grows, TakesPart};
+ghost use Rattle.archive_tool.specs.Parts.{HasNoEnd, Grows, IsSpent, TakesPart};
 
 use crate::fault::ScriptFault;
 use frame_core::limits::MAX_LINE_LENGTH;
@@ -99,12 +99,23 @@ fn line_end(shown: &[u8]) -> Option<usize>
     shown.iter().position(|b| *b == b'\n')
 }
 
-// Looks at the input once. A look that a signal interrupts takes nothing.
-fn take_part<R: BufRead>(reader: &mut R, line: &mut LineBuffer) -> Result<Part, ScriptFault>
+// Looks at the input once, and counts the look; where as many as may be were made, nothing is looked at. A look that a
+// signal interrupts takes nothing.
+fn take_part<R: BufRead>(
+    reader: &mut R,
+    reads: &mut u64,
+    line: &mut LineBuffer,
+) -> Result<Part, ScriptFault>
     ensures taken { IfOk result (λ part.
         TakesPart part (R.remaining reader.old) (R.remaining reader.new) line.old line.new) }
+    ensures counted { OnOk result ((reads.old < MAX_READS) × (reads.new ≡ reads.old + 1)) }
+    ensures spent { MAX_READS ≤ reads.old → IsSpent result (R.remaining reader.old) (R.remaining reader.new) }
     ensures faults { IfErr result (λ fault. fault ≢ ScriptFault.Write) }
 {
+    if *reads >= MAX_READS {
+        return Err(ScriptFault::Read);
+    }
+    *reads += 1;
     let shown = match reader.fill_buf() {
         Ok(shown) => shown,
         Err(e) => {
@@ -136,8 +147,8 @@ fn take_part<R: BufRead>(reader: &mut R, line: &mut LineBuffer) -> Result<Part, 
 /// Reads the next line of an input, and answers whether there was one. Costs the line's length.
 ///
 /// `reads` counts the looks at the input, at least as many as its reads, also of those that a signal interrupts.
-/// `Read` where the input fails, or was looked at `MAX_READS` times; `Memory` where the line finds no memory. What
-/// was read of the line is then lost.
+/// `Read` where the input fails, or was looked at `MAX_READS` times, and then nothing more is taken of it; `Memory`
+/// where the line finds no memory. What was read of the line is then lost.
 pub(crate) fn read_line<R: BufRead>(
     reader: &mut R,
     reads: &mut u64,
@@ -147,18 +158,16 @@ pub(crate) fn read_line<R: BufRead>(
     ensures found { IfOk result (λ is_line. MatchBool is_line
         (ReadsLine (R.remaining reader.old) (R.remaining reader.new) line.new)
         (IsAtEnd (R.remaining reader.old))) }
-    ensures spent { MAX_READS ≤ reads.old → result ≡ Err ScriptFault.Read }
+    ensures spent { MAX_READS ≤ reads.old → IsSpent result (R.remaining reader.old) (R.remaining reader.new) }
     ensures faults { IfErr result (λ fault. fault ≢ ScriptFault.Write) }
 {
     line.clear();
-    while *reads < MAX_READS {
-        *reads += 1;
-        match take_part(reader, line) {
+    loop {
+        match take_part(reader, reads, line) {
             Ok(Part::More) => {}
             Ok(Part::Ended) => return Ok(true),
             Ok(Part::AtEnd) => return Ok(!line.is_empty()),
             Err(fault) => return Err(fault),
         }
     }
-    Err(ScriptFault::Read)
 }

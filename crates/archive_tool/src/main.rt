@@ -1,10 +1,9 @@
 //! The program of the archive: it answers control lines from standard input on standard output.
 #![tactic(auto)]
 
-ghost use Rattle.std.specs.Prelude.{◌≡◌, IfOk};
-ghost use Rattle.std.specs.Process.{exit_status};
+ghost use Rattle.std.specs.Prelude.{◌≡◌};
 ghost use Rattle.clap.specs.Words.{kind_of};
-ghost use Rattle.archive_tool.specs.CommandLine.{EndsWith, IsScriptStatus, IsStatus, status_of_kind};
+ghost use Rattle.archive_tool.specs.CommandLine.{IsStatus, IsTold, status_of};
 
 mod archive;
 mod command;
@@ -16,104 +15,100 @@ mod parameters;
 mod polling;
 mod script;
 mod state;
+mod status;
 
 use clap::Error;
 use clap::error::ErrorKind;
-use command::{ToolCommand, command_of};
+use command::{ToolCommand, command_of, unreadable_words};
 use control_core::print_refusal;
 use fault::ScriptFault;
 use frame_core::Refusal;
 use script::run_script;
-use std::alloc::Global;
+use status::Ending;
 use std::env;
-use std::io::{self, BufWriter, Read, Write};
+use std::io::{self, BufWriter};
 use std::process::ExitCode;
 use std::rt::Env;
 
-/// Refused: a want of memory.
-const REFUSED: u8 = 1;
-/// The command line is none.
-const USAGE: u8 = 2;
-/// Standard input or output failed.
-const DEVICE: u8 = 3;
-
 fn main(rt: HostRuntime) -> ExitCode {
-    ended(&rt)
+    ExitCode::from(ended(&rt))
 }
 
-/// Does what the command line asks for, and tells on standard error why it could not.
-fn ended<R: AllocGlobal + Env + Input + Print + Eprint>(rt: &R) -> ExitCode
-    ensures { IsStatus (exit_status result) }
+/// Does what the command line asks for, tells on standard error why it could not, and answers the status.
+fn ended<R: AllocGlobal + Env + Input + Print + Eprint>(rt: &R) -> u8
+    ensures { IsStatus result }
 {
-    match commanded(rt) {
-        Ok(code) => code,
-        Err(error) if error.kind() == io::ErrorKind::OutOfMemory => {
-            refused(rt, &Refusal::NoMemory, REFUSED)
-        }
-        Err(_) => refused(rt, &Refusal::DeviceFault, DEVICE),
+    concluded(rt, commanded(rt))
+}
+
+/// Tells on standard error why the program ended early, if it did, and answers its status.
+fn concluded<R: Eprint>(rt: &R, ending: Ending) -> u8
+    ensures { result ≡ status_of ending }
+{
+    if let Some(refusal) = ending.refusal() {
+        tell(rt, &refusal);
     }
+    ending.status()
 }
 
-/// Does what the command line asks for.
-fn commanded<R: AllocGlobal + Env + Input + Print + Eprint>(rt: &R) -> io::Result<ExitCode>
-    ensures { IfOk result (λ code. IsStatus (exit_status code)) }
-{
-    let words: Vec<String> = env::args(rt)?.collect(rt.alloc())?;
-    match command_of(rt.alloc(), words.as_slice()) {
-        Ok(ToolCommand::Run) => Ok(run(rt)),
+/// Does what the command line asks for. A word that is no UTF-8 is a wrong one.
+fn commanded<R: AllocGlobal + Env + Input + Print + Eprint>(rt: &R) -> Ending {
+    let words = words_of(rt);
+    let asked = match &words {
+        Ok(words) => command_of(rt.alloc(), words.as_slice()),
+        Err(error) if error.kind() == io::ErrorKind::InvalidData => {
+            Err(unreadable_words(rt.alloc()))
+        }
+        Err(error) => return Ending::Failed(error.kind()),
+    };
+    match asked {
+        Ok(ToolCommand::Run) => match run(rt) {
+            Ok(()) => Ending::Done,
+            Err(fault) => Ending::Cut(fault),
+        },
         Err(error) => told(rt, &error),
     }
 }
 
-/// Tells why a command line asks for no command, or gives the help that it asks for.
-fn told<R: Print + Eprint>(rt: &R, error: &Error) -> io::Result<ExitCode>
-    ensures { IfOk result (λ code. exit_status code ≡ status_of_kind (kind_of error.now)) }
-{
-    let code = match error.kind() {
-        ErrorKind::OutOfMemory => return Ok(refused(rt, &Refusal::NoMemory, REFUSED)),
-        ErrorKind::DisplayHelp | ErrorKind::DisplayVersion => 0,
-        _ => USAGE,
-    };
-    error.print(rt)?;
-    Ok(ExitCode::from(code))
+/// The words of the command line, the program's name first.
+fn words_of<R: AllocGlobal + Env>(rt: &R) -> io::Result<Vec<String>> {
+    let mut words = Vec::new(rt.alloc());
+    for word in env::args(rt)? {
+        if words.push(word).is_err() {
+            return Err(io::Error::from(io::ErrorKind::OutOfMemory));
+        }
+    }
+    Ok(words)
 }
 
-/// Answers the control lines of standard input on standard output.
-fn run<R: AllocGlobal + Input + Print + Eprint>(rt: &R) -> ExitCode
-    ensures { IsScriptStatus (exit_status result) }
+/// Tells why a command line asks for no command, or gives the help that it asks for. Want of memory is not told here.
+fn told<R: Print + Eprint>(rt: &R, error: &Error) -> Ending
+    ensures { IsTold (kind_of error.now) result }
 {
-    let Ok(mut writer) = BufWriter::new(rt.alloc(), io::writer(rt)) else {
-        return refused(rt, &Refusal::NoMemory, REFUSED);
-    };
-    answer_lines(rt, rt.alloc(), rt.reader(), &mut writer)
-}
-
-/// Answers the control lines of a reader on a writer, and tells on standard error why it ended early, if it did.
-fn answer_lines<E: Eprint, R: Read + Drop, W: Write>(
-    rt: &E,
-    alloc: Global,
-    reader: R,
-    writer: &mut W,
-) -> ExitCode
-    ensures { EndsWith (exit_status result) (R.remaining reader)
-        (W.contents writer.old) (W.contents writer.new) }
-{
-    match run_script(alloc, reader, writer) {
-        Ok(()) => ExitCode::SUCCESS,
-        Err(ScriptFault::Read | ScriptFault::Write) => refused(rt, &Refusal::DeviceFault, DEVICE),
-        Err(ScriptFault::Memory) => refused(rt, &Refusal::NoMemory, REFUSED),
+    let kind = error.kind();
+    if kind == ErrorKind::OutOfMemory {
+        return Ending::NoCommand(kind);
+    }
+    match error.print(rt) {
+        Ok(()) => Ending::NoCommand(kind),
+        Err(fault) => Ending::Failed(fault.kind()),
     }
 }
 
+/// Answers the control lines of standard input on standard output.
+fn run<R: AllocGlobal + Input + Print>(rt: &R) -> Result<(), ScriptFault> {
+    let Ok(mut writer) = BufWriter::new(rt.alloc(), io::writer(rt)) else {
+        return Err(ScriptFault::Memory);
+    };
+    run_script(rt.alloc(), rt.reader(), &mut writer)
+}
+
 /// Tells a refusal on standard error.
-fn refused<R: Eprint>(rt: &R, refusal: &Refusal, code: u8) -> ExitCode
-    ensures { exit_status result ≡ code }
-{
+fn tell<R: Eprint>(rt: &R, refusal: &Refusal) {
     let line = print_refusal(refusal);
     if let Ok(text) = std::str::from_utf8(line.as_bytes()) {
         let _ = rt.eprint(text);
     }
-    ExitCode::from(code)
 }
 
 #[cfg(test)]

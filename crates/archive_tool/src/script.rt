@@ -1,6 +1,6 @@
 //! A script of control lines, from a reader to a writer. docs/CONTROL.md, "Scripts".
 
-ghost use Rattle.std.specs.Prelude.{◌≡◌, OnOk, IfErr, bytes_eq, codes};
+ghost use Rattle.std.specs.Prelude.{◌≡◌, ◌↔◌, Contains, IsTrue, OnOk, IfErr, bytes_eq, codes};
 ghost use Rattle.std.specs.Io.KnownBytes.{Appends, Keeps};
 ghost use Rattle.std.specs.Io.Buffered.{reader_remaining};
 ghost use Rattle.control_core.specs.ReplyText.{reply_text};
@@ -8,7 +8,7 @@ ghost use Rattle.control_core.specs.RefusalText.{refusal_text};
 ghost use Rattle.control_core.specs.Calls.{OrNoMemory};
 ghost use Rattle.archive_tool.specs.Transcript.{Writes, Replied};
 ghost use Rattle.archive_tool.specs.ScriptLines.{ReadLineEnds};
-ghost use Rattle.archive_tool.specs.Script.{Answers, asked, outcome_text, quits, FailsToAnswer, IsTranscript, EndsEarly};
+ghost use Rattle.archive_tool.specs.Script.{Answers, asked, outcome_text, quits, FailsToAnswer, IsTranscript, EndsEarly, ended_by};
 
 use crate::fault::ScriptFault;
 use crate::lines::{LineBuffer, read_line};
@@ -106,7 +106,14 @@ fn answer_line<W: Write>(
     write_outcome(alloc, &outcome, writer)
 }
 
-/// Hands on what was written, unless a whole line lies at hand, so that nobody waits for a reply that is there.
+/// Whether a whole line is at hand.
+fn has_line(buffered: &[u8]) -> bool
+    ensures { IsTrue result ↔ Contains buffered.now 10 }
+{
+    buffered.contains(&b'\n')
+}
+
+/// Hands on what was written, unless a whole line is at hand, so that nobody waits for a reply that is there.
 fn flush_if_waiting<R: Read, W: Write>(
     reader: &BufReader<R>,
     writer: &mut W,
@@ -114,7 +121,7 @@ fn flush_if_waiting<R: Read, W: Write>(
     ensures kept { Keeps (W.contents writer.old) (W.contents writer.new) }
     ensures fault { IfErr result (λ fault. fault ≡ ScriptFault.Write) }
 {
-    if reader.buffer().contains(&b'\n') {
+    if has_line(reader.buffer()) {
         return Ok(());
     }
     if writer.flush().is_err() {
@@ -177,10 +184,15 @@ pub fn run_script<R: Read + Drop, W: Write>(
         return Err(ScriptFault::Memory);
     };
     let outcome = run_lines(alloc, &mut reader, writer);
-    let flushed = writer.flush();
+    after_flush(outcome, writer.flush().is_ok())
+}
+
+/// How a script ended, once what it wrote was handed on or could not be.
+fn after_flush(outcome: Result<(), ScriptFault>, is_flushed: bool) -> Result<(), ScriptFault>
+    ensures { result ≡ ended_by outcome is_flushed }
+{
     match outcome {
-        Err(fault) => Err(fault),
-        Ok(()) if flushed.is_err() => Err(ScriptFault::Write),
-        Ok(()) => Ok(()),
+        Ok(()) if !is_flushed => Err(ScriptFault::Write),
+        outcome => outcome,
     }
 }

@@ -3,6 +3,4 @@
 mod command;
 mod faults;
 mod lines;
-mod merging;
-mod refusals;
 mod scenarios;

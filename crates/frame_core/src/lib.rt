@@ -15,10 +15,6 @@ mod nak;
 mod positions;
 mod refusal;
 mod setup;
-#[cfg(test)]
-mod tests;
-#[cfg(test)]
-mod tests_wire;
 
 pub use block::{
     Block, Place, Publication, are_encodable, block_end, block_of, is_next, place_behind,

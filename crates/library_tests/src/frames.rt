@@ -1,14 +1,286 @@
-//! Frames, datagrams, positions and blocks: the vectors of docs/SCENARIOS.md, and docs/PROTOCOL.md by example.
+//! Frames, datagrams, positions, blocks, setup and NAK frames: the vectors of docs/SCENARIOS.md, and docs/PROTOCOL.md by
+//! example.
 
-use crate::vectors::{HELLO_AT_0, PAD_AT_TERM_END};
-use frame_core::decode_front;
+use crate::vectors::{
+    HEARTBEAT_AT_256, HELLO_AT_0, HELLO_AT_64, HELLO_AT_128, HELLO_AT_TERM_END, HELLO_IN_NEXT_TERM,
+    NAK_AT_64, NAK_AT_192, PAD_AT_TERM_END, PAD_OF_NEXT_TERM, PAD_OF_TERM, SETUP, WORLD_AT_64,
+};
+use frame_core::{
+    Block, Frame, FrameKind, Geometry, Items, Nak, Publication, Refusal, Setup, block_end,
+    block_of, decode_front, encode_into, frames_of_datagram, position, term_of,
+};
+use std::alloc::{AllocError, Global};
+use std::process::Abort;
 use std::test::Fail;
 
+const GEOMETRY: Geometry = Geometry {
+    initial_term_id: 42,
+    term_length: 65_536,
+    mtu: 1_408,
+};
+
+const PUBLICATION: Publication = Publication {
+    session_id: 7,
+    stream_id: 1_001,
+};
+
+// The frame in front of a vector, of the vectors' session and stream.
+fn check_read(
+    rt: &impl Abort,
+    bytes: &[u8],
+    kind: FrameKind,
+    size: i32,
+    term: i32,
+    offset: i32,
+    payload: &[u8],
+) -> Result<(), Refusal> {
+    let (found, used) = decode_front(bytes)?;
+    assert!(rt; found.kind == kind && found.length == size);
+    assert!(rt; found.term_id == term && found.term_offset == offset);
+    assert!(rt; found.session_id == 7 && found.stream_id == 1_001);
+    assert!(rt; found.flags == 0xc0 && found.reserved == 0);
+    assert!(rt; found.payload == payload && used == bytes.len());
+    Ok(())
+}
+
+// A vector is what its frame is written as, and nothing behind it is written.
+fn check_written(rt: &impl Abort, alloc: Global, bytes: &[u8]) -> Result<(), Refusal> {
+    let (found, _) = decode_front(bytes)?;
+    let frame = found.to_frame(alloc)?;
+    let mut out = [0xff; 40];
+    assert!(rt; frame.is_encodable() && frame.encoded_length() <= out.len());
+    let size = encode_into(&frame, &mut out);
+    assert!(rt; out.get(..size) == Some(bytes) && out[39] == 0xff);
+    Ok(())
+}
+
 #[test]
-fn fronts_use_their_bytes(rt: HostRuntime) -> Result<(), Fail> {
-    for (vector, used) in [(HELLO_AT_0, 37), (PAD_AT_TERM_END, 32)] {
-        let (_, found) = decode_front(vector)?;
-        assert_eq!(rt; found, used);
+fn vectors_are_read_and_written(rt: HostRuntime) -> Result<(), Fail> {
+    for (bytes, kind, size, term, offset, payload) in [
+        (HELLO_AT_0, FrameKind::Message, 37, 42, 0, &b"hello"[..]),
+        (HELLO_AT_64, FrameKind::Message, 37, 42, 64, b"hello"),
+        (HELLO_AT_128, FrameKind::Message, 37, 42, 128, b"hello"),
+        (WORLD_AT_64, FrameKind::Message, 37, 42, 64, b"world"),
+        (
+            HELLO_AT_TERM_END,
+            FrameKind::Message,
+            37,
+            42,
+            65_472,
+            b"hello",
+        ),
+        (HELLO_IN_NEXT_TERM, FrameKind::Message, 37, 43, 0, b"hello"),
+        (PAD_AT_TERM_END, FrameKind::Pad, 64, 42, 65_472, b""),
+        (PAD_OF_TERM, FrameKind::Pad, 65_536, 42, 0, b""),
+        (PAD_OF_NEXT_TERM, FrameKind::Pad, 65_536, 43, 0, b""),
+        (HEARTBEAT_AT_256, FrameKind::Heartbeat, 0, 42, 256, b""),
+    ] {
+        check_read(&rt, bytes, kind, size, term, offset, payload)?;
+        check_written(&rt, rt.alloc(), bytes)?;
     }
+    Ok(())
+}
+
+// The bytes with others from an offset on.
+fn changed(alloc: Global, bytes: &[u8], offset: usize, new: &[u8]) -> Result<Vec<u8>, AllocError> {
+    let mut out = bytes.to_vec(alloc)?;
+    for (byte, value) in out.iter_mut().skip(offset).zip(new) {
+        *byte = *value;
+    }
+    Ok(out)
+}
+
+#[test]
+fn bad_frame_headers_are_refused(rt: HostRuntime) -> Result<(), Fail> {
+    for (vector, offset, new) in [
+        // Length 31; length 64 in fewer bytes; version 1; type 2; offsets 16 and -32; a pad of length 31; a pad of 0.
+        (HELLO_AT_0, 0, &[31][..]),
+        (HELLO_AT_0, 0, &[64]),
+        (HELLO_AT_0, 4, &[1]),
+        (HELLO_AT_0, 6, &[2]),
+        (HELLO_AT_0, 8, &[16]),
+        (HELLO_AT_0, 8, &[0xe0, 0xff, 0xff, 0xff]),
+        (PAD_AT_TERM_END, 0, &[31]),
+        (HEARTBEAT_AT_256, 6, &[0]),
+    ] {
+        let bytes = changed(rt.alloc(), vector, offset, new)?;
+        let found = decode_front(&bytes);
+        assert!(rt;
+            matches!(found, Err(Refusal::BadFrame { offset: 0 })),
+            "{offset} {new:?}"
+        );
+    }
+    Ok(())
+}
+
+// Some bytes, 27 zeros that fill a message of five bytes up, and others behind them.
+fn datagram(alloc: Global, first: &[u8], second: &[u8]) -> Result<Vec<u8>, AllocError> {
+    let mut bytes = first.to_vec(alloc)?;
+    bytes.extend_from_slice(&[0; 27])?;
+    bytes.extend_from_slice(second)?;
+    Ok(bytes)
+}
+
+#[test]
+fn datagrams(rt: HostRuntime) -> Result<(), Fail> {
+    let alloc = rt.alloc();
+    let two = datagram(alloc, HELLO_AT_0, HELLO_AT_64)?;
+    assert!(rt; frames_of_datagram(alloc, &two)?.len() == 2);
+    let late = datagram(alloc, HELLO_AT_0, HEARTBEAT_AT_256)?;
+    let found = frames_of_datagram(alloc, &late);
+    assert!(rt; matches!(found, Err(Refusal::BadFrame { offset: 64 })));
+    Ok(())
+}
+
+#[test]
+fn positions_wrap_past_the_largest_term_id(rt: HostRuntime) {
+    let geometry = Geometry {
+        initial_term_id: 2_147_483_647,
+        term_length: 65_536,
+        mtu: 1_408,
+    };
+    let found = position(&geometry, -2_147_483_648, 64);
+    assert!(rt; found == Some(65_600));
+    assert!(rt; term_of(&geometry, 65_600) == (-2_147_483_648, 64));
+    assert!(rt; position(&geometry, 2_147_483_646, 0) == None);
+}
+
+#[test]
+fn blocks_are_read(rt: HostRuntime) -> Result<(), Fail> {
+    let alloc = rt.alloc();
+    for (bytes, from, end) in [
+        (HELLO_AT_TERM_END, 65_472, 65_536),
+        (HELLO_IN_NEXT_TERM, 65_536, 65_600),
+        (PAD_AT_TERM_END, 65_472, 65_536),
+        (PAD_OF_NEXT_TERM, 65_536, 131_072),
+    ] {
+        let block = block_of(alloc, &GEOMETRY, bytes)?;
+        let found = block_end(&GEOMETRY, &PUBLICATION, &block);
+        assert!(rt; block.position == from && found == Some(end), "{from}");
+    }
+    let found = block_of(alloc, &GEOMETRY, HEARTBEAT_AT_256);
+    assert!(rt; matches!(found, Err(Refusal::BadBlock)));
+    Ok(())
+}
+
+#[test]
+fn setup_frames_and_naks(rt: HostRuntime) {
+    let said = Setup {
+        flags: 0,
+        term_offset: 0,
+        session_id: 7,
+        stream_id: 1_001,
+        initial_term_id: 42,
+        active_term_id: 42,
+        term_length: 65_536,
+        mtu: 1_408,
+        ttl: 0,
+    };
+    assert!(rt; Setup::decode(&SETUP) == Ok(said));
+    assert!(rt; said.geometry() == GEOMETRY && said.join_position() == Some(0));
+    for (bytes, term_offset) in [(NAK_AT_64, 64), (NAK_AT_192, 192)] {
+        let nak = Nak {
+            session_id: 7,
+            stream_id: 1_001,
+            term_id: 42,
+            term_offset,
+            length: 64,
+        };
+        assert!(rt;
+            Nak::decode(&bytes) == Ok(nak) && nak.encode() == bytes,
+            "{term_offset}"
+        );
+    }
+}
+
+#[test]
+fn refusals_have_their_numbers(rt: HostRuntime) {
+    for (refusal, number) in [
+        (Refusal::UnknownRecording, 1),
+        (Refusal::ActiveRecording, 2),
+        (Refusal::NotActive, 3),
+        (Refusal::ActiveReplay, 4),
+        (Refusal::BadPosition, 5),
+        (Refusal::BadExtension, 6),
+        (Refusal::MaxRecordings, 7),
+        (Refusal::MaxReplays, 8),
+        (Refusal::UnknownReplay, 9),
+        (Refusal::BadParameter, 10),
+        (Refusal::HistoryFull, 11),
+        (Refusal::StaleSession, 12),
+        (Refusal::BadBlock, 13),
+        (Refusal::NeedSettle, 14),
+        (
+            Refusal::Damaged {
+                recording: 1,
+                position: 2,
+            },
+            15,
+        ),
+        (Refusal::Broken, 16),
+        (Refusal::DeviceFault, 17),
+        (Refusal::NoMemory, 18),
+        (Refusal::NotCatalogue, 19),
+        (Refusal::NewerVersion, 20),
+        (Refusal::BadFrame { offset: 3 }, 21),
+        (Refusal::BadLine, 22),
+    ] {
+        assert!(rt; refusal.number() == number, "{number}");
+    }
+}
+
+#[test]
+fn items_keep_their_order(rt: HostRuntime) -> Result<(), Fail> {
+    let alloc = rt.alloc();
+    let mut items = Items::new(alloc);
+    items.push(1)?;
+    items.append([2, 3].to_vec(alloc)?)?;
+    assert!(rt; items.as_slice() == [1, 2, 3].as_slice());
+    Ok(())
+}
+
+// Each of these asks again where its first request for memory was refused.
+fn frame_of(alloc: Global, bytes: &[u8]) -> Result<Frame, Refusal> {
+    let (lent, _) = decode_front(bytes)?;
+    match lent.to_frame(alloc) {
+        Err(Refusal::NoMemory) => lent.to_frame(alloc),
+        frame => frame,
+    }
+}
+
+fn frame_count(alloc: Global, bytes: &[u8]) -> Result<usize, Refusal> {
+    let frames = match frames_of_datagram(alloc, bytes) {
+        Err(Refusal::NoMemory) => frames_of_datagram(alloc, bytes)?,
+        frames => frames?,
+    };
+    Ok(frames.len())
+}
+
+fn block_at(alloc: Global, bytes: &[u8]) -> Result<Block, Refusal> {
+    match block_of(alloc, &GEOMETRY, bytes) {
+        Err(Refusal::NoMemory) => block_of(alloc, &GEOMETRY, bytes),
+        block => block,
+    }
+}
+
+fn item_count(alloc: Global) -> Result<usize, AllocError> {
+    let mut items = Items::new(alloc);
+    if items.push(1).is_err() {
+        items.push(1)?;
+    }
+    Ok(items.len())
+}
+
+// A refused request for memory is told as NoMemory, and the call may be made again: bench/refused_test_memory.py runs
+// this test for each of its requests for memory, which it refuses.
+#[test]
+fn refused_memory_of_frames(rt: HostRuntime) -> Result<(), Fail> {
+    let alloc = rt.alloc();
+    let frame = frame_of(alloc, HELLO_AT_0)?;
+    assert!(rt; frame.length == 37);
+    assert!(rt; frame_count(alloc, HELLO_AT_0)? == 1);
+    let block = block_at(alloc, HELLO_AT_0)?;
+    assert!(rt; block.frames.len() == 1);
+    assert!(rt; item_count(alloc)? == 1);
     Ok(())
 }

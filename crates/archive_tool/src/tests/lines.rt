@@ -25,23 +25,15 @@ fn lines_read(alloc: Global, input: &[u8], room: usize) -> Result<String, Fail> 
 
 #[test]
 fn lines_of_inputs(rt: HostRuntime) -> Result<(), Fail> {
-    for room in [1, 2, 3, 8_192] {
-        for (input, lines) in [
-            ("", ""),
-            ("\n", "|"),
-            ("\n\n", "||"),
-            ("quit", "quit|"),
-            ("quit\n", "quit|"),
-            ("quit\n\n", "quit||"),
-            ("list 0 10\nquit", "list 0 10|quit|"),
-            ("\nquit\n", "|quit|"),
-            (" a \r\n\tb\n", " a \r|\tb|"),
-        ] {
-            assert_eq!(rt;
-                lines_read(rt.alloc(), input.as_bytes(), room)?.as_str(),
-                lines,
-                "{input:?}"
-            );
+    for (input, lines) in [
+        ("", ""),
+        ("\n\n", "||"),
+        ("list 0 10\nquit", "list 0 10|quit|"),
+        (" a \r\n\tb\n", " a \r|\tb|"),
+    ] {
+        for room in [1, 3, 8_192] {
+            let found = lines_read(rt.alloc(), input.as_bytes(), room)?;
+            assert!(rt; found.as_str() == lines, "{input:?} {room}");
         }
     }
     Ok(())
@@ -59,7 +51,7 @@ fn long_lines(rt: HostRuntime) -> Result<(), Fail> {
     input.extend_from_slice(b"\nquit")?;
     for room in [8_192, 262_144, 600_000] {
         let lines = lines_read(alloc, input.as_slice(), room)?;
-        assert_eq!(rt; lines.len(), 262_144 + 1 + 2 + 5);
+        assert!(rt; lines.len() == 262_144 + 1 + 2 + 5);
         assert!(rt; lines.as_str().ends_with("x|-|quit|"));
     }
     Ok(())
@@ -111,14 +103,11 @@ fn an_input_that_fails(rt: HostRuntime) -> Result<(), Fail> {
         let mut reader = BufReader::new(alloc, make_flaky(b"poll 0 1\nquit\n", fails_at))?;
         let mut reads = 0;
         if fails_at > 8 {
-            assert_eq!(rt; read_line(&mut reader, &mut reads, &mut line), Ok(true));
-            assert_eq!(rt; line.bytes(), Some(b"poll 0 1".as_slice()));
-            assert_eq!(rt; reads, 18);
+            let found = read_line(&mut reader, &mut reads, &mut line);
+            assert!(rt; found == Ok(true) && reads == 18);
         }
-        assert_eq!(rt;
-            read_line(&mut reader, &mut reads, &mut line),
-            Err(ScriptFault::Read)
-        );
+        let found = read_line(&mut reader, &mut reads, &mut line);
+        assert!(rt; found == Err(ScriptFault::Read), "{fails_at}");
     }
     Ok(())
 }
@@ -128,10 +117,7 @@ fn an_input_that_was_looked_at_too_often(rt: HostRuntime) {
     let mut line = LineBuffer::new(rt.alloc());
     let mut input = b"quit\nquit\n".as_slice();
     let mut reads = MAX_READS - 1;
-    assert_eq!(rt; read_line(&mut input, &mut reads, &mut line), Ok(true));
-    assert_eq!(rt;
-        read_line(&mut input, &mut reads, &mut line),
-        Err(ScriptFault::Read)
-    );
-    assert_eq!(rt; reads, MAX_READS);
+    assert!(rt; read_line(&mut input, &mut reads, &mut line) == Ok(true));
+    assert!(rt; read_line(&mut input, &mut reads, &mut line) == Err(ScriptFault::Read));
+    assert!(rt; reads == MAX_READS);
 }
