@@ -1,7 +1,9 @@
 -- The names of the rebuild position, the high-water mark and the gap.
-use Rattle.std.proofs.Common.{◌≡◌, ◌∙◌, sym, ap, refl, subst, ◌+◌, ◌<◌, ◌≤◌, ◌⊎◌, inl, inr, ℕ, List, [], ◌∷◌, ◌++◌, true, Some, None, append_assoc, append-nil, arith}
-use Rattle.std.specs.Prelude.{◌==◌, map, max, min, nat_lt, Option, if◌then◌else◌}
+use Rattle.std.proofs.Common.{◌≡◌, ◌∙◌, sym, ap, refl, subst, ◌+◌, ◌<◌, ◌≤◌, ◌⊎◌, inl, inr, ℕ, suc, List, [], ◌∷◌, ◌++◌, true, Some, None, append_assoc, append-nil, arith}
+use Rattle.std.specs.Prelude.{◌==◌, Contains, map, max, min, nat_lt, Option, if◌then◌else◌}
 use Rattle.std.proofs.lemmas.Bool.{cond_both}
+use Rattle.std.specs.List.{AllByRecursion}
+use Rattle.std.proofs.lemmas.List.Elements.{Contains-append_cases, Contains-push_cases}
 use Rattle.std.specs.Ordering.{nat_cmp, match_ordering}
 use Rattle.std.specs.declared.cmp.Ordering.{Ordering}
 use Rattle.std.specs.BTreeMap.{insert_entry}
@@ -17,14 +19,30 @@ use Rattle.frame_core.proofs.OrderLemmas.{by_cmp}
 use Rattle.image_core.specs.declared.fate.Fate.{Fate}
 use Rattle.image_core.specs.declared.fate.Fate.TheVariants.{Joins, Tells, Drops}
 use Rattle.image_core.specs.Rebuild.{end_of, chain_end, next_start, term_end}
-use Rattle.image_core.specs.Received.{Received, after, begun, fate, fate_of, frame_fate, gap_end, heartbeat_fate, is_free, is_of, joining_position, rebuilt, received, received_all}
-use Rattle.image_core.specs.Received.{IsChain}
+use Rattle.image_core.specs.Received.{IsChain, Received, after, begun, fate, fate_of, frame_fate, gap_end, heartbeat_fate, is_free, is_of, joining_position, rebuilt, received, received_all}
 use Rattle.image_core.specs.Kept.{AreMembers, AreSpaced}
-use Rattle.image_core.specs.Laws.{AreAmong, HasGap, HasHighWaterMark, HasLongestChain, IsAmong, LieApart, greatest, heard, heartbeat_at}
+use Rattle.image_core.specs.Laws.{HasGap, HasHighWaterMark, HasLongestChain, LieApart, greatest, heard, heartbeat_at}
 use Rattle.image_core.proofs.ChainLemmas.{chain_at, chain_below, chain_by, chain_low, spaced_raise}
 use Rattle.image_core.proofs.FateLemmas.{by_kind, by_joining_position}
 use Rattle.image_core.proofs.JoinLemmas.{apart, members_insert, not_at_first}
 use Rattle.image_core.proofs.KeptLemmas.{has_size, open_parts, spaced_join}
+
+-- one of the frames, at its position
+abbrev IsAmong : ℕ × Frame → List (ℕ × Frame) → Type 0
+IsAmong m [] = ⊥
+IsAmong m (x ∷ xs) = (m ≡ x) ⊎ IsAmong m xs
+
+among_of : (m : ℕ × Frame) (ms : List (ℕ × Frame)) → Contains ms m → IsAmong m ms
+among_of m [] has = absurd (omega (arith, has.1))
+among_of m (x ∷ ms) has = elim (Contains-append_cases (x ∷ []) ms m has) [
+  | inl first ↦ elim (Contains-push_cases [] x m first) [ inl none ↦ absurd (omega (arith, none.1)) | inr same ↦ inl (sym same) ]
+  | inr other ↦ inr (among_of m ms other)
+]
+
+of_among : (m : ℕ × Frame) (ms : List (ℕ × Frame)) → IsAmong m ms → Contains ms m
+of_among m [] among = elim among [ ]
+of_among m (x ∷ ms) (inl same) = (0, omega arith, sym same)
+of_among m (x ∷ ms) (inr among) = let it = of_among m ms among in (suc it.0, omega (arith, it.1), it.2)
 
 -- a spaced frame lies above what all are spaced from, covers something, and ends in time
 record IsInside (low high : ℕ) (m : ℕ × Frame) : Type 0 where
@@ -53,19 +71,19 @@ among_step low high p m (x ∷ ms) spaced (inr among) at =
     let some = it.some in
     chain_by (end_of m) x ms (λ past. omega arith) ∙ among_step (end_of x) high p m ms spaced.3 among at ∙ sym (chain_by p x ms (λ same. omega arith))
 
-longest : (low high p end : ℕ) (ms other : List (ℕ × Frame)) → AreSpaced low high ms → AreAmong other ms → IsChain p other end → end ≤ chain_end p ms
+longest : (low high p end : ℕ) (ms other : List (ℕ × Frame)) → AreSpaced low high ms → AllByRecursion (Contains ms) other → IsChain p other end → end ≤ chain_end p ms
 longest low high p end ms [] spaced among chain = let up = chain_low p ms in omega (arith, chain, up)
 longest low high p end ms (m ∷ other) spaced among chain =
-    subst (λ (q : ℕ). end ≤ q) (among_step low high p m ms spaced among.0 chain.0) (longest low high (end_of m) end ms other spaced among.1 chain.2)
+    subst (λ (q : ℕ). end ≤ q) (among_step low high p m ms spaced (among_of m ms among.0) chain.0) (longest low high (end_of m) end ms other spaced among.1 chain.2)
 
-among_more : (x : ℕ × Frame) (xs ms : List (ℕ × Frame)) → AreAmong xs ms → AreAmong xs (x ∷ ms)
+among_more : (x : ℕ × Frame) (xs ms : List (ℕ × Frame)) → AllByRecursion (Contains ms) xs → AllByRecursion (Contains (x ∷ ms)) xs
 among_more x [] ms among = tt
-among_more x (m ∷ xs) ms among = (inr among.0, among_more x xs ms among.1)
+among_more x (m ∷ xs) ms among = ((suc among.0.0, omega (arith, among.0.1), among.0.2), among_more x xs ms among.1)
 
 -- the frames of the longest chain
 record IsRun (p end : ℕ) (ms : List (ℕ × Frame)) : Type 0 where
   chain : List (ℕ × Frame)
-  among : AreAmong chain ms
+  among : AllByRecursion (Contains ms) chain
   follows : IsChain p chain end
 
 run : (low high p : ℕ) (ms : List (ℕ × Frame)) → AreSpaced low high ms → IsRun p (chain_end p ms) ms
@@ -73,7 +91,7 @@ run low high p [] spaced = record { chain = []; among = tt; follows = refl }
 run low high p (m ∷ ms) spaced =
     cond_both (p == m.0) (end_of m) p (λ (q : ℕ). IsRun p (chain_end q ms) (m ∷ ms))
     (λ at. let rest = run (end_of m) high (end_of m) ms spaced.3 in
-    record { chain = m ∷ rest.chain; among = (inl refl, among_more m rest.chain ms rest.among); follows = (grind arith, spaced.1, rest.follows) })
+    record { chain = m ∷ rest.chain; among = ((0, omega arith, refl), among_more m rest.chain ms rest.among); follows = (grind arith, spaced.1, rest.follows) })
     (λ apart. let rest = run (end_of m) high p ms spaced.3 in
     record { chain = rest.chain; among = among_more m rest.chain ms rest.among; follows = rest.follows })
 
@@ -181,17 +199,18 @@ unfolding AreSpacedIn NextIs
 gap_of g publication p fs encodable =
     let r : Received = received_all (begun g publication p) fs in
     let spaced = spaced_all (begun g publication p) fs tt encodable in
+    let inside : (m : ℕ × Frame) → Contains r.joined m → IsAmong m r.joined = λ m. among_of m r.joined in
     let next : ℕ = next_start (rebuilt r) r.high r.joined in
     let term : ℕ = term_end r.geometry (rebuilt r) in
     record {
-      empty = λ m among. by_cmp (λ (o : Ordering). (end_of m ≤ rebuilt r) ⊎ (gap_end r ≤ m.0)) (rebuilt r) m.0
+      empty = λ m has. let among = inside m has in by_cmp (λ (o : Ordering). (end_of m ≤ rebuilt r) ⊎ (gap_end r ≤ m.0)) (rebuilt r) m.0
           (λ past. let least = next_least r.from r.high (rebuilt r) r.high m r.joined spaced among past in inr (omega (arith, least)))
           (λ at. absurd (not_at_end r.from r.high r.from m r.joined spaced (omega arith) among (sym at)))
           (λ before. inl (out r.from r.high r.from m r.joined spaced (omega arith) among before));
       high = omega arith;
       term = omega arith;
       first = elim (min_is next (min r.high term)) [
-        | inl is ↦ elim (next_is (rebuilt r) r.high r.joined) [ inl other ↦ inl (is ∙ other) | inr found ↦ inr (inr (found.0, found.1, found.2, is ∙ found.3)) ]
+        | inl is ↦ elim (next_is (rebuilt r) r.high r.joined) [ inl other ↦ inl (is ∙ other) | inr found ↦ inr (inr (found.0, of_among found.0 r.joined found.1, found.2, is ∙ found.3)) ]
         | inr rest ↦ elim (min_is r.high term) [ inl is ↦ inl (rest ∙ is) | inr is ↦ inr (inl (rest ∙ is)) ]
       ];
     }

@@ -1,5 +1,6 @@
 -- What gives the rebuild position, the high-water mark and the gap their names: docs/PROTOCOL.md, "Images".
-use Rattle.std.specs.Prelude.{◌≡◌, ◌<◌, ◌≤◌, ◌⊎◌, ℕ, max, if◌then◌else◌, List, [], ◌∷◌, ◌++◌, Option, None, Some, map}
+use Rattle.std.specs.Prelude.{◌≡◌, ◌<◌, ◌≤◌, ◌⊎◌, ℕ, max, if◌then◌else◌, List, [], ◌∷◌, ◌++◌, Option, None, Some, map, Contains}
+use Rattle.std.specs.List.{AllByRecursion}
 use Rattle.frame_core.specs.declared.frame.FrameKind.{FrameKind}
 use Rattle.frame_core.specs.declared.frame.FrameKind.TheVariants.{Pad, Message, Heartbeat}
 use Rattle.frame_core.specs.declared.frame.Frame.{Frame}
@@ -11,15 +12,6 @@ use Rattle.image_core.specs.Received.{Received, gap_end, is_of, rebuilt}
 use Rattle.image_core.specs.Received.{IsChain}
 use Rattle.image_core.specs.Kept.{AreMembers, AreSpaced}
 
--- one of the frames, at its position
-abbrev pub IsAmong : ℕ × Frame → List (ℕ × Frame) → Type 0
-IsAmong m [] = ⊥
-IsAmong m (x ∷ xs) = (m ≡ x) ⊎ IsAmong m xs
-
-abbrev pub AreAmong : List (ℕ × Frame) → List (ℕ × Frame) → Type 0
-AreAmong [] all = Unit {0}
-AreAmong (m ∷ ms) all = IsAmong m all × AreAmong ms all
-
 -- no received frame lies over another, and none before the join position; each has an encoding, and is of the publication, within the MTU and inside its term, at its position
 pub record LieApart (join : ℕ) (r : Received) : Type 0 where
   pub spaced : AreSpaced join r.high r.joined
@@ -28,17 +20,17 @@ pub record LieApart (join : ℕ) (r : Received) : Type 0 where
 -- received frames follow one another up to the rebuild position, and no further
 pub record HasLongestChain (r : Received) : Type 0 where
   pub chain : List (ℕ × Frame)
-  pub received : AreAmong chain r.joined
+  pub received : AllByRecursion (Contains r.joined) chain
   pub follows : IsChain r.from chain (rebuilt r)
-  pub longest : (other : List (ℕ × Frame)) (end : ℕ) → AreAmong other r.joined → IsChain r.from other end → end ≤ rebuilt r
+  pub longest : (other : List (ℕ × Frame)) (end : ℕ) → AllByRecursion (Contains r.joined) other → IsChain r.from other end → end ≤ rebuilt r
 
 -- the gap holds no received frame, and ends at the first of the high-water mark, the end of the term and the received frames behind the rebuild position
 pub record HasGap (r : Received) : Type 0 where
-  pub empty : (m : ℕ × Frame) → IsAmong m r.joined → (end_of m ≤ rebuilt r) ⊎ (gap_end r ≤ m.0)
+  pub empty : (m : ℕ × Frame) → Contains r.joined m → (end_of m ≤ rebuilt r) ⊎ (gap_end r ≤ m.0)
   pub high : gap_end r ≤ r.high
   pub term : gap_end r ≤ term_end r.geometry (rebuilt r)
   pub first : (gap_end r ≡ r.high)
-      ⊎ ((gap_end r ≡ term_end r.geometry (rebuilt r)) ⊎ ((m : ℕ × Frame) × IsAmong m r.joined × (rebuilt r < m.0) × (gap_end r ≡ m.0)))
+      ⊎ ((gap_end r ≡ term_end r.geometry (rebuilt r)) ⊎ ((m : ℕ × Frame) × Contains r.joined m × (rebuilt r < m.0) × (gap_end r ≡ m.0)))
 
 -- the greatest of some numbers
 abbrev pub greatest : List ℕ → ℕ
