@@ -2,6 +2,7 @@ pub mod BlockLemmas
 pub mod DatagramLemmas
 pub mod FrameEncodingLemmas
 pub mod FrontLemmas
+pub mod HeaderLemmas
 pub mod LimitsLemmas
 pub mod NakLemmas
 pub mod OrderLemmas

@@ -14,6 +14,7 @@ pub mod limits;
 mod nak;
 mod positions;
 mod refusal;
+mod segments;
 mod setup;
 #[cfg(test)]
 mod tests;
@@ -23,7 +24,7 @@ mod tests_wire;
 pub use block::{
     Block, Place, Publication, are_encodable, block_end, block_of, is_next, place_behind,
 };
-pub use codec::{decode_front, encode_into};
+pub use codec::{decode_front, decode_header, encode_into};
 pub use datagram::frames_of_datagram;
 pub use frame::{Frame, FrameKind, FrameRef};
 pub use geometry::Geometry;
@@ -31,4 +32,5 @@ pub use items::Items;
 pub use nak::Nak;
 pub use positions::{position, term_of};
 pub use refusal::Refusal;
+pub use segments::segment_base;
 pub use setup::Setup;
