@@ -7,12 +7,12 @@ use Rattle.disk_core.specs.declared.file_id.FileId.TheVariants.{BankA}
 use Rattle.disk_core.specs.declared.change.Change.{Change}
 use Rattle.disk_core.specs.declared.change.Change.TheVariants.{Began, Wrote, Cut, Removed, Synced}
 use Rattle.disk_core.specs.FileNames.{file_cmp}
-use Rattle.disk_core.specs.Image.{Image, FileState, Files, LeavesFile, MayLeave, bytes_of, durable}
+use Rattle.disk_core.specs.DiskImage.{DiskImage, FileState, Files, LeavesFile, MayLeave, bytes_of, durable}
 use Rattle.disk_core.specs.Calls.{write_to, cut_to, removed}
 use Rattle.disk_core.specs.CrashChoice.{pick, IsFilledFile, or_else, reads_or_synced, IsLeftBy, IsChosen}
 use Rattle.disk_core.specs.Memory.{file_of, changed_state, changed, after, nothing, IsWell, AreWell, well_stays}
 use Rattle.disk_core.proofs.OverwriteLemmas.{write_is_written}
-use Rattle.disk_core.proofs.ImageLemmas.{written_keeps, cut_keeps, cut_is_cut, removed_keeps}
+use Rattle.disk_core.proofs.DiskImageLemmas.{written_keeps, cut_keeps, cut_is_cut, removed_keeps}
 use Rattle.disk_core.proofs.EntryLemmas.{write_keeps_last}
 use Rattle.disk_core.proofs.WellLemmas.{durable_well}
 
@@ -23,20 +23,27 @@ short_base : (reads last : Option (List ℕ)) (old : List ℕ) → or_else reads
 short_base None last old is = omega arith
 short_base (Some bytes) last old is = let same : bytes ≡ old = cc in omega (arith, ap length same)
 
-base_reads : (reads last : Option (List ℕ)) (old : List ℕ) (place : ℕ) → or_else reads last ≡ Some old → place < length (bytes_of reads) → get_or old place 0 ≡ get_or (bytes_of reads) place 0
-base_reads None last old place is inside = absurd (omega (arith, inside))
-base_reads (Some bytes) last old place is inside = let same : bytes ≡ old = cc in ap (λ (l : List ℕ). get_or l place 0) (sym same)
+base_reads : (reads last : Option (List ℕ)) (old : List ℕ) (offset : ℕ) → or_else reads last ≡ Some old → offset < length (bytes_of reads) → get_or old offset 0 ≡ get_or (bytes_of reads) offset 0
+base_reads None last old offset is inside = absurd (omega (arith, inside))
+base_reads (Some bytes) last old offset is inside = let same : bytes ≡ old = cc in ap (λ (l : List ℕ). get_or l offset 0) (sym same)
 
 none_base : (reads last : Option (List ℕ)) → or_else reads last ≡ None → is_none reads ≡ true
 none_base None last is = refl
 none_base (Some bytes) last is = absurd (cc)
+
+none_short : (reads : Option (List ℕ)) → is_none reads ≡ true → length (bytes_of reads) ≡ 0
+none_short None none = refl
+none_short (Some bytes) none = absurd (cc)
 
 -- a file filled with a byte may be left
 filled_leaves : (byte : ℕ) (state : FileState) (base left : Option (List ℕ)) → reads_or_synced state ≡ base → IsWell state → IsTrue state.is_touched → IsFilledFile byte state base left → LeavesFile state left
 filled_leaves byte state None left is well touched filled =
     subst (LeavesFile state) (sym filled) (record {
       untouched = λ still. absurd (not_both state.is_touched touched still);
-      absent = well.absent (none_base state.reads state.last_synced is);
+      absent = (
+        well.absent (none_base state.reads state.last_synced is),
+        omega (arith, well.least, none_short state.reads (none_base state.reads state.last_synced is)),
+      );
       present = tt;
     })
 filled_leaves byte state (Some old) left is well touched filled =
@@ -45,9 +52,9 @@ filled_leaves byte state (Some old) left is well touched filled =
       absent = tt;
       present = record {
         no_shorter = omega (arith, well.least, short_base state.reads state.last_synced old is, filled.2.long);
-        same = λ place fixed.
-            let below : place < state.least = lt_of_not-le (λ past. fixed (inr past)) in
-            filled.2.durable place fixed ∙ base_reads state.reads state.last_synced old place is (omega (arith, below, well.least));
+        same = λ offset fixed.
+            let below : offset < state.least = lt_of_not-le (λ past. fixed (inr past)) in
+            filled.2.durable offset fixed ∙ base_reads state.reads state.last_synced old offset is (omega (arith, below, well.least));
       };
     })
 
@@ -92,15 +99,15 @@ touched_or_not true = inl refl
 touched_or_not false = inr refl
 
 -- the image that a choice gives is one that a crash may leave
-pub chosen_may_leave : (log : List Change) (choice : List ℕ) (image : Image) → AreWell log → IsChosen (after nothing log) choice image → MayLeave (after nothing log) image
+pub chosen_may_leave : (log : List Change) (choice : List ℕ) (image : DiskImage) → AreWell log → IsChosen (after nothing log) choice image → MayLeave (after nothing log) image
 chosen_may_leave log choice image well chosen file =
     let state = after nothing log file in
     let was = after_was nothing log (λ f. durable_was None) file in
     elim (touched_or_not state.is_touched) [
       | inl touched ↦
           let at = (chosen.are_touched.each file).1 touched in
-          let place : get_or chosen.touched at.0 BankA ≡ file = get_or_default chosen.touched at.0 BankA file at.1 ∙ at.2 in
+          let is_file : get_or chosen.touched at.0 BankA ≡ file = get_or_default chosen.touched at.0 BankA file at.1 ∙ at.2 in
           by_leaves (pick choice at.0) state (image file) (well file) was touched
-          (subst (λ (f : FileId). IsLeftBy (pick choice at.0) (after nothing log f) (image f)) place (chosen.each at.0 at.1))
+          (subst (λ (f : FileId). IsLeftBy (pick choice at.0) (after nothing log f) (image f)) is_file (chosen.each at.0 at.1))
       | inr still ↦ well_stays state (image file) (chosen.others file still) (well file)
     ]

@@ -1,8 +1,10 @@
-pub mod FileLemmas
-pub mod OverwriteLemmas
-pub mod ImageLemmas
-pub mod LifeLemmas
-pub mod StandingLemmas
+-- the one for callers
+pub mod CallerLemmas
+mod FileLemmas
+mod OverwriteLemmas
+mod DiskImageLemmas
+mod LifeLemmas
+mod StandingLemmas
 mod TwoSlotsLemmas
 mod EntryLemmas
 mod LogLemmas

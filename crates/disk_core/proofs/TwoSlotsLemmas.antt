@@ -3,14 +3,12 @@ use Rattle.std.proofs.Common.{◌≡◌, ◌≢◌, ◌⊎◌, ℕ, ◌+◌, ◌
 use Rattle.std.proofs.lemmas.Bool.{cases_eq}
 use Rattle.std.proofs.lemmas.List.{get_or_append_left, get_or-append-add, get_or-take, get_or-drop, ext_get_or}
 use Rattle.disk_core.specs.declared.file_id.FileId.{FileId}
-use Rattle.disk_core.specs.Image.{Image, FileState, LeavesFile, MayLeave, durable, reads}
+use Rattle.disk_core.specs.DiskImage.{DiskImage, FileState, LeavesFile, MayLeave, durable, reads}
 use Rattle.disk_core.specs.Calls.{overwritten, write_to, synced, IsWritten, IsSynced}
 use Rattle.disk_core.specs.Life.{Life, Steps, LeavesOnly}
 use Rattle.disk_core.specs.Standing.{IsTornCopy}
 use Rattle.disk_core.specs.TwoSlots.{HasText, UsesFirst}
-use Rattle.disk_core.proofs.OverwriteLemmas.{overwritten_no_shorter, overwritten_below, overwritten_above, overwritten_inside, reads_of_write}
-use Rattle.disk_core.proofs.StandingLemmas.{torn_left}
-use Rattle.disk_core.proofs.LifeLemmas.{started, goes_on, sync_leaves}
+use Rattle.disk_core.proofs.CallerLemmas.{overwritten_no_shorter, overwritten_below, overwritten_above, overwritten_inside, reads_of_write, torn_left, started, goes_on, sync_leaves}
 
 -- a file whose first slot is in use
 first_slot : (old file : List ℕ) → 1 + length old ≤ length file → get_or file 0 0 ≢ 1
@@ -33,9 +31,9 @@ second_slot text (gate ∷ slots) long open_ same =
     (omega (arith, length-take (length text) (drop (length text) slots), length-drop (length text) slots))
     (λ k inside.
     let short : k < length text = omega (arith, inside, length-take (length text) (drop (length text) slots)) in
-    let place : 1 + (length text + k) ≡ 1 + length text + k = omega arith in
+    let regroups : 1 + (length text + k) ≡ 1 + length text + k = omega arith in
     get_or-take (length text) (drop (length text) slots) k 0 short ∙ get_or-drop (length text) slots k 0
-    ∙ sym (get_or-append-add (gate ∷ []) slots (length text + k) 0) ∙ ap (λ (p : ℕ). get_or (gate ∷ slots) p 0) place ∙ same k short))
+    ∙ sym (get_or-append-add (gate ∷ []) slots (length text + k) 0) ∙ ap (λ (p : ℕ). get_or (gate ∷ slots) p 0) regroups ∙ same k short))
 
 module _ (gate : ℕ) (old second text : List ℕ) (size : length old ≡ length text) (other_size : length second ≡ length old) where
   -- the file before the call
@@ -85,7 +83,7 @@ module _ (gate : ℕ) (old second text : List ℕ) (size : length old ≡ length
 
 -- the call, moment by moment
 module _ (file : FileId) (old text : List ℕ) (size : length old ≡ length text) (start mid : Life) (uses : UsesFirst start.now file old) (written : Steps file (IsWritten (1 + length text) (length text)) start mid) where
-  abbrev pub Either : Image → Type 0
+  abbrev pub Either : DiskImage → Type 0
   Either image = HasText old (image file) ⊎ HasText text (image file)
 
   old_at : (state : FileState) → IsWritten (1 + length text) (length text) (start.now file) state → (left : Option (List ℕ)) → LeavesFile state left → HasText old left

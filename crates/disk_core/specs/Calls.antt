@@ -1,6 +1,6 @@
 -- What each call does to a file, where it succeeds and where it fails.
 use Rattle.std.specs.Prelude.{◌≡◌, ◌⊎◌, ℕ, ◌+◌, ◌-◌, ◌<◌, ◌≤◌, min, max, true, List, [], ◌∷◌, ◌++◌, length, take, drop, get_or, replicate, Some, None, option_map, IsTrue, IsSome}
-use Rattle.disk_core.specs.Image.{FileState, bytes_of, durable}
+use Rattle.disk_core.specs.DiskImage.{FileState, bytes_of, durable}
 
 -- these bytes at this offset, behind zeros where the file was shorter; no bytes change nothing
 abbrev pub overwritten : ℕ → List ℕ → List ℕ → List ℕ
@@ -47,12 +47,12 @@ pub record IsTorn (at count : ℕ) (old new : FileState) : Type 0 where
   pub stays : IsSome old.reads → IsSome new.reads
   pub no_shorter : length (bytes_of old.reads) ≤ length (bytes_of new.reads)
   pub no_longer : length (bytes_of new.reads) ≤ max (length (bytes_of old.reads)) (at + count)
-  pub below : (place : ℕ) → place < at →
-      get_or (bytes_of new.reads) place 0 ≡ get_or (bytes_of old.reads) place 0
-  pub above : (place : ℕ) → at + count ≤ place →
-      get_or (bytes_of new.reads) place 0 ≡ get_or (bytes_of old.reads) place 0
+  pub below : (offset : ℕ) → offset < at →
+      get_or (bytes_of new.reads) offset 0 ≡ get_or (bytes_of old.reads) offset 0
+  pub above : (offset : ℕ) → at + count ≤ offset →
+      get_or (bytes_of new.reads) offset 0 ≡ get_or (bytes_of old.reads) offset 0
 
--- a write happened, wholly or in part, or left no trace
+-- a write happened, wholly or in part, or was not begun
 abbrev pub IsWritten : ℕ → ℕ → FileState → FileState → Type 0
 IsWritten at count old new = (new ≡ old) ⊎ IsTorn at count old new
 
@@ -67,11 +67,11 @@ pub record IsShorter (len : ℕ) (old new : FileState) : Type 0 where
   pub no_less : len ≤ length_left
   pub reads : new.reads ≡ option_map (take length_left) old.reads
 
--- a cut happened, wholly or in part, or left no trace
+-- a cut happened, wholly or in part, or was not begun
 abbrev pub IsCut : ℕ → FileState → FileState → Type 0
 IsCut len old new = (new ≡ old) ⊎ IsShorter len old new
 
--- a remove happened or left no trace, or it failed, which counts as absence, and the file reads as before
+-- a remove happened or was not begun, or it failed, which counts as absence, and the file reads as before
 abbrev pub IsRemoved : FileState → FileState → Type 0
 IsRemoved old new =
     (new ≡ old) ⊎ (new ≡ removed old) ⊎ (new ≡ record (removed old) { reads = old.reads })

@@ -1,8 +1,8 @@
 -- What a disk in memory counts, and when it stops or fails.
 use Rattle.std.specs.Prelude.{ℕ, ◌+◌, ◌-◌, ◌^◌, ◌==◌, min, Bool, false, Option, None, Some, option_map, Result, Ok, Err, if◌then◌else◌}
 use Rattle.disk_core.specs.declared.counts.Counts.{Counts}
-use Rattle.disk_core.specs.declared.counts.Turn.{Turn}
-use Rattle.disk_core.specs.declared.counts.Turn.TheVariants.{Goes, Fails, Stops}
+use Rattle.disk_core.specs.declared.counts.Injected.{Injected}
+use Rattle.disk_core.specs.declared.counts.Injected.TheVariants.{Goes, Fails, Stops}
 use Rattle.disk_core.specs.declared.fault.ListFault.{ListFault}
 use Rattle.disk_core.specs.declared.fault.ListFault.TheVariants.{Device, NoMemory}
 
@@ -15,13 +15,13 @@ abbrev pub fresh : Counts
 fresh = record { calls = 0; changes = 0; faults = 0; left = None; fails = 0 }
 
 -- what becomes of the next call where so many changes are left and this call from now fails
-abbrev pub turn_of : Option ℕ → ℕ → Turn
-turn_of None fails = if fails == 1 then Fails else Goes
-turn_of (Some left) fails = if left == 0 then Stops else (if fails == 1 then Fails else Goes)
+abbrev pub injected_of : Option ℕ → ℕ → Injected
+injected_of None fails = if fails == 1 then Fails else Goes
+injected_of (Some left) fails = if left == 0 then Stops else (if fails == 1 then Fails else Goes)
 
 -- what becomes of the next call
-abbrev pub next_turn : Counts → Turn
-next_turn counts = turn_of counts.left counts.fails
+abbrev pub next_injected : Counts → Injected
+next_injected counts = injected_of counts.left counts.fails
 
 -- the counts after a call, which may be one that changes something
 abbrev pub counted : Bool → Counts → Counts

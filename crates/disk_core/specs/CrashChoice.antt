@@ -3,18 +3,18 @@ use Rattle.std.specs.Prelude.{◌≡◌, ℕ, ◌%◌, ◌<◌, ◌≤◌, List,
 use Rattle.disk_core.specs.declared.file_id.FileId.{FileId}
 use Rattle.disk_core.specs.declared.file_id.FileId.TheVariants.{BankA}
 use Rattle.disk_core.specs.FileNames.{AreFilesWith}
-use Rattle.disk_core.specs.Image.{Image, FileState, Files, IsUnsynced, durable, reads}
+use Rattle.disk_core.specs.DiskImage.{DiskImage, FileState, Files, IsUnsynced, durable, reads}
 
 -- the byte of a choice for the n-th touched file, read round and round; 0 where there is none
 abbrev pub pick : List ℕ → ℕ → ℕ
 pick choice n = get_or choice (n % length choice) 0
 
--- what is left has this byte in each unsynced place of these bytes, and is else the same
+-- what is left has this byte at each unsynced offset of these bytes, and is else the same
 pub record IsFilled (byte : ℕ) (file : FileState) (bytes left : List ℕ) : Type 0 where
   pub long : length left ≡ length bytes
-  pub unsynced : (place : ℕ) → place < length bytes → IsUnsynced file place →
-      get_or left place 0 ≡ byte
-  pub durable : (place : ℕ) → ¬ IsUnsynced file place → get_or left place 0 ≡ get_or bytes place 0
+  pub unsynced : (offset : ℕ) → offset < length bytes → IsUnsynced file offset →
+      get_or left offset 0 ≡ byte
+  pub durable : (offset : ℕ) → ¬ IsUnsynced file offset → get_or left offset 0 ≡ get_or bytes offset 0
 
 -- the same of a file that may be absent
 abbrev pub IsFilledFile : ℕ → FileState → Option (List ℕ) → Option (List ℕ) → Type 0
@@ -31,7 +31,7 @@ or_else (Some bytes) other = Some bytes
 abbrev pub reads_or_synced : FileState → Option (List ℕ)
 reads_or_synced file = or_else file.reads file.last_synced
 
--- what a byte leaves of a touched file: as last synced, as it reads, or this byte at each unsynced place
+-- what a byte leaves of a touched file: as last synced, as it reads, or this byte at each unsynced offset
 pub record IsLeftBy (byte : ℕ) (file : FileState) (left : Option (List ℕ)) : Type 0 where
   pub as_synced : byte ≡ 0 → left ≡ file.last_synced
   pub as_read : byte ≡ 1 → left ≡ file.reads
@@ -43,7 +43,7 @@ pub record IsLeft (byte : ℕ) (file : FileState) (left : Option (List ℕ)) : T
   pub untouched : IsFalse file.is_touched → left ≡ file.reads
 
 -- the image that a choice gives: a byte for each touched file in the order of files, the others as they read
-pub record IsChosen (files : Files) (choice : List ℕ) (image : Image) : Type 0 where
+pub record IsChosen (files : Files) (choice : List ℕ) (image : DiskImage) : Type 0 where
   pub touched : List FileId
   pub are_touched : AreFilesWith (λ file. IsTrue (files file).is_touched) touched
   pub each : (n : ℕ) → n < length touched →

@@ -1,6 +1,6 @@
 -- the subject: files, what a crash may leave, the calls, a disk over time
 pub mod FileNames
-pub mod Image
+pub mod DiskImage
 pub mod Calls
 pub mod Life
 pub mod Standing

@@ -3,7 +3,7 @@ use Rattle.std.specs.Prelude.{◌≡◌, ◌≢◌, ◌⊎◌, ℕ, ◌+◌, ◌
 use Rattle.disk_core.specs.declared.file_id.FileId.{FileId}
 use Rattle.disk_core.specs.declared.fault.ListFault.{ListFault}
 use Rattle.disk_core.specs.declared.fault.ListFault.TheVariants.{Device}
-use Rattle.disk_core.specs.Image.{Image, FileState, Files, MayLeave, reads, bytes_of}
+use Rattle.disk_core.specs.DiskImage.{DiskImage, FileState, Files, MayLeave, reads, bytes_of}
 
 -- a disk, now and at each earlier moment
 pub record Life : Type 0 where
@@ -28,13 +28,13 @@ abbrev pub bytes_now : Life → FileId → List ℕ
 bytes_now life file = bytes_of (reads life.now file)
 
 -- a crash in one of these states may leave this image
-abbrev pub AnyLeaves : List Files → Image → Type 0
+abbrev pub AnyLeaves : List Files → DiskImage → Type 0
 AnyLeaves [] image = ⊥
 AnyLeaves (files ∷ rest) image = MayLeave files image ⊎ AnyLeaves rest image
 
 -- A crash at some moment since that one may have left this image. A crash within a call leaves what one
 -- before it or one after it may leave (`writes_keep_outcomes` to `syncs_add_no_outcome` in src/laws.rt).
-abbrev pub MayHaveLeft : Life → ℕ → Image → Type 0
+abbrev pub MayHaveLeft : Life → ℕ → DiskImage → Type 0
 MayHaveLeft life since image = AnyLeaves (drop since (moments life)) image
 
 -- nothing changed but the count of faults
@@ -71,8 +71,12 @@ HasCause result old new = OnErr result (HasFailed old new)
 abbrev pub HasListCause : {T : Type 0} → Result T ListFault → Life → Life → Type 0
 HasListCause result old new = IsErrOf result Device → HasFailed old new
 
+-- where the call succeeds, no fault was counted
+abbrev pub IsSteady : {T E : Type 0} → Result T E → Life → Life → Type 0
+IsSteady result old new = OnOk result (new.faults ≡ old.faults)
+
 -- every image that a crash since the old moment may have left has P
-pub record LeavesOnly (old new : Life) (P : Image → Type 0) : Type 0 where
+pub record LeavesOnly (old new : Life) (P : DiskImage → Type 0) : Type 0 where
   pub since : List Files
   pub extends : moments new ≡ moments old ++ since
-  pub each : (image : Image) → MayHaveLeft new (moment old) image → P image
+  pub each : (image : DiskImage) → MayHaveLeft new (moment old) image → P image

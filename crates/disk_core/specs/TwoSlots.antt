@@ -1,7 +1,7 @@
 -- A file of two slots, of which its first byte says which is in use.
 use Rattle.std.specs.Prelude.{◌≡◌, ◌≢◌, ℕ, List, [], ◌∷◌, ◌++◌, length, take, drop, Option, Some, None, if◌then◌else◌, ◌==◌}
 use Rattle.disk_core.specs.declared.file_id.FileId.{FileId}
-use Rattle.disk_core.specs.Image.{Files, durable}
+use Rattle.disk_core.specs.DiskImage.{Files, durable}
 
 -- the text in use: the second slot where the first byte is 1, else the first slot
 abbrev pub text_in : ℕ → List ℕ → List ℕ

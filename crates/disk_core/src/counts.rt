@@ -1,14 +1,14 @@
 //! What a disk in memory counts, and when it stops or fails.
 ghost use Rattle.std.specs.Prelude.{◌≡◌, ◌≤◌, ◌↔◌, is_ok, if◌then◌else◌, IsOk};
-ghost use Rattle.disk_core.specs.declared.counts.Turn.TheVariants.{Goes};
-ghost use Rattle.disk_core.specs.Counts.{fresh, next_turn, counted, with_fault};
+ghost use Rattle.disk_core.specs.declared.counts.Injected.TheVariants.{Goes};
+ghost use Rattle.disk_core.specs.Counts.{fresh, next_injected, counted, with_fault};
 
 use crate::Fault;
 use std::alloc::AllocError;
 
 /// What becomes of a call.
 #[derive(Clone, Copy, Debug, PartialEq, Eq)]
-pub(crate) enum Turn {
+pub(crate) enum Injected {
     Goes,
     /// It fails, and where it writes, cuts or removes it takes effect.
     Fails,
@@ -42,16 +42,16 @@ impl Counts {
     }
 
     /// Counts a call, and answers what becomes of it.
-    pub(crate) fn begin(&mut self, changes: bool) -> Turn
-        ensures turn { result ≡ next_turn self.old }
+    pub(crate) fn begin(&mut self, changes: bool) -> Injected
+        ensures injected { result ≡ next_injected self.old }
         ensures counted { self.new ≡ counted changes self.old }
     {
-        let turn = if self.left == Some(0) {
-            Turn::Stops
+        let injected = if self.left == Some(0) {
+            Injected::Stops
         } else if self.fails == 1 {
-            Turn::Fails
+            Injected::Fails
         } else {
-            Turn::Goes
+            Injected::Goes
         };
         self.calls = self.calls.saturating_add(1);
         self.fails = self.fails.saturating_sub(1);
@@ -59,7 +59,7 @@ impl Counts {
             self.changes = self.changes.saturating_add(1);
             self.left = self.left.map(|left| left.saturating_sub(1));
         }
-        turn
+        injected
     }
 
     /// Counts a fault.
@@ -73,14 +73,14 @@ impl Counts {
     /// Answers for a call that has made its change, or found no memory for it.
     pub(crate) fn finish(
         &mut self,
-        turn: Turn,
+        injected: Injected,
         outcome: Result<(), AllocError>,
     ) -> Result<(), Fault>
-        ensures done { IsOk result ↔ ((turn ≡ Goes) × IsOk outcome) }
+        ensures done { IsOk result ↔ ((injected ≡ Goes) × IsOk outcome) }
         ensures risen { self.old.faults ≤ self.new.faults }
         ensures counted { self.new ≡ (if is_ok result then self.old else with_fault self.old) }
     {
-        if turn == Turn::Goes && outcome.is_ok() {
+        if injected == Injected::Goes && outcome.is_ok() {
             return Ok(());
         }
         self.fail();

@@ -2,7 +2,7 @@
 ghost use Rattle.std.specs.Prelude.{◌≡◌, [], IfOk, IfErr};
 ghost use Rattle.frame_core.specs.declared.refusal.Refusal.TheVariants.{NoMemory};
 ghost use Rattle.disk_core.specs.CrashChoice.{IsCrash};
-ghost use Rattle.disk_core.specs.Image.{MayLeave, reads};
+ghost use Rattle.disk_core.specs.DiskImage.{MayLeave, reads};
 ghost use Rattle.disk_core.specs.Counts.{fresh};
 
 use crate::MemoryDisk;
@@ -15,7 +15,7 @@ impl MemoryDisk {
     /// The disk that a crash now leaves by a choice. For each touched file, in the order of files, it reads
     /// one byte of the choice, round and round, and 0 where the choice is empty. 0 leaves the file as it was
     /// last synced and 1 as it reads. Another byte leaves it as it reads, and a file that is absent as it was
-    /// last synced, with that byte at each unsynced place. The other files are left as they read.
+    /// last synced, with that byte at each unsynced offset. The other files are left as they read.
     ///
     /// The new disk begins with that image, all of it durable; it neither stops nor fails. It copies each file.
     /// `NoMemory` is the only refusal.
@@ -28,9 +28,9 @@ impl MemoryDisk {
         ensures counts { IfOk result (λ disk. counts_of disk ≡ fresh) }
         ensures refusal { IfErr result (λ refusal. refusal ≡ NoMemory) }
     {
-        let history = self.history.crashed(choice)?;
+        let change_log = self.change_log.crashed(choice)?;
         Ok(MemoryDisk {
-            history,
+            change_log,
             counts: Counts::new(),
         })
     }

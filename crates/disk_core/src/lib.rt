@@ -2,12 +2,12 @@
 #![tactic(auto)]
 
 mod change;
+mod change_log;
 mod counts;
 pub mod crash;
 pub mod disk;
 pub mod fault;
 pub mod file_id;
-mod history;
 pub mod laws;
 pub mod memory;
 mod memory_file;
@@ -17,6 +17,3 @@ pub use disk::Disk;
 pub use fault::{Fault, ListFault};
 pub use file_id::FileId;
 pub use memory::MemoryDisk;
-
-#[cfg(test)]
-mod tests;

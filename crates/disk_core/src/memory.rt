@@ -1,15 +1,15 @@
 //! A disk in memory, on which the archive runs without a folder, and by which crashes are tested.
 ghost use Rattle.std.specs.Prelude.{◌≡◌, ◌≢◌, ◌≤◌, ◌↔◌, [], None, refl, true, false, length, is_ok, Some, OnOk, OnErr, IfOk, IsOk, IsErrOf, IsSome};
 ghost use Rattle.disk_core.specs.FileNames.{AreFilesWith};
-ghost use Rattle.disk_core.specs.Image.{reads, begun, bytes_of};
+ghost use Rattle.disk_core.specs.DiskImage.{reads, begun, bytes_of};
 ghost use Rattle.disk_core.specs.Calls.{write_to, cut_to, removed, synced, IsWritten, IsCut, IsRemoved, IsSynced, IsRead};
-ghost use Rattle.disk_core.specs.Life.{bytes_now, IsQuiet, Steps, Makes, HasCause, HasListCause};
-ghost use Rattle.disk_core.specs.Counts.{after_call, after_list, next_turn, fresh};
-ghost use Rattle.disk_core.specs.declared.counts.Turn.TheVariants.{Goes};
+ghost use Rattle.disk_core.specs.Life.{bytes_now, IsQuiet, Steps, Makes, HasCause, HasListCause, IsSteady};
+ghost use Rattle.disk_core.specs.Counts.{after_call, after_list, next_injected, fresh};
+ghost use Rattle.disk_core.specs.declared.counts.Injected.TheVariants.{Goes};
 ghost use Rattle.disk_core.specs.declared.fault.ListFault.TheVariants.{Device};
 
-use crate::counts::{Counts, Turn};
-use crate::history::History;
+use crate::change_log::ChangeLog;
+use crate::counts::{Counts, Injected};
 use crate::{Disk, Fault, FileId, ListFault};
 use std::alloc::Global;
 
@@ -19,7 +19,7 @@ use std::alloc::Global;
 /// memory that it takes grows with the calls and the bytes written.
 #[derive(Drop)]
 pub struct MemoryDisk {
-    pub(crate) history: History,
+    pub(crate) change_log: ChangeLog,
     pub(crate) counts: Counts,
 }
 
@@ -33,7 +33,7 @@ impl MemoryDisk {
         ensures counts { counts_of result ≡ fresh }
     {
         MemoryDisk {
-            history: History::new(alloc),
+            change_log: ChangeLog::new(alloc),
             counts: Counts::new(),
         }
     }
@@ -72,27 +72,28 @@ impl MemoryDisk {
 }
 
 impl Disk for MemoryDisk {
-    ghost use Rattle.disk_core.specs.MemoryDisk.{life_of, counts_of, KeepsTurn};
+    ghost use Rattle.disk_core.specs.MemoryDisk.{life_of, counts_of, KeepsInjected};
     ghost use Rattle.disk_core.specs.Memory.{after, nothing, well_stays};
 
     ghost life = { life_of };
 
     ghost reads_may_stay = { λ disk file.
-        well_stays (after nothing disk.history.log.items file)
-        (after nothing disk.history.log.items file).reads refl (disk.history.well file) };
+        well_stays (after nothing disk.change_log.log.items file)
+        (after nothing disk.change_log.log.items file).reads refl (disk.change_log.well file) };
 
     fn len(&mut self, file: FileId) -> Result<u64, Fault>
         ensures exact { IfOk result (λ n. n ≡ length (bytes_now (life_of self.old) file)) }
         ensures quiet { IsQuiet (life_of self.old) (life_of self.new) }
         ensures cause { HasCause result (life_of self.old) (life_of self.new) }
+        ensures steady { IsSteady result (life_of self.old) (life_of self.new) }
         ensures counts { counts_of self.new ≡ after_call false (is_ok result) (counts_of self.old) }
-        ensures turn { IsOk result ↔ (next_turn (counts_of self.old) ≡ Goes) }
+        ensures injected { IsOk result ↔ (next_injected (counts_of self.old) ≡ Goes) }
     {
-        if self.counts.begin(false) != Turn::Goes {
+        if self.counts.begin(false) != Injected::Goes {
             self.counts.fail();
             return Err(Fault);
         }
-        Ok(self.history.len(file))
+        Ok(self.change_log.len(file))
     }
 
     fn read_at(&mut self, file: FileId, at: u64, into: &mut [u8]) -> Result<usize, Fault>
@@ -102,14 +103,15 @@ impl Disk for MemoryDisk {
         ensures buffer { OnErr result (into.new ≡ into.old) }
         ensures quiet { IsQuiet (life_of self.old) (life_of self.new) }
         ensures cause { HasCause result (life_of self.old) (life_of self.new) }
+        ensures steady { IsSteady result (life_of self.old) (life_of self.new) }
         ensures counts { counts_of self.new ≡ after_call false (is_ok result) (counts_of self.old) }
-        ensures turn { IsOk result ↔ (next_turn (counts_of self.old) ≡ Goes) }
+        ensures injected { IsOk result ↔ (next_injected (counts_of self.old) ≡ Goes) }
     {
-        if self.counts.begin(false) != Turn::Goes {
+        if self.counts.begin(false) != Injected::Goes {
             self.counts.fail();
             return Err(Fault);
         }
-        Ok(self.history.read(file, at, into))
+        Ok(self.change_log.read(file, at, into))
     }
 
     fn write_at(&mut self, file: FileId, at: u64, bytes: &[u8]) -> Result<(), Fault>
@@ -118,48 +120,51 @@ impl Disk for MemoryDisk {
         ensures step { Steps file (IsWritten at (length bytes.now))
             (life_of self.old) (life_of self.new) }
         ensures cause { HasCause result (life_of self.old) (life_of self.new) }
+        ensures steady { IsSteady result (life_of self.old) (life_of self.new) }
         ensures counts { counts_of self.new ≡ after_call true (is_ok result) (counts_of self.old) }
-        ensures turn { KeepsTurn result file (write_to at bytes.now) self.old self.new }
+        ensures injected { KeepsInjected result file (write_to at bytes.now) self.old self.new }
     {
-        let turn = self.counts.begin(true);
-        if turn == Turn::Stops {
+        let injected = self.counts.begin(true);
+        if injected == Injected::Stops {
             self.counts.fail();
             return Err(Fault);
         }
-        let outcome = self.history.write(file, at, bytes);
-        self.counts.finish(turn, outcome)
+        let outcome = self.change_log.write(file, at, bytes);
+        self.counts.finish(injected, outcome)
     }
 
     fn cut(&mut self, file: FileId, len: u64) -> Result<(), Fault>
         ensures cut { Makes result file (cut_to len) (life_of self.old) (life_of self.new) }
         ensures step { Steps file (IsCut len) (life_of self.old) (life_of self.new) }
         ensures cause { HasCause result (life_of self.old) (life_of self.new) }
+        ensures steady { IsSteady result (life_of self.old) (life_of self.new) }
         ensures counts { counts_of self.new ≡ after_call true (is_ok result) (counts_of self.old) }
-        ensures turn { KeepsTurn result file (cut_to len) self.old self.new }
+        ensures injected { KeepsInjected result file (cut_to len) self.old self.new }
     {
-        let turn = self.counts.begin(true);
-        if turn == Turn::Stops {
+        let injected = self.counts.begin(true);
+        if injected == Injected::Stops {
             self.counts.fail();
             return Err(Fault);
         }
-        let outcome = self.history.cut(file, len);
-        self.counts.finish(turn, outcome)
+        let outcome = self.change_log.cut(file, len);
+        self.counts.finish(injected, outcome)
     }
 
     fn remove(&mut self, file: FileId) -> Result<(), Fault>
         ensures removed { Makes result file removed (life_of self.old) (life_of self.new) }
         ensures step { Steps file IsRemoved (life_of self.old) (life_of self.new) }
         ensures cause { HasCause result (life_of self.old) (life_of self.new) }
+        ensures steady { IsSteady result (life_of self.old) (life_of self.new) }
         ensures counts { counts_of self.new ≡ after_call true (is_ok result) (counts_of self.old) }
-        ensures turn { KeepsTurn result file removed self.old self.new }
+        ensures injected { KeepsInjected result file removed self.old self.new }
     {
-        let turn = self.counts.begin(true);
-        if turn == Turn::Stops {
+        let injected = self.counts.begin(true);
+        if injected == Injected::Stops {
             self.counts.fail();
             return Err(Fault);
         }
-        let outcome = self.history.remove(file);
-        self.counts.finish(turn, outcome)
+        let outcome = self.change_log.remove(file);
+        self.counts.finish(injected, outcome)
     }
 
     fn sync(&mut self, file: FileId) -> Result<(), Fault>
@@ -167,15 +172,16 @@ impl Disk for MemoryDisk {
         ensures kept { OnErr result ((life_of self.new).now file ≡ (life_of self.old).now file) }
         ensures step { Steps file IsSynced (life_of self.old) (life_of self.new) }
         ensures cause { HasCause result (life_of self.old) (life_of self.new) }
+        ensures steady { IsSteady result (life_of self.old) (life_of self.new) }
         ensures counts { counts_of self.new ≡ after_call true (is_ok result) (counts_of self.old) }
-        ensures turn { OnOk result (next_turn (counts_of self.old) ≡ Goes) }
+        ensures injected { OnOk result (next_injected (counts_of self.old) ≡ Goes) }
         ensures unchanged { OnErr result (IsQuiet (life_of self.old) (life_of self.new)) }
     {
-        if self.counts.begin(true) != Turn::Goes {
+        if self.counts.begin(true) != Injected::Goes {
             self.counts.fail();
             return Err(Fault);
         }
-        match self.history.sync(file) {
+        match self.change_log.sync(file) {
             Ok(()) => Ok(()),
             Err(_) => {
                 self.counts.fail();
@@ -189,14 +195,15 @@ impl Disk for MemoryDisk {
             AreFilesWith (λ file. IsSome (reads (life_of self.old).now file)) files.items) }
         ensures quiet { IsQuiet (life_of self.old) (life_of self.new) }
         ensures cause { HasListCause result (life_of self.old) (life_of self.new) }
+        ensures steady { IsSteady result (life_of self.old) (life_of self.new) }
         ensures counts { counts_of self.new ≡ after_list result (counts_of self.old) }
-        ensures turn { IsErrOf result Device ↔ (next_turn (counts_of self.old) ≢ Goes) }
+        ensures injected { IsErrOf result Device ↔ (next_injected (counts_of self.old) ≢ Goes) }
     {
-        if self.counts.begin(false) != Turn::Goes {
+        if self.counts.begin(false) != Injected::Goes {
             self.counts.fail();
             return Err(ListFault::Device);
         }
-        self.history.list().map_err(|_| ListFault::NoMemory)
+        self.change_log.list().map_err(|_| ListFault::NoMemory)
     }
 
     fn faults(&self) -> u64 {

@@ -1,6 +1,6 @@
 //! A file of a disk in memory.
 ghost use Rattle.std.specs.Prelude.{◌≡◌, ◌+◌, ◌-◌, ◌<◌, ◌≤◌, ◌++◌, List, ℕ, Option, Some, option_map, get_or, ◌⊎◌, length, take, drop, replicate, OnOk, OnErr, IfOk};
-ghost use Rattle.disk_core.specs.Image.{bytes_of, durable};
+ghost use Rattle.disk_core.specs.DiskImage.{bytes_of, durable};
 ghost use Rattle.disk_core.specs.Calls.{IsRead, overwritten, write_to, cut_to, removed};
 ghost use Rattle.disk_core.specs.Memory.{bytes_in, state_of, Becomes, AreFilled};
 ghost use Rattle.disk_core.specs.CrashChoice.{IsFilled};
@@ -12,7 +12,7 @@ use std::alloc::{AllocError, Global};
 pub(crate) struct MemoryFile {
     pub(crate) reads: Option<Vec<u8>>,
     pub(crate) is_touched: bool,
-    /// The first place and the number of bytes of each range that was written.
+    /// The first offset and the number of bytes of each range that was written.
     pub(crate) written: Vec<(u64, u64)>,
     pub(crate) least: u64,
     pub(crate) was_absent: bool,
@@ -57,7 +57,7 @@ impl MemoryFile {
         self.sync();
     }
 
-    /// Writes a byte over each unsynced place of these bytes.
+    /// Writes a byte over each unsynced offset of these bytes.
     pub(crate) fn fill(&self, bytes: &mut [u8], byte: u8)
         ensures { (last : Option (List ℕ)) →
             IsFilled byte (state_of last self.now) bytes.old bytes.new }
@@ -204,7 +204,7 @@ fn replace(file: &mut [u8], at: usize, bytes: &[u8])
     file[at..at + bytes.len()].copy_from_slice(bytes);
 }
 
-// Writes a byte over each place in one of the ranges.
+// Writes a byte over each offset in one of the ranges.
 fn fill_ranges(ranges: &[(u64, u64)], bytes: &mut [u8], byte: u8)
     ensures { AreFilled ranges.now byte bytes.old bytes.new }
 {
@@ -213,17 +213,17 @@ fn fill_ranges(ranges: &[(u64, u64)], bytes: &mut [u8], byte: u8)
     }
 }
 
-// Writes a byte over each place from this one on, up to so many.
+// Writes a byte over each offset from this one on, up to so many.
 fn fill_range(bytes: &mut [u8], at: u64, count: u64, byte: u8)
-    ensures inside { (place : ℕ) → at ≤ place → place < at + count → place < length bytes.old →
-        get_or bytes.new place 0 ≡ byte }
-    ensures outside { (place : ℕ) → (place < at) ⊎ (at + count ≤ place) →
-        get_or bytes.new place 0 ≡ get_or bytes.old place 0 }
+    ensures inside { (offset : ℕ) → at ≤ offset → offset < at + count → offset < length bytes.old →
+        get_or bytes.new offset 0 ≡ byte }
+    ensures outside { (offset : ℕ) → (offset < at) ⊎ (at + count ≤ offset) →
+        get_or bytes.new offset 0 ≡ get_or bytes.old offset 0 }
 {
     let len = bytes.len() as u64;
     let from = at.min(len);
     let to = at.saturating_add(count).min(len);
-    for place in from..to {
-        bytes[place as usize] = byte;
+    for offset in from..to {
+        bytes[offset as usize] = byte;
     }
 }

@@ -1,6 +1,6 @@
 //! A caller of the trait: a file of two slots, of which the first byte says which is in use.
 ghost use Rattle.std.specs.Prelude.{◌≡◌, ◌⊎◌, ◌+◌, ◌<◌, ◌^◌, List, ℕ, length, OnOk};
-ghost use Rattle.disk_core.specs.Image.{reads};
+ghost use Rattle.disk_core.specs.DiskImage.{reads};
 ghost use Rattle.disk_core.specs.Life.{HasCause, LeavesOnly};
 ghost use Rattle.disk_core.specs.TwoSlots.{UsesFirst, HasText};
 

@@ -7,5 +7,5 @@ use Rattle.disk_core.proofs.memory.MemoryDiskDisk.sync.Goals as goal
 pub returns-in-Ok-clause-step : goal.returns-in-Ok-clause-step
 returns-in-Ok-clause-step c =
     let old = c.args.self.now in
-    goes_steps_born c.args.file synced IsSynced old.history.log.items c.sync.new.self.log.items old.history.born c.sync.new.self.born old.counts.faults c.begin.new.self.faults
-    c.in-Ok.ensures.done c.sync.ensures.born old.history.born_before (omega (arith, ap (λ (k : Counts). k.faults) c.begin.ensures.counted)) (λ s. inr refl)
+    goes_steps_born c.args.file synced IsSynced old.change_log.log.items c.sync.new.self.log.items old.change_log.born c.sync.new.self.born old.counts.faults c.begin.new.self.faults
+    c.in-Ok.ensures.done c.sync.ensures.born old.change_log.born_before (omega (arith, ap (λ (k : Counts). k.faults) c.begin.ensures.counted)) (λ s. inr refl)

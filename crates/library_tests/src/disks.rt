@@ -1,0 +1,214 @@
+//! The disk in memory: docs/STORAGE.md, "Crash model" and "Crashes in memory", by example; and each request for
+//! memory refused.
+
+use disk_core::two_slots::replace_text;
+use disk_core::{Disk, Fault, FileId, ListFault, MemoryDisk};
+use frame_core::Refusal;
+use std::process::Abort;
+use std::test::Fail;
+
+const FILE: FileId = FileId::Segment {
+    recording: 7,
+    base: 65536,
+};
+
+// A call that changes a file.
+#[derive(Clone, Copy)]
+enum Step<'a> {
+    Write(FileId, u64, &'a [u8]),
+    Cut(FileId, u64),
+    Remove(FileId),
+    Sync(FileId),
+}
+
+fn make(disk: &mut MemoryDisk, step: Step<'_>) -> Result<(), Fault> {
+    match step {
+        Step::Write(file, at, bytes) => disk.write_at(file, at, bytes),
+        Step::Cut(file, len) => disk.cut(file, len),
+        Step::Remove(file) => disk.remove(file),
+        Step::Sync(file) => disk.sync(file),
+    }
+}
+
+// The files that are there. Want of memory for the list is no fault, and the disk can be asked again.
+fn listed(rt: &impl Abort, disk: &mut MemoryDisk) -> Result<Vec<FileId>, Fail> {
+    match disk.list() {
+        Ok(files) => Ok(files),
+        Err(fault) => {
+            assert!(rt; fault == ListFault::NoMemory);
+            Ok(disk.list()?)
+        }
+    }
+}
+
+// The disk that a crash leaves, at the second try where there is no memory for it at the first.
+fn crashed(rt: &impl Abort, disk: &MemoryDisk, choice: &[u8]) -> Result<MemoryDisk, Fail> {
+    match disk.crash(choice) {
+        Ok(left) => Ok(left),
+        Err(refusal) => {
+            assert!(rt; refusal == Refusal::NoMemory);
+            Ok(disk.crash(choice)?)
+        }
+    }
+}
+
+// What a file reads as has these bytes, or it is absent.
+fn reads(
+    rt: &impl Abort,
+    disk: &mut MemoryDisk,
+    file: FileId,
+    bytes: Option<&[u8]>,
+) -> Result<(), Fail> {
+    let mut buffer = [0u8; 16];
+    let count = disk.read_at(file, 0, &mut buffer)?;
+    let there = listed(rt, disk)?.contains(&file);
+    assert!(rt; there == bytes.is_some());
+    if count <= 16 {
+        assert!(rt; &buffer[..count] == bytes.unwrap_or(&[]));
+    }
+    Ok(())
+}
+
+#[test]
+fn a_crash_leaves_what_the_choice_says(rt: HostRuntime) -> Result<(), Fail> {
+    let mut disk = MemoryDisk::new(rt.alloc());
+    disk.write_at(FILE, 0, &[1, 2, 3])?;
+    disk.sync(FILE)?;
+    disk.write_at(FILE, 1, &[9])?;
+    reads(&rt, &mut disk.crash(&[0])?, FILE, Some(&[1, 2, 3]))?;
+    reads(&rt, &mut disk.crash(&[1])?, FILE, Some(&[1, 9, 3]))?;
+    reads(&rt, &mut disk.crash(&[255])?, FILE, Some(&[1, 255, 3]))?;
+    reads(&rt, &mut disk.crash(&[])?, FILE, Some(&[1, 2, 3]))
+}
+
+// A contract cannot tell a fault from want of memory, so that these calls succeed is asked here.
+#[test]
+fn calls_on_an_absent_file_succeed(rt: HostRuntime) -> Result<(), Fail> {
+    let mut disk = MemoryDisk::new(rt.alloc());
+    disk.sync(FILE)?;
+    disk.remove(FILE)?;
+    disk.cut(FILE, 1)?;
+    disk.write_at(FILE, 5, &[])?;
+    disk.sync(FILE)?;
+    assert_eq!(rt; disk.len(FILE)?, 0);
+    reads(&rt, &mut disk, FILE, None)?;
+    assert_eq!(rt; disk.changes(), 5);
+    assert_eq!(rt; disk.faults(), 0);
+    Ok(())
+}
+
+#[test]
+fn failing_calls_take_effect_and_stopped_ones_do_not(rt: HostRuntime) -> Result<(), Fail> {
+    let mut disk = MemoryDisk::new(rt.alloc());
+    disk.fail_at(2);
+    disk.write_at(FILE, 0, &[1])?;
+    assert!(rt; disk.write_at(FILE, 1, &[2]).is_err());
+    reads(&rt, &mut disk, FILE, Some(&[1, 2]))?;
+    disk.fail_at(1);
+    assert!(rt; disk.cut(FILE, 1).is_err());
+    reads(&rt, &mut disk, FILE, Some(&[1]))?;
+    disk.fail_at(1);
+    assert!(rt; disk.remove(FILE).is_err());
+    reads(&rt, &mut disk, FILE, None)?;
+    disk.stop_after(0);
+    assert!(rt; disk.write_at(FILE, 0, &[9]).is_err());
+    reads(&rt, &mut disk.crash(&[1])?, FILE, None)
+}
+
+#[test]
+fn a_text_is_replaced(rt: HostRuntime) -> Result<(), Fail> {
+    let mut disk = MemoryDisk::new(rt.alloc());
+    disk.write_at(FileId::BankB, 0, &[0, 1, 2, 0, 0])?;
+    disk.sync(FileId::BankB)?;
+    replace_text(&mut disk, FileId::BankB, &[3, 4])?;
+    reads(&rt, &mut disk, FileId::BankB, Some(&[1, 1, 2, 3, 4]))
+}
+
+// What a crash leaves of a file by the bytes 0, 1 and 9.
+type Left<'a> = [Option<&'a [u8]>; 3];
+
+// Calls, and what a crash after each leaves of bank A and of bank B.
+const SCRIPT: [(Step<'_>, Left<'_>, Left<'_>); 7] = [
+    (
+        Step::Write(FileId::BankA, 2, &[1, 2]),
+        [None, Some(&[0, 0, 1, 2]), Some(&[9, 9, 9, 9])],
+        [None; 3],
+    ),
+    (
+        Step::Sync(FileId::BankA),
+        [Some(&[0, 0, 1, 2]); 3],
+        [None; 3],
+    ),
+    (
+        Step::Write(FileId::BankB, 0, &[5]),
+        [Some(&[0, 0, 1, 2]); 3],
+        [None, Some(&[5]), Some(&[9])],
+    ),
+    (
+        Step::Write(FileId::BankA, 3, &[7, 8]),
+        [
+            Some(&[0, 0, 1, 2]),
+            Some(&[0, 0, 1, 7, 8]),
+            Some(&[0, 0, 1, 9, 9]),
+        ],
+        [None, Some(&[5]), Some(&[9])],
+    ),
+    (
+        Step::Cut(FileId::BankA, 1),
+        [Some(&[0, 0, 1, 2]), Some(&[0]), Some(&[0])],
+        [None, Some(&[5]), Some(&[9])],
+    ),
+    (
+        Step::Sync(FileId::BankB),
+        [Some(&[0, 0, 1, 2]), Some(&[0]), Some(&[0])],
+        [Some(&[5]); 3],
+    ),
+    (
+        Step::Remove(FileId::BankA),
+        [Some(&[0, 0, 1, 2]), None, Some(&[9, 9, 9, 9])],
+        [Some(&[5]); 3],
+    ),
+];
+
+// The disk reads as a crash by 1 leaves it, and crashes leave these banks.
+fn leaves(rt: &impl Abort, disk: &mut MemoryDisk, a: Left<'_>, b: Left<'_>) -> Result<(), Fail> {
+    reads(rt, disk, FileId::BankA, a[1])?;
+    reads(rt, disk, FileId::BankB, b[1])?;
+    for (i, byte) in [0, 1, 9].into_iter().enumerate() {
+        let mut left = crashed(rt, disk, &[byte])?;
+        reads(rt, &mut left, FileId::BankA, a[i])?;
+        reads(rt, &mut left, FileId::BankB, b[i])?;
+    }
+    Ok(())
+}
+
+// Want of memory in a call is a fault, and nothing has changed then. A second try succeeds here:
+// bench/refused_test_memory.py runs this test for each of its requests for memory, which it refuses.
+#[test]
+fn refused_memory_changes_nothing(rt: HostRuntime) -> Result<(), Fail> {
+    let mut disk = MemoryDisk::new(rt.alloc());
+    let mut a = [None; 3];
+    let mut b = [None; 3];
+    for (step, next_a, next_b) in SCRIPT {
+        if make(&mut disk, step).is_err() {
+            leaves(&rt, &mut disk, a, b)?;
+            make(&mut disk, step)?;
+        }
+        leaves(&rt, &mut disk, next_a, next_b)?;
+        a = next_a;
+        b = next_b;
+    }
+    Ok(())
+}
+
+#[test]
+fn files_have_names(rt: HostRuntime) -> Result<(), Fail> {
+    for (file, name) in [
+        (FileId::BankA, "catalogue-a.bank"),
+        (FileId::BankB, "catalogue-b.bank"),
+        (FILE, "7-65536.rec"),
+    ] {
+        assert_eq!(rt; file.name(rt.alloc())?.as_str(), name);
+    }
+    Ok(())
+}
