@@ -1,5 +1,5 @@
 -- Headers in front of some bytes.
-use Rattle.std.proofs.Common.{◌≡◌, ◌∙◌, sym, ap, refl, ℕ, pos, ◌+◌, ◌-◌, ◌≤◌, List, [], ◌++◌, length, take, drop, append_assoc, subst, arith}
+use Rattle.std.proofs.Common.{◌≡◌, ◌∙◌, sym, ap, refl, ℕ, ℤ, pos, ◌+◌, ◌-◌, ◌≤◌, List, [], ◌++◌, length, take, drop, append_assoc, subst, arith}
 use Rattle.std.proofs.lemmas.Int.{ints}
 use Rattle.std.proofs.lemmas.List.{take-append-drop}
 use Rattle.std.proofs.Math.Seq.{take-append_seam}
@@ -86,3 +86,42 @@ header_carries header bytes payload starts long = (
   },
   ap (λ (xs : List ℕ). xs ++ payload) (same_header header payload ∙ sym starts.stands),
 )
+
+-- the kind follows from the type and the length
+kind_is : (kind other : FrameKind) (size : ℤ) → type_of kind ≡ type_of other → HasHeaderLength kind size → HasHeaderLength other size → kind ≡ other
+kind_is Pad Pad size number here there = refl
+kind_is Pad Message size number here there = absurd (omega arith)
+kind_is Pad Heartbeat size number here there = absurd (omega arith)
+kind_is Message Pad size number here there = absurd (omega arith)
+kind_is Message Message size number here there = refl
+kind_is Message Heartbeat size number here there = absurd (omega (arith, ints, here, there))
+kind_is Heartbeat Pad size number here there = absurd (omega arith)
+kind_is Heartbeat Message size number here there = absurd (omega (arith, ints, here, there))
+kind_is Heartbeat Heartbeat size number here there = refl
+
+-- at most one header stands in front of some bytes
+pub one_header : (bytes : List ℕ) (h k : Frame) → StartsWithHeader bytes h → StartsWithHeader bytes k → h ≡ k
+one_header bytes h k here there =
+    let first = header_fields bytes h here in
+    let second = header_fields bytes k there in
+    let size : h.length ≡ k.length = sym first.length_at ∙ second.length_at in
+    let number : type_of h.kind ≡ type_of k.kind = sym first.type_at ∙ second.type_at in
+    let kind : h.kind ≡ k.kind = kind_is h.kind k.kind h.length number here.length (rw size there.length) in
+    let flags : h.flags ≡ k.flags = sym first.flags_at ∙ second.flags_at in
+    let term_offset : h.term_offset ≡ k.term_offset = sym first.term_offset_at ∙ second.term_offset_at in
+    let session_id : h.session_id ≡ k.session_id = sym first.session_id_at ∙ second.session_id_at in
+    let stream_id : h.stream_id ≡ k.stream_id = sym first.stream_id_at ∙ second.stream_id_at in
+    let term_id : h.term_id ≡ k.term_id = sym first.term_id_at ∙ second.term_id_at in
+    let reserved : h.reserved ≡ k.reserved = sym first.reserved_at ∙ second.reserved_at in
+    let payload : h.payload ≡ k.payload = here.no_payload ∙ sym there.no_payload in
+    λ i. record {
+      kind = kind i;
+      flags = flags i;
+      length = size i;
+      term_offset = term_offset i;
+      session_id = session_id i;
+      stream_id = stream_id i;
+      term_id = term_id i;
+      reserved = reserved i;
+      payload = payload i;
+    }

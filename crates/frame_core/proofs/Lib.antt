@@ -7,4 +7,5 @@ pub mod LimitsLemmas
 pub mod NakLemmas
 pub mod OrderLemmas
 pub mod PositionLemmas
+pub mod SegmentLemmas
 pub mod SetupLemmas

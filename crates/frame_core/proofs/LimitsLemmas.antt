@@ -29,7 +29,7 @@ one_bit_of (suc k) =
     omega (arith, ones_step (2 ^ suc k), ap count_ones half, rest, one_bit_of k)
 
 -- powers of two are ordered as their exponents
-exponent_le : (j k : ℕ) → 2 ^ j ≤ 2 ^ k → j ≤ k
+pub exponent_le : (j k : ℕ) → 2 ^ j ≤ 2 ^ k → j ≤ k
 exponent_le j k powers = by_order j k powers (nat_lt k j) refl
   where
     by_order : (j k : ℕ) → 2 ^ j ≤ 2 ^ k → (b : Bool) → nat_lt k j ≡ b → j ≤ k
