@@ -4,6 +4,7 @@ pub mod DiskImage
 pub mod Calls
 pub mod Life
 pub mod Standing
+pub mod Refused
 pub mod CrashChoice
 -- a disk in memory
 pub mod Counts

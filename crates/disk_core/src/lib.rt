@@ -11,6 +11,7 @@ pub mod file_id;
 pub mod laws;
 pub mod memory;
 mod memory_file;
+mod refusal;
 pub mod two_slots;
 
 pub use disk::Disk;

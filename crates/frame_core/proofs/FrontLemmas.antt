@@ -92,7 +92,7 @@ read_header bytes kind end used room version body = record {
 }
 
 -- what was read fits
-read_fits : (bytes : List ℕ) (kind : FrameKind) (end : ℕ) → AreBytes bytes → Fits (read_frame bytes kind end)
+pub read_fits : (bytes : List ℕ) (kind : FrameKind) (end : ℕ) → AreBytes bytes → Fits (read_frame bytes kind end)
 read_fits bytes kind end small = record {
   flags = small 5;
   length = FitsSigned-i32_at bytes 0 small;

@@ -2,8 +2,10 @@ pub mod BlockLemmas
 pub mod DatagramLemmas
 pub mod FrameEncodingLemmas
 pub mod FrontLemmas
+pub mod HeaderLemmas
 pub mod LimitsLemmas
 pub mod NakLemmas
 pub mod OrderLemmas
 pub mod PositionLemmas
+pub mod SegmentLemmas
 pub mod SetupLemmas

@@ -1,6 +1,7 @@
 -- What a reader has to believe: frames, datagrams, positions, segments, setup and NAK frames, blocks and the refusals' numbers.
 pub mod FrameEncoding
 pub mod Front
+pub mod Header
 pub mod Datagram
 pub mod Position
 pub mod Segment

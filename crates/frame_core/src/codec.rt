@@ -6,6 +6,8 @@ ghost use Rattle.frame_core.specs.Datagram.{HasNoFront};
 ghost use Rattle.frame_core.specs.Decoding.{IsBody, read_frame};
 ghost use Rattle.frame_core.specs.FrameEncoding.{IsEncodable, aligned, encoded, frame_of, u16_at};
 ghost use Rattle.frame_core.specs.Front.{IsFront};
+ghost use Rattle.frame_core.specs.Header.{IsHeaderOfKind, StartsWithHeader};
+ghost use Rattle.frame_core.specs.declared.frame.Frame.{Frame};
 ghost use Rattle.frame_core.specs.declared.frame.FrameKind.{FrameKind};
 
 use crate::fields::{read_i32, read_i64, read_u16};
@@ -32,6 +34,42 @@ pub fn decode_front(bytes: &[u8]) -> Result<(FrameRef<'_>, usize), Refusal>
     match front_of(bytes) {
         Some(front) => Ok(front),
         None => Err(Refusal::BadFrame { offset: 0 }),
+    }
+}
+
+/// The frame whose header stands in front of the bytes, with no payload: what it carries may stand behind, or not. None
+/// where no frame has these 32 bytes as its header, also where they are fewer. docs/PROTOCOL.md, "Data and pad header".
+/// Does not allocate.
+pub fn decode_header(bytes: &[u8]) -> Option<FrameRef<'_>>
+    ensures { MatchOption result
+        ((header : Frame) → StartsWithHeader bytes.now header → ⊥)
+        (λ header. StartsWithHeader bytes.now (frame_of header)) }
+{
+    if bytes.len() < HEADER_LENGTH {
+        return None;
+    }
+    if !has_version(bytes) {
+        return None;
+    }
+    let term_offset = read_i32(bytes, 8);
+    if !is_aligned(&term_offset) {
+        return None;
+    }
+    let kind = header_kind(read_u16(bytes, 6), read_i32(bytes, 0))?;
+    Some(frame_at(bytes, kind, HEADER_LENGTH))
+}
+
+// The kind of a frame with this type and length in its header.
+fn header_kind(number: u16, size: i32) -> Option<FrameKind>
+    ensures { MatchOption result
+        ((kind : FrameKind) → IsHeaderOfKind number size kind → ⊥)
+        (IsHeaderOfKind number size) }
+{
+    match number {
+        0 if size >= 32 => Some(FrameKind::Pad),
+        1 if size >= 32 => Some(FrameKind::Message),
+        1 if size == 0 => Some(FrameKind::Heartbeat),
+        _ => None,
     }
 }
 

@@ -20,7 +20,7 @@ mod setup;
 pub use block::{
     Block, Place, Publication, are_encodable, block_end, block_of, is_next, place_behind,
 };
-pub use codec::{decode_front, encode_into};
+pub use codec::{decode_front, decode_header, encode_into};
 pub use datagram::frames_of_datagram;
 pub use frame::{Frame, FrameKind, FrameRef};
 pub use geometry::Geometry;

@@ -1,0 +1,16 @@
+//! Segment files: frames stored at their positions, read back, boundaries told, stale files swept.
+#![tactic(auto)]
+
+mod check;
+mod keep;
+pub mod laws;
+mod layout;
+mod read;
+mod sweep;
+mod write;
+
+pub use keep::Keep;
+pub use layout::{Layout, base_of};
+pub use read::read_frame;
+pub use sweep::{stale_files, sweep_one};
+pub use write::{sync_segment, write_block};
