@@ -6,3 +6,4 @@ pub mod HistoriesLemmas
 pub mod AcceptanceLemmas
 pub mod BookLemmas
 pub mod CommandsLemmas
+pub mod RegisterLemmas

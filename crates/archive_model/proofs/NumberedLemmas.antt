@@ -4,7 +4,7 @@ use Rattle.std.specs.Ordering.{int_eq}
 use Rattle.std.proofs.Math.Seq.{take-suc, drop-cons, set-append_seam}
 use Rattle.std.proofs.lemmas.List.{take-append-drop, append-nil, length-take-le, take_all}
 use Rattle.std.proofs.lemmas.Option.{slice_get-get_or}
-use Rattle.archive_model.specs.Keyed.{find, change}
+use Rattle.archive_model.specs.Keyed.{find, change, without}
 use Rattle.archive_model.specs.Numbered.{IsPlaceOf, IsNone}
 
 module _ {X : Type 0} (number : X → ℤ) where
@@ -12,10 +12,11 @@ module _ {X : Type 0} (number : X → ℤ) where
   pub record Skips (n : ℤ) (front : List X) : Type 0 where
     pub found : (rest : List X) → find number n (front ++ rest) ≡ find number n rest
     pub changed : (f : X → X) (rest : List X) → change number n f (front ++ rest) ≡ front ++ change number n f rest
+    pub removed : (rest : List X) → without number n (front ++ rest) ≡ front ++ without number n rest
 
   -- before the first value nothing is skipped
   pub skips-none : (n : ℤ) → Skips n []
-  skips-none n = record { found = λ rest. refl; changed = λ f rest. refl }
+  skips-none n = record { found = λ rest. refl; changed = λ f rest. refl; removed = λ rest. refl }
 
   -- one more value without the number
   pub skips-more : (n : ℤ) (front : List X) (x : X) → Skips n front → int_eq n (number x) ≡ false → Skips n (front ++ x ∷ [])
@@ -23,6 +24,8 @@ module _ {X : Type 0} (number : X → ℤ) where
     found = λ rest. ap (find number n) (append_assoc front (x ∷ []) rest) ∙ skips.found (x ∷ rest) ∙ (rw other refl);
     changed = λ f rest.
         ap (change number n f) (append_assoc front (x ∷ []) rest) ∙ skips.changed f (x ∷ rest) ∙ (rw other (sym (append_assoc front (x ∷ []) (change number n f rest))));
+    removed = λ rest.
+        ap (without number n) (append_assoc front (x ∷ []) rest) ∙ skips.removed (x ∷ rest) ∙ (rw other (sym (append_assoc front (x ∷ []) (without number n rest))));
   }
 
   -- the next value has no such number
@@ -45,6 +48,7 @@ module _ {X : Type 0} (number : X → ℤ) where
         at = slice_get-get_or xs place x within ∙ ap Some (sym is);
         found = ap (find number n) split ∙ skips.found (x ∷ rest) ∙ (rw this refl);
         changed = λ f. ap (change number n f) split ∙ skips.changed f (x ∷ rest) ∙ (rw this (sym (set-append_seam front x rest (f x)))) ∙ ap (λ k. set (front ++ x ∷ rest) k (f x)) before ∙ ap (λ ys. set ys place (f x)) (sym split);
+        removed = ap (without number n) split ∙ skips.removed (x ∷ rest) ∙ (rw this refl);
       }
 
   -- all values are skipped
@@ -54,4 +58,5 @@ module _ {X : Type 0} (number : X → ℤ) where
       record {
         found = ap (find number n) (sym all) ∙ skips.found [];
         changed = λ f. ap (change number n f) (sym all) ∙ skips.changed f [] ∙ all;
+        removed = ap (without number n) (sym all) ∙ skips.removed [] ∙ all;
       }

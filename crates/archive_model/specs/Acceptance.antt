@@ -1,24 +1,25 @@
 -- Which commands are accepted, and which refusal comes first. docs/CONTROL.md, "Refusals".
-use Rattle.std.specs.Prelude.{◌≡◌, ◌≢◌, ◌==◌, ◌+◌, ◌-◌, ◌%◌, ◌&&◌, ◌||◌, ℕ, ℤ, pos, negsuc, Bool, true, false, List, [], ◌∷◌, length, nat_le, nat_lt, unsigned_abs, IsTrue, IsFalse, Option, Some, None, Result, Ok, Err, if◌then◌else◌}
+use Rattle.std.specs.Prelude.{◌≡◌, ◌≢◌, ◌==◌, ◌+◌, ◌||◌, ℕ, ℤ, pos, Bool, true, false, List, [], ◌∷◌, length, nat_le, IsTrue, IsFalse, Option, Some, None, Result, Ok, Err, if◌then◌else◌}
 use Rattle.std.specs.Ordering.{int_eq}
 use Rattle.frame_core.specs.declared.block.Block.{Block}
 use Rattle.frame_core.specs.declared.geometry.Geometry.{Geometry}
 use Rattle.frame_core.specs.declared.block.Publication.{Publication}
 use Rattle.frame_core.specs.declared.refusal.Refusal.{Refusal}
-use Rattle.frame_core.specs.declared.refusal.Refusal.TheVariants.{UnknownRecording, ActiveRecording, NotActive, ActiveReplay, BadPosition, BadExtension, MaxRecordings, MaxReplays, UnknownReplay, BadParameter, HistoryFull, StaleSession, BadBlock, NeedSettle, Broken, NoMemory, BadLine}
+use Rattle.frame_core.specs.declared.refusal.Refusal.TheVariants.{UnknownRecording, ActiveRecording, NotActive, BadPosition, BadExtension, MaxRecordings, BadParameter, HistoryFull, BadBlock, NoMemory, BadLine}
 use Rattle.frame_core.specs.Refusal.{number_of}
 use Rattle.frame_core.specs.Block.{IsBlock, end_position}
-use Rattle.archive_model.specs.declared.descriptor.Descriptor.{Descriptor}
 use Rattle.archive_model.specs.declared.command.StartFields.{StartFields}
 use Rattle.archive_model.specs.declared.command.ExtendFields.{ExtendFields}
 use Rattle.archive_model.specs.declared.command.Command.{Command}
 use Rattle.archive_model.specs.declared.command.Command.TheVariants.{Start, Append, Stop, Extend, Truncate, PurgeSegments, PurgeRecording, Restart}
 use Rattle.archive_model.specs.declared.reply.Reply.{Reply}
-use Rattle.archive_model.specs.State.{Recording, State, id_of, is_active, active_count, recorded_position, geometry_of, publication_of}
+use Rattle.archive_model.specs.State.{Recording, State, id_of, is_active, active_count, recorded_position, registration_of, geometry_of, publication_of}
+pub use Rattle.archive_model.specs.Checks.{checks}
+use Rattle.archive_model.specs.Register.{extends, is_later_base}
 use Rattle.archive_model.specs.Keyed.{find}
 use Rattle.archive_model.specs.Descriptor.{is_negative, is_in_range}
 use Rattle.archive_model.specs.Replay.{is_boundary}
-use Rattle.archive_model.specs.Commands.{after, reply_to, first_base}
+use Rattle.archive_model.specs.Commands.{after, reply_to}
 
 -- A state, and beside it how many entries of the history count, and how many it may have.
 pub record BookState : Type 0 where
@@ -38,12 +39,6 @@ book_after b c = record b { state = after b.state c; counted = if counts c then 
 -- the fact under which a command meets each refusal
 abbrev pub Rules : Type 1
 Rules = Refusal → Type 0
-
--- the refusals in the order of their checks, which all calls share
-abbrev pub checks : List Refusal
-checks =
-    Broken ∷ BadParameter ∷ UnknownRecording ∷ ActiveRecording ∷ NotActive ∷ StaleSession ∷ UnknownReplay ∷ BadPosition ∷ BadExtension
-    ∷ BadBlock ∷ NeedSettle ∷ ActiveReplay ∷ MaxRecordings ∷ MaxReplays ∷ HistoryFull ∷ []
 
 -- those of a list that stand before one
 abbrev pub before : Refusal → List Refusal → List Refusal
@@ -105,18 +100,10 @@ stop_rules b found timestamp NotActive = Of found (λ r. IsFalse (is_active r))
 stop_rules b found timestamp HistoryFull = IsTrue (is_full b)
 stop_rules b found timestamp _ = ⊥
 
--- of the recorded stream's terms
-unfoldable pub is_same_stream : Descriptor → ExtendFields → Bool
-is_same_stream d f = int_eq f.initial_term_id d.initial_term_id && int_eq f.term_length d.term_length && int_eq f.mtu d.mtu && int_eq f.stream_id d.stream_id
-
--- goes on where the recording stopped
-abbrev pub extends : Recording → ExtendFields → Bool
-extends r f = int_eq f.join_position r.descriptor.stop_position && is_same_stream r.descriptor f
-
 abbrev pub extend_rules : BookState → Option Recording → ExtendFields → Rules
 extend_rules b found f UnknownRecording = found ≡ None
 extend_rules b found f ActiveRecording = Of found (λ r. IsTrue (is_active r))
-extend_rules b found f BadExtension = Of found (λ r. IsFalse (extends r f))
+extend_rules b found f BadExtension = Of found (λ r. IsFalse (extends f (registration_of r)))
 extend_rules b found f MaxRecordings = IsTrue (is_without_recorder b.state)
 extend_rules b found f HistoryFull = IsTrue (is_full b)
 extend_rules b found f _ = ⊥
@@ -128,19 +115,9 @@ truncate_rules b found position BadPosition = Of found (λ r. IsFalse (is_bounda
 truncate_rules b found position HistoryFull = IsTrue (is_full b)
 truncate_rules b found position _ = ⊥
 
--- where the segment of a position begins
-abbrev pub base_of : Descriptor → ℕ → ℕ
-base_of d p = p - (p - first_base d) % unsigned_abs d.segment_length
-
--- a segment's beginning behind the start, at or before the one of the recorded position
-abbrev pub is_later_base : ℤ → Recording → Bool
-is_later_base (pos p) r =
-    nat_lt (unsigned_abs r.descriptor.start_position) p && base_of r.descriptor p == p && nat_le p (base_of r.descriptor (unsigned_abs (recorded_position r)))
-is_later_base (negsuc p) r = false
-
 abbrev pub purge_segments_rules : BookState → Option Recording → ℤ → Rules
 purge_segments_rules b found position UnknownRecording = found ≡ None
-purge_segments_rules b found position BadPosition = Of found (λ r. IsFalse (is_later_base position r))
+purge_segments_rules b found position BadPosition = Of found (λ r. IsFalse (is_later_base position (registration_of r)))
 purge_segments_rules b found position HistoryFull = IsTrue (is_full b)
 purge_segments_rules b found position _ = ⊥
 

@@ -1,37 +1,21 @@
 -- What each command makes of the state: Aeron Archive documentation; docs/CONTROL.md, "Requests".
-use Rattle.std.specs.Prelude.{ℕ, ℤ, pos, negsuc, ◌-◌, ◌/◌, ◌%◌, ◌+ℤ◌, Bool, List, [], ◌∷◌, ◌++◌, map, filter, int_le, unsigned_abs, Option, Some, None, if◌then◌else◌}
+use Rattle.std.specs.Prelude.{ℤ, pos, negsuc, ◌+ℤ◌, Bool, List, [], ◌∷◌, ◌++◌, map, filter, int_le, Option, Some, None, if◌then◌else◌}
 use Rattle.std.specs.List.{flat_map}
 use Rattle.frame_core.specs.declared.frame.Frame.{Frame}
 use Rattle.frame_core.specs.declared.block.Block.{Block}
 use Rattle.frame_core.specs.FrameEncoding.{aligned_length}
 use Rattle.frame_core.specs.Block.{covered}
-use Rattle.archive_model.specs.declared.descriptor.Descriptor.{Descriptor}
 use Rattle.archive_model.specs.declared.command.StartFields.{StartFields}
 use Rattle.archive_model.specs.declared.command.Command.{Command}
 use Rattle.archive_model.specs.declared.command.Command.TheVariants.{Start, Append, Stop, Extend, Truncate, PurgeSegments, PurgeRecording, Restart}
 use Rattle.archive_model.specs.declared.reply.PolledFrame.{PolledFrame}
 use Rattle.archive_model.specs.declared.reply.Reply.{Reply}
 use Rattle.archive_model.specs.declared.reply.Reply.TheVariants.{Started, Settled, Stopped, Extended, Truncated, Purged, PurgedRecording, Reopened}
-use Rattle.archive_model.specs.State.{Recording, State, id_of, is_active, active_count, recorded_position}
+use Rattle.archive_model.specs.State.{Recording, State, id_of, is_active, active_count, recorded_position, registration_of}
+use Rattle.archive_model.specs.Register as register
+use Rattle.archive_model.specs.Register.{begun, stopped_at, active_in}
 use Rattle.archive_model.specs.Keyed.{find, change, without}
 use Rattle.archive_model.specs.Replay.{placed_frames, frames_in}
-
--- the descriptor of a new recording
-abbrev pub begun : ℤ → StartFields → Descriptor
-begun id f = record {
-  recording = id;
-  start_timestamp = f.timestamp;
-  stop_timestamp = negsuc 0;
-  start_position = f.start_position;
-  stop_position = negsuc 0;
-  initial_term_id = f.initial_term_id;
-  segment_length = f.segment_length;
-  term_length = f.term_length;
-  mtu = f.mtu;
-  session_id = f.session_id;
-  stream_id = f.stream_id;
-  channel = f.channel;
-}
 
 -- a new recording
 abbrev pub fresh : ℤ → StartFields → Recording
@@ -47,11 +31,11 @@ appended blocks r = record r { frames = r.frames ++ frames_of blocks }
 
 -- stops at its recorded position
 abbrev pub stopped : ℤ → Recording → Recording
-stopped timestamp r = record r { descriptor = record r.descriptor { stop_position = recorded_position r; stop_timestamp = timestamp } }
+stopped timestamp r = record r { descriptor = stopped_at (recorded_position r) timestamp r.descriptor }
 
 -- active again, in a session
 abbrev pub extended : ℤ → Recording → Recording
-extended session_id r = record r { descriptor = record r.descriptor { session_id = session_id; stop_position = negsuc 0; stop_timestamp = negsuc 0 } }
+extended session_id r = record r { descriptor = active_in session_id r.descriptor }
 
 -- ends at or before a position
 abbrev pub ends_by : ℤ → PolledFrame → Bool
@@ -99,14 +83,10 @@ abbrev pub recorded_in : Option Recording → ℤ
 recorded_in None = pos 0
 recorded_in (Some r) = recorded_position r
 
--- where the segments begin: the start position rounded down to a multiple of the term length
-abbrev pub first_base : Descriptor → ℕ
-first_base d = let start = unsigned_abs d.start_position in start - start % unsigned_abs d.term_length
-
 -- how many segments lie before a position
 abbrev pub segments_before : Option Recording → ℤ → ℤ
 segments_before None position = pos 0
-segments_before (Some r) position = pos ((unsigned_abs position - first_base r.descriptor) / unsigned_abs r.descriptor.segment_length)
+segments_before (Some r) position = register.segments_before position (registration_of r)
 
 -- what an accepted command answers. Whoever keeps the recorder sessions puts the session's number in place of the 0
 abbrev pub reply_to : State → Command → Reply

@@ -1,5 +1,5 @@
 -- Lists of values that have numbers: a finite map, by rising number.
-use Rattle.std.specs.Prelude.{ℤ, List, [], ◌∷◌, Option, Some, None, if◌then◌else◌}
+use Rattle.std.specs.Prelude.{◌+ℤ◌, ◌≤ℤ◌, ℤ, pos, List, [], ◌∷◌, Option, Some, None, if◌then◌else◌}
 use Rattle.std.specs.Ordering.{int_eq}
 
 module _ {X : Type 0} (number : X → ℤ) where
@@ -17,3 +17,13 @@ module _ {X : Type 0} (number : X → ℤ) where
   abbrev pub without : ℤ → List X → List X
   without n [] = []
   without n (x ∷ xs) = if int_eq n (number x) then xs else x ∷ without n xs
+
+  -- numbers rise from one on, and are below another
+  abbrev pub Rise : ℤ → List X → ℤ → Type 0
+  Rise low [] high = low ≤ℤ high
+  Rise low (x ∷ xs) high = (low ≤ℤ number x) × Rise (number x +ℤ pos 1) xs high
+
+-- each value of a list has P
+abbrev pub Each : {X : Type 0} → (X → Type 0) → List X → Type 0
+Each P [] = Unit {0}
+Each P (x ∷ xs) = P x × Each P xs

@@ -1,11 +1,15 @@
 -- What a reader has to believe: the archive's state, what each command makes of it, which are accepted, and replays.
-pub mod State
 pub mod Keyed
 pub mod Numbered
+pub mod Register
+pub mod State
 pub mod Descriptor
 pub mod Replay
 pub mod Commands
+pub mod Checks
 pub mod Acceptance
+pub mod Accepting
 pub mod Histories
 -- Representation: what the values of src/ keep.
 pub mod Kept
+pub mod Registered

@@ -10,11 +10,11 @@ pub mod laws;
 mod numbered;
 mod range;
 mod recording;
+mod register;
+mod registration;
 mod replay;
 mod reply;
 mod stream;
-#[cfg(test)]
-mod tests;
 
 pub use book::Book;
 pub use channel::Channel;
@@ -23,4 +23,6 @@ pub use descriptor::Descriptor;
 pub use numbered::{Numbered, place_of};
 pub use range::may_begin_at;
 pub use recording::Recording;
+pub use register::Register;
+pub use registration::{Change, Registration};
 pub use reply::{PolledFrame, Reply};

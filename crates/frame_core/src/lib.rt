@@ -14,6 +14,7 @@ pub mod limits;
 mod nak;
 mod positions;
 mod refusal;
+mod segments;
 mod setup;
 #[cfg(test)]
 mod tests;
@@ -31,4 +32,5 @@ pub use items::Items;
 pub use nak::Nak;
 pub use positions::{position, term_of};
 pub use refusal::Refusal;
+pub use segments::segment_base;
 pub use setup::Setup;

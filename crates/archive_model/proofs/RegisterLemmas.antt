@@ -1,0 +1,260 @@
+-- Recordings that stand under their ids, and what becomes of them there.
+use Rattle.std.proofs.Common.{subst, negsuc, ◌≡◌, ◌<◌, ◌≤◌, ◌+◌, ◌+ℤ◌, ◌≤ℤ◌, ℕ, zero, suc, ℤ, pos, Bool, true, false, cond, nat_lt, List, [], ◌∷◌, ◌++◌, length, map, Some, None, refl, sym, ap, ◌∙◌, arith, slice_get, slice_set, remove, not}
+use Rattle.std.proofs.lemmas.Int.{ints}
+use Rattle.std.proofs.lemmas.List.{length-map}
+use Rattle.std.proofs.lemmas.Bool.Decides.{nat_tests, Decides-int_eq}
+use Rattle.std.specs.Prelude.{MatchOption, position}
+use Rattle.std.specs.List.{position_or_len}
+use Rattle.std.specs.Ordering.{int_eq}
+use Rattle.std.specs.Map.{keys_of, values_of}
+use Rattle.indexmap.specs.Layout.{set_value_at}
+use Rattle.indexmap.specs.IndexMap.{insert_entry}
+use Rattle.archive_model.specs.declared.registration.Registration.{Registration}
+use Rattle.archive_model.specs.declared.registration.Change.{Change}
+use Rattle.archive_model.specs.declared.registration.Change.TheVariants.{Settle, Stop, Extend, Truncate, PurgeSegments}
+use Rattle.archive_model.specs.Keyed.{change, without, Each, Rise}
+use Rattle.archive_model.specs.Register.{HasLayout, changed_by, id_of, is_active, restarted}
+use Rattle.archive_model.specs.Registered.{KeepsRegister}
+use Rattle.archive_model.specs.Numbered.{IsPlaceOf, IsNone}
+
+module _ {X : Type 0} (number : X → ℤ) where
+  place_first : (n : ℤ) (x : X) (xs : List X) → int_eq n (number x) ≡ true → IsPlaceOf number n (x ∷ xs) 0
+  place_first n x xs is =
+      record { value = x; within = omega arith; at = refl; found = rw is refl; changed = λ f. rw is refl; removed = rw is refl }
+
+  place_later : (n : ℤ) (x : X) (xs : List X) (i : ℕ) → int_eq n (number x) ≡ false → IsPlaceOf number n xs i → IsPlaceOf number n (x ∷ xs) (suc i)
+  place_later n x xs i other place = record {
+    value = place.value;
+    within = let inside = place.within in omega arith;
+    at = place.at;
+    found = rw other place.found;
+    changed = λ f. rw other (ap (λ ys. x ∷ ys) (place.changed f));
+    removed = rw other (ap (λ ys. x ∷ ys) place.removed);
+  }
+
+  none_later : (n : ℤ) (x : X) (xs : List X) → int_eq n (number x) ≡ false → IsNone number n xs → IsNone number n (x ∷ xs)
+  none_later n x xs other none = record {
+    found = rw other none.found;
+    changed = λ f. rw other (ap (λ ys. x ∷ ys) (none.changed f));
+    removed = rw other (ap (λ ys. x ∷ ys) none.removed);
+  }
+
+  abbrev pub IsPlacedBy : ℤ → List X → ℕ → Type 0
+  IsPlacedBy n xs i = (i < length xs → IsPlaceOf number n xs i) × (length xs ≤ i → IsNone number n xs)
+
+  placed_by : (n : ℤ) (xs : List X) → IsPlacedBy n xs (position_or_len (int_eq n) (map number xs))
+  placed_by n [] = (λ within. absurd (omega arith), λ past. record { found = refl; changed = λ f. refl; removed = refl })
+  placed_by n (x ∷ xs) = by (int_eq n (number x)) refl (placed_by n xs)
+    where
+      by : (b : Bool) → int_eq n (number x) ≡ b → IsPlacedBy n xs (position_or_len (int_eq n) (map number xs)) → IsPlacedBy n (x ∷ xs) (cond (not b) (1 + position_or_len (int_eq n) (map number xs)) 0)
+      by true is rest = (λ within. place_first n x xs is, λ past. absurd (omega arith))
+      by false is rest = (
+        λ within. subst (IsPlaceOf number n (x ∷ xs)) (omega arith) (place_later n x xs _ is (rest.0 (omega arith))),
+        λ past. none_later n x xs is (rest.1 (omega arith)),
+      )
+
+  chosen : (n : ℤ) (xs : List X) (i size : ℕ) (b : Bool) → size ≡ length xs → nat_lt i size ≡ b → IsPlacedBy n xs i → MatchOption (cond b (Some i) None) (IsNone number n xs) (IsPlaceOf number n xs)
+  chosen n xs i size true is lt placed = placed.0 (grind (arith, nat_tests))
+  chosen n xs i size false is lt placed = placed.1 (grind (arith, nat_tests))
+
+  -- the index of a number, where the numbers are these
+  pub index_of_number : (n : ℤ) (ns : List ℤ) (xs : List X) → ns ≡ map number xs → MatchOption (position (int_eq n) ns) (IsNone number n xs) (IsPlaceOf number n xs)
+  index_of_number n ns xs is =
+      rw is (chosen n xs (position_or_len (int_eq n) (map number xs)) (length (map number xs)) _ (length-map xs number) refl (placed_by n xs))
+
+  -- values that rise, and each of which has a property
+
+  pub rise_push : (low next : ℤ) (xs : List X) (x : X) → Rise number low xs next → number x ≡ next → Rise number low (xs ++ x ∷ []) (next +ℤ pos 1)
+  rise_push low next [] x rising is = (omega (arith, ints), omega (arith, ints))
+  rise_push low next (y ∷ ys) x rising is = (rising.0, rise_push (number y +ℤ pos 1) next ys x rising.1 is)
+
+  pub rise_set : (low next : ℤ) (xs : List X) (i : ℕ) (x new : X) → Rise number low xs next → slice_get xs i ≡ Some x → number new ≡ number x → Rise number low (slice_set xs i new) next
+  rise_set low next [] i x new rising gets same = rising
+  rise_set low next (y ∷ ys) zero x new rising gets same =
+      let is : y ≡ x = cc in
+      let ids : number new ≡ number y = same ∙ ap number (sym is) in rw ids rising
+  rise_set low next (y ∷ ys) (suc i) x new rising gets same = (rising.0, rise_set (number y +ℤ pos 1) next ys i x new rising.1 gets same)
+
+  rise_lower : (low least next : ℤ) (xs : List X) → least ≤ℤ low → Rise number low xs next → Rise number least xs next
+  rise_lower low least next [] lower rising = omega (arith, ints)
+  rise_lower low least next (y ∷ ys) lower rising = (omega (arith, ints, rising.0), rising.1)
+
+  pub rise_remove : (low next : ℤ) (xs : List X) (i : ℕ) → Rise number low xs next → Rise number low (remove xs i) next
+  rise_remove low next [] zero rising = rising
+  rise_remove low next [] (suc i) rising = rising
+  rise_remove low next (y ∷ ys) zero rising = rise_lower (number y +ℤ pos 1) low next ys (omega (arith, ints, rising.0)) rising.1
+  rise_remove low next (y ∷ ys) (suc i) rising = (rising.0, rise_remove (number y +ℤ pos 1) next ys i rising.1)
+
+  least_next : (low next : ℤ) (xs : List X) → Rise number low xs next → low ≤ℤ next
+  least_next low next [] rising = rising
+  least_next low next (y ∷ ys) rising = let more = least_next (number y +ℤ pos 1) next ys rising.1 in omega (arith, ints, rising.0)
+
+module _ {X : Type 0} (P : X → Type 0) where
+  pub each_push : (xs : List X) (x : X) → Each P xs → P x → Each P (xs ++ x ∷ [])
+  each_push [] x all one = (one, tt)
+  each_push (y ∷ ys) x all one = (all.0, each_push ys x all.1 one)
+
+  pub each_set : (xs : List X) (i : ℕ) (x new : X) → Each P xs → slice_get xs i ≡ Some x → (P x → P new) → Each P (slice_set xs i new)
+  each_set [] i x new all gets keeps = tt
+  each_set (y ∷ ys) zero x new all gets keeps = let is : y ≡ x = cc in (keeps (subst P is all.0), all.1)
+  each_set (y ∷ ys) (suc i) x new all gets keeps = (all.0, each_set ys i x new all.1 gets keeps)
+
+  pub each_remove : (xs : List X) (i : ℕ) → Each P xs → Each P (remove xs i)
+  each_remove [] zero all = tt
+  each_remove [] (suc i) all = tt
+  each_remove (y ∷ ys) zero all = all.1
+  each_remove (y ∷ ys) (suc i) all = (all.0, each_remove ys i all.1)
+
+  pub each_at : (xs : List X) (i : ℕ) (x : X) → Each P xs → slice_get xs i ≡ Some x → P x
+  each_at [] i x all gets = absurd cc
+  each_at (y ∷ ys) zero x all gets = let is : y ≡ x = cc in subst P is all.0
+  each_at (y ∷ ys) (suc i) x all gets = each_at ys i x all.1 gets
+
+  pub each_map : (f : X → X) (xs : List X) → ((x : X) → P x → P (f x)) → Each P xs → Each P (map f xs)
+  each_map f [] keeps all = tt
+  each_map f (y ∷ ys) keeps all = (keeps y all.0, each_map f ys keeps all.1)
+
+map-remove : {X Y : Type 0} (f : X → Y) (xs : List X) (i : ℕ) → map f (remove xs i) ≡ remove (map f xs) i
+map-remove f [] zero = refl
+map-remove f [] (suc i) = refl
+map-remove f (x ∷ xs) zero = refl
+map-remove f (x ∷ xs) (suc i) = ap (λ ys. f x ∷ ys) (map-remove f xs i)
+
+map-push : {X Y : Type 0} (f : X → Y) (xs : List X) (x : X) → map f (xs ++ x ∷ []) ≡ map f xs ++ f x ∷ []
+map-push f [] x = refl
+map-push f (y ∷ ys) x = ap (λ zs. f y ∷ zs) (map-push f ys x)
+
+-- a value that is written at an index
+values_set : (es : List (ℤ × Registration)) (i : ℕ) (w : Registration) → values_of (set_value_at es i w) ≡ slice_set (values_of es) i w
+values_set [] i w = refl
+values_set (e ∷ es) zero w = refl
+values_set (e ∷ es) (suc i) w = ap (λ ys. e.1 ∷ ys) (values_set es i w)
+
+keys_set : (es : List (ℤ × Registration)) (i : ℕ) (w : Registration) → keys_of (set_value_at es i w) ≡ keys_of es
+keys_set [] i w = refl
+keys_set (e ∷ es) zero w = refl
+keys_set (e ∷ es) (suc i) w = ap (λ ys. e.0 ∷ ys) (keys_set es i w)
+
+ids_set : (rs : List Registration) (i : ℕ) (r new : Registration) → slice_get rs i ≡ Some r → id_of new ≡ id_of r → map id_of (slice_set rs i new) ≡ map id_of rs
+ids_set [] i r new gets same = refl
+ids_set (x ∷ rs) zero r new gets same = let is : x ≡ r = cc in let ids : id_of new ≡ id_of x = same ∙ ap id_of (sym is) in ap (λ n. n ∷ map id_of rs) ids
+ids_set (x ∷ rs) (suc i) r new gets same = ap (λ ns. id_of x ∷ ns) (ids_set rs i r new gets same)
+
+-- no change renames a recording or gives it other lengths
+pub id_kept : (c : Change) (r : Registration) → id_of (changed_by c r) ≡ id_of r
+id_kept (Settle position) r = refl
+id_kept (Stop timestamp) r = refl
+id_kept (Extend session_id) r = refl
+id_kept (Truncate position) r = refl
+id_kept (PurgeSegments position) r = refl
+
+layout_kept : (c : Change) (r : Registration) → HasLayout r.descriptor → HasLayout (changed_by c r).descriptor
+layout_kept (Settle position) r has = record { term = has.term; segment = has.segment }
+layout_kept (Stop timestamp) r has = record { term = has.term; segment = has.segment }
+layout_kept (Extend session_id) r has = record { term = has.term; segment = has.segment }
+layout_kept (Truncate position) r has = record { term = has.term; segment = has.segment }
+layout_kept (PurgeSegments position) r has = record { term = has.term; segment = has.segment }
+
+abbrev pub Laid : Registration → Type 0
+Laid r = HasLayout r.descriptor
+
+-- what a write at an index leaves
+keeps_set : (es : List (ℤ × Registration)) (next : ℤ) (i : ℕ) (r new : Registration) → KeepsRegister es next → slice_get (values_of es) i ≡ Some r → id_of new ≡ id_of r → (Laid r → Laid new)
+    → KeepsRegister (set_value_at es i new) next
+keeps_set es next i r new keeps gets same laid = record {
+  keyed = keys_set es i new ∙ keeps.keyed ∙ sym (ids_set (values_of es) i r new gets same) ∙ ap (map id_of) (sym (values_set es i new));
+  rising = subst (λ (rs : List Registration). Rise id_of (pos 0) rs next) (sym (values_set es i new)) (rise_set id_of (pos 0) next (values_of es) i r new keeps.rising gets same);
+  layouts = subst (λ (rs : List Registration). Each Laid rs) (sym (values_set es i new)) (each_set Laid (values_of es) i r new keeps.layouts gets laid);
+}
+
+pub keeps_changed : (es : List (ℤ × Registration)) (next : ℤ) (i : ℕ) (c : Change) (r new : Registration) → KeepsRegister es next → slice_get (values_of es) i ≡ Some r → new ≡ changed_by c r
+    → KeepsRegister (set_value_at es i new) next
+keeps_changed es next i c r new keeps gets is = keeps_set es next i r new keeps gets (ap id_of is ∙ id_kept c r) (λ laid. rw is (layout_kept c r laid))
+
+-- to write at the index of an id is to change the recording of the id
+pub written_is_changed : (id : ℤ) (es : List (ℤ × Registration)) (i : ℕ) (f : Registration → Registration) (r new : Registration) → IsPlaceOf id_of id (values_of es) i → slice_get (values_of es) i ≡ Some r → new ≡ f r
+    → values_of (set_value_at es i new) ≡ change id_of id f (values_of es)
+written_is_changed id es i f r new place gets is =
+    let same : Some place.value ≡ Some r = sym place.at ∙ gets in
+    let made : new ≡ f place.value = cc in
+    values_set es i new ∙ ap (slice_set (values_of es) i) made ∙ sym (place.changed f)
+
+pub removed_there : (id : ℤ) (es : List (ℤ × Registration)) (i : ℕ) → IsPlaceOf id_of id (values_of es) i → values_of (remove es i) ≡ without id_of id (values_of es)
+removed_there id es i place = map-remove (λ e. e.1) es i ∙ sym place.removed
+
+pub keeps_removed : (es : List (ℤ × Registration)) (next : ℤ) (i : ℕ) → KeepsRegister es next → KeepsRegister (remove es i) next
+keeps_removed es next i keeps =
+    let values : values_of (remove es i) ≡ remove (values_of es) i = map-remove (λ e. e.1) es i in
+    record {
+      keyed = map-remove (λ e. e.0) es i ∙ ap (λ ns. remove ns i) keeps.keyed ∙ sym (map-remove id_of (values_of es) i) ∙ ap (map id_of) (sym values);
+      rising = rw values (rise_remove id_of (pos 0) next (values_of es) i keeps.rising);
+      layouts = rw values (each_remove Laid (values_of es) i keeps.layouts);
+    }
+
+-- a recording of the next id is new, and goes last
+pub entries_added : (es : List (ℤ × Registration)) (next : ℤ) (r : Registration) → KeepsRegister es next → insert_entry int_eq es next r ≡ es ++ (next, r) ∷ []
+entries_added es next r keeps = added es (pos 0) keeps.keyed keeps.rising
+  where
+    added : (fs : List (ℤ × Registration)) (low : ℤ) → keys_of fs ≡ map id_of (values_of fs) → Rise id_of low (values_of fs) next → insert_entry int_eq fs next r ≡ fs ++ (next, r) ∷ []
+    added [] low keyed rising = refl
+    added (f ∷ fs) low keyed rising =
+        let first : f.0 ≡ id_of f.1 = cc in
+        let others : keys_of fs ≡ map id_of (values_of fs) = cc in
+        let below = least_next id_of (id_of f.1 +ℤ pos 1) next (values_of fs) rising.1 in
+        by (int_eq next f.0) refl first below (added fs (id_of f.1 +ℤ pos 1) others rising.1)
+      where
+        by : (b : Bool) → int_eq next f.0 ≡ b → f.0 ≡ id_of f.1 → (id_of f.1 +ℤ pos 1) ≤ℤ next → insert_entry int_eq fs next r ≡ fs ++ (next, r) ∷ []
+            → cond b ((f.0, r) ∷ fs) (f ∷ insert_entry int_eq fs next r) ≡ f ∷ (fs ++ (next, r) ∷ [])
+        by true e first below rest = let same : next ≡ f.0 = (Decides-int_eq next f.0).0 e in absurd (omega (arith, ints))
+        by false e first below rest = ap (λ gs. f ∷ gs) rest
+
+pub keeps_added : (es : List (ℤ × Registration)) (next : ℤ) (r : Registration) → KeepsRegister es next → id_of r ≡ next → Laid r → KeepsRegister (es ++ (next, r) ∷ []) (next +ℤ pos 1)
+keeps_added es next r keeps is laid =
+    let values : values_of (es ++ (next, r) ∷ []) ≡ values_of es ++ r ∷ [] = map-push (λ e. e.1) es (next, r) in
+    record {
+      keyed = map-push (λ e. e.0) es (next, r) ∙ ap (λ ns. ns ++ next ∷ []) keeps.keyed ∙ ap (λ n. map id_of (values_of es) ++ n ∷ []) (sym is)
+          ∙ sym (map-push id_of (values_of es) r) ∙ ap (map id_of) (sym values);
+      rising = rw values (rise_push id_of (pos 0) next (values_of es) r keeps.rising is);
+      layouts = rw values (each_push Laid (values_of es) r keeps.layouts laid);
+    }
+
+pub values_added : (es : List (ℤ × Registration)) (next : ℤ) (r : Registration) → values_of (es ++ (next, r) ∷ []) ≡ values_of es ++ r ∷ []
+values_added es next r = map-push (λ e. e.1) es (next, r)
+
+-- the first recordings of a list are restarted
+abbrev pub restarted_first : ℕ → List Registration → List Registration
+restarted_first zero rs = rs
+restarted_first (suc i) [] = []
+restarted_first (suc i) (r ∷ rs) = restarted r ∷ restarted_first i rs
+
+pub restarted_next : (i : ℕ) (rs : List Registration) (r new : Registration) → slice_get (restarted_first i rs) i ≡ Some r → new ≡ restarted r
+    → slice_set (restarted_first i rs) i new ≡ restarted_first (suc i) rs
+restarted_next zero [] r new gets is = refl
+restarted_next zero (x ∷ rs) r new gets is = let same : x ≡ r = cc in ap (λ (y : Registration). y ∷ rs) (is ∙ ap restarted (sym same))
+restarted_next (suc i) [] r new gets is = refl
+restarted_next (suc i) (x ∷ rs) r new gets is = ap (λ ys. restarted x ∷ ys) (restarted_next i rs r new gets is)
+
+pub restarted_more : (es : List (ℤ × Registration)) (rs : List Registration) (i : ℕ) (r new : Registration) → values_of es ≡ restarted_first i rs → slice_get (values_of es) i ≡ Some r → new ≡ restarted r
+    → values_of (set_value_at es i new) ≡ restarted_first (i + 1) rs
+restarted_more es rs i r new done gets is =
+    let more : suc i ≡ i + 1 = omega arith in
+    values_set es i new ∙ ap (λ ys. slice_set ys i new) done ∙ restarted_next i rs r new (rw done at gets) is ∙ ap (λ k. restarted_first k rs) more
+
+pub all_restarted : (i : ℕ) (rs : List Registration) → length rs ≤ i → restarted_first i rs ≡ map restarted rs
+all_restarted zero [] past = refl
+all_restarted zero (x ∷ rs) past = absurd (omega arith)
+all_restarted (suc i) [] past = refl
+all_restarted (suc i) (x ∷ rs) past = ap (λ ys. restarted x ∷ ys) (all_restarted i rs (omega arith))
+
+restart_is_kept : (r : Registration) (b : Bool) → (id_of (cond b (changed_by (Stop (negsuc 0)) r) r) ≡ id_of r) × (Laid r → Laid (cond b (changed_by (Stop (negsuc 0)) r) r))
+restart_is_kept r true = (refl, layout_kept (Stop (negsuc 0)) r)
+restart_is_kept r false = (refl, λ laid. laid)
+
+pub keeps_restarted : (es : List (ℤ × Registration)) (next : ℤ) (i : ℕ) (r new : Registration) → KeepsRegister es next → slice_get (values_of es) i ≡ Some r → new ≡ restarted r
+    → KeepsRegister (set_value_at es i new) next
+keeps_restarted es next i r new keeps gets is =
+    let kept = restart_is_kept r (is_active r) in
+    keeps_set es next i r new keeps gets (ap id_of is ∙ kept.0) (λ laid. rw is (kept.1 laid))
+
+pub values_length : (es : List (ℤ × Registration)) → length (values_of es) ≡ length es
+values_length es = length-map es (λ e. e.1)

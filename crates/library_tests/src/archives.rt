@@ -1,0 +1,140 @@
+//! The plain book of an archive: scenarios of docs/SCENARIOS.md at archive_model's calls.
+
+use crate::vectors::{HELLO_AT_0, HELLO_AT_64, HELLO_AT_128, HELLO_IN_NEXT_TERM, PAD_AT_TERM_END};
+use archive_model::{Book, Channel, Command, Recording, Reply, StartFields};
+use frame_core::limits::LAST_NUMBER;
+use frame_core::{Geometry, Items, Refusal, block_of};
+use std::alloc::Global;
+use std::test::Fail;
+
+const TERMS: Geometry = Geometry {
+    initial_term_id: 42,
+    term_length: 65_536,
+    mtu: 1_408,
+};
+
+// The line `start 1001 7 42 65536 1408 131072 0 1000 c`, from another start position.
+fn start(alloc: Global, start_position: i64) -> Result<Command, Refusal> {
+    Ok(Command::Start(StartFields {
+        stream_id: 1001,
+        session_id: 7,
+        initial_term_id: 42,
+        term_length: 65_536,
+        mtu: 1_408,
+        segment_length: 131_072,
+        start_position,
+        timestamp: 1_000,
+        channel: Channel::new(String::from_str(alloc, "c")?),
+    }))
+}
+
+// Blocks of the first recording, each of a vector's frames.
+fn append(alloc: Global, vectors: &[&[u8]]) -> Result<Command, Refusal> {
+    let mut blocks = Items::new(alloc);
+    for bytes in vectors {
+        blocks.push(block_of(alloc, &TERMS, bytes)?)?;
+    }
+    Ok(Command::Append {
+        recording: 0,
+        blocks,
+    })
+}
+
+// A book with one recording of `hello` at 0, 64 and 128.
+fn three_hellos(alloc: Global) -> Result<Book, Fail> {
+    let mut book = Book::new(alloc, 3);
+    book.apply(&start(alloc, 0)?)?;
+    book.apply(&append(alloc, &[HELLO_AT_0, HELLO_AT_64, HELLO_AT_128])?)?;
+    Ok(book)
+}
+
+#[test]
+fn first_recording_and_replay(rt: HostRuntime) -> Result<(), Fail> {
+    let alloc = rt.alloc();
+    let mut book = three_hellos(alloc)?;
+    let recording = book.recording(&0).ok_or("no recording")?;
+    let copy = recording.descriptor().copy(alloc)?;
+    assert_eq!(rt; (copy.stop_position, copy.channel.as_str()), (-1, "c"));
+    assert_eq!(rt;
+        (copy.geometry().mtu, copy.publication().session_id),
+        (1_408, 7)
+    );
+    assert!(rt; recording.is_active() && recording.is_boundary(&64));
+    assert_eq!(rt; recording.poll(alloc, &64, &129, 10)?.len(), 2);
+    assert_eq!(rt; book.replay(alloc, &0, &0, &LAST_NUMBER)?.len(), 3);
+    let stopped = book.apply(&Command::Stop {
+        recording: 0,
+        timestamp: 2_000,
+    });
+    assert!(rt; matches!(&stopped, Ok(Reply::Stopped { position: 192 })));
+    assert!(rt; book.is_full());
+    assert_eq!(rt; (book.recordings().len(), book.next_recording()), (1, 1));
+    Ok(())
+}
+
+#[test]
+fn pad_at_a_terms_end(rt: HostRuntime) -> Result<(), Fail> {
+    let alloc = rt.alloc();
+    let mut book = Book::new(alloc, 3);
+    book.apply(&start(alloc, 65_472)?)?;
+    let first = book.apply(&append(alloc, &[PAD_AT_TERM_END])?);
+    assert!(rt; matches!(&first, Ok(Reply::Settled { position: 65_536 })));
+    let second = book.apply(&append(alloc, &[HELLO_IN_NEXT_TERM])?);
+    assert!(rt; matches!(&second, Ok(Reply::Settled { position: 65_600 })));
+    let recording = book.recording(&0).ok_or("no recording")?;
+    let polled = recording.poll(alloc, &65_472, &LAST_NUMBER, 10)?;
+    let [at_end, behind] = polled.as_slice() else {
+        return Err("two frames")?;
+    };
+    assert_eq!(rt; (at_end.position, behind.position), (65_472, 65_536));
+    Ok(())
+}
+
+// The commands of `three_hellos`, made anew where a request for memory is refused.
+fn commands(alloc: Global) -> Result<[Command; 2], Refusal> {
+    let blocks = append(alloc, &[HELLO_AT_0, HELLO_AT_64, HELLO_AT_128])?;
+    Ok([start(alloc, 0)?, blocks])
+}
+
+// A refused request for memory is told as NoMemory and changes nothing, and the call may be made again:
+// bench/refused_test_memory.py runs this test for each of its requests for memory, which it refuses.
+#[test]
+fn refused_memory_changes_nothing(rt: HostRuntime) -> Result<(), Fail> {
+    let alloc = rt.alloc();
+    let commands = match commands(alloc) {
+        Ok(commands) => commands,
+        Err(_) => commands(alloc)?,
+    };
+    let mut book = Book::new(alloc, 2);
+    for command in &commands {
+        let next = book.next_recording();
+        if let Err(refusal) = book.apply(command) {
+            assert_eq!(rt; refusal, Refusal::NoMemory);
+            assert_eq!(rt; book.next_recording(), next);
+            book.apply(command)?;
+        }
+    }
+    assert_eq!(rt;
+        book.recording(&0).map(Recording::recorded_position),
+        Some(192)
+    );
+    let replayed = match book.replay(alloc, &0, &0, &LAST_NUMBER) {
+        Err(Refusal::NoMemory) => book.replay(alloc, &0, &0, &LAST_NUMBER)?,
+        replayed => replayed?,
+    };
+    assert_eq!(rt; replayed.len(), 3);
+    Ok(())
+}
+
+// A poll copies the frames that it gives and no other: bench/refused_test_memory.py counts its requests for memory,
+// a list and the bytes of each frame given.
+#[test]
+fn counted_memory_of_a_late_poll(rt: HostRuntime) -> Result<(), Fail> {
+    let alloc = rt.alloc();
+    let book = three_hellos(alloc)?;
+    let recording = book.recording(&0).ok_or("no recording")?;
+    for _ in 0..100 {
+        assert_eq!(rt; recording.poll(alloc, &128, &LAST_NUMBER, 10)?.len(), 1);
+    }
+    Ok(())
+}
