@@ -13,8 +13,8 @@ use Rattle.archive_model.specs.Keyed.{find, change}
 use Rattle.archive_model.specs.State.{Recording, is_active, recorded_position, geometry_of}
 use Rattle.archive_model.specs.Commands.{recorded_in, reply_to}
 use Rattle.archive_model.specs.Acceptance.{NoneHolds, ComesFirst, before, checks, recording_in, is_full, book_after, BookState, Continue, Of, Answers, rules_of}
-use Rattle.control_core.specs.declared.desk.RecorderSession.{RecorderSession}
-use Rattle.control_core.specs.declared.desk.Written.{Written}
+use Rattle.control_core.specs.declared.callers.RecorderSession.{RecorderSession}
+use Rattle.control_core.specs.declared.callers.Written.{Written}
 use Rattle.control_core.specs.Control.{Control, session_number, with_written, written_to}
 use Rattle.control_core.specs.Rules.{HoldsOf, session_rules, write_rules, settle_rules, Continues, ContinuesAt}
 use Rattle.control_core.specs.Calls.{BlockEnds, BytesEnd, IsReadAs, OrNoMemory, geometry_in, session_geometry, after_write, after_settle, recording_of}

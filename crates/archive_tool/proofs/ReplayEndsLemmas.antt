@@ -7,7 +7,7 @@ use Rattle.archive_model.specs.Keyed.{find}
 use Rattle.archive_model.specs.State.{Recording}
 use Rattle.archive_model.specs.Replay.{is_boundary}
 use Rattle.archive_model.specs.Acceptance.{NoneHolds, checks, recording_in}
-use Rattle.control_core.specs.declared.desk.OpenReplay.{OpenReplay}
+use Rattle.control_core.specs.declared.callers.OpenReplay.{OpenReplay}
 use Rattle.control_core.specs.Control.{Control, last_number, replay_number}
 use Rattle.control_core.specs.Rules.{open_rules, opening_position, poll_rules, is_from_to}
 use Rattle.control_core.specs.Calls.{OpenEnds, after_open, start_in, PollEnds, poll_reply, after_poll}

@@ -1,4 +1,4 @@
-//! An archive in memory: the book of its recordings, and the desk of its sessions and replays.
+//! An archive in memory: the book of its recordings, and what it keeps of its callers.
 
 ghost use Rattle.std.specs.Prelude.{◌≡◌, ◌∷◌, [], MatchOption, IfOk};
 ghost use Rattle.frame_core.specs.Block.{end_position};
@@ -11,7 +11,7 @@ use crate::listing::descriptors;
 use crate::parameters::{bound_of, is_listing, is_poll, is_replay, opening_position};
 use crate::polling::{end_of, next_frames, next_of};
 use archive_model::{Book, Command, Recording, Reply, StartFields};
-use control_core::{Desk, Event, RecorderSession, Request, Written};
+use control_core::{Callers, Event, RecorderSession, Request, Written};
 use frame_core::limits::{LAST_NUMBER, MAX_OPEN_REPLAYS};
 use frame_core::{Block, Items, Refusal, block_end, block_of};
 use std::alloc::{AllocError, Global};
@@ -22,7 +22,7 @@ use std::marker::Model;
 pub struct Archive {
     alloc: Global,
     book: Book,
-    desk: Desk,
+    callers: Callers,
 }
 
 impl Model for Archive {
@@ -33,10 +33,10 @@ impl Model for Archive {
 
     ghost view = { λ a. record {
       book = a.book;
-      sessions = a.desk.sessions;
-      replays = a.desk.replays;
-      next_session = a.desk.next_session;
-      next_replay = a.desk.next_replay;
+      sessions = a.callers.sessions;
+      replays = a.callers.replays;
+      next_session = a.callers.next_session;
+      next_replay = a.callers.next_replay;
       is_broken = false;
     } };
 }
@@ -49,7 +49,7 @@ impl Archive {
         Archive {
             alloc,
             book: Book::new(alloc, history),
-            desk: Desk::new(alloc),
+            callers: Callers::new(alloc),
         }
     }
 
@@ -58,16 +58,16 @@ impl Archive {
         ensures { OrNoMemory self.old (StartEnds self.old fields.now) result self.new }
     {
         let recording = self.book.next_recording();
-        let session = self.desk.next_session();
+        let session = self.callers.next_session();
         if !fields.is_in_range() {
             return Err(Refusal::BadParameter);
         }
         if session == LAST_NUMBER {
             return Err(Refusal::MaxRecordings);
         }
-        self.desk.add_session(recording)?;
+        self.callers.add_session(recording)?;
         if let Err(refusal) = self.book.start(fields) {
-            self.desk.withdraw_session(session);
+            self.callers.withdraw_session(session);
             return Err(refusal);
         }
         Ok(Reply::Started { recording, session })
@@ -106,14 +106,15 @@ impl Archive {
         if !found.is_boundary(&at) {
             return Err(Refusal::BadPosition);
         }
-        if self.desk.open_replays() >= MAX_OPEN_REPLAYS {
+        if self.callers.open_replays() >= MAX_OPEN_REPLAYS {
             return Err(Refusal::MaxReplays);
         }
-        let replay = self.desk.next_replay();
+        let replay = self.callers.next_replay();
         if replay == LAST_NUMBER {
             return Err(Refusal::MaxReplays);
         }
-        self.desk.add_replay(*recording, at, bound_of(&at, size))?;
+        self.callers
+            .add_replay(*recording, at, bound_of(&at, size))?;
         Ok(Reply::ReplayOpened { replay })
     }
 
@@ -125,7 +126,7 @@ impl Archive {
         if !is_poll(most) {
             return Err(Refusal::BadParameter);
         }
-        let Some(replay) = self.desk.replay(number) else {
+        let Some(replay) = self.callers.replay(number) else {
             return Err(Refusal::UnknownReplay);
         };
         let Some(recording) = self.book.recording(&replay.recording) else {
@@ -134,7 +135,7 @@ impl Archive {
         let frames = next_frames(self.alloc, recording, &replay, most)?;
         let end = end_of(&replay.next, frames.as_slice());
         let next = next_of(&replay, recording, &end);
-        self.desk.set_next(number, end);
+        self.callers.set_next(number, &end);
         Ok(Reply::Polled { frames, next })
     }
 
@@ -143,7 +144,7 @@ impl Archive {
     pub fn block(&mut self, session: &i64, bytes: &[u8]) -> Result<Reply, Refusal>
         ensures { OrNoMemory self.old (BytesEnd self.old session.now bytes.now) result self.new }
     {
-        let Some(seat) = self.desk.session(session) else {
+        let Some(seat) = self.callers.session(session) else {
             return Err(Refusal::StaleSession);
         };
         let Some(recording) = self.book.recording(&seat.recording) else {
@@ -161,7 +162,7 @@ impl Archive {
         }
         if self.book.is_full() {
             let first = block.position;
-            self.desk
+            self.callers
                 .set_written(session, Some(Written { first, last }));
             return Err(Refusal::HistoryFull);
         }

@@ -4,3 +4,5 @@ mod HexCaseLemmas
 mod WordLemmas
 mod LineTextLemmas
 pub mod ChangeLemmas
+mod ListingLemmas
+mod FragmentLemmas

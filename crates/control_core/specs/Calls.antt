@@ -19,8 +19,8 @@ use Rattle.archive_model.specs.Keyed.{find, change}
 use Rattle.archive_model.specs.State.{Recording, is_active, recorded_position, geometry_of}
 use Rattle.archive_model.specs.Acceptance.{Rules, NoneHolds, ComesFirst, checks, book_after, recording_in}
 use Rattle.archive_model.specs.Replay.{polled}
-use Rattle.control_core.specs.declared.desk.RecorderSession.{RecorderSession}
-use Rattle.control_core.specs.declared.desk.OpenReplay.{OpenReplay}
+use Rattle.control_core.specs.declared.callers.RecorderSession.{RecorderSession}
+use Rattle.control_core.specs.declared.callers.OpenReplay.{OpenReplay}
 use Rattle.control_core.specs.Control.{Control, session_number, replay_number, last_number, with_written, moved_to}
 use Rattle.control_core.specs.Rules.{session_rules, start_rules, list_rules, write_rules, settle_rules, open_rules, opening_position, poll_rules}
 

@@ -2,9 +2,9 @@
 use Rattle.std.specs.Prelude.{ℕ, ℤ, pos, Bool, false, List, [], Option, Some, None}
 use Rattle.archive_model.specs.State.{empty}
 use Rattle.archive_model.specs.Acceptance.{BookState}
-use Rattle.control_core.specs.declared.desk.RecorderSession.{RecorderSession}
-use Rattle.control_core.specs.declared.desk.OpenReplay.{OpenReplay}
-use Rattle.control_core.specs.declared.desk.Written.{Written}
+use Rattle.control_core.specs.declared.callers.RecorderSession.{RecorderSession}
+use Rattle.control_core.specs.declared.callers.OpenReplay.{OpenReplay}
+use Rattle.control_core.specs.declared.callers.Written.{Written}
 
 -- The recordings with the next id and the history's count and limit, the recorder sessions and the open replays by
 -- rising number, the next numbers of both, and whether a write has failed.
@@ -42,12 +42,16 @@ abbrev pub written_to : Option Written → ℤ → ℤ
 written_to None recorded = recorded
 written_to (Some written) recorded = written.last
 
--- the sessions and replays alone, which the desk keeps
-pub record Seats : Type 0 where
+-- what an archive keeps of its callers: recorder sessions and open replays by rising number, and the next numbers
+pub record CallersState : Type 0 where
   pub sessions : List RecorderSession
   pub replays : List OpenReplay
   pub next_session : ℤ
   pub next_replay : ℤ
+
+-- no sessions and no replays
+abbrev pub no_callers : CallersState
+no_callers = record { sessions = []; replays = []; next_session = pos 0; next_replay = pos 0 }
 
 -- what a session has written
 abbrev pub with_written : Option Written → RecorderSession → RecorderSession

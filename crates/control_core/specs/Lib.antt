@@ -7,6 +7,8 @@ pub mod LineText
 pub mod ReplyText
 pub mod RefusalText
 pub mod Control
+pub mod Desk
+pub mod Decisions
 pub mod Rules
 pub mod Calls
 pub mod Answers

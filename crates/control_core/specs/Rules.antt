@@ -10,8 +10,8 @@ use Rattle.archive_model.specs.declared.command.Command.TheVariants.{Start}
 use Rattle.archive_model.specs.State.{Recording, geometry_of, publication_of, is_active, recorded_position}
 use Rattle.archive_model.specs.Acceptance.{Rules, rules_of, recording_in, is_full}
 use Rattle.archive_model.specs.Replay.{is_boundary}
-use Rattle.control_core.specs.declared.desk.RecorderSession.{RecorderSession}
-use Rattle.control_core.specs.declared.desk.OpenReplay.{OpenReplay}
+use Rattle.control_core.specs.declared.callers.RecorderSession.{RecorderSession}
+use Rattle.control_core.specs.declared.callers.OpenReplay.{OpenReplay}
 use Rattle.control_core.specs.Control.{Control, last_number, written_to}
 
 -- a fact of what has to be there

@@ -1,213 +1,111 @@
-//! Recorder sessions and open replays.
+//! All that an archive knows but its frames. docs/CONTROL.md, "Control state".
 
-ghost use Rattle.std.specs.Prelude.{◌≡◌, ◌+ℤ◌, pos, ◌++◌, ◌∷◌, [], ◌<ℤ◌, length, ◌-◌, take, OnOk, OnErr};
+ghost use Rattle.std.specs.Prelude.{◌≡◌, length, option_copied, IfSome, ◌&&◌};
+ghost use Rattle.std.specs.List.{list_any};
+ghost use Rattle.archive_model.specs.Register.{HasLayout, may_begin, may_record, registration_in, no_recordings};
+ghost use Rattle.control_core.specs.Control.{no_callers};
+ghost use Rattle.control_core.specs.Desk.{new_desk, has_room, has_session_number, is_replayed, is_replay_before};
 
-use archive_model::{Numbered, place_of};
-use std::alloc::{AllocError, Global};
+use crate::callers::Callers;
+use archive_model::{Register, Registration};
+use frame_core::limits::LAST_NUMBER;
+use std::alloc::Global;
 use std::marker::Model;
 
-/// Where blocks lie that are written and not settled.
-#[derive(Clone, Copy, Debug, PartialEq, Eq)]
-pub struct Written {
-    /// Where the first block begins, in bytes of the stream.
-    pub first: i64,
-    /// Where the last block ends, in bytes of the stream.
-    pub last: i64,
-}
-
-/// Who writes a recording: docs/CONTROL.md, "Recorder sessions".
-#[derive(Clone, Copy, Debug, PartialEq, Eq)]
-pub struct RecorderSession {
-    /// Its number, from 0 at each opening.
-    pub number: i64,
-    /// The recording that it writes.
-    pub recording: i64,
-    /// What it wrote and did not settle.
-    pub written: Option<Written>,
-}
-
-/// A replay that is open: docs/CONTROL.md, "Replays".
-#[derive(Clone, Copy, Debug, PartialEq, Eq)]
-pub struct OpenReplay {
-    /// Its number, from 0 at each opening.
-    pub number: i64,
-    /// The recording that it gives.
-    pub recording: i64,
-    /// Where its next frame begins, in bytes of the stream.
-    pub next: i64,
-    /// Where it ends, in bytes of the stream: it gives frames that begin before it.
-    pub bound: i64,
-}
-
-impl Numbered for RecorderSession {
-    ghost number_of = { λ s. s.number };
-
-    fn has_number(&self, number: &i64) -> bool {
-        self.number == *number
-    }
-}
-
-impl Numbered for OpenReplay {
-    ghost number_of = { λ r. r.number };
-
-    fn has_number(&self, number: &i64) -> bool {
-        self.number == *number
-    }
-}
-
-/// The recorder sessions and the open replays of an archive, each by rising number.
+/// The recordings without their frames, the callers' sessions and replays, how many entries of the history count and may,
+/// and whether a write has failed.
 #[derive(Drop)]
 pub struct Desk {
-    sessions: Vec<RecorderSession>,
-    replays: Vec<OpenReplay>,
-    next_session: i64,
-    next_replay: i64,
+    register: Register,
+    callers: Callers,
+    counted: u32,
+    limit: u32,
+    is_broken: bool,
 }
 
 impl Model for Desk {
-    ghost use Rattle.control_core.specs.Control.{Seats};
+    ghost use Rattle.control_core.specs.Desk.{DeskState};
 
-    ghost Value = { Seats };
+    ghost Value = { DeskState };
 
     ghost view = { λ d. record {
-      sessions = d.sessions.items;
-      replays = d.replays.items;
-      next_session = d.next_session;
-      next_replay = d.next_replay;
+      register = d.register.state;
+      callers = d.callers;
+      counted = d.counted;
+      limit = d.limit;
+      is_broken = d.is_broken;
     } };
 }
 
 impl Desk {
-    ghost use Rattle.archive_model.specs.Keyed.{find, change};
-    ghost use Rattle.control_core.specs.Control.{Seats, session_number, replay_number, with_written, moved_to};
-
-    /// No sessions and no replays. Takes no memory.
-    pub fn new(alloc: Global) -> Desk
-        ensures { result ≡ record { sessions = []; replays = []; next_session = pos 0; next_replay = pos 0 } }
+    /// The desk of an archive without recordings, whose history may have so many entries. Does not allocate.
+    pub fn new(alloc: Global, limit: u32) -> Desk
+        ensures { result ≡ new_desk limit }
     {
         Desk {
-            sessions: Vec::new(alloc),
-            replays: Vec::new(alloc),
-            next_session: 0,
-            next_replay: 0,
+            register: Register::new(alloc),
+            callers: Callers::new(alloc),
+            counted: 0,
+            limit,
+            is_broken: false,
         }
     }
 
-    /// The session of a number. Costs the sessions that are open.
-    pub fn session(&self, number: &i64) -> Option<RecorderSession>
-        ensures { result ≡ find session_number number.now self.now.sessions }
+    /// The recording of an id. In constant time.
+    pub fn recording(&self, id: &i64) -> Option<&Registration>
+        ensures found { option_copied result ≡ registration_in self.now.register id.now }
+        ensures layout { IfSome result (λ r. HasLayout r.now.descriptor) }
     {
-        let place = place_of(self.sessions.as_slice(), number)?;
-        Some(self.sessions[place])
+        self.register.recording(id)
     }
 
-    /// The open replay of a number. Costs the replays that are open.
-    pub fn replay(&self, number: &i64) -> Option<OpenReplay>
-        ensures { result ≡ find replay_number number.now self.now.replays }
+    /// The recordings, by rising id.
+    pub fn recordings(&self) -> &[Registration]
+        ensures { result.now ≡ self.now.register.recordings }
     {
-        let place = place_of(self.replays.as_slice(), number)?;
-        Some(self.replays[place])
+        self.register.recordings()
     }
 
-    /// How many replays are open.
-    pub fn open_replays(&self) -> usize
-        ensures { result ≡ length self.now.replays }
+    /// Whether a write has failed.
+    pub fn is_broken(&self) -> bool
+        ensures { result ≡ self.now.is_broken }
     {
-        self.replays.len()
+        self.is_broken
     }
 
-    /// The number that the next session gets.
-    pub fn next_session(&self) -> i64
-        ensures { result ≡ self.now.next_session }
+    /// Whether the history has room for one more entry.
+    pub fn has_room(&self) -> bool
+        ensures { result ≡ has_room self.now }
     {
-        self.next_session
+        self.counted < self.limit
     }
 
-    /// The number that the next replay gets.
-    pub fn next_replay(&self) -> i64
-        ensures { result ≡ self.now.next_replay }
+    /// Whether one more recording may begin: there are fewer than 1,024, and there is an id for it.
+    pub fn may_begin(&self) -> bool
+        ensures { result ≡ may_begin self.now.register }
     {
-        self.next_replay
+        self.register.may_begin()
     }
 
-    /// A new session of a recording. Where memory is refused, nothing has changed.
-    pub fn add_session(&mut self, recording: i64) -> Result<(), AllocError>
-        requires { self.old.next_session <ℤ pos 9223372036854775807 }
-        ensures ok { OnOk result (self.new ≡ record self.old {
-          sessions = self.old.sessions ++ record {
-            number = self.old.next_session;
-            recording = recording;
-            written = None;
-          } ∷ [];
-          next_session = self.old.next_session +ℤ pos 1;
-        }) }
-        ensures err { OnErr result (self.new ≡ self.old) }
+    /// Whether one more recorder session may open: fewer than 64 recordings are active, and there is a number for it.
+    /// Costs a lookup at each recording.
+    pub fn may_record(&self) -> bool
+        ensures { result ≡ (may_record self.now.register && has_session_number self.now) }
     {
-        self.sessions.push(RecorderSession {
-            number: self.next_session,
-            recording,
-            written: None,
-        })?;
-        self.next_session += 1;
-        Ok(())
+        self.register.may_record() && self.callers.next_session() != LAST_NUMBER
     }
 
-    /// A new replay. Where memory is refused, nothing has changed.
-    pub fn add_replay(&mut self, recording: i64, next: i64, bound: i64) -> Result<(), AllocError>
-        requires { self.old.next_replay <ℤ pos 9223372036854775807 }
-        ensures ok { OnOk result (self.new ≡ record self.old {
-          replays = self.old.replays ++ record {
-            number = self.old.next_replay;
-            recording = recording;
-            next = next;
-            bound = bound;
-          } ∷ [];
-          next_replay = self.old.next_replay +ℤ pos 1;
-        }) }
-        ensures err { OnErr result (self.new ≡ self.old) }
+    /// Whether a replay of a recording is open. Costs a lookup at each open replay.
+    pub fn is_replayed(&self, recording: &i64) -> bool
+        ensures { result ≡ is_replayed self.now recording.now }
     {
-        self.replays.push(OpenReplay {
-            number: self.next_replay,
-            recording,
-            next,
-            bound,
-        })?;
-        self.next_replay += 1;
-        Ok(())
+        self.callers.is_replayed(recording)
     }
 
-    /// What a session has written and not settled. Costs the sessions that are open.
-    pub fn set_written(&mut self, number: &i64, written: Option<Written>)
-        ensures { self.new ≡ record self.old {
-          sessions = change session_number number.now (with_written written) self.old.sessions;
-        } }
+    /// Whether an open replay of a recording goes on below a position. Costs a lookup at each open replay.
+    pub fn is_replayed_below(&self, recording: &i64, position: &i64) -> bool
+        ensures { result ≡ list_any (is_replay_before recording.now position.now) self.now.callers.replays }
     {
-        let Some(place) = place_of(self.sessions.as_slice(), number) else {
-            return;
-        };
-        self.sessions[place].written = written;
-    }
-
-    /// Where a replay goes on. Costs the replays that are open.
-    pub fn set_next(&mut self, number: &i64, next: i64)
-        ensures { self.new ≡ record self.old {
-          replays = change replay_number number.now (moved_to next) self.old.replays;
-        } }
-    {
-        let Some(place) = place_of(self.replays.as_slice(), number) else {
-            return;
-        };
-        self.replays[place].next = next;
-    }
-
-    /// The last session is gone again, and the next one gets this number.
-    pub fn withdraw_session(&mut self, number: i64)
-        ensures { self.new ≡ record self.old {
-          sessions = take (length self.old.sessions - 1) self.old.sessions;
-          next_session = number;
-        } }
-    {
-        let _ = self.sessions.pop();
-        self.next_session = number;
+        self.callers.is_replayed_below(recording, position)
     }
 }

@@ -1,6 +1,9 @@
 //! What is asked of an archive and what it answers, as values and as lines of text, and what it keeps of its callers.
 #![tactic(auto)]
 
+mod callers;
+mod deciding;
+mod decision;
 mod desk;
 mod event;
 pub mod laws;
@@ -13,7 +16,10 @@ mod refusal_line;
 mod request;
 mod words;
 
-pub use desk::{Desk, OpenReplay, RecorderSession, Written};
+pub use callers::{Callers, OpenReplay, RecorderSession, Written};
+pub use deciding::decide;
+pub use decision::Decision;
+pub use desk::Desk;
 pub use event::Event;
 pub use line::Line;
 pub use merge_line::MergeLine;
