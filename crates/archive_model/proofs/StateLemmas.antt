@@ -50,7 +50,7 @@ module _ {X : Type 0} (number : X → ℤ) (P : X → Type 0) where
       by true later = all.1
       by false later = (all.0, later)
 
-  each_found : (n : ℤ) (xs : List X) (x : X) → Each P xs → find number n xs ≡ Some x → P x
+  pub each_found : (n : ℤ) (xs : List X) (x : X) → Each P xs → find number n xs ≡ Some x → P x
   each_found n [] x all found = absurd cc
   each_found n (y ∷ ys) x all found = by (int_eq n (number y)) found (each_found n ys x all.1)
     where
@@ -59,7 +59,7 @@ module _ {X : Type 0} (number : X → ℤ) (P : X → Type 0) where
       by false is later = later is
 
 module _ {X : Type 0} (number : X → ℤ) where
-  rise_change : (n low next : ℤ) (f : X → X) (xs : List X) → ((x : X) → number (f x) ≡ number x) → Rise number low xs next → Rise number low (change number n f xs) next
+  pub rise_change : (n low next : ℤ) (f : X → X) (xs : List X) → ((x : X) → number (f x) ≡ number x) → Rise number low xs next → Rise number low (change number n f xs) next
   rise_change n low next f [] same rising = rising
   rise_change n low next f (x ∷ xs) same rising = by (int_eq n (number x)) (rise_change n (number x +ℤ pos 1) next f xs same rising.1)
     where
@@ -251,7 +251,7 @@ kept_restarted : (r : Recording) (b : Bool) → IsKept r → IsKept (cond b (sto
 kept_restarted r true kept = kept_stopped (negsuc 0) r kept
 kept_restarted r false kept = kept
 
-restarted_id : (r : Recording) (b : Bool) → id_of (cond b (stopped (negsuc 0) r) r) ≡ id_of r
+pub restarted_id : (r : Recording) (b : Bool) → id_of (cond b (stopped (negsuc 0) r) r) ≡ id_of r
 restarted_id r true = refl
 restarted_id r false = refl
 
@@ -272,11 +272,11 @@ cut_of b id p r (said, says, pass) found =
     let begins : said ≡ begins_frame p r = says ∙ ap (λ (o : Option Recording). begins_in o p) found in
     ap (λ t. is_boundary_by t p (registration_of r)) (sym begins) ∙ sym (of_found id b.state.recordings r (is_boundary_by said p) found) ∙ holds
 
-base_of_purge : (b : BookState) (id p : ℤ) (r : Recording) → Accepts b (PurgeSegments id p) → find id_of id b.state.recordings ≡ Some r → is_later_base p (registration_of r) ≡ true
+pub base_of_purge : (b : BookState) (id p : ℤ) (r : Recording) → Accepts b (PurgeSegments id p) → find id_of id b.state.recordings ≡ Some r → is_later_base p (registration_of r) ≡ true
 base_of_purge b id p r (said, says, pass) found =
     sym (of_found id b.state.recordings r (is_later_base p) found) ∙ (both (both pass).1).0
 
-rise_without : (id low next : ℤ) (rs : List Recording) → Rise id_of low rs next → Rise id_of low (without id_of id rs) next
+pub rise_without : (id low next : ℤ) (rs : List Recording) → Rise id_of low rs next → Rise id_of low (without id_of id rs) next
 rise_without id low next [] rising = rising
 rise_without id low next (r ∷ rs) rising = by (int_eq id (id_of r)) (rise_without id (id_of r +ℤ pos 1) next rs rising.1)
   where
@@ -288,7 +288,7 @@ rise_without id low next (r ∷ rs) rising = by (int_eq id (id_of r)) (rise_with
     by true later = lower (id_of r +ℤ pos 1) low rs (omega (arith, ints, rising.0)) rising.1
     by false later = (rising.0, later)
 
-rise_restarted : (low next : ℤ) (rs : List Recording) → Rise id_of low rs next → Rise id_of low (map restarted rs) next
+pub rise_restarted : (low next : ℤ) (rs : List Recording) → Rise id_of low rs next → Rise id_of low (map restarted rs) next
 rise_restarted low next [] rising = rising
 rise_restarted low next (r ∷ rs) rising = rw (restarted_id r (is_active r)) (rising.0, rise_restarted (id_of r +ℤ pos 1) next rs rising.1)
 

@@ -4,16 +4,8 @@ use Rattle.frame_core.specs.declared.frame.Frame.{Frame}
 use Rattle.frame_core.specs.declared.geometry.Geometry.{Geometry}
 use Rattle.frame_core.specs.FrameEncoding.{aligned_length}
 use Rattle.frame_core.specs.Position.{HasPosition}
-use Rattle.archive_model.specs.declared.command.Command.{Command}
-use Rattle.archive_model.specs.declared.command.Command.TheVariants.{Start, Append}
 use Rattle.archive_model.specs.State.{Recording, empty, geometry_of}
 use Rattle.archive_model.specs.Acceptance.{BookState}
-
--- a command that records
-abbrev pub Records : Command → Type 0
-Records (Start f) = Unit {0}
-Records (Append id blocks) = Unit {0}
-Records _ = ⊥
 
 -- frames that follow one another without a gap from a position, each inside its term
 abbrev pub AreContiguous : Geometry → ℤ → List Frame → Type 0

@@ -1,8 +1,10 @@
 -- States that accepted commands make.
-use Rattle.std.specs.Prelude.{◌≡◌, ◌≤ℤ◌, pos, true, false, List, [], ◌∷◌}
+use Rattle.std.specs.Ordering.{int_eq}
+use Rattle.std.specs.Prelude.{◌≡◌, ◌≤ℤ◌, ℤ, pos, Bool, true, false, List, [], ◌∷◌}
 use Rattle.frame_core.specs.Block.{AreEncodable}
 use Rattle.frame_core.specs.Limits.{is_term_length}
 use Rattle.archive_model.specs.declared.command.Command.{Command}
+use Rattle.archive_model.specs.declared.command.Command.TheVariants.{PurgeRecording, Truncate}
 use Rattle.archive_model.specs.Keyed.{Each, Rise}
 use Rattle.archive_model.specs.State.{Recording, State, id_of, is_active, recorded_position}
 use Rattle.archive_model.specs.Acceptance.{BookState, book_after}
@@ -29,3 +31,9 @@ pub record IsWell (s : State) : Type 0 where
 abbrev pub AreAccepted : BookState → List Command → Type 0
 AreAccepted b [] = Unit {0}
 AreAccepted b (c ∷ cs) = Accepts b c × AreAccepted (book_after b c) cs
+
+-- a command that truncates or removes the recording of an id
+abbrev pub cuts : ℤ → Command → Bool
+cuts id (Truncate other position) = int_eq id other
+cuts id (PurgeRecording other) = int_eq id other
+cuts id _ = false

@@ -1,19 +1,18 @@
 //! Laws of the definitions, each the contract of a function that does nothing.
 
-ghost use Rattle.std.specs.Prelude.{◌≡◌, ◌≤ℤ◌, ◌<ℤ◌, ◌++◌, ℕ, ℤ, pos, IsTrue, List, Some};
+ghost use Rattle.std.specs.Prelude.{◌≡◌, ◌≤ℤ◌, ◌<ℤ◌, ◌++◌, ℕ, ℤ, pos, IsFalse, IsSomeAnd, IsTrue, List, Some};
 ghost use Rattle.frame_core.specs.declared.block.Block.{Block};
 ghost use Rattle.archive_model.specs.declared.command.Command.{Command};
 ghost use Rattle.archive_model.specs.State.{Recording as Recorded, State, empty, id_of, recorded_position, register_of, registration_of};
 ghost use Rattle.archive_model.specs.Keyed.{find, Rise};
 ghost use Rattle.archive_model.specs.Replay.{begins_frame, placed, placed_frames, replayed};
 ghost use Rattle.archive_model.specs.Commands.{after, after_all, appended, frames_of, purged, register_after, truncated};
-ghost use Rattle.archive_model.specs.Acceptance.{Of};
-ghost use Rattle.archive_model.specs.Histories.{Records, new_book};
+ghost use Rattle.archive_model.specs.Histories.{new_book};
 ghost use Rattle.archive_model.specs.Acceptance.{BookState};
 ghost use Rattle.archive_model.specs.Accepting.{Accepts};
 ghost use Rattle.archive_model.specs.Checks.{is_boundary_by};
 ghost use Rattle.archive_model.specs.Register.{is_later_base};
-ghost use Rattle.archive_model.specs.WellFormed.{AreAccepted, IsKept, IsWell};
+ghost use Rattle.archive_model.specs.WellFormed.{AreAccepted, IsKept, IsWell, cuts};
 
 /// Blocks that join a recording move no frame that is there: the new ones stand behind, from the recorded position on.
 #[tactic(auto, using(crate::proofs::ReplayLemmas::placed_appended))]
@@ -22,12 +21,14 @@ pub fn appending_moves_no_frame()
         placed_frames (appended blocks r) ≡ placed_frames r ++ placed (recorded_position r) (frames_of blocks) }
 {}
 
-/// While commands record, a recording stays, and its recorded position never falls.
+/// The recorded position of a recording falls in no command but a truncation of it, and it stays until it is purged.
 #[tactic(auto, using(crate::proofs::CommandsLemmas::never_falls))]
 pub fn the_recorded_position_never_falls()
-    ensures { (s : State) (c : Command) → Records c →
-        (id : ℤ) (r : Recorded) → find id_of id s.recordings ≡ Some r →
-        Of (find id_of id (after s c).recordings) (λ new. recorded_position r ≤ℤ recorded_position new) }
+    ensures { (b : BookState) (c : Command) → IsWell b.state → Accepts b c →
+        (id : ℤ) (r : Recorded) → IsFalse (cuts id c) →
+        find id_of id b.state.recordings ≡ Some r →
+        IsSomeAnd (find id_of id (after b.state c).recordings)
+        (λ new. recorded_position r ≤ℤ recorded_position new) }
 {}
 
 /// A replay from the start to behind the recorded position gives all frames.
