@@ -1,10 +1,13 @@
 //! The plain book of an archive: scenarios of docs/SCENARIOS.md at archive_model's calls.
 
 use crate::vectors::{HELLO_AT_0, HELLO_AT_64, HELLO_AT_128, HELLO_IN_NEXT_TERM, PAD_AT_TERM_END};
-use archive_model::{Book, Channel, Command, Recording, Reply, StartFields};
+use archive_model::{
+    Book, Change, Channel, Command, Recording, Register, Registration, Reply, StartFields,
+};
 use frame_core::limits::LAST_NUMBER;
 use frame_core::{Geometry, Items, Refusal, block_of};
 use std::alloc::Global;
+use std::process::Abort;
 use std::test::Fail;
 
 const TERMS: Geometry = Geometry {
@@ -13,9 +16,9 @@ const TERMS: Geometry = Geometry {
     mtu: 1_408,
 };
 
-// The line `start 1001 7 42 65536 1408 131072 0 1000 c`, from another start position.
-fn start(alloc: Global, start_position: i64) -> Result<Command, Refusal> {
-    Ok(Command::Start(StartFields {
+// The fields of the line `start 1001 7 42 65536 1408 131072 0 1000 c`, from another start position.
+fn fields(alloc: Global, start_position: i64) -> Result<StartFields, Refusal> {
+    Ok(StartFields {
         stream_id: 1001,
         session_id: 7,
         initial_term_id: 42,
@@ -25,7 +28,11 @@ fn start(alloc: Global, start_position: i64) -> Result<Command, Refusal> {
         start_position,
         timestamp: 1_000,
         channel: Channel::new(String::from_str(alloc, "c")?),
-    }))
+    })
+}
+
+fn start(alloc: Global, start_position: i64) -> Result<Command, Refusal> {
+    Ok(Command::Start(fields(alloc, start_position)?))
 }
 
 // Blocks of the first recording, each of a vector's frames.
@@ -136,5 +143,45 @@ fn counted_memory_of_a_late_poll(rt: HostRuntime) -> Result<(), Fail> {
     for _ in 0..100 {
         assert_eq!(rt; recording.poll(alloc, &128, &LAST_NUMBER, 10)?.len(), 1);
     }
+    Ok(())
+}
+
+// A register with one recording, which this change was made of.
+fn registered(rt: &impl Abort, alloc: Global, change: &Change) -> Result<Register, Fail> {
+    let mut register = Register::new(alloc);
+    let begun = Registration::begun(alloc, &register.next_recording(), &fields(alloc, 0)?)?;
+    assert!(rt; begun.descriptor.term_length > 0);
+    assert!(rt; begun.descriptor.segment_length > 0);
+    register.reserve()?;
+    register.add(begun)?;
+    register.change(&0, change);
+    Ok(register)
+}
+
+#[test]
+fn a_register_takes_changes(rt: HostRuntime) -> Result<(), Fail> {
+    for (change, start, recorded, stop) in [
+        (Change::Settle { position: 64 }, 0, 64, -1),
+        (Change::Stop { timestamp: 2_000 }, 0, 0, 0),
+        (Change::Truncate { position: 32 }, 0, 32, 32),
+        (Change::PurgeSegments { position: 131_072 }, 131_072, 0, -1),
+        (Change::Extend { session_id: 8 }, 0, 0, -1),
+    ] {
+        let register = registered(&rt, rt.alloc(), &change)?;
+        let found = register.recording(&0).ok_or("no recording")?;
+        assert!(rt; found.recorded == recorded && found.descriptor.start_position == start);
+        assert!(rt; found.descriptor.stop_position == stop && register.next_recording() == 1);
+    }
+    Ok(())
+}
+
+#[test]
+fn a_register_restarts_and_forgets(rt: HostRuntime) -> Result<(), Fail> {
+    let mut register = registered(&rt, rt.alloc(), &Change::Settle { position: 64 })?;
+    assert!(rt; register.active_count() == 1);
+    register.restart();
+    assert!(rt; register.active_count() == 0 && register.may_begin() && register.may_record());
+    register.remove(&0);
+    assert!(rt; register.recordings().is_empty() && register.next_recording() == 1);
     Ok(())
 }

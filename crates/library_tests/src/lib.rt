@@ -15,4 +15,6 @@ mod lines;
 #[cfg(test)]
 mod merges;
 #[cfg(test)]
+mod requests;
+#[cfg(test)]
 mod vectors;
