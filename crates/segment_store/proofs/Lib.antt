@@ -5,3 +5,5 @@ pub mod MomentLemmas
 pub mod ReadLemmas
 pub mod DurableLemmas
 pub mod SweepLemmas
+pub mod WindowLemmas
+pub mod ChainLemmas

@@ -6,3 +6,4 @@ pub mod Boundary
 pub mod Stale
 -- what only private functions say
 pub mod Reading
+pub mod Window

@@ -1,6 +1,7 @@
 //! Segment files: frames stored at their positions, read back, boundaries told, stale files swept.
 #![tactic(auto)]
 
+mod boundary;
 mod check;
 mod keep;
 pub mod laws;
@@ -9,6 +10,7 @@ mod read;
 mod sweep;
 mod write;
 
+pub use boundary::is_boundary;
 pub use keep::Keep;
 pub use layout::{Layout, base_of};
 pub use read::read_frame;
