@@ -17,4 +17,6 @@ mod merges;
 #[cfg(test)]
 mod requests;
 #[cfg(test)]
+mod segments;
+#[cfg(test)]
 mod vectors;

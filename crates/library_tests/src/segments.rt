@@ -1,0 +1,178 @@
+//! Segment files: the scenarios of docs/SCENARIOS.md that speak of them, what a crash leaves of a torn block, and device
+//! calls counted.
+
+use crate::vectors::{HELLO_AT_0, HELLO_AT_64, HELLO_IN_NEXT_TERM, PAD_AT_TERM_END};
+use disk_core::{Disk, FileId, MemoryDisk};
+use frame_core::{Frame, FrameKind, Geometry, Publication, Refusal, block_end, block_of};
+use segment_store::{
+    Keep, Layout, base_of, is_boundary, read_frame, stale_files, sweep_one, sync_segment,
+    write_block,
+};
+use std::alloc::{AllocError, Global};
+use std::process::Abort;
+use std::test::Fail;
+
+const GEOMETRY: Geometry = Geometry {
+    initial_term_id: 42,
+    term_length: 65_536,
+    mtu: 1_408,
+};
+
+const LAYOUT: Layout = Layout {
+    recording: 0,
+    stream_id: 1_001,
+    start_position: 0,
+    term_length: 65_536,
+    segment_length: 131_072,
+};
+
+const MID_STREAM: Layout = Layout {
+    recording: 0,
+    stream_id: 1_001,
+    start_position: 65_632,
+    term_length: 65_536,
+    segment_length: 131_072,
+};
+
+const FIRST: FileId = FileId::Segment {
+    recording: 0,
+    base: 0,
+};
+
+const PUBLICATION: Publication = Publication {
+    session_id: 7,
+    stream_id: 1_001,
+};
+
+// Writes a block of the recording.
+#[tactic(auto, using(crate::proofs::SegmentFacts::layout_of_the_tests))]
+fn store(
+    rt: &impl Abort,
+    alloc: Global,
+    disk: &mut MemoryDisk,
+    bytes: &[u8],
+) -> Result<(), Refusal> {
+    let block = block_of(alloc, &GEOMETRY, bytes)?;
+    assert!(rt; block.position >= 0);
+    assert!(rt; block_end(&GEOMETRY, &PUBLICATION, &block).is_some());
+    write_block(disk, &LAYOUT, &block)
+}
+
+// Syncs the recording's first segment.
+#[tactic(auto, using(crate::proofs::SegmentFacts::layout_of_the_tests))]
+fn synced(disk: &mut MemoryDisk) -> Result<(), Refusal> {
+    sync_segment(disk, &LAYOUT, 0)
+}
+
+// The frame at a position.
+#[tactic(auto, using(crate::proofs::SegmentFacts::layout_of_the_tests, crate::proofs::SegmentFacts::geometry_of_the_tests))]
+fn frame_at(
+    alloc: Global,
+    disk: &mut MemoryDisk,
+    position: u32,
+    limit: i64,
+) -> Result<Frame, Refusal> {
+    read_frame(alloc, disk, &LAYOUT, &GEOMETRY, i64::from(position), limit)
+}
+
+// Whether a position is a boundary.
+#[tactic(auto, using(crate::proofs::SegmentFacts::layout_of_the_tests, crate::proofs::SegmentFacts::geometry_of_the_tests))]
+fn told(disk: &mut MemoryDisk, recorded: i64, position: i64) -> Result<bool, Refusal> {
+    is_boundary(disk, &LAYOUT, &GEOMETRY, recorded, position)
+}
+
+// The bytes of the first segment file from an offset on.
+fn bytes_at(
+    alloc: Global,
+    disk: &mut MemoryDisk,
+    offset: u64,
+    size: usize,
+) -> Result<Vec<u8>, Fail> {
+    let mut bytes = vec![in alloc; 9; size]?;
+    let count = disk.read_at(FIRST, offset, bytes.as_mut_slice())?;
+    bytes.truncate(count);
+    Ok(bytes)
+}
+
+// Some bytes, and zeros behind them.
+fn filled_up(alloc: Global, bytes: &[u8], size: usize) -> Result<Vec<u8>, AllocError> {
+    let mut whole = bytes.to_vec(alloc)?;
+    whole.resize(size, 0)?;
+    Ok(whole)
+}
+
+#[test]
+fn a_pad_at_a_terms_end_and_its_file(rt: HostRuntime) -> Result<(), Fail> {
+    let alloc = rt.alloc();
+    let mut disk = MemoryDisk::new(alloc);
+    store(&rt, alloc, &mut disk, PAD_AT_TERM_END)?;
+    store(&rt, alloc, &mut disk, HELLO_IN_NEXT_TERM)?;
+    assert!(rt; disk.calls() == 2);
+    let pad = bytes_at(alloc, &mut disk, 65_472, 64)?;
+    assert!(rt; pad == filled_up(alloc, PAD_AT_TERM_END, 64)?);
+    let hello = bytes_at(alloc, &mut disk, 65_536, 100)?;
+    assert!(rt; hello == filled_up(alloc, HELLO_IN_NEXT_TERM, 64)?);
+    Ok(())
+}
+
+#[test]
+fn a_frame_costs_one_call(rt: HostRuntime) -> Result<(), Fail> {
+    let mut disk = MemoryDisk::new(rt.alloc());
+    store(&rt, rt.alloc(), &mut disk, PAD_AT_TERM_END)?;
+    let frame = frame_at(rt.alloc(), &mut disk, 65_472, 65_536)?;
+    assert!(rt; frame.kind == FrameKind::Pad && frame.length == 64);
+    assert!(rt; disk.calls() == 2);
+    let damaged = Refusal::Damaged {
+        recording: 0,
+        position: 0,
+    };
+    assert!(rt; told(&mut disk, 65_536, 65_536) == Err(damaged));
+    Ok(())
+}
+
+// What is found after a crash by a choice, where the second of two blocks and its sync stop after so many changes.
+fn torn(rt: &impl Abort, alloc: Global, stop: u64, choice: u8) -> Result<(), Fail> {
+    let mut disk = MemoryDisk::new(alloc);
+    store(rt, alloc, &mut disk, HELLO_AT_0)?;
+    synced(&mut disk)?;
+    disk.stop_after(stop);
+    let _ = store(rt, alloc, &mut disk, HELLO_AT_64);
+    let _ = synced(&mut disk);
+    let mut left = disk.crash(&[choice])?;
+    let first = frame_at(alloc, &mut left, 0, 64)?;
+    assert!(rt; first.payload.as_slice() == b"hello".as_slice() && told(&mut left, 64, 64)?);
+    let is_second = frame_at(alloc, &mut left, 64, 128).is_ok();
+    assert!(rt;
+        is_second == (stop == 2 || (stop == 1 && choice == 1)),
+        "{stop} {choice}"
+    );
+    Ok(())
+}
+
+#[test]
+fn synced_frames_stand_beside_a_torn_block(rt: HostRuntime) -> Result<(), Fail> {
+    for stop in 0..3u64 {
+        for choice in [0u8, 1, 255] {
+            torn(&rt, rt.alloc(), stop, choice)?;
+        }
+    }
+    Ok(())
+}
+
+#[test]
+fn a_sweep_removes_the_first_stale_file(rt: HostRuntime) -> Result<(), Fail> {
+    let mut disk = MemoryDisk::new(rt.alloc());
+    store(&rt, rt.alloc(), &mut disk, HELLO_AT_0)?;
+    let gone = [Keep::Below { next: 1 }];
+    assert!(rt; !sweep_one(&mut disk, &[])?);
+    assert!(rt; stale_files(&mut disk, &gone)?.as_slice() == [FIRST].as_slice());
+    assert!(rt; sweep_one(&mut disk, &gone)? && disk.len(FIRST)? == 0);
+    Ok(())
+}
+
+#[test]
+#[tactic(auto, using(crate::proofs::SegmentFacts::layout_from_mid_stream))]
+fn segments_of_a_recording_that_starts_mid_stream(rt: HostRuntime) {
+    assert!(rt; base_of(&MID_STREAM, 196_607) == 65_536);
+    assert!(rt; base_of(&MID_STREAM, 196_608) == 196_608);
+}
