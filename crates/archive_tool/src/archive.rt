@@ -10,7 +10,7 @@ ghost use Rattle.control_core.specs.Answers.{RequestEnds, EventEnds};
 use crate::listing::descriptors;
 use crate::parameters::{bound_of, is_listing, is_poll, is_replay, opening_position};
 use crate::polling::{end_of, next_frames, next_of};
-use archive_model::{Book, Command, Recording, Reply, StartFields};
+use archive_model::{Book, Recording, Reply, StartFields};
 use control_core::{Callers, Event, RecorderSession, Request, Written};
 use frame_core::limits::{LAST_NUMBER, MAX_OPEN_REPLAYS};
 use frame_core::{Block, Items, Refusal, block_end, block_of};

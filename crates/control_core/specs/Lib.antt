@@ -12,5 +12,3 @@ pub mod Decisions
 pub mod Rules
 pub mod Calls
 pub mod Answers
-
--- Where values stand in a list.

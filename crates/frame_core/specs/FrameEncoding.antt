@@ -72,10 +72,6 @@ pub record IsEncodable (f : Frame) : Type 0 where
 abbrev pub encoded : Frame → List ℕ
 encoded f = header_of f ++ f.payload
 
--- the bytes are the frame's encoding
-abbrev pub IsEncoding : Frame → List ℕ → Type 0
-IsEncoding f bytes = IsEncodable f × (bytes ≡ encoded f)
-
 -- rounded up to a multiple of 32
 abbrev pub aligned : ℕ → ℕ
 aligned n = (n + 31) / 32 * 32
