@@ -15,6 +15,8 @@ mod lines;
 #[cfg(test)]
 mod merges;
 #[cfg(test)]
+mod replays;
+#[cfg(test)]
 mod requests;
 #[cfg(test)]
 mod segments;

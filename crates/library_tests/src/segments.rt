@@ -12,13 +12,13 @@ use std::alloc::{AllocError, Global};
 use std::process::Abort;
 use std::test::Fail;
 
-const GEOMETRY: Geometry = Geometry {
+pub(crate) const GEOMETRY: Geometry = Geometry {
     initial_term_id: 42,
     term_length: 65_536,
     mtu: 1_408,
 };
 
-const LAYOUT: Layout = Layout {
+pub(crate) const LAYOUT: Layout = Layout {
     recording: 0,
     stream_id: 1_001,
     start_position: 0,
@@ -34,7 +34,7 @@ const MID_STREAM: Layout = Layout {
     segment_length: 131_072,
 };
 
-const FIRST: FileId = FileId::Segment {
+pub(crate) const FIRST: FileId = FileId::Segment {
     recording: 0,
     base: 0,
 };
@@ -46,7 +46,7 @@ const PUBLICATION: Publication = Publication {
 
 // Writes a block of the recording.
 #[tactic(auto, using(crate::proofs::SegmentFacts::layout_of_the_tests))]
-fn store(
+pub(crate) fn store(
     rt: &impl Abort,
     alloc: Global,
     disk: &mut MemoryDisk,
@@ -170,9 +170,63 @@ fn a_sweep_removes_the_first_stale_file(rt: HostRuntime) -> Result<(), Fail> {
     Ok(())
 }
 
+/// `hello`, term 43, offset 96: at the start of the recording that starts mid-stream, 65,632.
+const AT_THE_START: &[u8] =
+    b"\x25\0\0\0\0\xc0\x01\0\x60\0\0\0\x07\0\0\0\xe9\x03\0\0\x2b\0\0\0\0\0\0\0\0\0\0\0hello";
+
+/// `hello`, term 44, offset 65,472: the last frame of the first segment, at 196,544.
+const IN_THE_FIRST: &[u8] =
+    b"\x25\0\0\0\0\xc0\x01\0\xc0\xff\0\0\x07\0\0\0\xe9\x03\0\0\x2c\0\0\0\0\0\0\0\0\0\0\0hello";
+
+/// `hello`, term 45, offset 0: the first frame of the second segment, at 196,608.
+const IN_THE_SECOND: &[u8] =
+    b"\x25\0\0\0\0\xc0\x01\0\0\0\0\0\x07\0\0\0\xe9\x03\0\0\x2d\0\0\0\0\0\0\0\0\0\0\0hello";
+
+// Writes a block of the recording that starts mid-stream.
+#[tactic(auto, using(crate::proofs::SegmentFacts::layout_from_mid_stream))]
+fn store_mid_stream(
+    rt: &impl Abort,
+    alloc: Global,
+    disk: &mut MemoryDisk,
+    bytes: &[u8],
+) -> Result<(), Refusal> {
+    let block = block_of(alloc, &GEOMETRY, bytes)?;
+    assert!(rt; block.position >= 65_632);
+    assert!(rt; block_end(&GEOMETRY, &PUBLICATION, &block).is_some());
+    write_block(disk, &MID_STREAM, &block)
+}
+
+// Whether these bytes stand in a file of the recording that starts mid-stream, at an offset.
+fn holds(
+    alloc: Global,
+    disk: &mut MemoryDisk,
+    base: i64,
+    offset: u64,
+    frame: &[u8],
+) -> Result<bool, Fail> {
+    let file = FileId::Segment { recording: 0, base };
+    let mut bytes = vec![in alloc; 9; 64]?;
+    let count = disk.read_at(file, offset, bytes.as_mut_slice())?;
+    Ok(count == 64 && bytes == filled_up(alloc, frame, 64)?)
+}
+
+#[test]
+fn segments_of_a_recording_that_starts_mid_stream(rt: HostRuntime) -> Result<(), Fail> {
+    let alloc = rt.alloc();
+    let mut disk = MemoryDisk::new(alloc);
+    for bytes in [AT_THE_START, IN_THE_FIRST, IN_THE_SECOND] {
+        store_mid_stream(&rt, alloc, &mut disk, bytes)?;
+    }
+    assert!(rt; disk.list()?.len() == 2);
+    assert!(rt; holds(alloc, &mut disk, 65_536, 96, AT_THE_START)?);
+    assert!(rt; holds(alloc, &mut disk, 65_536, 131_008, IN_THE_FIRST)?);
+    assert!(rt; holds(alloc, &mut disk, 196_608, 0, IN_THE_SECOND)?);
+    Ok(())
+}
+
 #[test]
 #[tactic(auto, using(crate::proofs::SegmentFacts::layout_from_mid_stream))]
-fn segments_of_a_recording_that_starts_mid_stream(rt: HostRuntime) {
+fn bases_of_a_recording_that_starts_mid_stream(rt: HostRuntime) {
     assert!(rt; base_of(&MID_STREAM, 196_607) == 65_536);
     assert!(rt; base_of(&MID_STREAM, 196_608) == 196_608);
 }

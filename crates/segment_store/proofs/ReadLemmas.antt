@@ -2,7 +2,7 @@
 use Rattle.std.proofs.Common.{◌≡◌, ◌∙◌, sym, ap, subst, refl, ℕ, ℤ, pos, negsuc, ◌≤ℤ◌, ◌+◌, ◌-◌, ◌<◌, ◌≤◌, ◌&&◌, Bool, true, false, Option, List, [], ◌++◌, length, take, drop, get_or, length-append, length-take, length-drop, arith}
 use Rattle.std.proofs.lemmas.Int.{ints}
 use Rattle.std.proofs.lemmas.List.{get_or_append_left, get_or-take, get_or-drop, ext_get_or, take-append-drop, take-take}
-use Rattle.std.specs.Prelude.{unsigned_abs, unwrap_or}
+use Rattle.std.specs.Prelude.{int_le, unsigned_abs, unwrap_or}
 use Rattle.disk_core.specs.declared.file_id.FileId.{FileId}
 use Rattle.frame_core.specs.Limits.{is_mtu}
 use Rattle.disk_core.specs.DiskImage.{DiskImage, bytes_of}
@@ -11,7 +11,7 @@ use Rattle.frame_core.specs.declared.frame.Frame.{Frame}
 use Rattle.frame_core.specs.declared.frame.FrameKind.{FrameKind}
 use Rattle.frame_core.specs.declared.frame.FrameKind.TheVariants.{Pad, Message, Heartbeat}
 use Rattle.frame_core.specs.declared.geometry.Geometry.{Geometry}
-use Rattle.frame_core.specs.FrameEncoding.{IsEncodable, HasLength, encoded}
+use Rattle.frame_core.specs.FrameEncoding.{IsEncodable, HasLength, aligned_length, encoded}
 use Rattle.frame_core.specs.Front.{IsFront, used_by}
 use Rattle.frame_core.specs.Header.{StartsWithHeader, without_payload}
 use Rattle.frame_core.proofs.HeaderLemmas.{encoding_starts, one_header}
@@ -53,6 +53,15 @@ belongs_header l g p limit f payload = refl
 first_true : (x y : Bool) → (x && y) ≡ true → x ≡ true
 first_true true y is = refl
 first_true false y is = is
+
+second_true : (x y : Bool) → (x && y) ≡ true → y ≡ true
+second_true true y is = is
+second_true false y is = absurd (cc)
+
+-- a frame that belongs at a position ends at or before the limit
+pub belongs_ends : (l : Layout) (g : Geometry) (p : ℕ) (limit : ℤ) (f : Frame) → belongs_at l g p limit f ≡ true → pos (p + aligned_length f) ≤ℤ limit
+unfolding belongs_at
+belongs_ends l g p limit f belongs = omega (arith, ints, second_true _ (int_le (pos (p + aligned_length f)) limit) belongs)
 
 -- only what segment files hold belongs
 pub belongs_stored : (l : Layout) (g : Geometry) (p : ℕ) (limit : ℤ) (f : Frame) → belongs_at l g p limit f ≡ true → is_stored f.kind ≡ true

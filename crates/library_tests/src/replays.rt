@@ -1,0 +1,89 @@
+//! Replays over segment files, and recorder sessions: docs/CONTROL.md, "Replays" and "Recorder sessions", by example.
+
+use crate::segments::{FIRST, GEOMETRY, LAYOUT, store};
+use crate::vectors::{HELLO_AT_0, HELLO_AT_64, HELLO_AT_128};
+use disk_core::{Disk, MemoryDisk};
+use frame_core::{Frame, Refusal};
+use replay_core::{Replay, Store};
+use std::alloc::Global;
+use std::process::Abort;
+use std::test::Fail;
+
+// A poll of a replay of the recording.
+#[tactic(auto, using(crate::proofs::SegmentFacts::layout_of_the_tests, crate::proofs::SegmentFacts::geometry_of_the_tests))]
+fn polled(
+    rt: &impl Abort,
+    alloc: Global,
+    disk: &mut MemoryDisk,
+    replay: &mut Replay,
+    recorded: i64,
+    most: usize,
+) -> Result<Vec<Frame>, Refusal> {
+    assert!(rt; replay.next >= 0);
+    let mut store = Store {
+        disk,
+        layout: LAYOUT,
+        geometry: GEOMETRY,
+    };
+    replay.poll(alloc, &mut store, recorded, most)
+}
+
+// Three frames of 64 bytes, stored.
+fn three_hellos(rt: &impl Abort, alloc: Global) -> Result<MemoryDisk, Refusal> {
+    let mut disk = MemoryDisk::new(alloc);
+    for bytes in [HELLO_AT_0, HELLO_AT_64, HELLO_AT_128] {
+        store(rt, alloc, &mut disk, bytes)?;
+    }
+    Ok(disk)
+}
+
+#[test]
+fn bounded_part_of_a_recording(rt: HostRuntime) -> Result<(), Fail> {
+    let mut disk = three_hellos(&rt, rt.alloc())?;
+    let mut replay = Replay::new(0, 64, 65);
+    let frames = polled(&rt, rt.alloc(), &mut disk, &mut replay, 192, 10)?;
+    assert!(rt; frames.len() == 2 && frames[0].term_offset == 64 && frames[1].term_offset == 128);
+    assert!(rt; replay.is_done(192, true) && disk.calls() == 5);
+    Ok(())
+}
+
+#[test]
+fn polls_up_to_the_recorded_position(rt: HostRuntime) -> Result<(), Fail> {
+    let mut disk = three_hellos(&rt, rt.alloc())?;
+    let mut replay = Replay::new(0, 0, -1);
+    for next in [64, 128, 128] {
+        let _ = polled(&rt, rt.alloc(), &mut disk, &mut replay, 128, 1)?;
+        assert!(rt; replay.next_position() == next);
+    }
+    assert!(rt; !replay.is_done(128, true) && replay.is_done(128, false));
+    Ok(())
+}
+
+#[test]
+fn damaged_frame(rt: HostRuntime) -> Result<(), Fail> {
+    let mut disk = three_hellos(&rt, rt.alloc())?;
+    disk.write_at(FIRST, 0, &[0])?;
+    let mut replay = Replay::new(0, 0, -1);
+    let damaged = Refusal::Damaged {
+        recording: 0,
+        position: 0,
+    };
+    for _ in 0..2 {
+        let frames = polled(&rt, rt.alloc(), &mut disk, &mut replay, 192, 1);
+        assert!(rt; frames.err() == Some(damaged) && replay.next == 0);
+    }
+    Ok(())
+}
+
+// Where memory is refused once, the replay stays where it is, and the poll may be made again.
+#[test]
+fn refused_memory_leaves_a_replay(rt: HostRuntime) -> Result<(), Fail> {
+    let mut disk = three_hellos(&rt, rt.alloc())?;
+    let mut replay = Replay::new(0, 0, -1);
+    if polled(&rt, rt.alloc(), &mut disk, &mut replay, 192, 2).is_err() {
+        assert!(rt; replay.next == 0);
+        let _ = polled(&rt, rt.alloc(), &mut disk, &mut replay, 192, 2)?;
+    }
+    assert!(rt; replay.next == 128);
+    Ok(())
+}

@@ -1,0 +1,59 @@
+-- Frames that a poll has read so far, and one more.
+use Rattle.std.proofs.Common.{◌≡◌, ◌∙◌, sym, ap, subst, ℕ, ℤ, pos, ◌≤ℤ◌, ◌<ℤ◌, ◌+ℤ◌, ◌+◌, ◌<◌, ◌≤◌, IsTrue, List, [], ◌∷◌, ◌++◌, length, length-append, arith}
+use Rattle.std.proofs.lemmas.Int.{ints}
+use Rattle.std.specs.Prelude.{unsigned_abs}
+use Rattle.disk_core.specs.DiskImage.{DiskImage, Files, reads}
+use Rattle.disk_core.specs.Life.{Life, IsQuiet}
+use Rattle.frame_core.specs.declared.frame.Frame.{Frame}
+use Rattle.frame_core.specs.declared.geometry.Geometry.{Geometry}
+use Rattle.frame_core.specs.FrameEncoding.{aligned_length}
+use Rattle.segment_store.specs.declared.layout.Layout.{Layout}
+use Rattle.segment_store.specs.Boundary.{IsChain}
+use Rattle.segment_store.specs.DamagedFrame.{ShowsFrame}
+use Rattle.replay_core.specs.Poll.{BeginBefore}
+
+-- what has been read of a poll
+pub record HasRead (old new : Life) (l : Layout) (g : Geometry) (recorded bound : ℤ) (most : ℕ) (next at : ℤ) (frames : List Frame) : Type 0 where
+  pub quiet : IsQuiet old new
+  pub onwards : next ≤ℤ at
+  pub few : length frames ≤ most
+  pub stand : IsTrue new.obeys → IsChain (reads old.now) l g recorded (unsigned_abs next) frames (unsigned_abs at)
+  pub before : IsTrue new.obeys → BeginBefore bound (unsigned_abs next) frames
+
+module _ (image : DiskImage) (l : Layout) (g : Geometry) (limit : ℤ) where
+  -- one frame more
+  pub chain_more : (frames : List Frame) (from to : ℕ) (f : Frame) → IsChain image l g limit from frames to → ShowsFrame image l g limit to f
+      → IsChain image l g limit from (frames ++ f ∷ []) (to + aligned_length f)
+  chain_more [] from to f is shown = (subst (λ (p : ℕ). ShowsFrame image l g limit p f) (sym is) shown, ap (λ (p : ℕ). p + aligned_length f) is)
+  chain_more (h ∷ hs) from to f is shown = (is.0, chain_more hs (from + aligned_length h) to f is.1 shown)
+
+  -- which begins where they end
+  pub before_more : (bound : ℤ) (frames : List Frame) (from to : ℕ) (f : Frame) → IsChain image l g limit from frames to → BeginBefore bound from frames → pos to <ℤ bound
+      → BeginBefore bound from (frames ++ f ∷ [])
+  before_more bound [] from to f is before low = (omega (arith, ints, is, low), tt)
+  before_more bound (h ∷ hs) from to f is before low = (before.0, before_more bound hs (from + aligned_length h) to f is.1 before.1 low)
+
+-- a frame more has been read
+pub one_more : (old mid new : Life) (l : Layout) (g : Geometry) (recorded bound : ℤ) (most : ℕ) (next at end : ℤ) (frames : List Frame) (f : Frame)
+    → HasRead old mid l g recorded bound most next at frames → IsQuiet mid new → pos 0 ≤ℤ next → length frames < most → at <ℤ bound
+    → (IsTrue new.obeys → ShowsFrame (reads mid.now) l g recorded (unsigned_abs at) f) → end ≡ at +ℤ pos (aligned_length f)
+    → HasRead old new l g recorded bound most next end (frames ++ f ∷ [])
+one_more old mid new l g recorded bound most next at end frames f read quiet start fewer low shown is =
+    let image : DiskImage = reads old.now in
+    let stand : IsTrue new.obeys → IsChain image l g recorded (unsigned_abs next) frames (unsigned_abs at) = λ obeys. read.stand (quiet.obeyed obeys) in
+    let ends : unsigned_abs at + aligned_length f ≡ unsigned_abs end = omega (arith, ints, is, start, read.onwards) in
+    record {
+      quiet = record {
+        obeyed = λ obeys. read.quiet.obeyed (quiet.obeyed obeys);
+        past = quiet.past ∙ read.quiet.past;
+        now = quiet.now ∙ read.quiet.now;
+        faults = omega (arith, quiet.faults, read.quiet.faults);
+      };
+      onwards = omega (arith, ints, is, read.onwards);
+      few = omega (arith, length-append frames (f ∷ []), fewer);
+      stand = λ obeys. subst (IsChain image l g recorded (unsigned_abs next) (frames ++ f ∷ [])) ends
+          (chain_more image l g recorded frames (unsigned_abs next) (unsigned_abs at) f (stand obeys)
+          (subst (λ (files : Files). ShowsFrame (reads files) l g recorded (unsigned_abs at) f) read.quiet.now (shown obeys)));
+      before = λ obeys. before_more image l g recorded bound frames (unsigned_abs next) (unsigned_abs at) f (stand obeys) (read.before (quiet.obeyed obeys))
+          (omega (arith, ints, low, start, read.onwards));
+    }

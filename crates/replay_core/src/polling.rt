@@ -1,0 +1,74 @@
+//! Frames read back for a replay. docs/CONTROL.md, "Replays"; docs/STORAGE.md, "Damaged frames".
+
+ghost use Rattle.std.specs.Prelude.{◌≡◌, ◌≤ℤ◌, IfOk, IfErr, OnOk, OnErr, IsErrOf, IsTrue, unsigned_abs};
+ghost use Rattle.disk_core.specs.DiskImage.{reads};
+ghost use Rattle.disk_core.specs.Life.{HasFailed, IsQuiet};
+ghost use Rattle.frame_core.specs.declared.refusal.Refusal.TheVariants.{DeviceFault};
+ghost use Rattle.segment_store.specs.Layout.{IsFromStart, IsGeometryOf, IsLayout};
+ghost use Rattle.replay_core.specs.Poll.{IsDue, Polls, RefusesPoll};
+
+use crate::replay::Replay;
+use disk_core::Disk;
+use frame_core::{Frame, Geometry, Refusal};
+use segment_store::{Layout, read_frame};
+use std::alloc::Global;
+
+/// What replays of a recording read from.
+#[derive(Drop)]
+pub struct Store<'a, D> {
+    /// The disk that has its segment files.
+    pub disk: &'a mut D,
+    /// Where its frames lie.
+    pub layout: Layout,
+    /// Its terms.
+    pub geometry: Geometry,
+}
+
+impl Replay {
+    /// The next frames, at most so many, that begin before the replay's bound and the recorded position, in bytes of the
+    /// stream; the replay then goes on behind them. Damaged where they break off; DeviceFault where the disk fails;
+    /// NoMemory: the replay then stays where it is. The disk stays as it is. Costs what `read_frame` costs, for each
+    /// frame that is given, and nothing for those before its position.
+    pub fn poll<D: Disk>(
+        &mut self,
+        alloc: Global,
+        store: &mut Store<'_, D>,
+        recorded: i64,
+        most: usize,
+    ) -> Result<Vec<Frame>, Refusal>
+        requires layout { IsLayout store.old.layout }
+        requires geometry { IsGeometryOf store.old.layout store.old.geometry }
+        requires from_start { IsFromStart store.old.layout self.old.next }
+        ensures frames { IfOk result (λ frames. IsTrue (D.life store.new.disk.now).obeys →
+            Polls (reads (D.life store.old.disk.now).now) store.old.layout store.old.geometry recorded self.old.bound most
+            (unsigned_abs self.old.next) frames.items (unsigned_abs self.new.next)) }
+        ensures onwards { self.old.next ≤ℤ self.new.next }
+        ensures same { self.new ≡ record self.old { next = self.new.next } }
+        ensures err { OnErr result (self.new ≡ self.old) }
+        ensures refused { IfErr result (RefusesPoll (D.life store.new.disk.now).obeys
+            (reads (D.life store.old.disk.now).now) store.old.layout store.old.geometry recorded self.old.bound most
+            (unsigned_abs self.old.next)) }
+        ensures due { OnErr result (IsDue recorded self.old.bound most self.old.next) }
+        ensures quiet { IsQuiet (D.life store.old.disk.now) (D.life store.new.disk.now) }
+        ensures cause { IsErrOf result DeviceFault → HasFailed (D.life store.old.disk.now) (D.life store.new.disk.now) }
+        ensures store { (store.new.layout ≡ store.old.layout) × (store.new.geometry ≡ store.old.geometry)
+            × (store.new.disk.ghost_name ≡ store.old.disk.ghost_name) }
+    {
+        let mut frames = Vec::new(alloc);
+        let mut at = self.next;
+        while frames.len() < most && at < self.bound && at < recorded {
+            let frame = read_frame(
+                alloc,
+                store.disk,
+                &store.layout,
+                &store.geometry,
+                at,
+                recorded,
+            )?;
+            at += frame.aligned_length() as i64;
+            frames.push(frame)?;
+        }
+        self.next = at;
+        Ok(frames)
+    }
+}
