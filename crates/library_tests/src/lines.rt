@@ -1,6 +1,6 @@
 //! Control lines read, and replies and refusals printed: docs/CONTROL.md, "Lines" and "Refusals", by example.
 
-use archive_model::{Channel, Descriptor, PolledFrame, Reply};
+use archive_model::{Channel, Descriptor, PolledFrame, Reply, StartFields};
 use control_core::{Event, Line, MergeLine, Request, parse_line, print_refusal, print_reply};
 use frame_core::{Frame, FrameKind, Items, Refusal};
 use std::alloc::Global;
@@ -9,19 +9,27 @@ use std::test::*;
 const START_LINE: &[u8] =
     b"start 1001 7 42 65536 1408 131072 0 1000 aeron:udp?endpoint=localhost:40123";
 
+fn start_fields(alloc: Global) -> Result<StartFields, Refusal> {
+    match parse_line(alloc, START_LINE)? {
+        Line::Event(Event::Ask(Request::Start(fields))) => Ok(fields),
+        _ => Err(Refusal::BadLine),
+    }
+}
+
+fn has_terms(fields: &StartFields) -> bool {
+    fields.initial_term_id == 42 && fields.term_length == 65_536 && fields.mtu == 1_408
+}
+
+fn has_place(fields: &StartFields) -> bool {
+    fields.segment_length == 131_072 && fields.start_position == 0 && fields.timestamp == 1_000
+}
+
 #[test]
 fn a_line_that_starts_a_recording(rt: HostRuntime) -> Result<(), Fail> {
-    let Line::Event(Event::Ask(Request::Start(fields))) = parse_line(rt.alloc(), START_LINE)? else {
-        return Err(Fail::new("start"));
-    };
-    assert_eq!(rt; (fields.stream_id, fields.session_id), (1_001, 7));
-    assert_eq!(rt; (fields.initial_term_id, fields.term_length), (42, 65_536));
-    assert_eq!(rt; (fields.mtu, fields.segment_length), (1_408, 131_072));
-    assert_eq!(rt; (fields.start_position, fields.timestamp), (0, 1_000));
-    assert_eq!(rt;
-        fields.channel.as_str(),
-        "aeron:udp?endpoint=localhost:40123"
-    );
+    let fields = start_fields(rt.alloc())?;
+    assert!(rt; fields.stream_id == 1_001 && fields.session_id == 7);
+    assert!(rt; has_terms(&fields) && has_place(&fields));
+    assert!(rt; fields.channel.as_str() == "aeron:udp?endpoint=localhost:40123");
     Ok(())
 }
 

@@ -48,14 +48,20 @@ fn is_unknown(decision: &Decision) -> bool {
     matches!(decision, Decision::Refused(Refusal::UnknownRecording))
 }
 
-// No entry may be made, and there is no recording.
+// No entry may be made.
 #[test]
-fn refusals_of_an_empty_desk(rt: HostRuntime) -> Result<(), Fail> {
-    let desk = Desk::new(rt.alloc(), 0);
-    assert!(rt; is_full(&decide(rt.alloc(), &desk, &start(rt.alloc())?)));
-    let purge = Request::PurgeRecording { recording: 5 };
-    assert!(rt; is_unknown(&decide(rt.alloc(), &desk, &purge)));
+fn a_full_history_refuses_a_start(rt: HostRuntime) -> Result<(), Fail> {
+    let request = start(rt.alloc())?;
+    let decision = decide(rt.alloc(), &Desk::new(rt.alloc(), 0), &request);
+    assert!(rt; is_full(&decision));
     Ok(())
+}
+
+#[test]
+fn no_recording_is_purged(rt: HostRuntime) {
+    let request = Request::PurgeRecording { recording: 5 };
+    let decision = decide(rt.alloc(), &Desk::new(rt.alloc(), 0), &request);
+    assert!(rt; is_unknown(&decision));
 }
 
 // Asked for again, where a request for memory was refused.
