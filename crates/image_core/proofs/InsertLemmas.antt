@@ -1,5 +1,5 @@
 -- The frames of a datagram, one after another.
-use Rattle.std.proofs.Common.{◌≡◌, ◌∙◌, sym, ap, refl, subst, ◌+◌, ◌≤◌, ℕ, List, [], ◌∷◌, inl, inr, drop, length, ◌<◌, add-one, slice_index_or, false, arith}
+use Rattle.std.proofs.Common.{◌≡◌, ◌∙◌, sym, refl, subst, ◌+◌, ◌≤◌, ℕ, List, [], ◌∷◌, inl, inr, drop, length, ◌<◌, add-one, slice_index_or, false, arith}
 use Rattle.std.proofs.Math.Seq.{drop-cons}
 use Rattle.std.specs.Prelude.{map}
 use Rattle.frame_core.specs.declared.frame.Frame.{Frame}
@@ -36,33 +36,24 @@ few_more i (Joins p) index few = omega arith
 few_more i (Tells p) index few = omega arith
 few_more i Drops index few = omega arith
 
--- one frame more
-pub goes_further : (start : Received) (high : ℕ) (frames : List FrameRef) (index : ℕ) (inserted more : Inserted) (noted now_noted : List ℕ) (now new : Received) (rest others : List FrameRef)
-    (x : FrameRef) (it : Fate) → GoesOn start high frames index inserted noted now rest → rest ≡ x ∷ others → it ≡ fate now (frame_of x) → new ≡ received now (frame_of x)
-    → undone now_noted high new ≡ undone noted high now → more ≡ counted inserted it → GoesOn start high frames (index + 1) more now_noted new others
-goes_further start high frames index inserted more noted now_noted now new rest others x it so next is new_is back more_is = record {
-  counts = rw (more_is, is, new_is) (sym (ap (λ (fs : List FrameRef). tally inserted now (map frame_of fs)) next) ∙ so.counts);
-  after = rw new_is (sym (ap (λ (fs : List FrameRef). received_all now (map frame_of fs)) next) ∙ so.after);
-  back = back ∙ so.back;
-  few = rw more_is (few_more inserted it index so.few);
-  encodable = (subst (λ (fs : List FrameRef). AreEncodable (map frame_of fs)) next so.encodable).1;
-}
-
--- the next frame has an encoding
-pub next_encodable : (start : Received) (high : ℕ) (frames : List FrameRef) (index : ℕ) (inserted : Inserted) (noted : List ℕ) (now : Received) (rest others : List FrameRef) (x : FrameRef)
-    → GoesOn start high frames index inserted noted now rest → rest ≡ x ∷ others → IsEncodable (frame_of x)
-next_encodable start high frames index inserted noted now rest others x so next = (subst (λ (fs : List FrameRef). AreEncodable (map frame_of fs)) next so.encodable).0
-
 next_is : (fs : List FrameRef) (i : ℕ) (d : FrameRef) → i < length fs → drop i fs ≡ slice_index_or fs i d ∷ drop (i + 1) fs
 next_is fs i d within = rw (add-one, drop-cons fs i d) refl
 
+-- one frame more
 pub goes_at : (start : Received) (high : ℕ) (frames : List FrameRef) (i : ℕ) (inserted more : Inserted) (noted now_noted : List ℕ) (now new : Received) (d : FrameRef) (it : Fate)
     → i < length frames → GoesOn start high frames i inserted noted now (drop i frames) → it ≡ fate now (frame_of (slice_index_or frames i d)) → new ≡ received now (frame_of (slice_index_or frames i d))
     → undone now_noted high new ≡ undone noted high now → more ≡ counted inserted it → GoesOn start high frames (i + 1) more now_noted new (drop (i + 1) frames)
-goes_at start high frames i inserted more noted now_noted now new d it within so is new_is back more_is =
-    goes_further start high frames i inserted more noted now_noted now new (drop i frames) (drop (i + 1) frames) (slice_index_or frames i d) it so (next_is frames i d within) is new_is back more_is
+goes_at start high frames i inserted more noted now_noted now new d it within on is new_is back more_is =
+    let so = rw (next_is frames i d within) at on in
+    record {
+      counts = rw (more_is, is, new_is) so.counts;
+      after = rw new_is so.after;
+      back = back ∙ so.back;
+      few = rw more_is (few_more inserted it i so.few);
+      encodable = so.encodable.1;
+    }
 
+-- the next frame has an encoding
 pub encodable_at : (start : Received) (high : ℕ) (frames : List FrameRef) (i : ℕ) (inserted : Inserted) (noted : List ℕ) (now : Received) (d : FrameRef)
     → i < length frames → GoesOn start high frames i inserted noted now (drop i frames) → IsEncodable (frame_of (slice_index_or frames i d))
-encodable_at start high frames i inserted noted now d within so =
-    next_encodable start high frames i inserted noted now (drop i frames) (drop (i + 1) frames) (slice_index_or frames i d) so (next_is frames i d within)
+encodable_at start high frames i inserted noted now d within so = let here = rw (next_is frames i d within) at so.encodable in here.0

@@ -1,6 +1,6 @@
 -- What an image keeps stays so.
-use Rattle.std.proofs.Common.{◌≡◌, ◌∙◌, ap, refl, ◌+◌, ◌*◌, ◌<◌, ◌≤◌, ◌^◌, ◌≤ℤ◌, ℕ, ℤ, pos, negsuc, List, [], ◌∷◌, ◌++◌, true, Some, arith}
-use Rattle.std.specs.Prelude.{◌&&◌, nat_le, max, unsigned_abs}
+use Rattle.std.proofs.Common.{◌≡◌, ◌∙◌, ap, ◌+◌, ◌*◌, ◌<◌, ◌≤◌, ◌^◌, ℕ, ℤ, List, [], ◌∷◌, ◌++◌, true, Some, arith}
+use Rattle.std.specs.Prelude.{max, unsigned_abs}
 use Rattle.std.specs.Ordering.{nat_cmp}
 use Rattle.std.specs.BTreeMap.{insert_entry}
 use Rattle.std.proofs.lemmas.Int.{ints}
@@ -15,9 +15,8 @@ use Rattle.image_core.specs.declared.fate.Fate.TheVariants.{Joins}
 use Rattle.image_core.specs.Rebuild.{chain_end}
 use Rattle.image_core.specs.Received.{Received, after, is_free, is_inside, is_of, is_open, is_within, joining_position, rebuilt, window}
 use Rattle.image_core.specs.Kept.{AreSpaced, IsJoining, IsKept, undone, without}
-use Rattle.image_core.proofs.ChainLemmas.{chain_high, chain_low, spaced_raise, spaced_wide}
-use Rattle.image_core.proofs.JoinLemmas.{chain_more, members_insert, remove_inserted, spaced_insert}
-use Rattle.image_core.proofs.TestLemmas.{all_parts, part_by}
+use Rattle.image_core.proofs.ChainLemmas.{chain_high, chain_low, chain_more, spaced_wider}
+use Rattle.image_core.proofs.JoinLemmas.{members_insert, remove_inserted, spaced_insert}
 use Rattle.image_core.proofs.UndoLemmas.{without_push}
 
 -- a frame may join only if it is of the publication, within the MTU and inside its term, and lies at its position
@@ -29,22 +28,10 @@ pub record IsAdmitted (g : Geometry) (publication : Publication) (f : Frame) (p 
 
 pub admitted : (g : Geometry) (publication : Publication) (f : Frame) (p : ℕ) → joining_position g publication f ≡ Some p → IsAdmitted g publication f p
 unfolding joining_position
-admitted g publication f p is =
-    let found = part_by (is_of publication f && is_within g.mtu f.kind f.length && is_inside g f) (frame_position g f) p is in
-    let tests = all_parts (is_of publication f) (is_within g.mtu f.kind f.length) (is_inside g f) found.0 in
-    record { of = tests.0; within = tests.1; inside = tests.2; position = found.1 }
-
--- a number that is not negative is its size
-pub is_abs : (z : ℤ) → pos 0 ≤ℤ z → z ≡ pos (unsigned_abs z)
-is_abs (pos n) low = refl
-is_abs (negsuc n) low = absurd (omega (arith, ints))
-
-abs_low : (z : ℤ) → pos 32 ≤ℤ z → 32 ≤ unsigned_abs z
-abs_low (pos n) low = omega (arith, ints)
-abs_low (negsuc n) low = absurd (omega (arith, ints))
+admitted g publication f p is = record { of = grind arith; within = grind arith; inside = grind arith; position = grind arith }
 
 size_by : (kind : FrameKind) (mtu size : ℤ) (payload : List ℕ) → HasLength kind size payload → is_within mtu kind size ≡ true → 0 < aligned (unsigned_abs size)
-size_by Pad mtu size payload has within = let low = abs_low size has.0 in omega arith
+size_by Pad mtu size payload has within = omega (arith, ints, has.0)
 size_by Message mtu size payload has within = rw has (omega arith)
 size_by Heartbeat mtu size payload has within = absurd cc
 
@@ -60,16 +47,7 @@ pub record IsOpen (r : Received) (p end : ℕ) : Type 0 where
   pub free : is_free p end r.joined ≡ true
 
 pub open_parts : (r : Received) (p end : ℕ) → is_open r p end ≡ true → IsOpen r p end
-open_parts r p end is =
-    let parts = all_parts (nat_le (rebuilt r) p) (nat_le end (rebuilt r + window r.geometry)) (is_free p end r.joined) is in
-    let low = parts.0 in
-    let high = parts.1 in
-    record { beyond = grind arith; within = grind arith; free = parts.2 }
-
--- a term's bytes
-terms_abs : (z : ℤ) → z ≤ℤ pos 1073741824 → pos 65536 ≤ℤ z → unsigned_abs z ≤ 1073741824
-terms_abs (pos n) most least = omega (arith, ints)
-terms_abs (negsuc n) most least = absurd (omega (arith, ints))
+open_parts r p end is = record { beyond = grind arith; within = grind arith; free = grind arith }
 
 -- what is kept lies below 2^61
 pub record IsSmall (r : Received) (at : ℕ) : Type 0 where
@@ -80,19 +58,19 @@ pub record IsSmall (r : Received) (at : ℕ) : Type 0 where
 
 pub kept_small : (r : Received) (at : ℕ) → IsKept r at → IsSmall r at
 kept_small r at kept =
-    let terms = terms_abs r.geometry.term_length kept.terms.most kept.terms.least in
-    let high : r.high ≤ 2 ^ 61 = omega (arith, kept.limit, terms) in
+    let terms = kept.terms in
+    let high : r.high ≤ 2 ^ 61 = omega (arith, ints, kept.limit, terms.most, terms.least) in
     record {
       rebuilt = rw kept.rebuilt (chain_high r.from r.from r.high r.joined kept.begins kept.spaced);
       high = high;
-      spaced = spaced_wide r.from r.high r.joined (omega arith) kept.spaced;
-      from = spaced_raise r.from r.high (2 ^ 62) r.joined (omega arith) kept.spaced;
+      spaced = spaced_wider r.from r.high 0 (2 ^ 62) r.joined (omega arith) (omega arith) kept.spaced;
+      from = spaced_wider r.from r.high r.from (2 ^ 62) r.joined (omega arith) (omega arith) kept.spaced;
     }
 
 pub kept_hear : (r : Received) (at p : ℕ) → IsKept r at → p ≤ 2 ^ 31 * unsigned_abs r.geometry.term_length → IsKept (record r { high = max r.high p }) at
 kept_hear r at p kept room = record {
   terms = kept.terms;
-  spaced = spaced_raise r.from r.high (max r.high p) r.joined (omega arith) kept.spaced;
+  spaced = spaced_wider r.from r.high r.from (max r.high p) r.joined (omega arith) (omega arith) kept.spaced;
   members = kept.members;
   rebuilt = kept.rebuilt;
   begins = let begins = kept.begins in omega arith;
@@ -106,7 +84,7 @@ spaced_join r p f spaced encodable lies opens =
     let parts = open_parts r p (p + aligned_length f) opens in
     let low = chain_low r.from r.joined in
     spaced_insert r.from (max r.high (p + aligned_length f)) p f r.joined
-    (spaced_raise r.from r.high (max r.high (p + aligned_length f)) r.joined (omega arith) spaced)
+    (spaced_wider r.from r.high r.from (max r.high (p + aligned_length f)) r.joined (omega arith) (omega arith) spaced)
     (let beyond = parts.beyond in omega arith)
     (has_size r.geometry r.publication f p encodable lies)
     (omega arith)
@@ -128,9 +106,9 @@ kept_join r at p f kept encodable joining =
 -- the map in which it was put is wide enough to follow
 pub wide_join : (r : Received) (at p : ℕ) (f : Frame) → IsKept r at → IsEncodable f → IsJoining r f p → AreSpaced 0 (2 ^ 62) (insert_entry nat_cmp r.joined p f)
 wide_join r at p f kept encodable joining =
-    let small = kept_small r at kept in
-    let terms = terms_abs r.geometry.term_length kept.terms.most kept.terms.least in
-    spaced_wide r.from (max r.high (p + aligned_length f)) (insert_entry nat_cmp r.joined p f) (let high = small.high in let room = joining.room in omega arith)
+    let terms = kept.terms in
+    spaced_wider r.from (max r.high (p + aligned_length f)) 0 (2 ^ 62) (insert_entry nat_cmp r.joined p f) (omega arith)
+    (omega (arith, ints, kept.limit, joining.room, terms.most, terms.least))
     (spaced_join r p f kept.spaced encodable joining.lies joining.opens)
 
 -- a frame that joined and was noted goes out as it came in

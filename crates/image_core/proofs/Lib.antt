@@ -1,4 +1,3 @@
-mod BlockLemmas
 mod ChainLemmas
 mod FateLemmas
 mod ReceivedLemmas
@@ -9,5 +8,4 @@ mod LawLemmas
 mod RangeLemmas
 mod SetupLemmas
 mod TakeLemmas
-mod TestLemmas
 mod UndoLemmas

@@ -1,180 +1,202 @@
--- Frames that are taken.
-use Rattle.std.proofs.Common.{◌≡◌, ◌∙◌, sym, ap, refl, subst, ◌+◌, ◌<◌, ◌≤◌, ℕ, List, [], ◌∷◌, ◌++◌, true, Some, None, length, append_assoc, arith}
-use Rattle.std.specs.Prelude.{map, slice_get, nat_le, ◌==◌}
-use Rattle.std.proofs.lemmas.Bool.{and_from, cond-true, cond_both}
-use Rattle.std.proofs.lemmas.List.{length-append, map-append}
+-- Blocks that are taken of the first frames that are held.
+use Rattle.std.proofs.Common.{◌≡◌, ◌∙◌, sym, ap, refl, ◌+◌, ◌<◌, ◌≤◌, ◌≤ℤ◌, ◌^◌, ℕ, ℤ, pos, List, [], ◌∷◌, ◌++◌, true, Some, None, ◌⊎◌, inl, inr, append_assoc, arith}
+use Rattle.std.specs.Prelude.{map, min, unsigned_abs}
+use Rattle.std.proofs.lemmas.Bool.{cond-true}
+use Rattle.std.proofs.lemmas.Bool.Decides.{Decides-int_eq}
+use Rattle.std.proofs.lemmas.Int.{ints}
+use Rattle.std.proofs.lemmas.List.{map-append}
+use Rattle.frame_core.specs.declared.block.Block.{Block}
 use Rattle.frame_core.specs.declared.block.Place.{Place}
 use Rattle.frame_core.specs.declared.block.Publication.{Publication}
 use Rattle.frame_core.specs.declared.frame.Frame.{Frame}
+use Rattle.frame_core.specs.declared.frame.FrameKind.{FrameKind}
+use Rattle.frame_core.specs.declared.frame.FrameKind.TheVariants.{Heartbeat, Message, Pad}
 use Rattle.frame_core.specs.declared.geometry.Geometry.{Geometry}
-use Rattle.frame_core.specs.Block.{AreEncodable, is_part, run_end}
-use Rattle.frame_core.specs.FrameEncoding.{aligned_length}
-use Rattle.image_core.specs.Rebuild.{end_of}
-use Rattle.image_core.specs.Received.{IsChain}
-use Rattle.image_core.specs.Kept.{AreMembers, AreSpaced, MovesFirst, TakesFirst, follows, longest_run}
-use Rattle.image_core.specs.declared.taking.Run.{Run}
-use Rattle.image_core.proofs.ChainLemmas.{chain_up}
-use Rattle.image_core.proofs.TestLemmas.{all_parts, part_by}
+use Rattle.frame_core.specs.Block.{AreEncodable, IsMessageBlock, IsPadBlock, is_of_place, is_part, place_of, run_end}
+use Rattle.frame_core.specs.FrameEncoding.{HasLength, IsEncodable, aligned, aligned_length}
+use Rattle.frame_core.specs.Position.{HasPosition}
+use Rattle.frame_core.proofs.PositionLemmas.{given}
+use Rattle.image_core.specs.Rebuild.{chain_end, end_of}
+use Rattle.image_core.specs.Received.{IsChain, Received, is_inside, is_of, is_within}
+use Rattle.image_core.specs.Kept.{AreMembers, AreSpaced, HasTerms, IsKept, MovesFirst, TakesMessages, next_size}
+use Rattle.image_core.specs.Take.{GivesBlock, TakesBlock}
+use Rattle.image_core.proofs.ChainLemmas.{chain_append, chain_below, chain_over}
+use Rattle.image_core.proofs.ReceivedLemmas.{taken_stands}
+use Rattle.image_core.proofs.KeptLemmas.{IsAdmitted, admitted}
 
--- what is left of spaced frames where a chain of the first was taken
-pub spaced_rest : (p q high : ℕ) (taken after : List (ℕ × Frame)) → AreSpaced p high (taken ++ after) → IsChain p taken q → AreSpaced q high after
-spaced_rest p q high [] after spaced chain = subst (λ (x : ℕ). AreSpaced x high after) chain spaced
-spaced_rest p q high (m ∷ taken) after spaced chain = spaced_rest (end_of m) q high taken after spaced.3 chain.2
+-- the first frame that is held, where a chain begins with it
+pub record IsFirst (g : Geometry) (publication : Publication) (from high : ℕ) (m : ℕ × Frame) (behind : List (ℕ × Frame)) : Type 0 where
+  pub begins : from ≡ m.0
+  pub some : 0 < aligned_length m.1
+  pub ends : end_of m ≤ high
+  pub spaced : AreSpaced (end_of m) high behind
+  pub encodable : IsEncodable m.1
+  pub members : AreMembers g publication behind
+  pub admitted : IsAdmitted g publication m.1 m.0
+  pub position : HasPosition g m.1.term_id m.1.term_offset (pos from)
+  pub inside : unsigned_abs m.1.term_offset + aligned_length m.1 ≤ unsigned_abs g.term_length
 
-pub members_rest : (g : Geometry) (publication : Publication) (taken after : List (ℕ × Frame)) → AreMembers g publication (taken ++ after) → AreMembers g publication after
-members_rest g publication [] after members = members
-members_rest g publication (m ∷ taken) after members = members_rest g publication taken after members.2
-
-pub taken_encodable : (g : Geometry) (publication : Publication) (taken after : List (ℕ × Frame)) → AreMembers g publication (taken ++ after) → AreEncodable (map (λ m. m.1) taken)
-taken_encodable g publication [] after members = tt
-taken_encodable g publication (m ∷ taken) after members = (members.0, taken_encodable g publication taken after members.2)
-
-run_low : (place : Place) (offset stop : ℕ) (fs : List Frame) → run_end place offset fs ≡ Some stop → offset ≤ stop
-run_low place offset stop [] run = let same : offset ≡ stop = cc in omega arith
-run_low place offset stop (f ∷ fs) run =
-    let parts = part_by (is_part place offset f) (run_end place (offset + aligned_length f) fs) stop run in
-    let low = run_low place (offset + aligned_length f) stop fs parts.1 in
-    omega arith
-
--- a frame that is the next message of a block
-pub record IsNext (place : Place) (at offset limit : ℕ) (m : ℕ × Frame) : Type 0 where
-  pub begins : m.0 ≡ at
-  pub part : is_part place offset m.1 ≡ true
-  pub few : offset + aligned_length m.1 ≤ limit
-
-pub next_parts : (place : Place) (at offset limit : ℕ) (m : ℕ × Frame) → follows place at offset limit m ≡ true → IsNext place at offset limit m
-unfolding follows
-next_parts place at offset limit m is =
-    let parts = all_parts (m.0 == at) (is_part place offset m.1) (nat_le (offset + aligned_length m.1) limit) is in
-    let begins = parts.0 in
-    let few = parts.2 in
-    record { begins = grind arith; part = parts.1; few = grind arith }
-
-pub follows_by : (place : Place) (at offset limit : ℕ) (m : ℕ × Frame) → IsNext place at offset limit m → follows place at offset limit m ≡ true
-unfolding follows
-follows_by place at offset limit m next =
-    let begins = next.begins in
-    let few = next.few in
-    and_from _ _ (and_from _ _ (grind arith) next.part) (grind arith)
-
--- the longest run of the first of some frames, behind one that ends where they begin
-pub record IsRun (place : Place) (run : Run) (offset limit : ℕ) (ms : List (ℕ × Frame)) (to : Run) : Type 0 where
-  pub taken : List (ℕ × Frame)
-  pub rest : List (ℕ × Frame)
-  pub left : ms ≡ taken ++ rest
-  pub count : to.count ≡ run.count + length taken
-  pub chain : IsChain run.end taken to.end
-  pub last : ℕ
-  pub ends : run_end place offset (map (λ m. m.1) taken) ≡ Some last
-  pub few : last ≤ limit
-  pub longest : (other more : List (ℕ × Frame)) (end stop : ℕ) → ms ≡ other ++ more → IsChain run.end other end → run_end place offset (map (λ m. m.1) other) ≡ Some stop → stop ≤ limit → end ≤ to.end
-
--- where none follows, no run is longer
-none_longer : (place : Place) (at offset limit : ℕ) (ms : List (ℕ × Frame)) → ((m : ℕ × Frame) (rest : List (ℕ × Frame)) → ms ≡ m ∷ rest → follows place at offset limit m ≡ true → ⊥)
-    → (other more : List (ℕ × Frame)) (end stop : ℕ) → ms ≡ other ++ more → IsChain at other end → run_end place offset (map (λ m. m.1) other) ≡ Some stop → stop ≤ limit → end ≤ at
-none_longer place at offset limit ms none [] more end stop is chain run few = omega (arith, chain)
-none_longer place at offset limit ms none (m ∷ other) more end stop is chain run few =
-    let parts = part_by (is_part place offset m.1) (run_end place (offset + aligned_length m.1) (map (λ x. x.1) other)) stop run in
-    let low = run_low place (offset + aligned_length m.1) stop (map (λ x. x.1) other) parts.1 in
-    absurd (none m (other ++ more) is (follows_by place at offset limit m (record { begins = sym chain.0; part = parts.0; few = omega arith })))
-
-run_stays : (place : Place) (run : Run) (offset limit : ℕ) (ms : List (ℕ × Frame)) → offset ≤ limit
-    → ((m : ℕ × Frame) (rest : List (ℕ × Frame)) → ms ≡ m ∷ rest → follows place run.end offset limit m ≡ true → ⊥) → IsRun place run offset limit ms run
-run_stays place run offset limit ms few none = record {
-  taken = [];
-  rest = ms;
-  left = refl;
-  count = omega arith;
-  chain = refl;
-  last = offset;
-  ends = refl;
-  few = few;
-  longest = none_longer place run.end offset limit ms none;
-}
-
--- one frame more at the beginning
-more_longer : (place : Place) (run to : Run) (offset limit : ℕ) (m : ℕ × Frame) (ms : List (ℕ × Frame)) → IsNext place run.end offset limit m
-    → IsRun place (record { count = run.count + 1; end = run.end + aligned_length m.1 }) (offset + aligned_length m.1) limit ms to
-    → (other more : List (ℕ × Frame)) (end stop : ℕ) → (m ∷ ms) ≡ other ++ more → IsChain run.end other end → run_end place offset (map (λ x. x.1) other) ≡ Some stop → stop ≤ limit → end ≤ to.end
-more_longer place run to offset limit m ms next is [] more end stop left chain ends few =
-    let grows = chain_up (run.end + aligned_length m.1) to.end is.taken is.chain in
-    omega (arith, chain)
-more_longer place run to offset limit m ms next is (x ∷ other) more end stop left chain ends few =
-    let same : x ≡ m = cc in
-    let rest : ms ≡ other ++ more = cc in
-    let parts = part_by (is_part place offset x.1) (run_end place (offset + aligned_length x.1) (map (λ y. y.1) other)) stop ends in
-    let at : end_of x ≡ run.end + aligned_length m.1 = ap end_of same ∙ ap (λ (p : ℕ). p + aligned_length m.1) next.begins in
-    is.longest other more end stop rest
-    (subst (λ (p : ℕ). IsChain p other end) at chain.2)
-    (subst (λ (y : ℕ × Frame). run_end place (offset + aligned_length y.1) (map (λ z. z.1) other) ≡ Some stop) same parts.1)
-    few
-
-run_goes : (place : Place) (run to : Run) (offset limit : ℕ) (m : ℕ × Frame) (ms : List (ℕ × Frame)) → 0 < aligned_length m.1 → IsNext place run.end offset limit m
-    → IsRun place (record { count = run.count + 1; end = run.end + aligned_length m.1 }) (offset + aligned_length m.1) limit ms to → IsRun place run offset limit (m ∷ ms) to
-run_goes place run to offset limit m ms some next is =
-    let at : run.end + aligned_length m.1 ≡ end_of m = ap (λ (p : ℕ). p + aligned_length m.1) (sym next.begins) in
+pub first_is : (g : Geometry) (publication : Publication) (from high : ℕ) (m : ℕ × Frame) (behind before : List (ℕ × Frame)) → before ≡ m ∷ behind → AreSpaced from high before
+    → AreMembers g publication before → from < chain_end from before → IsFirst g publication from high m behind
+unfolding is_inside
+first_is g publication from high m behind before is spaced_all members_all some =
+    let spaced = rw is at spaced_all in
+    let members = rw is at members_all in
+    let more = rw is at some in
+    let begins : from ≡ m.0 = grind (arith, chain_below (end_of m) high from behind spaced.3) in
+    let fits = admitted g publication m.1 m.0 members.1 in
     record {
-      taken = m ∷ is.taken;
-      rest = is.rest;
-      left = ap (λ (xs : List (ℕ × Frame)). m ∷ xs) is.left;
-      count = let count = is.count in omega arith;
-      chain = (sym next.begins, some, subst (λ (p : ℕ). IsChain p is.taken to.end) at is.chain);
-      last = is.last;
-      ends = cond-true (is_part place offset m.1) (run_end place (offset + aligned_length m.1) (map (λ x. x.1) is.taken)) None next.part ∙ is.ends;
-      few = is.few;
-      longest = more_longer place run to offset limit m ms next is;
+      begins = begins;
+      some = spaced.1;
+      ends = spaced.2;
+      spaced = spaced.3;
+      encodable = members.0;
+      members = members.2;
+      admitted = fits;
+      position = rw begins (given g m.1.term_id m.1.term_offset m.0 fits.position);
+      inside = grind (arith, fits.inside);
     }
 
-pub run_is : (place : Place) (run : Run) (offset limit high : ℕ) (ms : List (ℕ × Frame)) → offset ≤ limit → AreSpaced run.end high ms → IsRun place run offset limit ms (longest_run place run offset limit ms)
-run_is place run offset limit high [] few spaced = run_stays place run offset limit [] few (λ m rest first goes. absurd cc)
-run_is place run offset limit high (m ∷ ms) few spaced =
-    let more : Run = record { count = run.count + 1; end = run.end + aligned_length m.1 } in
-    let to : Run = longest_run place more (offset + aligned_length m.1) limit ms in
-    cond_both (follows place run.end offset limit m) to run (λ (found : Run). IsRun place run offset limit (m ∷ ms) found)
-    (λ goes. let next = next_parts place run.end offset limit m goes in
-    run_goes place run to offset limit m ms spaced.1 next
-    (run_is place more (offset + aligned_length m.1) limit high ms next.few (subst (λ (p : ℕ). AreSpaced p high ms) (ap (λ (p : ℕ). p + aligned_length m.1) next.begins) spaced.3)))
-    (λ stops. run_stays place run offset limit (m ∷ ms) few (λ x rest first goes_on. let same : m ≡ x = cc in
-    let no : follows place run.end offset limit m ≡ true = subst (λ (y : ℕ × Frame). follows place run.end offset limit y ≡ true) (sym same) goes_on in cc))
+of_place : (g : Geometry) (publication : Publication) (f : Frame) → is_of publication f ≡ true → is_of_place (place_of g publication f) f ≡ true
+unfolding is_of is_of_place
+of_place g publication f is = grind (arith, (Decides-int_eq f.term_id f.term_id).1 refl)
 
--- one frame more at the beginning of a run
-pub run_on : (place : Place) (run : Run) (offset limit : ℕ) (m : ℕ × Frame) (ms all : List (ℕ × Frame)) → all ≡ m ∷ ms → follows place run.end offset limit m ≡ true
-    → longest_run place run offset limit all ≡ longest_run place (record { count = run.count + 1; end = run.end + aligned_length m.1 }) (offset + aligned_length m.1) limit ms
-run_on place run offset limit m ms all is goes =
-    ap (longest_run place run offset limit) is
-    ∙ cond-true (follows place run.end offset limit m) (longest_run place (record { count = run.count + 1; end = run.end + aligned_length m.1 }) (offset + aligned_length m.1) limit ms) run goes
+first_part : (g : Geometry) (publication : Publication) (f : Frame) (p offset : ℕ) → f.kind ≡ Message → IsAdmitted g publication f p → f.term_offset ≡ pos offset
+    → is_part (place_of g publication f) offset f ≡ true
+unfolding is_part
+first_part g publication f p offset kind place begins =
+    grind (arith, (Decides-int_eq f.term_offset (pos offset)).1 begins, of_place g publication f place.of, place.within)
 
--- the frames behind the next one are spaced behind it
-pub spaced_on : (place : Place) (at offset limit high : ℕ) (m : ℕ × Frame) (ms all : List (ℕ × Frame)) → all ≡ m ∷ ms → follows place at offset limit m ≡ true → AreSpaced at high all
-    → (0 < aligned_length m.1) × AreSpaced (at + aligned_length m.1) high ms
-spaced_on place at offset limit high m ms all is goes spaced =
-    let it = subst (AreSpaced at high) is spaced in
-    let next = next_parts place at offset limit m goes in
-    (it.1, subst (λ (p : ℕ). AreSpaced p high ms) (ap (λ (p : ℕ). p + aligned_length m.1) next.begins) it.3)
+-- a frame that has a place and is no message is a pad
+pad_kind : (kind : FrameKind) (mtu size : ℤ) → (kind ≡ Pad) ⊎ (kind ≡ Heartbeat) → is_within mtu kind size ≡ true → kind ≡ Pad
+pad_kind kind mtu size (inl pad) within = pad
+pad_kind kind mtu size (inr heartbeat) within = absurd (let no = rw heartbeat at within in cc)
 
--- the first of some frames
-pub first_of : (ms : List (ℕ × Frame)) (m : ℕ × Frame) → slice_get ms 0 ≡ Some m → (rest : List (ℕ × Frame)) × (ms ≡ m ∷ rest)
-first_of [] m is = absurd cc
-first_of (x ∷ ms) m is = let same : x ≡ m = cc in (ms, ap (λ (y : ℕ × Frame). y ∷ ms) same)
+-- a message's aligned length in a block
+message_size : (kind : FrameKind) (mtu size : ℤ) (payload : List ℕ) → kind ≡ Message → HasLength kind size payload → is_within mtu kind size ≡ true → mtu ≤ℤ pos 65504
+    → aligned (unsigned_abs size) ≤ 65504
+message_size kind mtu size payload message has within most =
+    let length_is = rw message at has in
+    let short = rw message at within in
+    grind (arith, ints, length_is, short)
 
--- one frame more is taken
-pub takes_more : (count : ℕ) (before after rest : List (ℕ × Frame)) (given more : List Frame) → TakesFirst count before given after → MovesFirst after rest given more → TakesFirst (count + 1) before more rest
-takes_more count before after rest given more takes moves = record {
-  taken = takes.taken ++ moves.first ∷ [];
-  left = takes.left ∙ ap (λ (ms : List (ℕ × Frame)). takes.taken ++ ms) moves.is ∙ sym (append_assoc takes.taken (moves.first ∷ []) rest);
-  frames = moves.behind ∙ ap (λ (fs : List Frame). fs ++ moves.first.1 ∷ []) takes.frames ∙ sym (map-append (λ m. m.1) takes.taken (moves.first ∷ []));
-  many = let long : length more ≡ length given + 1 = ap length moves.behind ∙ length-append given (moves.first.1 ∷ []) in let many = takes.many in omega (arith, long, many);
+-- where a message that is first ends in its term
+pub first_few : (g : Geometry) (publication : Publication) (from high limit : ℕ) (m : ℕ × Frame) (behind : List (ℕ × Frame)) → HasTerms g → IsFirst g publication from high m behind
+    → m.1.kind ≡ Message → limit ≡ min (unsigned_abs m.1.term_offset + 65536) (unsigned_abs g.term_length) → unsigned_abs m.1.term_offset + aligned_length m.1 ≤ limit
+first_few g publication from high limit m behind terms first kind limit_is =
+    let size = message_size m.1.kind g.mtu m.1.length m.1.payload kind first.encodable.length first.admitted.within terms.mtu in
+    omega (arith, first.inside, size, limit_is)
+
+-- what is left where some of the first frames were taken, and that those have an encoding
+members_rest : (g : Geometry) (publication : Publication) (taken after : List (ℕ × Frame)) → AreMembers g publication (taken ++ after) → AreMembers g publication after × AreEncodable (map (λ m. m.1) taken)
+members_rest g publication [] after members = (members, tt)
+members_rest g publication (m ∷ taken) after members = let rest = members_rest g publication taken after members.2 in (rest.0, (members.0, rest.1))
+
+-- the first frame and those taken behind it, which are a block
+takes_block : (g : Geometry) (publication : Publication) (from high to : ℕ) (m : ℕ × Frame) (behind before taken after : List (ℕ × Frame)) (given : List Frame) → before ≡ m ∷ behind
+    → IsFirst g publication from high m behind → behind ≡ taken ++ after → IsChain (end_of m) taken to → given ≡ m.1 ∷ map (λ x. x.1) taken
+    → IsPadBlock g (place_of g publication m.1) m.1 (map (λ x. x.1) taken) ⊎ IsMessageBlock g (place_of g publication m.1) m.1 (map (λ x. x.1) taken)
+    → TakesBlock g publication from before given to after
+takes_block g publication from high to m behind before taken after given is first left chain frames block = record {
+  taken = m ∷ taken;
+  left = is ∙ ap (λ (ms : List (ℕ × Frame)). m ∷ ms) left;
+  chain = (first.begins, first.some, chain);
+  frames = frames;
+  block = rw frames (first.position, (first.encodable, (members_rest g publication taken after (rw left at first.members)).1), block);
 }
 
--- so many of the first frames are the same, however they are taken
-pub same_first : (before given other after rest : List (ℕ × Frame)) → before ≡ given ++ after → before ≡ other ++ rest → length given ≡ length other → (given ≡ other) × (after ≡ rest)
-same_first before [] [] after rest left right long = (refl, sym left ∙ right)
-same_first before [] (x ∷ other) after rest left right long = absurd (omega arith)
-same_first before (m ∷ given) [] after rest left right long = absurd (omega arith)
-same_first [] (m ∷ given) (x ∷ other) after rest left right long = absurd cc
-same_first (y ∷ before) (m ∷ given) (x ∷ other) after rest left right long =
-    let m_is : y ≡ m = cc in
-    let x_is : y ≡ x = cc in
-    let tails = same_first before given other after rest (cc) (cc) (omega arith) in
-    let heads : m ≡ x = sym m_is ∙ x_is in
-    (ap (λ (z : ℕ × Frame). z ∷ given) heads ∙ ap (λ (zs : List (ℕ × Frame)). x ∷ zs) tails.0, tails.1)
+-- a pad that is first is a block
+pub takes_pad : (g : Geometry) (publication : Publication) (from high : ℕ) (m : ℕ × Frame) (behind before : List (ℕ × Frame)) (given : List Frame) → HasTerms g → before ≡ m ∷ behind
+    → IsFirst g publication from high m behind → (m.1.kind ≡ Pad) ⊎ (m.1.kind ≡ Heartbeat) → given ≡ m.1 ∷ [] → TakesBlock g publication from before given (from + aligned_length m.1) behind
+takes_pad g publication from high m behind before given terms is first kind frames =
+    takes_block g publication from high (from + aligned_length m.1) m behind before [] behind given is first refl (omega (arith, first.begins)) frames
+    (inl (record {
+      alone = refl;
+      kind = pad_kind m.1.kind g.mtu m.1.length kind first.admitted.within;
+      of_place = of_place g publication m.1 first.admitted.of;
+      inside = omega (arith, ints, first.position.low, terms.least, first.inside);
+    }))
+
+-- a message that is first is a block with the messages that were taken behind it
+pub takes_messages : (g : Geometry) (publication : Publication) (from high limit covered : ℕ) (m : ℕ × Frame) (behind before after : List (ℕ × Frame)) (lent given : List Frame) → HasTerms g
+    → before ≡ m ∷ behind → IsFirst g publication from high m behind → m.1.kind ≡ Message → limit ≡ min (unsigned_abs m.1.term_offset + 65536) (unsigned_abs g.term_length) → lent ≡ m.1 ∷ []
+    → TakesMessages (place_of g publication m.1) (from + aligned_length m.1) (unsigned_abs m.1.term_offset + aligned_length m.1) limit behind lent covered after given
+    → TakesBlock g publication from before given (from + aligned_length m.1 + covered) after
+takes_messages g publication from high limit covered m behind before after lent given terms is first kind limit_is alone takes =
+    let offset : ℕ = unsigned_abs m.1.term_offset in
+    let begins : m.1.term_offset ≡ pos offset = omega (arith, ints, first.position.low) in
+    let few = takes.few in
+    takes_block g publication from high (from + aligned_length m.1 + covered) m behind before takes.taken after given is first takes.left
+    (rw (sym first.begins) takes.chain)
+    (takes.frames ∙ ap (λ (fs : List Frame). fs ++ map (λ x. x.1) takes.taken) alone)
+    (inr (record {
+      offset = offset;
+      begins = begins;
+      end = offset + aligned_length m.1 + covered;
+      ends = cond-true (is_part (place_of g publication m.1) offset m.1) (run_end (place_of g publication m.1) (offset + aligned_length m.1) (map (λ x. x.1) takes.taken)) None
+          (first_part g publication m.1 m.0 offset kind first.admitted begins) ∙ takes.ends;
+      inside = omega (arith, ints, few, limit_is, terms.least);
+      covers = omega (arith, few, limit_is);
+    }))
+
+-- a run goes on with the frames behind those that it has come over
+run_on : (place : Place) (offset end : ℕ) (fs others : List Frame) → run_end place offset fs ≡ Some end → run_end place offset (fs ++ others) ≡ run_end place end others
+run_on place offset end [] others is = let same : offset ≡ end = cc in ap (λ (o : ℕ). run_end place o others) same
+run_on place offset end (f ∷ fs) others is = grind (arith, run_on place (offset + aligned_length f) end fs others)
+
+-- some messages were taken, and what is left is spaced
+pub record HasTaken (place : Place) (from offset limit : ℕ) (before : List (ℕ × Frame)) (old : List Frame) (covered : ℕ) (after : List (ℕ × Frame)) (new : List Frame) : Type 0 where
+  pub takes : TakesMessages place from offset limit before old covered after new
+  pub spaced : AreSpaced (from + covered) (2 ^ 62) after
+
+pub takes_more : (place : Place) (from offset limit covered size : ℕ) (before after rest : List (ℕ × Frame)) (old now new : List Frame) → HasTaken place from offset limit before old covered after now
+    → next_size place (from + covered) (offset + covered) limit after ≡ Some size → MovesFirst after rest now new → HasTaken place from offset limit before old (covered + size) rest new
+takes_more place from offset limit covered size before after rest old now new has found moves =
+    let takes = has.takes in
+    let m = moves.first in
+    let it = rw moves.is at found in
+    let covers : aligned_length m.1 ≡ size = grind (arith, it) in
+    let spaced = rw moves.is at has.spaced in
+    let end : end_of m ≡ from + (covered + size) = grind (arith, it) in
+    record {
+      takes = record {
+        taken = takes.taken ++ m ∷ [];
+        left = takes.left ∙ ap (λ (ms : List (ℕ × Frame)). takes.taken ++ ms) moves.is ∙ sym (append_assoc takes.taken (m ∷ []) rest);
+        chain = chain_append from (from + covered) (from + (covered + size)) takes.taken (m ∷ []) takes.chain (grind (arith, it), spaced.1, end);
+        ends = rw (map-append (λ (x : ℕ × Frame). x.1) takes.taken (m ∷ [])) (run_on place offset (offset + covered) (map (λ x. x.1) takes.taken) (m.1 ∷ []) takes.ends
+            ∙ cond-true (is_part place (offset + covered) m.1) (Some (offset + covered + aligned_length m.1)) None (grind (arith, it)) ∙ ap (λ (n : ℕ). Some n) (omega (arith, covers)));
+        few = grind (arith, it);
+        frames = moves.behind ∙ ap (λ (fs : List Frame). fs ++ m.1 ∷ []) takes.frames ∙ append_assoc old (map (λ x. x.1) takes.taken) (m.1 ∷ [])
+            ∙ ap (λ (fs : List Frame). old ++ fs) (sym (map-append (λ (x : ℕ × Frame). x.1) takes.taken (m ∷ [])));
+      };
+      spaced = rw (sym end) spaced.3;
+    }
+
+-- what is left of spaced frames where a chain of the first was taken
+spaced_rest : (p q high : ℕ) (taken after : List (ℕ × Frame)) → AreSpaced p high (taken ++ after) → IsChain p taken q → p ≤ high → AreSpaced q high after × (q ≤ high)
+spaced_rest p q high [] after spaced chain low = rw (sym chain) (spaced, low)
+spaced_rest p q high (m ∷ taken) after spaced chain low = spaced_rest (end_of m) q high taken after spaced.3 chain.2 spaced.2
+
+-- what is kept when a block was taken
+pub kept_take : (r : Received) (at to : ℕ) (given : List Frame) (after : List (ℕ × Frame)) → IsKept r at → TakesBlock r.geometry r.publication r.from r.joined given to after
+    → IsKept (record r { from = to; joined = after }) at
+kept_take r at to given after kept takes =
+    let rest = spaced_rest r.from to r.high takes.taken after (rw takes.left at kept.spaced) takes.chain kept.begins in
+    record {
+      terms = kept.terms;
+      spaced = rest.0;
+      members = (members_rest r.geometry r.publication takes.taken after (rw takes.left at kept.members)).0;
+      rebuilt = kept.rebuilt ∙ ap (chain_end r.from) takes.left ∙ chain_over r.from to takes.taken after takes.chain;
+      begins = rest.1;
+      limit = kept.limit;
+    }
+
+-- a block that was taken is given
+pub gives_block : (old new : Received) (b : Block) (given : List Frame) → b.position ≡ pos old.from → b.frames ≡ given
+    → TakesBlock old.geometry old.publication old.from old.joined given new.from new.joined → new ≡ record old { from = new.from; joined = new.joined } → GivesBlock old b new
+gives_block old new b given begins frames takes same = record {
+  begins = begins;
+  takes = rw frames takes;
+  same = same;
+  whole = λ all stands. taken_stands all old new takes.taken stands takes.chain takes.left same;
+}

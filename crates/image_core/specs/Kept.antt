@@ -1,5 +1,5 @@
 -- What holds of the frames that an image keeps.
-use Rattle.std.specs.Prelude.{◌≡◌, ◌<◌, ◌≤◌, ◌^◌, ◌*◌, ◌≤ℤ◌, ◌==◌, ◌&&◌, ℕ, pos, nat_le, unsigned_abs, Bool, if◌then◌else◌, List, [], ◌∷◌, ◌++◌, length, map, Some, true, ◌+◌}
+use Rattle.std.specs.Prelude.{◌≡◌, ◌<◌, ◌≤◌, ◌^◌, ◌*◌, ◌≤ℤ◌, ◌==◌, ◌&&◌, ℕ, pos, nat_le, unsigned_abs, if◌then◌else◌, List, [], ◌∷◌, ◌++◌, map, Option, None, Some, true, ◌+◌}
 use Rattle.std.specs.Ordering.{nat_cmp}
 use Rattle.std.specs.Map.{remove_entry}
 use Rattle.std.specs.BTreeMap.{is_at}
@@ -7,14 +7,12 @@ use Rattle.frame_core.specs.declared.frame.Frame.{Frame}
 use Rattle.frame_core.specs.declared.block.Publication.{Publication}
 use Rattle.frame_core.specs.declared.geometry.Geometry.{Geometry}
 use Rattle.frame_core.specs.declared.block.Place.{Place}
-use Rattle.frame_core.specs.Block.{is_part}
+use Rattle.frame_core.specs.Block.{is_part, run_end}
 use Rattle.frame_core.specs.FrameEncoding.{IsEncodable, aligned_length}
 use Rattle.image_core.specs.Rebuild.{end_of, chain_end}
 use Rattle.image_core.specs.declared.fate.Fate.{Fate}
 use Rattle.image_core.specs.declared.fate.Fate.TheVariants.{Joins, Tells, Drops}
-use Rattle.image_core.specs.Received.{Received, is_open, joining_position}
-use Rattle.image_core.specs.declared.taking.Run.{Run}
-use Rattle.image_core.specs.Take.{TakesBlock}
+use Rattle.image_core.specs.Received.{IsChain, Received, is_open, joining_position}
 
 -- by rising position from one on, each of some size, none over another, and ending at most at another position
 abbrev pub AreSpaced : ℕ → ℕ → List (ℕ × Frame) → Type 0
@@ -62,32 +60,23 @@ IsComing r f (Joins p) = IsJoining r f p
 IsComing r f (Tells p) = p ≤ 2 ^ 31 * unsigned_abs r.geometry.term_length
 IsComing r f Drops = Unit {0}
 
--- a frame that is held is the next message of a block: at a position, at an offset in its term, and within a limit there
-unfoldable pub follows : Place → ℕ → ℕ → ℕ → ℕ × Frame → Bool
-follows place at offset limit m = (m.0 == at) && is_part place offset m.1 && nat_le (offset + aligned_length m.1) limit
-
--- the longest run of the first frames that follow one another so, behind a run that was looked at before
-abbrev pub longest_run : Place → Run → ℕ → ℕ → List (ℕ × Frame) → Run
-longest_run place run offset limit [] = run
-longest_run place run offset limit (m ∷ ms) =
-    if follows place run.end offset limit m then longest_run place (record { count = run.count + 1; end = run.end + aligned_length m.1 }) (offset + aligned_length m.1) limit ms else run
-
--- so many of the first frames are the block that is given, and it ends there
-pub record CountsBlock (g : Geometry) (publication : Publication) (from : ℕ) (before : List (ℕ × Frame)) (run : Run) : Type 0 where
-  pub given : List Frame
-  pub after : List (ℕ × Frame)
-  pub takes : TakesBlock g publication from before given run.end after
-  pub count : run.count ≡ length given
-
--- so many of the first frames were taken
-pub record TakesFirst (count : ℕ) (before : List (ℕ × Frame)) (given : List Frame) (after : List (ℕ × Frame)) : Type 0 where
-  pub taken : List (ℕ × Frame)
-  pub left : before ≡ taken ++ after
-  pub frames : given ≡ map (λ m. m.1) taken
-  pub many : length given ≡ count
+-- how many bytes the first frame covers, if it is the next message of a block: at a position, at an offset in its term, and within a limit there
+abbrev pub next_size : Place → ℕ → ℕ → ℕ → List (ℕ × Frame) → Option ℕ
+next_size place at offset limit [] = None
+next_size place at offset limit (m ∷ ms) =
+    if (m.0 == at) && is_part place offset m.1 && nat_le (offset + aligned_length m.1) limit then Some (aligned_length m.1) else None
 
 -- the first frame was moved behind the frames of a list
 pub record MovesFirst (before after : List (ℕ × Frame)) (old new : List Frame) : Type 0 where
   pub first : ℕ × Frame
   pub is : before ≡ first ∷ after
   pub behind : new ≡ old ++ first.1 ∷ []
+
+-- the first frames were moved behind those of a list: messages of a block that follow one another from a position and an offset in their term up to a limit, and cover so many bytes
+pub record TakesMessages (place : Place) (from offset limit : ℕ) (before : List (ℕ × Frame)) (old : List Frame) (covered : ℕ) (after : List (ℕ × Frame)) (new : List Frame) : Type 0 where
+  pub taken : List (ℕ × Frame)
+  pub left : before ≡ taken ++ after
+  pub chain : IsChain from taken (from + covered)
+  pub ends : run_end place offset (map (λ m. m.1) taken) ≡ Some (offset + covered)
+  pub few : offset + covered ≤ limit
+  pub frames : new ≡ old ++ map (λ m. m.1) taken

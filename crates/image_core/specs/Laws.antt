@@ -1,5 +1,5 @@
--- What gives the rebuild position, the high-water mark and the gap their names: docs/PROTOCOL.md, "Images".
-use Rattle.std.specs.Prelude.{◌≡◌, ◌<◌, ◌≤◌, ◌⊎◌, ℕ, max, if◌then◌else◌, List, [], ◌∷◌, ◌++◌, Option, None, Some, map, Contains}
+-- What gives the rebuild position and the high-water mark their names: docs/PROTOCOL.md, "Images".
+use Rattle.std.specs.Prelude.{◌≡◌, ◌≤◌, ℕ, max, if◌then◌else◌, List, [], ◌∷◌, ◌++◌, Option, None, Some, map, Contains}
 use Rattle.std.specs.List.{AllByRecursion}
 use Rattle.frame_core.specs.declared.frame.FrameKind.{FrameKind}
 use Rattle.frame_core.specs.declared.frame.FrameKind.TheVariants.{Pad, Message, Heartbeat}
@@ -7,9 +7,8 @@ use Rattle.frame_core.specs.declared.frame.Frame.{Frame}
 use Rattle.frame_core.specs.declared.block.Publication.{Publication}
 use Rattle.frame_core.specs.declared.geometry.Geometry.{Geometry}
 use Rattle.frame_core.specs.Position.{frame_position}
-use Rattle.image_core.specs.Rebuild.{end_of, term_end}
-use Rattle.image_core.specs.Received.{Received, gap_end, is_of, rebuilt}
-use Rattle.image_core.specs.Received.{IsChain}
+use Rattle.image_core.specs.Rebuild.{end_of}
+use Rattle.image_core.specs.Received.{IsChain, Received, is_of, rebuilt}
 use Rattle.image_core.specs.Kept.{AreMembers, AreSpaced}
 
 -- no received frame lies over another, and none before the join position; each has an encoding, and is of the publication, within the MTU and inside its term, at its position
@@ -23,14 +22,6 @@ pub record HasLongestChain (r : Received) : Type 0 where
   pub received : AllByRecursion (Contains r.joined) chain
   pub follows : IsChain r.from chain (rebuilt r)
   pub longest : (other : List (ℕ × Frame)) (end : ℕ) → AllByRecursion (Contains r.joined) other → IsChain r.from other end → end ≤ rebuilt r
-
--- the gap holds no received frame, and ends at the first of the high-water mark, the end of the term and the received frames behind the rebuild position
-pub record HasGap (r : Received) : Type 0 where
-  pub empty : (m : ℕ × Frame) → Contains r.joined m → (end_of m ≤ rebuilt r) ⊎ (gap_end r ≤ m.0)
-  pub high : gap_end r ≤ r.high
-  pub term : gap_end r ≤ term_end r.geometry (rebuilt r)
-  pub first : (gap_end r ≡ r.high)
-      ⊎ ((gap_end r ≡ term_end r.geometry (rebuilt r)) ⊎ ((m : ℕ × Frame) × Contains r.joined m × (rebuilt r < m.0) × (gap_end r ≡ m.0)))
 
 -- the greatest of some numbers
 abbrev pub greatest : List ℕ → ℕ

@@ -24,6 +24,7 @@ pub fn is_free(held: &BTreeMap<u64, Frame>, position: u64, end: u64) -> bool
 }
 
 // The end of the longest chain of held frames from a position.
+#[tactic(auto, using(crate::proofs::ChainLemmas::found, crate::proofs::ChainLemmas::chain_none))]
 pub fn chain_end(held: &BTreeMap<u64, Frame>, from: u64) -> u64
     requires spaced { AreSpaced 0 (2 ^ 62) held.now.entries }
     requires from { from ≤ 2 ^ 62 }

@@ -8,10 +8,10 @@ ghost use Rattle.frame_core.specs.Position.{frame_position};
 ghost use Rattle.frame_core.specs.Block.{AreEncodable};
 ghost use Rattle.frame_core.specs.declared.refusal.Refusal.TheVariants.{NoMemory};
 ghost use Rattle.frame_core.specs.Setup.{IsUsable};
-ghost use Rattle.image_core.specs.Take.{GivesBlock, IsGap, TakesBlock};
+ghost use Rattle.image_core.specs.Take.{GivesBlock, IsGap};
 ghost use Rattle.image_core.specs.Received.{StandsFor};
 ghost use Rattle.image_core.specs.Insert.{Inserts, IsForeign, IsInsertRefusal, tally, uncounted};
-ghost use Rattle.image_core.specs.Kept.{CountsBlock, HasTerms, IsComing, IsJoining, IsKept, undone};
+ghost use Rattle.image_core.specs.Kept.{HasTerms, IsComing, IsJoining, IsKept, undone};
 ghost use Rattle.image_core.specs.Received.{IsBegun, Received, after, begun, fate, frame_fate, gap_end, heartbeat_fate, is_of, is_open, joining_position, rebuilt, received, received_all};
 
 use crate::fate::Fate;
@@ -19,7 +19,7 @@ use crate::gaps::{nak_over, term_end};
 use crate::held::{chain_end, is_free, next_start, put, withdraw};
 use crate::inserted::Inserted;
 use crate::joining::{heartbeat_position, joining_position, window};
-use crate::taking::{Run, longest_block, take_frames};
+use crate::taking::take_frames;
 use byteorder::{ByteOrder, LittleEndian};
 use frame_core::{
     Block, Frame, FrameKind, FrameRef, Geometry, Items, Nak, Publication, Refusal, Setup,
@@ -74,9 +74,9 @@ impl Image {
         ensures unusable { OnErr result (IsUsable setup.now → ⊥) }
         ensures refusal { IfErr result (λ refusal. refusal ≡ Refusal.BadFrame 0) }
     {
-        let Some(position) = setup.join_position() else {
-            return Err(Refusal::BadFrame { offset: 0 });
-        };
+        let position = setup
+            .join_position()
+            .ok_or(Refusal::BadFrame { offset: 0 })?;
         let publication = Publication {
             session_id: setup.session_id,
             stream_id: setup.stream_id,
@@ -168,10 +168,11 @@ impl Image {
         Ok(inserted)
     }
 
-    /// The longest block of the first frames that were not taken, up to the rebuild position: all messages that follow
-    /// one another in their term within a block's bytes, or one pad: docs/PROTOCOL.md, "Blocks". None where all frames
-    /// up to the rebuild position were taken. NoMemory where the list can't be made; nothing changes then. The image
-    /// keeps the frames no more. Costs for each frame of the block the logarithm of how many are held.
+    /// A block of the first frames that were not taken, up to the rebuild position: messages that follow one another in
+    /// their term within a block's bytes, as many as the list of them can grow to, or one pad: docs/PROTOCOL.md,
+    /// "Blocks". None where all frames up to the rebuild position were taken. NoMemory where there is no room for one
+    /// frame; nothing changes then. The image keeps the frames no more. Costs for each frame of the block the logarithm
+    /// of how many are held.
     pub fn take_block(&mut self) -> Result<Option<Block>, Refusal>
         ensures block { IfOk result (λ found. MatchOption found
             ((rebuilt self.old ≡ self.old.from) × (self.new ≡ self.old))
@@ -183,39 +184,20 @@ impl Image {
         if self.from == self.rebuilt {
             return Ok(None);
         }
-        let position = self.from;
-        let run = self.next_block();
-        let mut frames = Vec::with_capacity(self.alloc, run.count)?;
-        self.take_into(&run, &mut frames);
+        let mut frames = Vec::with_capacity(self.alloc, 1)?;
+        let position = self.from as i64;
+        let end = take_frames(
+            &mut self.held,
+            &self.geometry,
+            &self.publication,
+            self.from,
+            &mut frames,
+        );
+        self.from = end;
         Ok(Some(Block {
-            position: position as i64,
+            position,
             frames: Items::from_vec(frames),
         }))
-    }
-
-    // The block that is given next.
-    fn next_block(&self) -> Run
-        requires { self.now.from < rebuilt self.now }
-        ensures { let now = self.now in
-            CountsBlock now.geometry now.publication now.from now.joined result }
-    {
-        longest_block(&self.held, &self.geometry, &self.publication, self.from)
-    }
-
-    // Takes the frames of a block into a list that has room for them.
-    fn take_into(&mut self, run: &Run, frames: &mut Vec<Frame>)
-        requires block { let old = self.old in
-            CountsBlock old.geometry old.publication old.from old.joined run.now }
-        requires empty { frames.old.items ≡ [] }
-        requires room { run.now.count ≤ vec_capacity frames.old }
-        ensures takes { let old = self.old in let new = self.new in
-            TakesBlock old.geometry old.publication old.from old.joined
-            frames.new.items new.from new.joined }
-        ensures same { let new = self.new in
-            new ≡ record self.old { from = new.from; joined = new.joined } }
-    {
-        take_frames(&mut self.held, run.count, frames);
-        self.from = run.end;
     }
 
     // Takes in all frames of a datagram, or none of them.

@@ -6,7 +6,7 @@ ghost use Rattle.frame_core.specs.declared.block.Publication.{Publication};
 ghost use Rattle.frame_core.specs.declared.frame.Frame.{Frame};
 ghost use Rattle.frame_core.specs.declared.geometry.Geometry.{Geometry};
 ghost use Rattle.image_core.specs.Received.{IsUnseen, StandsFor};
-ghost use Rattle.image_core.specs.Laws.{HasGap, HasHighWaterMark, HasLongestChain, LieApart};
+ghost use Rattle.image_core.specs.Laws.{HasHighWaterMark, HasLongestChain, LieApart};
 ghost use Rattle.image_core.specs.Received.{Received, begun, received_all};
 
 /// What was taken of an image makes no difference. An image holds what it received, as long as nothing is taken. Where
@@ -41,11 +41,4 @@ pub fn the_longest_chain_ends_at_the_rebuild_position()
 pub fn the_high_water_mark_is_the_greatest()
     ensures { (g : Geometry) (publication : Publication) (join : ℕ) (fs : List Frame)
         → AreEncodable fs → HasHighWaterMark join fs (received_all (begun g publication join) fs) }
-{}
-
-/// After any frames no received frame lies in the gap, which ends at the first of the high-water mark, the end of the term
-/// and the received frames behind the rebuild position.
-pub fn a_gap_holds_no_received_frame()
-    ensures { (g : Geometry) (publication : Publication) (join : ℕ) (fs : List Frame)
-        → AreEncodable fs → HasGap (received_all (begun g publication join) fs) }
 {}

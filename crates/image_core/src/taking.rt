@@ -1,51 +1,48 @@
-//! The longest block of the frames that are held, and how it is taken.
+//! A block of the frames that are held, and how it is taken.
 
-ghost use Rattle.std.specs.Prelude.{◌≡◌, ◌<◌, ◌≤◌, ◌+◌, ◌^◌, [], length, min, unsigned_abs, vec_len};
+ghost use Rattle.std.specs.Prelude.{◌≡◌, ◌<◌, ◌≤◌, ◌+◌, ◌^◌, [], length, min, unsigned_abs, vec_len, IfSome, MatchOption};
 ghost use Rattle.std.specs.Vec.{vec_capacity};
-ghost use Rattle.image_core.specs.Kept.{AreMembers, AreSpaced, CountsBlock, HasTerms, MovesFirst, TakesFirst, follows, longest_run};
+ghost use Rattle.image_core.specs.Kept.{AreMembers, AreSpaced, HasTerms, MovesFirst, TakesMessages, next_size};
 ghost use Rattle.image_core.specs.Rebuild.{chain_end};
+ghost use Rattle.image_core.specs.Take.{TakesBlock};
 
 use frame_core::limits::MAX_BLOCK_LENGTH;
 use frame_core::{Frame, FrameKind, Geometry, Place, Publication, is_next, place_behind};
 use std::collections::BTreeMap;
 
-// The first of the frames that are held, as far as they are looked at.
-#[derive(Clone, Copy)]
-pub struct Run {
-    // How many they are.
-    pub count: usize,
-    // Where the last of them ends.
-    pub end: u64,
-}
-
-// The longest block of the first frames of a chain.
-pub fn longest_block(
-    held: &BTreeMap<u64, Frame>,
+// Takes the first frames of a chain as a block into a list that has room for one, as many as follow one another in it
+// and the list can grow to. Answers where the block ends.
+pub fn take_frames(
+    held: &mut BTreeMap<u64, Frame>,
     geometry: &Geometry,
     publication: &Publication,
     from: u64,
-) -> Run
+    frames: &mut Vec<Frame>,
+) -> u64
     requires terms { HasTerms geometry.now }
-    requires spaced { AreSpaced from (2 ^ 62) held.now.entries }
-    requires members { AreMembers geometry.now publication.now held.now.entries }
-    requires some { from < chain_end from held.now.entries }
-    ensures { CountsBlock geometry.now publication.now from held.now.entries result }
+    requires spaced { AreSpaced from (2 ^ 62) held.old.entries }
+    requires members { AreMembers geometry.now publication.now held.old.entries }
+    requires some { from < chain_end from held.old.entries }
+    requires empty { frames.old.items ≡ [] }
+    requires room { 1 ≤ vec_capacity frames.old }
+    ensures { TakesBlock geometry.now publication.now from held.old.entries
+        frames.new.items result held.new.entries }
 {
-    let Some((_, first)) = held.first_key_value() else {
-        return Run {
-            count: 0,
-            end: from,
-        };
+    let Some((_, first)) = held.pop_first() else {
+        return from;
     };
-    let end = from + first.aligned_length();
-    match first.kind {
-        FrameKind::Message => {}
-        FrameKind::Pad | FrameKind::Heartbeat => return Run { count: 1, end },
+    let place = place_behind(geometry, publication, &first);
+    let offset = offset_of(&first);
+    let limit = limit_behind(geometry, offset);
+    let size = first.aligned_length();
+    let kind = first.kind;
+    frames.push_reserved(first);
+    match kind {
+        FrameKind::Pad | FrameKind::Heartbeat => from + size,
+        FrameKind::Message => {
+            from + size + take_messages(held, &place, from + size, offset + size, limit, frames)
+        }
     }
-    let place = place_behind(geometry, publication, first);
-    let offset = offset_of(first);
-    let limit = limit_behind(geometry, &offset);
-    longest_run(held, &place, from, offset, limit)
 }
 
 // How many bytes of its term lie before a frame.
@@ -57,73 +54,65 @@ fn offset_of(frame: &Frame) -> u64
 }
 
 // Where a block ends at the latest that begins at an offset.
-fn limit_behind(geometry: &Geometry, offset: &u64) -> u64
-    requires { offset.now ≤ 2 ^ 31 }
-    ensures { result ≡ min (offset.now + 65536) (unsigned_abs geometry.now.term_length) }
+fn limit_behind(geometry: &Geometry, offset: u64) -> u64
+    requires { offset ≤ 2 ^ 31 }
+    ensures limit { result ≡ min (offset + 65536) (unsigned_abs geometry.now.term_length) }
+    ensures small { result ≤ 2 ^ 31 }
 {
-    (*offset + MAX_BLOCK_LENGTH as u64).min(u64::from(geometry.term_length.unsigned_abs()))
+    (offset + MAX_BLOCK_LENGTH as u64).min(u64::from(geometry.term_length.unsigned_abs()))
 }
 
-// The longest run of the first frames as messages of a block, up to a limit in their term.
-fn longest_run(
-    held: &BTreeMap<u64, Frame>,
+// Takes the first frames behind those of a list, as long as they are messages of a block that follow one another from a
+// position and an offset in their term up to a limit, and the list can grow. Answers how many bytes they cover.
+fn take_messages(
+    held: &mut BTreeMap<u64, Frame>,
     place: &Place,
     from: u64,
     offset: u64,
     limit: u64,
-) -> Run
-    requires spaced { AreSpaced from (2 ^ 62) held.now.entries }
-    requires few { offset < 2 ^ 33 }
-    requires small { limit < 2 ^ 33 }
-    ensures { result ≡ longest_run place.now (record { count = 0; end = from })
-        offset limit held.now.entries }
+    frames: &mut Vec<Frame>,
+) -> u64
+    requires spaced { AreSpaced from (2 ^ 62) held.old.entries }
+    requires from { from ≤ 2 ^ 62 }
+    requires within { offset ≤ limit }
+    requires small { limit ≤ 2 ^ 31 }
+    ensures takes { TakesMessages place.now from offset limit held.old.entries frames.old.items
+        result held.new.entries frames.new.items }
+    ensures few { result ≤ 2 ^ 31 }
 {
-    let mut run = Run {
-        count: 0,
-        end: from,
-    };
-    let mut next = offset;
-    for (start, frame) in held {
-        if !follows(place, run.end, next, limit, start, frame) {
-            return run;
+    let mut covered = 0;
+    'each: while let Some(size) = next_size(held, place, from + covered, offset + covered, limit) {
+        if frames.reserve(1).is_err() {
+            return covered;
         }
-        let size = frame.aligned_length();
-        run = Run {
-            count: run.count + 1,
-            end: run.end + size,
-        };
-        next += size;
-    }
-    run
-}
-
-// Whether a frame that is held is the next message of a block within a limit.
-#[tactic(auto, unfolding(crate::specs::Kept::follows))]
-fn follows(place: &Place, at: u64, offset: u64, limit: u64, start: &u64, frame: &Frame) -> bool
-    ensures { result ≡ follows place.now at offset limit (start.now, frame.now) }
-{
-    *start == at && is_next(place, offset, frame) && offset + frame.aligned_length() <= limit
-}
-
-// Takes so many of the first frames into a list that has room for them.
-pub fn take_frames(held: &mut BTreeMap<u64, Frame>, count: usize, frames: &mut Vec<Frame>)
-    requires some { count ≤ length held.old.entries }
-    requires empty { frames.old.items ≡ [] }
-    requires room { count ≤ vec_capacity frames.old }
-    ensures { TakesFirst count held.old.entries frames.new.items held.new.entries }
-{
-    'each: while frames.len() < count {
         take_first(held, frames);
+        covered += size;
     }
+    covered
+}
+
+// How many bytes the first frame covers, if it is the next message of a block: at a position, at an offset in its term,
+// and within a limit there.
+fn next_size(
+    held: &BTreeMap<u64, Frame>,
+    place: &Place,
+    at: u64,
+    offset: u64,
+    limit: u64,
+) -> Option<u64>
+    requires { offset < 2 ^ 33 }
+    ensures { result ≡ next_size place.now at offset limit held.now.entries }
+{
+    let (start, frame) = held.first_key_value()?;
+    let size = frame.aligned_length();
+    (*start == at && is_next(place, offset, frame) && offset + size <= limit).then_some(size)
 }
 
 // Moves the first frame behind the others of a list that has room for it.
 fn take_first(held: &mut BTreeMap<u64, Frame>, frames: &mut Vec<Frame>)
     requires some { 0 < length held.old.entries }
     requires room { vec_len frames.old < vec_capacity frames.old }
-    ensures moves { MovesFirst held.old.entries held.new.entries frames.old.items frames.new.items }
-    ensures len { vec_len frames.new ≡ vec_len frames.old + 1 }
-    ensures capacity { vec_capacity frames.new ≡ vec_capacity frames.old }
+    ensures { MovesFirst held.old.entries held.new.entries frames.old.items frames.new.items }
 {
     let Some((_, frame)) = held.pop_first() else {
         return;

@@ -1,23 +1,17 @@
-use Rattle.std.proofs.Common.{rules, ◌≡◌, ◌∙◌, sym, ap, [], ◌∷◌, ◌++◌, ◌^◌, ◌+◌, ℕ}
-use Rattle.std.specs.Prelude.{nat_le}
-use Rattle.image_core.proofs.RangeLemmas.{before, free_none, free_last}
+use Rattle.std.proofs.Common.{rules, ◌∙◌, sym, ◌^◌}
+use Rattle.image_core.proofs.RangeLemmas.{IsLast, free_last, free_none}
+use Rattle.image_core.proofs.held.is_free.Goals.{In-Some}
 use Rattle.image_core.proofs.held.is_free.Goals as goal
 
+-- what is found is the last frame that begins before the range's end
+last : (c : In-Some) → IsLast c.args.position c.args.end 0 (2 ^ 62) c.args.held.now.entries (c.in-Some.start.now, c.in-Some.frame.now)
+last c = free_last c.args.position _ _ _ _ _ _ c.requires.spaced (sym (c.range.ensures.between tt) ∙ c.in-Some.ensures.steps)
+
 pub overflow_add-result : goal.overflow_add-result
-overflow_add-result c =
-    let is : before c.args.end c.args.held.now.entries ≡ c.next_back.new.self ++ (c.in-Some.start.now, c.in-Some.frame.now) ∷ [] =
-    sym (c.range.ensures.between tt) ∙ c.in-Some.ensures.steps in
-    let last = free_last c.args.position c.args.end 0 (2 ^ 62) c.args.held.now.entries c.next_back.new.self (c.in-Some.start.now, c.in-Some.frame.now) c.requires.spaced is in
-    search (rules, last.ends)
+overflow_add-result c = let it = last (goal.at.overflow_add-result c).In-Some in search (rules, it.ends)
 
 pub returns-in-Some : goal.returns-in-Some
-returns-in-Some c =
-    let is : before c.args.end c.args.held.now.entries ≡ c.next_back.new.self ++ (c.in-Some.start.now, c.in-Some.frame.now) ∷ [] =
-    sym (c.range.ensures.between tt) ∙ c.in-Some.ensures.steps in
-    let last = free_last c.args.position c.args.end 0 (2 ^ 62) c.args.held.now.entries c.next_back.new.self (c.in-Some.start.now, c.in-Some.frame.now) c.requires.spaced is in
-    ap (λ (n : ℕ). nat_le (c.in-Some.start.now + n) c.args.position) c.aligned_length.ensures.value ∙ sym last.free
+returns-in-Some c = rw c.aligned_length.ensures.value (sym (last (goal.at.returns-in-Some c).In-Some).free)
 
 pub returns-in-None : goal.returns-in-None
-returns-in-None c =
-    let is : before c.args.end c.args.held.now.entries ≡ [] = sym (c.range.ensures.between tt) ∙ search rules in
-    sym (free_none c.args.position c.args.end c.args.held.now.entries is)
+returns-in-None c = sym (free_none c.args.position c.args.end _ (sym (c.range.ensures.between tt) ∙ search rules))

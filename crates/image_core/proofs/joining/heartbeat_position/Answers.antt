@@ -1,4 +1,4 @@
-use Rattle.std.proofs.Common.{◌≡◌, sym, ◌*◌, ◌^◌, ◌<ℤ◌, ◌≤ℤ◌, ◌<◌, ◌≤◌, ℕ, pos, ℤ, negsuc, Some, None, arith}
+use Rattle.std.proofs.Common.{◌≡◌, sym, ◌*◌, ◌^◌, ◌≤◌, ℕ, Some, None, arith}
 use Rattle.std.specs.Prelude.{IfSome, Option, unsigned_abs}
 use Rattle.std.proofs.lemmas.Int.{ints}
 use Rattle.frame_core.specs.declared.frame.Frame.{Frame}
@@ -8,19 +8,12 @@ use Rattle.frame_core.specs.Position.{HasRoom, frame_position}
 use Rattle.frame_core.proofs.PositionLemmas.{given}
 use Rattle.image_core.proofs.joining.heartbeat_position.Goals as goal
 
--- an offset in a term is below the term's length
-below : (offset size : ℤ) → pos 0 ≤ℤ offset → offset <ℤ size → unsigned_abs offset < unsigned_abs size
-below (pos m) (pos n) low high = omega (arith, ints)
-below (pos m) (negsuc n) low high = absurd (omega (arith, ints))
-below (negsuc m) size low high = absurd (omega (arith, ints))
-
 -- a position lies inside the stream
 room_by : (g : Geometry) (f : Frame) (found : Option ℕ) → found ≡ frame_position g f → IfSome found (HasRoom g f.term_offset) → IfSome found (λ p. p ≤ 2 ^ 31 * unsigned_abs g.term_length)
 room_by g f None is room = tt
 room_by g f (Some p) is room =
     let here = given g f.term_id f.term_offset p (sym is) in
-    let high = below f.term_offset g.term_length here.low here.high in
-    omega (arith, high, room)
+    omega (arith, ints, here.low, here.high, room)
 
 pub returns-then-is_of-clause-room : goal.returns-then-is_of-clause-room
 returns-then-is_of-clause-room c =

@@ -1,15 +1,35 @@
-use Rattle.std.proofs.Common.{◌≡◌, ◌+◌, ℕ, sym, subst, arith}
-use Rattle.image_core.specs.Kept.{TakesFirst}
-use Rattle.image_core.proofs.TakeLemmas.{takes_more}
+use Rattle.std.proofs.Common.{◌^◌, arith}
+use Rattle.image_core.proofs.TakeLemmas.{IsFirst, first_few, first_is, takes_messages, takes_pad}
+use Rattle.image_core.proofs.taking.take_frames.Goals.{In-Some}
 use Rattle.image_core.proofs.taking.take_frames.Goals as goal
 
-pub each-preserved : goal.each-preserved
-each-preserved c =
-    let more = takes_more c.each.frames.len c.args.held.now.entries c.each.held.entries c.take_first.new.held.entries c.each.frames.items c.take_first.new.frames.items c.each.invariant.0 c.take_first.ensures.moves in
-    let len : c.take_first.new.frames.len ≡ c.each.frames.len + 1 = c.take_first.ensures.len in
-    let cap : c.take_first.new.frames.cap ≡ c.each.frames.cap = c.take_first.ensures.capacity in
-    let is : c.len.result ≡ c.each.frames.len = c.len.ensures in (
-      subst (λ (n : ℕ). TakesFirst n c.args.held.now.entries c.take_first.new.frames.items c.take_first.new.held.entries) (sym len) more,
-      omega (arith, cap, c.each.invariant.1),
-      omega (arith, len, is, c.each-test.true),
-    )
+-- the chain begins with the first frame that is held
+first : (c : In-Some) → IsFirst c.args.geometry.now c.args.publication.now c.args.from (2 ^ 62) (c.in-Some.field-0-0, c.in-Some.first) c.pop_first.new.self.entries
+first c =
+    first_is c.args.geometry.now c.args.publication.now c.args.from (2 ^ 62) (c.in-Some.field-0-0, c.in-Some.first) c.pop_first.new.self.entries c.args.held.now.entries
+    c.in-Some.ensures.removal c.requires.spaced c.requires.members c.requires.some
+
+pub take_messages-requires-clause-spaced : goal.take_messages-requires-clause-spaced
+take_messages-requires-clause-spaced c =
+    let it = first (goal.at.take_messages-requires-clause-spaced c).In-Some in
+    rw (c.aligned_length-size.ensures.value, it.begins) it.spaced
+
+pub take_messages-requires-clause-within : goal.take_messages-requires-clause-within
+take_messages-requires-clause-within c =
+    let it = first (goal.at.take_messages-requires-clause-within c).In-Some in
+    let few = first_few _ _ _ _ c.limit_behind-limit.result _ _ c.requires.terms it c.in-Message.is (rw c.offset_of-offset.ensures.offset at c.limit_behind-limit.ensures.limit) in
+    omega (arith, few, c.offset_of-offset.ensures.offset, c.aligned_length-size.ensures.value)
+
+pub returns-in-Pad : goal.returns-in-Pad
+returns-in-Pad c =
+    let it = first (goal.at.returns-in-Pad c).In-Some in
+    rw c.aligned_length-size.ensures.value
+    (takes_pad _ _ _ _ _ _ _ _ c.requires.terms c.in-Some.ensures.removal it c.in-Pad.is (rw c.requires.empty at c.push_reserved.ensures.items))
+
+pub returns-in-Message : goal.returns-in-Message
+returns-in-Message c =
+    let it = first (goal.at.returns-in-Message c).In-Some in
+    rw c.aligned_length-size.ensures.value
+    (takes_messages _ _ _ _ c.limit_behind-limit.result _ _ _ _ _ _ _ c.requires.terms c.in-Some.ensures.removal it c.in-Message.is
+    (rw c.offset_of-offset.ensures.offset at c.limit_behind-limit.ensures.limit) (rw c.requires.empty at c.push_reserved.ensures.items)
+    (rw (c.place_behind-place.ensures, c.offset_of-offset.ensures.offset, c.aligned_length-size.ensures.value) at c.take_messages.ensures.takes))

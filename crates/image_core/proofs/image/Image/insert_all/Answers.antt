@@ -2,12 +2,11 @@ use Rattle.image_core.proofs.InsertLemmas.{encodable_at, goes_at}
 use Rattle.image_core.proofs.image.Image.insert_all.Goals as goal
 
 pub take_in-requires : goal.take_in-requires
-take_in-requires c =
-    encodable_at c.args.self.now c.self.inside.high c.args.frames.now c.loop-frame.frame-index c.loop-frame.inserted c.loop-frame.noted.items c.loop-frame.self _ c.loop-frame-test.true c.loop-frame.invariant.so
+take_in-requires c = encodable_at _ _ _ _ _ _ _ _ c.loop-frame-test.true c.loop-frame.invariant.so
 
 pub loop-frame-preserved : goal.loop-frame-preserved
 loop-frame-preserved c = record {
-  so = goes_at c.args.self.now c.self.inside.high c.args.frames.now c.loop-frame.frame-index c.loop-frame.inserted c.counted-inserted.result c.loop-frame.noted.items c.take_in.new.noted.items
-      c.loop-frame.self c.take_in.new.self _ c.in-Ok.fate c.loop-frame-test.true c.loop-frame.invariant.so c.in-Ok.ensures.fate c.in-Ok.ensures.after (c.in-Ok.ensures.back c.self.inside.high) c.counted-inserted.ensures;
+  so = goes_at _ _ _ _ c.loop-frame.inserted _ c.loop-frame.noted.items _ _ _ _ c.in-Ok.fate c.loop-frame-test.true c.loop-frame.invariant.so c.in-Ok.ensures.fate c.in-Ok.ensures.after
+      (c.in-Ok.ensures.back c.self.inside.high) c.counted-inserted.ensures;
   kept = c.loop-frame.invariant.kept;
 }
