@@ -6,3 +6,5 @@ mod LineTextLemmas
 pub mod ChangeLemmas
 mod ListingLemmas
 mod FragmentLemmas
+mod SeatLemmas
+mod DeskLemmas
