@@ -8,3 +8,4 @@ mod ListingLemmas
 mod FragmentLemmas
 mod SeatLemmas
 mod DeskLemmas
+mod AgreementLemmas

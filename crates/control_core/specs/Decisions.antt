@@ -168,3 +168,11 @@ takes_memory (PurgeSegments id position) = false
 takes_memory (PurgeRecording id) = false
 takes_memory (Find f) = false
 takes_memory (AskPositions id) = false
+
+-- the command that a decision leads to, if a frame begins where it asks
+abbrev pub command_in : Decision → Option Command
+command_in (Accepted command) = Some command
+command_in (IfBoundary id position (Ok command)) = Some command
+command_in (IfBoundary id position (Err refusal)) = None
+command_in (Refused refusal) = None
+command_in (Answered reply) = None

@@ -12,6 +12,7 @@ pub mod Changes
 pub mod Decisions
 pub mod Turns
 pub mod Machine
+pub mod Agreement
 pub mod Rules
 pub mod Calls
 pub mod Answers

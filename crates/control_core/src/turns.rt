@@ -206,10 +206,10 @@ pub fn decide_close(desk: &Desk, replay: &i64) -> Result<Reply, Refusal>
 pub fn decide_sweep(desk: &Desk) -> Result<(), Refusal>
     ensures { result ≡ checked (sweep_tests desk.now.state) checks (Ok tt) }
 {
-    if desk.is_broken() {
-        return Err(Refusal::Broken);
+    if !desk.is_broken() {
+        return Ok(());
     }
-    Ok(())
+    Err(Refusal::Broken)
 }
 
 /// What is decided on verifying a recording: it has to be there.
