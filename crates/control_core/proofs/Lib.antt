@@ -6,3 +6,6 @@ mod LineTextLemmas
 pub mod ChangeLemmas
 mod ListingLemmas
 mod FragmentLemmas
+mod SeatLemmas
+mod DeskLemmas
+mod AgreementLemmas

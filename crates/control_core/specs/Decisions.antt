@@ -1,5 +1,5 @@
 -- What is decided on a request to the catalogue. docs/CONTROL.md, "Requests" and "Refusals".
-use Rattle.std.specs.Prelude.{◌&&◌, ◌||◌, ◌++◌, ◌≡◌, not, ℕ, ℤ, pos, negsuc, Bool, true, false, List, [], ◌∷◌, length, map, filter, fold, take, int_le, nat_lt, bytes_eq, unsigned_abs, Option, Some, None, is_some, Result, Ok, Err, if◌then◌else◌}
+use Rattle.std.specs.Prelude.{◌&&◌, ◌||◌, ◌++◌, ◌≡◌, not, ℕ, ℤ, pos, negsuc, Bool, true, false, IsTrue, List, [], ◌∷◌, length, map, filter, fold, take, int_le, nat_lt, bytes_eq, unsigned_abs, Option, Some, None, is_some, Result, Ok, Err, if◌then◌else◌}
 use Rattle.std.specs.List.{list_any}
 use Rattle.std.specs.Int.{int_max}
 use Rattle.std.specs.Ordering.{int_eq}
@@ -15,7 +15,7 @@ use Rattle.archive_model.specs.declared.reply.Reply.{Reply}
 use Rattle.archive_model.specs.declared.reply.Reply.TheVariants.{Recordings, Found, Positions}
 use Rattle.archive_model.specs.Register.{id_of, is_end, registration_in}
 use Rattle.archive_model.specs.Checks as model
-use Rattle.archive_model.specs.Checks.{Tests, checked, checks, first_checks, block_checks, last_checks}
+use Rattle.archive_model.specs.Checks.{Tests, checked, checks, first_checks, block_checks, last_checks, passes}
 use Rattle.archive_model.specs.Descriptor.{is_negative}
 use Rattle.control_core.specs.declared.request.Request.{Request}
 use Rattle.control_core.specs.declared.request.Request.TheVariants.{Start, Stop, Extend, Truncate, PurgeSegments, PurgeRecording, List as AskList, Find, Positions as AskPositions}
@@ -31,6 +31,10 @@ abbrev pub start_tests : DeskState → StartFields → Tests
 start_tests d f Broken = not d.is_broken
 start_tests d f MaxRecordings = model.start_tests d.register (has_room d) f MaxRecordings && has_session_number d
 start_tests d f refusal = model.start_tests d.register (has_room d) f refusal
+
+abbrev pub append_tests : DeskState → ℤ → Tests
+append_tests d id Broken = not d.is_broken
+append_tests d id refusal = model.append_tests (registration_in d.register id) (has_room d) true refusal
 
 abbrev pub stop_tests : DeskState → ℤ → ℤ → Tests
 stop_tests d id timestamp Broken = not d.is_broken
@@ -56,6 +60,21 @@ abbrev pub purge_tests : DeskState → ℤ → Tests
 purge_tests d id Broken = not d.is_broken
 purge_tests d id ActiveReplay = not (is_replayed d id)
 purge_tests d id refusal = model.purge_tests (registration_in d.register id) (has_room d) refusal
+
+-- the tests of a command, whatever the frames say
+abbrev pub command_tests : DeskState → Command → Tests
+command_tests d (commands.Start f) = start_tests d f
+command_tests d (commands.Append id blocks) = append_tests d id
+command_tests d (commands.Stop id timestamp) = stop_tests d id timestamp
+command_tests d (commands.Extend f) = extend_tests d f
+command_tests d (commands.Truncate id position) = truncate_tests d id position
+command_tests d (commands.PurgeSegments id position) = purge_segments_tests d id position
+command_tests d (commands.PurgeRecording id) = purge_tests d id
+command_tests d commands.Restart = λ refusal. true
+
+-- each test of the command holds
+abbrev pub Allows : DeskState → Command → Type 0
+Allows d c = IsTrue (passes (command_tests d c) checks)
 
 abbrev pub list_tests : ℤ → ℤ → Tests
 list_tests from count BadParameter = not (is_negative from) && not (is_negative count) && int_le count (pos 1024)
@@ -149,3 +168,11 @@ takes_memory (PurgeSegments id position) = false
 takes_memory (PurgeRecording id) = false
 takes_memory (Find f) = false
 takes_memory (AskPositions id) = false
+
+-- the command that a decision leads to, if a frame begins where it asks
+abbrev pub command_in : Decision → Option Command
+command_in (Accepted command) = Some command
+command_in (IfBoundary id position (Ok command)) = Some command
+command_in (IfBoundary id position (Err refusal)) = None
+command_in (Refused refusal) = None
+command_in (Answered reply) = None

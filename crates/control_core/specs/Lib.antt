@@ -8,7 +8,13 @@ pub mod ReplyText
 pub mod RefusalText
 pub mod Control
 pub mod Desk
+pub mod Changes
 pub mod Decisions
+pub mod Turns
+pub mod Machine
+pub mod Agreement
 pub mod Rules
 pub mod Calls
 pub mod Answers
+-- Representation: what the values of src/ keep.
+pub mod Seats

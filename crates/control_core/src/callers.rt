@@ -1,9 +1,8 @@
 //! What an archive keeps of its callers: recorder sessions and open replays.
 
 ghost use Rattle.std.specs.Prelude.{◌≡◌, ◌+ℤ◌, pos, ◌++◌, ◌∷◌, [], ◌<ℤ◌, length, ◌-◌, take, OnOk, OnErr};
-ghost use Rattle.std.specs.List.{list_any};
 ghost use Rattle.control_core.specs.Control.{moved_to};
-ghost use Rattle.control_core.specs.Desk.{is_replay_of, is_replay_before};
+ghost use Rattle.control_core.specs.Desk.{is_replay_before};
 
 use archive_model::{Numbered, place_of};
 use std::alloc::{AllocError, Global};
@@ -59,7 +58,7 @@ impl Numbered for OpenReplay {
 }
 
 impl OpenReplay {
-    fn move_to(&mut self, next: &i64)
+    pub(crate) fn move_to(&mut self, next: &i64)
         ensures { self.new ≡ moved_to next.now self.old }
     {
         self.next = *next;
@@ -67,7 +66,7 @@ impl OpenReplay {
 
     // Whether it is of a recording and goes on below a position.
     #[tactic(auto, unfolding(crate::specs::Desk::is_replay_before))]
-    fn is_before(&self, recording: &i64, position: &i64) -> bool
+    pub(crate) fn is_before(&self, recording: &i64, position: &i64) -> bool
         ensures { result ≡ is_replay_before recording.now position.now self.now }
     {
         self.recording == *recording && self.next < *position
@@ -133,25 +132,6 @@ impl Callers {
         ensures { result ≡ length self.now.replays }
     {
         self.replays.len()
-    }
-
-    /// Whether a replay of a recording is open. Costs a lookup at each open replay.
-    #[tactic(auto, unfolding(crate::specs::Desk::is_replay_of))]
-    pub fn is_replayed(&self, recording: &i64) -> bool
-        ensures { result ≡ list_any (is_replay_of recording.now) self.now.replays }
-    {
-        self.replays
-            .iter()
-            .any(|replay| replay.recording == *recording)
-    }
-
-    /// Whether an open replay of a recording goes on below a position. Costs a lookup at each open replay.
-    pub fn is_replayed_below(&self, recording: &i64, position: &i64) -> bool
-        ensures { result ≡ list_any (is_replay_before recording.now position.now) self.now.replays }
-    {
-        self.replays
-            .iter()
-            .any(|replay| replay.is_before(recording, position))
     }
 
     /// The number that the next session gets.

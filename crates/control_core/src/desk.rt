@@ -4,47 +4,66 @@ ghost use Rattle.std.specs.Prelude.{◌≡◌, length, option_copied, IfSome, �
 ghost use Rattle.std.specs.List.{list_any};
 ghost use Rattle.archive_model.specs.Register.{HasLayout, may_begin, may_record, registration_in, no_recordings};
 ghost use Rattle.control_core.specs.Control.{no_callers};
+ghost use Rattle.control_core.specs.Changes.{recorded_of};
+ghost use Rattle.control_core.specs.Turns.{next_position, replay_in, session_in};
 ghost use Rattle.control_core.specs.Desk.{new_desk, has_room, has_session_number, is_replayed, is_replay_before};
 
-use crate::callers::Callers;
+use crate::callers::{OpenReplay, RecorderSession};
+use crate::replays::Replays;
+use crate::sessions::Sessions;
 use archive_model::{Register, Registration};
 use frame_core::limits::LAST_NUMBER;
 use std::alloc::Global;
 use std::marker::Model;
 
-/// The recordings without their frames, the callers' sessions and replays, how many entries of the history count and may,
-/// and whether a write has failed.
+/// The recordings without their frames, the recorder sessions and open replays, how many entries of the history count and
+/// may, and whether a write has failed. To a contract it is these, and beside them how many more recordings, sessions and
+/// replays it can take without memory.
 #[derive(Drop)]
 pub struct Desk {
-    register: Register,
-    callers: Callers,
-    counted: u32,
-    limit: u32,
-    is_broken: bool,
+    pub(crate) register: Register,
+    pub(crate) sessions: Sessions,
+    pub(crate) replays: Replays,
+    pub(crate) counted: u32,
+    pub(crate) limit: u32,
+    pub(crate) is_broken: bool,
 }
 
 impl Model for Desk {
-    ghost use Rattle.control_core.specs.Desk.{DeskState};
+    ghost use Rattle.control_core.specs.Seats.{DeskView, KeepsSeats};
 
-    ghost Value = { DeskState };
+    ghost Value = { DeskView };
 
     ghost view = { λ d. record {
-      register = d.register.state;
-      callers = d.callers;
-      counted = d.counted;
-      limit = d.limit;
-      is_broken = d.is_broken;
+      state = record {
+        register = d.register.state;
+        callers = record {
+          sessions = d.sessions.values;
+          replays = d.replays.values;
+          next_session = d.sessions.next;
+          next_replay = d.replays.next;
+        };
+        counted = d.counted;
+        limit = d.limit;
+        is_broken = d.is_broken;
+      };
+      recordings = d.register.room;
+      sessions = d.sessions.room;
+      replays = d.replays.room;
     } };
+
+    ghost invariant = { λ d. KeepsSeats d.register.state d.sessions.values d.replays.values };
 }
 
 impl Desk {
     /// The desk of an archive without recordings, whose history may have so many entries. Does not allocate.
     pub fn new(alloc: Global, limit: u32) -> Desk
-        ensures { result ≡ new_desk limit }
+        ensures { result.state ≡ new_desk limit }
     {
         Desk {
             register: Register::new(alloc),
-            callers: Callers::new(alloc),
+            sessions: Sessions::new(alloc),
+            replays: Replays::new(alloc),
             counted: 0,
             limit,
             is_broken: false,
@@ -53,7 +72,7 @@ impl Desk {
 
     /// The recording of an id. In constant time.
     pub fn recording(&self, id: &i64) -> Option<&Registration>
-        ensures found { option_copied result ≡ registration_in self.now.register id.now }
+        ensures found { option_copied result ≡ registration_in self.now.state.register id.now }
         ensures layout { IfSome result (λ r. HasLayout r.now.descriptor) }
     {
         self.register.recording(id)
@@ -61,28 +80,28 @@ impl Desk {
 
     /// The recordings, by rising id.
     pub fn recordings(&self) -> &[Registration]
-        ensures { result.now ≡ self.now.register.recordings }
+        ensures { result.now ≡ self.now.state.register.recordings }
     {
         self.register.recordings()
     }
 
     /// Whether a write has failed.
     pub fn is_broken(&self) -> bool
-        ensures { result ≡ self.now.is_broken }
+        ensures { result ≡ self.now.state.is_broken }
     {
         self.is_broken
     }
 
     /// Whether the history has room for one more entry.
     pub fn has_room(&self) -> bool
-        ensures { result ≡ has_room self.now }
+        ensures { result ≡ has_room self.now.state }
     {
         self.counted < self.limit
     }
 
     /// Whether one more recording may begin: there are fewer than 1,024, and there is an id for it.
     pub fn may_begin(&self) -> bool
-        ensures { result ≡ may_begin self.now.register }
+        ensures { result ≡ may_begin self.now.state.register }
     {
         self.register.may_begin()
     }
@@ -90,22 +109,71 @@ impl Desk {
     /// Whether one more recorder session may open: fewer than 64 recordings are active, and there is a number for it.
     /// Costs a lookup at each recording.
     pub fn may_record(&self) -> bool
-        ensures { result ≡ (may_record self.now.register && has_session_number self.now) }
+        ensures { result ≡ (may_record self.now.state.register && has_session_number self.now.state) }
     {
-        self.register.may_record() && self.callers.next_session() != LAST_NUMBER
+        self.register.may_record() && self.sessions.next() != LAST_NUMBER
     }
 
     /// Whether a replay of a recording is open. Costs a lookup at each open replay.
     pub fn is_replayed(&self, recording: &i64) -> bool
-        ensures { result ≡ is_replayed self.now recording.now }
+        ensures { result ≡ is_replayed self.now.state recording.now }
     {
-        self.callers.is_replayed(recording)
+        self.replays.is_replayed(recording)
     }
 
     /// Whether an open replay of a recording goes on below a position. Costs a lookup at each open replay.
     pub fn is_replayed_below(&self, recording: &i64, position: &i64) -> bool
-        ensures { result ≡ list_any (is_replay_before recording.now position.now) self.now.callers.replays }
+        ensures { result ≡ list_any (is_replay_before recording.now position.now) self.now.state.callers.replays }
     {
-        self.callers.is_replayed_below(recording, position)
+        self.replays.is_replayed_below(recording, position)
+    }
+
+    /// The recorder session of a number. Costs the sessions that are open.
+    pub fn session(&self, number: &i64) -> Option<RecorderSession>
+        ensures { result ≡ session_in self.now.state number.now }
+    {
+        self.sessions.get(number)
+    }
+
+    /// The open replay of a number. Costs the replays that are open.
+    pub fn replay(&self, number: &i64) -> Option<OpenReplay>
+        ensures { result ≡ replay_in self.now.state number.now }
+    {
+        self.replays.get(number)
+    }
+
+    /// Where a session's next block begins, in bytes of the stream: at the end of what it wrote, or at the recorded
+    /// position.
+    pub fn next_position(&self, session: &RecorderSession) -> i64
+        ensures { result ≡ next_position self.now.state session.now }
+    {
+        if let Some(written) = session.written {
+            return written.last;
+        }
+        self.recorded_position(&session.recording)
+    }
+
+    /// How far a recording is recorded, in bytes of the stream; 0 where it is not there.
+    pub fn recorded_position(&self, recording: &i64) -> i64
+        ensures { result ≡ recorded_of (registration_in self.now.state.register recording.now) }
+    {
+        match self.recording(recording) {
+            Some(known) => known.recorded,
+            None => 0,
+        }
+    }
+
+    /// How many replays are open.
+    pub fn open_replays(&self) -> usize
+        ensures { result ≡ length self.now.state.callers.replays }
+    {
+        self.replays.len()
+    }
+
+    /// The number that the next replay gets.
+    pub fn next_replay(&self) -> i64
+        ensures { result ≡ self.now.state.callers.next_replay }
+    {
+        self.replays.next()
     }
 }

@@ -1,7 +1,18 @@
 //! Laws of the definitions, each the contract of a function that does nothing.
 
-ghost use Rattle.std.specs.Prelude.{◌≡◌, ◌++◌, ◌↔◌, ℕ, List, Contains, Ok, true};
+ghost use Rattle.std.specs.Prelude.{◌≡◌, ◌++◌, ◌↔◌, ℕ, List, Contains, Some, Ok, true};
+ghost use Rattle.archive_model.specs.declared.command.Command.{Command};
+ghost use Rattle.archive_model.specs.State.{State, register_of};
+ghost use Rattle.archive_model.specs.Commands.{after, register_after};
+ghost use Rattle.archive_model.specs.Acceptance.{BookState};
+ghost use Rattle.archive_model.specs.Accepting.{Accepts};
+ghost use Rattle.archive_model.specs.WellFormed.{IsWell};
 ghost use Rattle.control_core.specs.declared.line.Line.{Line};
+ghost use Rattle.control_core.specs.declared.request.Request.{Request};
+ghost use Rattle.control_core.specs.Desk.{DeskState};
+ghost use Rattle.control_core.specs.Changes.{desk_after};
+ghost use Rattle.control_core.specs.Decisions.{Allows, command_in, decision_of};
+ghost use Rattle.control_core.specs.Agreement.{Agrees, HasWritten};
 ghost use Rattle.control_core.specs.Table.{Row, rows, is_served};
 ghost use Rattle.control_core.specs.Lines.{line_of};
 ghost use Rattle.control_core.specs.LineText.{Values, AreFit, line_with, text_with, IsShortText, IsSpelling};
@@ -19,4 +30,26 @@ pub fn texts_are_read()
 /// "Lines".
 pub fn spellings_are_read()
     ensures { (line : Line) (text : List ℕ) → (line_of text ≡ Ok line) ↔ IsSpelling line text }
+{}
+
+/// Each test holds of the command that a decision leads to, so it may be accepted: docs/CONTROL.md, "Requests".
+#[tactic(auto, using(crate::proofs::AgreementLemmas::allowed))]
+pub fn what_is_decided_is_allowed()
+    ensures { (d : DeskState) (request : Request) (c : Command) →
+        command_in (decision_of d request) ≡ Some c → Allows d c }
+{}
+
+/// The desk's register after an accepted command, each of the eight, is the one that the command makes of the register
+/// of the state that agrees with it; of an append where the recording's session wrote its blocks.
+#[tactic(auto, using(crate::proofs::AgreementLemmas::register_is))]
+pub fn the_desk_changes_its_register_as_the_command_says()
+    ensures { (d : DeskState) (s : State) (c : Command) → Agrees d s → HasWritten d s c →
+        (desk_after d c).register ≡ register_after s c (register_of s) }
+{}
+
+/// So the desk goes on agreeing with the state.
+#[tactic(auto, using(crate::proofs::AgreementLemmas::agrees))]
+pub fn the_desk_follows_the_state()
+    ensures { (d : DeskState) (b : BookState) (c : Command) → Agrees d b.state → HasWritten d b.state c →
+        IsWell b.state → Accepts b c → Agrees (desk_after d c) (after b.state c) }
 {}

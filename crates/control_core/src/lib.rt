@@ -1,7 +1,10 @@
 //! What is asked of an archive and what it answers, as values and as lines of text, and what it keeps of its callers.
 #![tactic(auto)]
 
+mod accepting;
+mod asked;
 mod callers;
+mod calls;
 mod deciding;
 mod decision;
 mod desk;
@@ -13,9 +16,13 @@ mod number;
 mod parse;
 mod print;
 mod refusal_line;
+mod replays;
 mod request;
+mod sessions;
+mod turns;
 mod words;
 
+pub use asked::{Asked, Told};
 pub use callers::{Callers, OpenReplay, RecorderSession, Written};
 pub use deciding::decide;
 pub use decision::Decision;
@@ -27,3 +34,7 @@ pub use parse::parse_line;
 pub use print::print_reply;
 pub use refusal_line::{RefusalLine, print_refusal};
 pub use request::{FindFields, Request};
+pub use turns::{
+    Opening, OpeningDecision, Settling, decide_close, decide_open, decide_poll, decide_settle,
+    decide_sweep, decide_verify, decide_write,
+};

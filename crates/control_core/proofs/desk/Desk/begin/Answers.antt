@@ -1,0 +1,27 @@
+use Rattle.std.proofs.Common.{◌≡◌, ◌<◌, refl, ap, rules, arith, FitsSigned, w64}
+use Rattle.std.proofs.lemmas.Int.{to_z-of_z}
+use Rattle.archive_model.specs.declared.command.Command.TheVariants as commands
+use Rattle.archive_model.specs.Register.{registered, with_one}
+use Rattle.control_core.specs.Seats.{DeskView}
+use Rattle.control_core.proofs.DeskLemmas.{keeps_begun, room_of, start_lengths}
+use Rattle.control_core.proofs.desk.Desk.begin.Goals as goal
+
+pub add-requires-clause-layout : goal.add-requires-clause-layout
+add-requires-clause-layout c =
+    let lengths = start_lengths c.args.self.now.state c.args.fields c.requires.allowed in
+    rw c.registered.ensures (record { term = lengths.0; segment = lengths.1 })
+
+pub overflow_add-self : goal.overflow_add-self
+overflow_add-self c =
+    let room = room_of c.args.self.now.state (commands.Start c.args.fields) refl c.requires.allowed in
+    let counted : c.self.inside.counted ≡ c.args.self.now.state.counted = ap (λ (v : DeskView). v.state.counted) c.self.view_is in
+    let limit : c.self.inside.limit ≡ c.args.self.now.state.limit = ap (λ (v : DeskView). v.state.limit) c.self.view_is in
+    let below : c.self.inside.counted < c.self.inside.limit = rw (counted, limit) room in
+    search (rules, arith)
+
+pub invariant_of-self : goal.invariant_of-self
+invariant_of-self c =
+    let fits : FitsSigned w64 c.next_recording-id.result = search rules in
+    let added : c.add.new.self.state ≡ with_one (registered c.next_recording-id.result c.args.fields) c.self.inside.register.state = search rules in
+    rw (added, c.open.ensures.values, to_z-of_z w64 c.next_recording-id.result fits, c.next_recording-id.ensures)
+    (keeps_begun c.self.inside.register.state _ _ _ (registered c.self.inside.register.state.next c.args.fields) c.self.invariant refl refl)

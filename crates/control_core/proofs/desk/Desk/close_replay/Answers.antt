@@ -1,0 +1,5 @@
+use Rattle.control_core.proofs.DeskLemmas.{keeps_closed}
+use Rattle.control_core.proofs.desk.Desk.close_replay.Goals as goal
+
+pub invariant_of-self : goal.invariant_of-self
+invariant_of-self c = rw c.close.ensures.values (keeps_closed _ _ _ _ c.self.invariant)

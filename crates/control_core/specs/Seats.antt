@@ -1,0 +1,56 @@
+-- What the desk's values keep beside what they show. docs/CONTROL.md, "Control state".
+use Rattle.std.specs.Prelude.{◌≤◌, ◌<◌, ℕ, ℤ, pos, List, length, IsTrue, true}
+use Rattle.archive_model.specs.declared.command.Command.{Command}
+use Rattle.archive_model.specs.declared.command.Command.TheVariants.{Start, Append, Stop, Extend, Truncate, PurgeSegments, PurgeRecording, Restart}
+use Rattle.archive_model.specs.Keyed.{Each, Rise}
+use Rattle.archive_model.specs.Register.{RegisterState, id_of, is_active, registration_in}
+use Rattle.archive_model.specs.Checks.{is_of}
+use Rattle.control_core.specs.declared.callers.RecorderSession.{RecorderSession}
+use Rattle.control_core.specs.declared.callers.OpenReplay.{OpenReplay}
+use Rattle.control_core.specs.Desk.{DeskState}
+
+-- the open sessions by rising number, the next number, and how many more there is memory for
+pub record SessionsView : Type 0 where
+  pub values : List RecorderSession
+  pub next : ℤ
+  pub room : ℕ
+
+-- the open replays by rising number, the next number, and how many more there is memory for
+pub record ReplaysView : Type 0 where
+  pub values : List OpenReplay
+  pub next : ℤ
+  pub room : ℕ
+
+-- the recording that a session writes is there and active
+abbrev pub IsWriting : RegisterState → RecorderSession → Type 0
+IsWriting g s = IsTrue (is_of (registration_in g s.recording) is_active)
+
+-- the recording that a replay gives is there
+abbrev pub IsReading : RegisterState → OpenReplay → Type 0
+IsReading g r = IsTrue (is_of (registration_in g r.recording) (λ known. true))
+
+-- Ids of recordings rise from 0 on and are below the next one; each session's recording is there and active, each
+-- replay's is there; at most 64 replays are open.
+pub record KeepsSeats (g : RegisterState) (sessions : List RecorderSession) (replays : List OpenReplay) : Type 0 where
+  pub rising : Rise id_of (pos 0) g.recordings g.next
+  pub writing : Each (IsWriting g) sessions
+  pub reading : Each (IsReading g) replays
+  pub few : length replays ≤ 64
+
+-- the desk's state, and how many more recordings, sessions and replays it can take without memory
+pub record DeskView : Type 0 where
+  pub state : DeskState
+  pub recordings : ℕ
+  pub sessions : ℕ
+  pub replays : ℕ
+
+-- a command's recording and session take no memory
+abbrev pub HasRoomFor : Command → DeskView → Type 0
+HasRoomFor (Start f) d = (0 < d.recordings) × (0 < d.sessions)
+HasRoomFor (Extend f) d = 0 < d.sessions
+HasRoomFor (Append id blocks) d = Unit {0}
+HasRoomFor (Stop id timestamp) d = Unit {0}
+HasRoomFor (Truncate id position) d = Unit {0}
+HasRoomFor (PurgeSegments id position) d = Unit {0}
+HasRoomFor (PurgeRecording id) d = Unit {0}
+HasRoomFor Restart d = Unit {0}

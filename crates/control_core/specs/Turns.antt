@@ -1,0 +1,149 @@
+-- What is decided on a call that is no request: writing and settling, replays, sweeping and verifying.
+-- docs/CONTROL.md, "Recorder sessions", "Replays" and "Refusals".
+use Rattle.std.specs.Prelude.{◌&&◌, ◌||◌, ◌++◌, not, ℤ, pos, negsuc, Bool, true, false, length, nat_lt, int_le, Option, Some, None, is_some, Result, Ok, Err, if◌then◌else◌}
+use Rattle.std.specs.Ordering.{int_eq}
+use Rattle.frame_core.specs.declared.refusal.Refusal.{Refusal}
+use Rattle.frame_core.specs.declared.refusal.Refusal.TheVariants.{BadBlock, BadParameter, BadPosition, Broken, HistoryFull, MaxReplays, NeedSettle, StaleSession, UnknownRecording, UnknownReplay}
+use Rattle.archive_model.specs.declared.registration.Registration.{Registration}
+use Rattle.archive_model.specs.declared.reply.Reply.{Reply}
+use Rattle.archive_model.specs.declared.reply.Reply.TheVariants.{Closed, Written as WrittenReply}
+use Rattle.archive_model.specs.Keyed.{find}
+use Rattle.archive_model.specs.Checks.{Tests, block_checks, checked, checks, first_checks, is_boundary_by, is_of, last_checks}
+use Rattle.archive_model.specs.Register.{is_active, is_end, registration_in}
+use Rattle.control_core.specs.declared.callers.OpenReplay.{OpenReplay}
+use Rattle.control_core.specs.declared.callers.RecorderSession.{RecorderSession}
+use Rattle.control_core.specs.declared.callers.Written.{Written}
+use Rattle.control_core.specs.declared.turns.Opening.{Opening}
+use Rattle.control_core.specs.declared.turns.OpeningDecision.{OpeningDecision}
+use Rattle.control_core.specs.declared.turns.OpeningDecision.TheVariants as opening
+use Rattle.control_core.specs.declared.turns.Settling.{Settling}
+use Rattle.control_core.specs.declared.turns.Settling.TheVariants as settling
+use Rattle.control_core.specs.Control.{last_number, replay_number, session_number, written_to}
+use Rattle.control_core.specs.Desk.{DeskState, has_room}
+use Rattle.control_core.specs.Changes.{bound_from, recorded_of}
+
+abbrev pub session_in : DeskState → ℤ → Option RecorderSession
+session_in d number = find session_number number d.callers.sessions
+
+abbrev pub replay_in : DeskState → ℤ → Option OpenReplay
+replay_in d number = find replay_number number d.callers.replays
+
+-- ---- writing
+
+-- where a session's next block begins
+abbrev pub next_position : DeskState → RecorderSession → ℤ
+next_position d s = written_to s.written (recorded_of (registration_in d.register s.recording))
+
+-- the block begins where the session's next one has to
+abbrev pub continues : DeskState → Option RecorderSession → Written → Bool
+continues d None block = false
+continues d (Some s) block = int_eq block.first (next_position d s)
+
+abbrev pub has_written : Option RecorderSession → Bool
+has_written None = false
+has_written (Some s) = is_some s.written
+
+-- `fits`: the block is one of the recording's terms, session and stream
+abbrev pub write_tests : DeskState → ℤ → Written → Bool → Tests
+write_tests d number block fits Broken = not d.is_broken
+write_tests d number block fits StaleSession = is_some (session_in d number)
+write_tests d number block fits BadBlock = fits && continues d (session_in d number) block
+write_tests d number block fits NeedSettle = not (has_written (session_in d number))
+write_tests d number block fits _ = true
+
+-- a block is written, up to its end, or refused
+abbrev pub write_decision : DeskState → ℤ → Written → Bool → Result Reply Refusal
+write_decision d number block fits = checked (write_tests d number block fits) checks (Ok (WrittenReply block.last))
+
+-- ---- settling
+
+abbrev pub settle_tests : DeskState → ℤ → Tests
+settle_tests d number Broken = not d.is_broken
+settle_tests d number StaleSession = is_some (session_in d number)
+settle_tests d number HistoryFull = not (has_written (session_in d number)) || has_room d
+settle_tests d number _ = true
+
+abbrev pub settling_by : DeskState → RecorderSession → Option Written → Settling
+settling_by d s None = settling.Nothing (recorded_of (registration_in d.register s.recording))
+settling_by d s (Some w) = settling.Blocks s.recording w
+
+-- what there is to settle
+abbrev pub settling_of : DeskState → Option RecorderSession → Settling
+settling_of d None = settling.Nothing (pos 0)
+settling_of d (Some s) = settling_by d s s.written
+
+abbrev pub settle_decision : DeskState → ℤ → Result Settling Refusal
+settle_decision d number = checked (settle_tests d number) checks (Ok (settling_of d (session_in d number)))
+
+-- ---- opening a replay
+
+-- where a replay begins that was asked for at a position: -1 means the start
+abbrev pub begins_at : ℤ → Option Registration → ℤ
+begins_at position None = position
+begins_at position (Some r) = if int_eq position (negsuc 0) then r.descriptor.start_position else position
+
+-- `begins`: a frame begins there
+abbrev pub open_tests : DeskState → ℤ → ℤ → ℤ → Bool → Tests
+open_tests d id position size begins BadParameter = int_le (negsuc 0) position && int_le (negsuc 0) size
+open_tests d id position size begins UnknownRecording = is_some (registration_in d.register id)
+open_tests d id position size begins BadPosition = is_of (registration_in d.register id) (is_boundary_by begins (begins_at position (registration_in d.register id)))
+open_tests d id position size begins MaxReplays = nat_lt (length d.callers.replays) 64 && not (int_eq d.callers.next_replay last_number)
+open_tests d id position size begins _ = true
+
+-- the replay that is asked for
+abbrev pub opening_of : DeskState → ℤ → ℤ → ℤ → Opening
+opening_of d id position size =
+    let next = begins_at position (registration_in d.register id) in record { recording = id; next = next; bound = bound_from next size }
+
+-- the start and the recorded position are boundaries, whatever the frames are
+abbrev pub opened_at : Option Registration → Result Opening Refusal → ℤ → OpeningDecision
+opened_at None behind next = opening.IfBoundary next behind
+opened_at (Some r) behind next = if is_end next r then opening.Decided behind else opening.IfBoundary next behind
+
+abbrev pub opening_decided : Result OpeningDecision Refusal → OpeningDecision
+opening_decided (Ok decision) = decision
+opening_decided (Err refusal) = opening.Decided (Err refusal)
+
+-- what comes behind the test of the position is decided beforehand
+abbrev pub open_decision : DeskState → ℤ → ℤ → ℤ → OpeningDecision
+open_decision d id position size =
+    let tests = open_tests d id position size true in
+    let behind = checked tests (block_checks ++ last_checks) (Ok (opening_of d id position size)) in
+    let in_front : Result OpeningDecision Refusal = checked tests first_checks (Ok (opened_at (registration_in d.register id) behind (begins_at position (registration_in d.register id)))) in
+    opening_decided in_front
+
+-- ---- polling and closing
+
+-- at its bound, or at the end of a recording that isn't active
+abbrev pub is_done_at : Registration → ℤ → ℤ → Bool
+is_done_at r bound next = int_le bound next || (not (is_active r) && int_eq next r.recorded)
+
+abbrev pub poll_tests : DeskState → ℤ → ℤ → Tests
+poll_tests d number most BadParameter = int_le (pos 1) most && int_le most (pos 4096)
+poll_tests d number most UnknownReplay = is_some (replay_in d number)
+poll_tests d number most _ = true
+
+-- a replay to be read from, if it is open
+abbrev pub replay_of : Option OpenReplay → Result OpenReplay Refusal
+replay_of None = Err UnknownReplay
+replay_of (Some replay) = Ok replay
+
+abbrev pub poll_decision : DeskState → ℤ → ℤ → Result OpenReplay Refusal
+poll_decision d number most = checked (poll_tests d number most) checks (replay_of (replay_in d number))
+
+abbrev pub close_tests : DeskState → ℤ → Tests
+close_tests d number UnknownReplay = is_some (replay_in d number)
+close_tests d number _ = true
+
+abbrev pub close_decision : DeskState → ℤ → Result Reply Refusal
+close_decision d number = checked (close_tests d number) checks (Ok Closed)
+
+-- ---- sweeping and verifying
+
+abbrev pub sweep_tests : DeskState → Tests
+sweep_tests d Broken = not d.is_broken
+sweep_tests d _ = true
+
+abbrev pub verify_tests : DeskState → ℤ → Tests
+verify_tests d id UnknownRecording = is_some (registration_in d.register id)
+verify_tests d id _ = true

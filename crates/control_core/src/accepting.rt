@@ -1,0 +1,180 @@
+//! What an accepted command makes of the desk. docs/CONTROL.md, "Requests".
+
+ghost use Rattle.std.specs.Prelude.{◌≡◌, ◌<◌, Some, OnOk, IfErr};
+ghost use Rattle.frame_core.specs.declared.refusal.Refusal.TheVariants.{NoMemory};
+ghost use Rattle.archive_model.specs.Register.{registered};
+ghost use Rattle.control_core.specs.Changes.{desk_after, settled, writer_of};
+ghost use Rattle.control_core.specs.Decisions.{Allows};
+ghost use Rattle.control_core.specs.Seats.{HasRoomFor};
+
+use crate::callers::RecorderSession;
+use crate::desk::Desk;
+use archive_model::{Change, Command, Descriptor, ExtendFields, Registration, StartFields};
+use frame_core::Refusal;
+
+impl Desk {
+    /// Takes the memory that a command's recording and recorder session need, so that accepting it takes none. `NoMemory`
+    /// leaves the desk as it was.
+    pub fn reserve(&mut self, command: &Command) -> Result<(), Refusal>
+        ensures ok { OnOk result (HasRoomFor command.now self.new) }
+        ensures state { self.new.state ≡ self.old.state }
+        ensures err { IfErr result (λ refusal. refusal ≡ NoMemory) }
+    {
+        match command {
+            Command::Start(_) => {
+                self.register.reserve()?;
+                self.sessions.reserve()
+            }
+            Command::Extend(_) => self.sessions.reserve(),
+            _ => Ok(()),
+        }
+    }
+
+    /// The desk after an accepted command, exactly. Takes no memory, since that was reserved: a start's channel is moved.
+    /// Costs a lookup at each recording, session and replay at most.
+    pub fn accept(&mut self, command: Command)
+        requires room { HasRoomFor command self.old }
+        requires allowed { Allows self.old.state command }
+        ensures { self.new.state ≡ desk_after self.old.state command }
+    {
+        match command {
+            Command::Start(fields) => self.begin(fields),
+            Command::Append { recording, .. } => self.append(&recording),
+            Command::Stop {
+                recording,
+                timestamp,
+            } => self.stop(&recording, timestamp),
+            Command::Extend(fields) => self.extend(&fields),
+            Command::Truncate {
+                recording,
+                position,
+            } => self.truncate(&recording, position),
+            Command::PurgeSegments {
+                recording,
+                position,
+            } => self.purge_segments(&recording, position),
+            Command::PurgeRecording { recording } => self.remove(&recording),
+            Command::Restart => self.restart(),
+        }
+    }
+
+    fn begin(&mut self, fields: StartFields)
+        requires room { HasRoomFor (Command.Start fields) self.old }
+        requires allowed { Allows self.old.state (Command.Start fields) }
+        ensures { self.new.state ≡ desk_after self.old.state (Command.Start fields) }
+    {
+        let id = self.register.next_recording();
+        let _ = self.register.add(registered(&id, fields));
+        self.sessions.open(&id);
+        self.counted += 1;
+    }
+
+    fn append(&mut self, recording: &i64)
+        requires room { self.old.state.counted < self.old.state.limit }
+        ensures { self.new.state ≡ settled (writer_of self.old.state recording.now) self.old.state }
+    {
+        let Some(session) = self.sessions.writer(recording) else {
+            return;
+        };
+        self.settle_session(&session);
+    }
+
+    /// What a session wrote is recorded.
+    pub(crate) fn settle_session(&mut self, session: &RecorderSession)
+        requires room { self.old.state.counted < self.old.state.limit }
+        ensures { self.new.state ≡ settled (Some session.now) self.old.state }
+    {
+        let Some(written) = session.written else {
+            return;
+        };
+        let end = Change::Settle {
+            position: written.last,
+        };
+        self.register.change(&session.recording, &end);
+        self.sessions.set_written(&session.number, None);
+        self.counted += 1;
+    }
+
+    fn stop(&mut self, recording: &i64, timestamp: i64)
+        requires room { self.old.state.counted < self.old.state.limit }
+        ensures { self.new.state ≡ desk_after self.old.state (Command.Stop recording.now timestamp) }
+    {
+        self.register.change(recording, &Change::Stop { timestamp });
+        self.sessions.end(recording);
+        self.counted += 1;
+    }
+
+    fn extend(&mut self, fields: &ExtendFields)
+        requires room { HasRoomFor (Command.Extend fields.now) self.old }
+        requires allowed { Allows self.old.state (Command.Extend fields.now) }
+        ensures { self.new.state ≡ desk_after self.old.state (Command.Extend fields.now) }
+    {
+        let again = Change::Extend {
+            session_id: fields.session_id,
+        };
+        self.register.change(&fields.recording, &again);
+        self.sessions.open(&fields.recording);
+        self.counted += 1;
+    }
+
+    fn truncate(&mut self, recording: &i64, position: i64)
+        requires room { self.old.state.counted < self.old.state.limit }
+        ensures { self.new.state ≡ desk_after self.old.state (Command.Truncate recording.now position) }
+    {
+        self.register
+            .change(recording, &Change::Truncate { position });
+        self.sessions.end(recording);
+        self.counted += 1;
+    }
+
+    fn purge_segments(&mut self, recording: &i64, position: i64)
+        requires room { self.old.state.counted < self.old.state.limit }
+        ensures { self.new.state ≡ desk_after self.old.state (Command.PurgeSegments recording.now position) }
+    {
+        self.register
+            .change(recording, &Change::PurgeSegments { position });
+        self.counted += 1;
+    }
+
+    fn remove(&mut self, recording: &i64)
+        requires room { self.old.state.counted < self.old.state.limit }
+        ensures { self.new.state ≡ desk_after self.old.state (Command.PurgeRecording recording.now) }
+    {
+        self.register.remove(recording);
+        self.sessions.end(recording);
+        self.replays.end(recording);
+        self.counted += 1;
+    }
+
+    fn restart(&mut self)
+        ensures { self.new.state ≡ desk_after self.old.state Command.Restart }
+    {
+        self.register.restart();
+        self.sessions.clear();
+        self.replays.clear();
+    }
+}
+
+fn registered(id: &i64, fields: StartFields) -> Registration
+    ensures { result ≡ registered id.now fields }
+{
+    let recorded = fields.start_position;
+    let descriptor = Descriptor {
+        recording: *id,
+        start_timestamp: fields.timestamp,
+        stop_timestamp: -1,
+        start_position: fields.start_position,
+        stop_position: -1,
+        initial_term_id: fields.initial_term_id,
+        segment_length: fields.segment_length,
+        term_length: fields.term_length,
+        mtu: fields.mtu,
+        session_id: fields.session_id,
+        stream_id: fields.stream_id,
+        channel: fields.channel,
+    };
+    Registration {
+        descriptor,
+        recorded,
+    }
+}

@@ -1,0 +1,77 @@
+//! What a call that is no request makes of the desk. docs/CONTROL.md, "Control state".
+
+ghost use Rattle.std.specs.Prelude.{◌≡◌, ◌≢◌, ◌<◌, IsTrue, IfErr, OnOk, is_some, length};
+ghost use Rattle.frame_core.specs.declared.refusal.Refusal.TheVariants.{NoMemory};
+ghost use Rattle.archive_model.specs.Register.{registration_in};
+ghost use Rattle.control_core.specs.Control.{last_number};
+ghost use Rattle.control_core.specs.Changes.{after_close, after_open, after_poll, after_write, broken_desk, settled};
+ghost use Rattle.control_core.specs.Turns.{session_in};
+
+use crate::callers::Written;
+use crate::desk::Desk;
+use crate::turns::Opening;
+use frame_core::Refusal;
+
+impl Desk {
+    /// A session wrote a block, which lies from its first to its last position. Costs the open sessions; does not
+    /// allocate.
+    pub fn note_written(&mut self, session: &i64, block: &Written)
+        ensures { self.new.state ≡ after_write session.now block.now self.old.state }
+    {
+        self.sessions.set_written(session, Some(*block));
+    }
+
+    /// What a session wrote is recorded, as one entry of the history; nothing changes where it wrote nothing. Costs the
+    /// open sessions; does not allocate.
+    pub fn settle(&mut self, session: &i64)
+        requires room { self.old.state.counted < self.old.state.limit }
+        ensures { self.new.state ≡ settled (session_in self.old.state session.now) self.old.state }
+    {
+        let Some(found) = self.session(session) else {
+            return;
+        };
+        self.settle_session(&found);
+    }
+
+    /// Takes the memory for one more replay, so that opening it takes none. `NoMemory` leaves the desk as it was.
+    pub fn reserve_replay(&mut self) -> Result<(), Refusal>
+        ensures ok { OnOk result (0 < self.new.replays) }
+        ensures state { self.new.state ≡ self.old.state }
+        ensures err { IfErr result (λ refusal. refusal ≡ NoMemory) }
+    {
+        self.replays.reserve()
+    }
+
+    /// A replay is open, and has the next number. Does not allocate.
+    pub fn open_replay(&mut self, opening: &Opening)
+        requires room { 0 < self.old.replays }
+        requires few { length self.old.state.callers.replays < 64 }
+        requires number { self.old.state.callers.next_replay ≢ last_number }
+        requires there { IsTrue (is_some (registration_in self.old.state.register opening.now.recording)) }
+        ensures { self.new.state ≡ after_open opening.now.recording opening.now.next opening.now.bound self.old.state }
+    {
+        self.replays
+            .open(&opening.recording, &opening.next, &opening.bound);
+    }
+
+    /// A replay goes on from a position. Costs the open replays; does not allocate.
+    pub fn move_replay(&mut self, replay: &i64, next: &i64)
+        ensures { self.new.state ≡ after_poll replay.now next.now self.old.state }
+    {
+        self.replays.set_next(replay, next);
+    }
+
+    /// A replay is closed. Costs the open replays; does not allocate.
+    pub fn close_replay(&mut self, replay: &i64)
+        ensures { self.new.state ≡ after_close replay.now self.old.state }
+    {
+        self.replays.close(replay);
+    }
+
+    /// A write has failed: no further call writes.
+    pub fn break_down(&mut self)
+        ensures { self.new.state ≡ broken_desk self.old.state }
+    {
+        self.is_broken = true;
+    }
+}

@@ -1,0 +1,166 @@
+//! The replays that are open. docs/CONTROL.md, "Replays".
+
+ghost use Rattle.std.specs.Prelude.{◌≡◌, ◌+ℤ◌, ◌++◌, ◌∷◌, [], ◌<◌, ◌≢◌, not, pos, filter, length, IfErr, OnOk};
+ghost use Rattle.std.specs.List.{list_any};
+ghost use Rattle.frame_core.specs.declared.refusal.Refusal.TheVariants.{NoMemory};
+ghost use Rattle.archive_model.specs.Keyed.{find, change, without};
+ghost use Rattle.control_core.specs.Control.{last_number, moved_to, replay_number};
+ghost use Rattle.control_core.specs.Desk.{is_replay_of, is_replay_before};
+
+use crate::callers::OpenReplay;
+use archive_model::place_of;
+use frame_core::Refusal;
+use std::alloc::Global;
+use std::marker::Model;
+
+/// The open replays, by rising number. To a contract it is these, the next number, and beside them how many more replays
+/// it can take without memory.
+#[derive(Drop)]
+pub struct Replays {
+    values: Vec<OpenReplay>,
+    next: i64,
+}
+
+impl Model for Replays {
+    ghost use Rattle.std.specs.Prelude.{◌-◌, pos};
+    ghost use Rattle.std.specs.Vec.{vec_capacity, vec_len};
+    ghost use Rattle.archive_model.specs.Keyed.{Rise};
+    ghost use Rattle.control_core.specs.Control.{replay_number};
+    ghost use Rattle.control_core.specs.Seats.{ReplaysView};
+
+    ghost Value = { ReplaysView };
+
+    ghost view = { λ r. record {
+      values = r.values.items;
+      next = r.next;
+      room = vec_capacity r.values - vec_len r.values;
+    } };
+
+    ghost invariant = { λ r. Rise replay_number (pos 0) r.values.items r.next };
+}
+
+impl Replays {
+    /// None. Does not allocate.
+    pub fn new(alloc: Global) -> Replays
+        ensures values { result.values ≡ [] }
+        ensures next { result.next ≡ pos 0 }
+    {
+        Replays {
+            values: Vec::new(alloc),
+            next: 0,
+        }
+    }
+
+    /// The open replay of a number. Costs the replays that are open.
+    pub fn get(&self, number: &i64) -> Option<OpenReplay>
+        ensures { result ≡ find replay_number number.now self.now.values }
+    {
+        let place = place_of(self.values.as_slice(), number)?;
+        Some(self.values[place])
+    }
+
+    /// How many replays are open.
+    pub fn len(&self) -> usize
+        ensures { result ≡ length self.now.values }
+    {
+        self.values.len()
+    }
+
+    /// The number that the next replay gets.
+    pub fn next(&self) -> i64
+        ensures { result ≡ self.now.next }
+    {
+        self.next
+    }
+
+    /// Whether a replay of a recording is open. Costs the replays that are open.
+    #[tactic(auto, unfolding(crate::specs::Desk::is_replay_of))]
+    pub fn is_replayed(&self, recording: &i64) -> bool
+        ensures { result ≡ list_any (is_replay_of recording.now) self.now.values }
+    {
+        self.values
+            .iter()
+            .any(|replay| replay.recording == *recording)
+    }
+
+    /// Whether an open replay of a recording goes on below a position. Costs the replays that are open.
+    pub fn is_replayed_below(&self, recording: &i64, position: &i64) -> bool
+        ensures { result ≡ list_any (is_replay_before recording.now position.now) self.now.values }
+    {
+        self.values
+            .iter()
+            .any(|replay| replay.is_before(recording, position))
+    }
+
+    /// Takes memory for one more replay. `NoMemory` leaves the replays as they were.
+    pub fn reserve(&mut self) -> Result<(), Refusal>
+        ensures ok { OnOk result (0 < self.new.room) }
+        ensures values { self.new.values ≡ self.old.values }
+        ensures next { self.new.next ≡ self.old.next }
+        ensures err { IfErr result (λ refusal. refusal ≡ NoMemory) }
+    {
+        self.values.reserve(1)?;
+        Ok(())
+    }
+
+    /// A new replay, which has the next number. Does not allocate.
+    pub fn open(&mut self, recording: &i64, next: &i64, bound: &i64)
+        requires room { 0 < self.old.room }
+        requires more { self.old.next ≢ last_number }
+        ensures values { self.new.values ≡ self.old.values ++ record {
+          number = self.old.next;
+          recording = recording.now;
+          next = next.now;
+          bound = bound.now;
+        } ∷ [] }
+        ensures next { self.new.next ≡ self.old.next +ℤ pos 1 }
+    {
+        let _ = self.values.push(OpenReplay {
+            number: self.next,
+            recording: *recording,
+            next: *next,
+            bound: *bound,
+        });
+        self.next += 1;
+    }
+
+    /// Where a replay goes on. Costs the replays that are open.
+    pub fn set_next(&mut self, number: &i64, next: &i64)
+        ensures values { self.new.values ≡ change replay_number number.now (moved_to next.now) self.old.values }
+        ensures next { self.new.next ≡ self.old.next }
+    {
+        let Some(place) = place_of(self.values.as_slice(), number) else {
+            return;
+        };
+        let replay = &mut self.values[place];
+        replay.move_to(next);
+    }
+
+    /// The replay of a number is gone. Costs the replays that are open.
+    pub fn close(&mut self, number: &i64)
+        ensures values { self.new.values ≡ without replay_number number.now self.old.values }
+        ensures next { self.new.next ≡ self.old.next }
+    {
+        let Some(place) = place_of(self.values.as_slice(), number) else {
+            return;
+        };
+        let _ = self.values.remove(place);
+    }
+
+    /// The replays of a recording are gone. Costs the replays that are open.
+    pub fn end(&mut self, recording: &i64)
+        ensures values { self.new.values ≡ filter (λ r. not (is_replay_of recording.now r)) self.old.values }
+        ensures next { self.new.next ≡ self.old.next }
+    {
+        self.values.retain(|replay| replay.recording != *recording);
+    }
+
+    /// None, and numbers begin again. Costs nothing that depends on how many were open.
+    pub fn clear(&mut self)
+        ensures values { self.new.values ≡ [] }
+        ensures next { self.new.next ≡ pos 0 }
+    {
+        self.values.clear();
+        self.next = 0;
+    }
+}

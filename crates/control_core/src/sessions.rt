@@ -1,0 +1,134 @@
+//! The recorder sessions that are open. docs/CONTROL.md, "Recorder sessions".
+
+ghost use Rattle.std.specs.Prelude.{◌≡◌, ◌+ℤ◌, ◌++◌, ◌∷◌, [], ◌<◌, ◌≢◌, not, pos, filter, IfErr, OnOk};
+ghost use Rattle.frame_core.specs.declared.refusal.Refusal.TheVariants.{NoMemory};
+ghost use Rattle.archive_model.specs.Keyed.{find, change};
+ghost use Rattle.control_core.specs.Control.{last_number, session_number, with_written};
+ghost use Rattle.control_core.specs.Changes.{begun_session, is_session_of};
+
+use crate::callers::{RecorderSession, Written};
+use archive_model::place_of;
+use frame_core::Refusal;
+use std::alloc::Global;
+use std::marker::Model;
+
+/// The open sessions, by rising number. To a contract it is these, the next number, and beside them how many more
+/// sessions it can take without memory.
+#[derive(Drop)]
+pub struct Sessions {
+    values: Vec<RecorderSession>,
+    next: i64,
+}
+
+impl Model for Sessions {
+    ghost use Rattle.std.specs.Prelude.{◌-◌, pos};
+    ghost use Rattle.std.specs.Vec.{vec_capacity, vec_len};
+    ghost use Rattle.archive_model.specs.Keyed.{Rise};
+    ghost use Rattle.control_core.specs.Control.{session_number};
+    ghost use Rattle.control_core.specs.Seats.{SessionsView};
+
+    ghost Value = { SessionsView };
+
+    ghost view = { λ s. record {
+      values = s.values.items;
+      next = s.next;
+      room = vec_capacity s.values - vec_len s.values;
+    } };
+
+    ghost invariant = { λ s. Rise session_number (pos 0) s.values.items s.next };
+}
+
+impl Sessions {
+    /// None. Does not allocate.
+    pub fn new(alloc: Global) -> Sessions
+        ensures values { result.values ≡ [] }
+        ensures next { result.next ≡ pos 0 }
+    {
+        Sessions {
+            values: Vec::new(alloc),
+            next: 0,
+        }
+    }
+
+    /// The session of a number. Costs the sessions that are open.
+    pub fn get(&self, number: &i64) -> Option<RecorderSession>
+        ensures { result ≡ find session_number number.now self.now.values }
+    {
+        let place = place_of(self.values.as_slice(), number)?;
+        Some(self.values[place])
+    }
+
+    /// The first session that writes a recording. Costs the sessions that are open.
+    pub fn writer(&self, recording: &i64) -> Option<RecorderSession>
+        ensures { result ≡ find (λ s. s.recording) recording.now self.now.values }
+    {
+        for session in &self.values {
+            if session.recording == *recording {
+                return Some(*session);
+            }
+        }
+        None
+    }
+
+    /// The number that the next session gets.
+    pub fn next(&self) -> i64
+        ensures { result ≡ self.now.next }
+    {
+        self.next
+    }
+
+    /// Takes memory for one more session. `NoMemory` leaves the sessions as they were.
+    pub fn reserve(&mut self) -> Result<(), Refusal>
+        ensures ok { OnOk result (0 < self.new.room) }
+        ensures values { self.new.values ≡ self.old.values }
+        ensures next { self.new.next ≡ self.old.next }
+        ensures err { IfErr result (λ refusal. refusal ≡ NoMemory) }
+    {
+        self.values.reserve(1)?;
+        Ok(())
+    }
+
+    /// A new session of a recording, which has the next number. Does not allocate.
+    pub fn open(&mut self, recording: &i64)
+        requires room { 0 < self.old.room }
+        requires more { self.old.next ≢ last_number }
+        ensures values { self.new.values ≡ self.old.values ++ begun_session self.old.next recording.now ∷ [] }
+        ensures next { self.new.next ≡ self.old.next +ℤ pos 1 }
+    {
+        let _ = self.values.push(RecorderSession {
+            number: self.next,
+            recording: *recording,
+            written: None,
+        });
+        self.next += 1;
+    }
+
+    /// What a session has written and not settled. Costs the sessions that are open.
+    pub fn set_written(&mut self, number: &i64, written: Option<Written>)
+        ensures values { self.new.values ≡ change session_number number.now (with_written written) self.old.values }
+        ensures next { self.new.next ≡ self.old.next }
+    {
+        let Some(place) = place_of(self.values.as_slice(), number) else {
+            return;
+        };
+        self.values[place].written = written;
+    }
+
+    /// The sessions of a recording are gone. Costs the sessions that are open.
+    pub fn end(&mut self, recording: &i64)
+        ensures values { self.new.values ≡ filter (λ s. not (is_session_of recording.now s)) self.old.values }
+        ensures next { self.new.next ≡ self.old.next }
+    {
+        self.values
+            .retain(|session| session.recording != *recording);
+    }
+
+    /// None, and numbers begin again. Costs nothing that depends on how many were open.
+    pub fn clear(&mut self)
+        ensures values { self.new.values ≡ [] }
+        ensures next { self.new.next ≡ pos 0 }
+    {
+        self.values.clear();
+        self.next = 0;
+    }
+}

@@ -1,0 +1,223 @@
+//! What is decided on a call that is no request, by the desk alone. docs/CONTROL.md, "Recorder sessions", "Replays" and
+//! "Refusals".
+
+ghost use Rattle.std.specs.Prelude.{◌≡◌, ◌++◌, ◌≤ℤ◌, negsuc, true, Some, Ok};
+ghost use Rattle.archive_model.specs.Checks.{block_checks, checked, checks, last_checks};
+ghost use Rattle.archive_model.specs.Register.{registration_in};
+ghost use Rattle.control_core.specs.Changes.{bound_from};
+ghost use Rattle.control_core.specs.Turns.{begins_at, close_decision, open_decision, open_tests, opened_at, poll_decision, settle_decision, sweep_tests, verify_tests, write_decision};
+
+use crate::callers::{OpenReplay, Written};
+use crate::desk::Desk;
+use archive_model::{Registration, Reply};
+use frame_core::Refusal;
+use frame_core::limits::{LAST_NUMBER, MAX_OPEN_REPLAYS};
+
+/// What there is to settle.
+#[derive(Clone, Copy, Debug)]
+pub enum Settling {
+    /// Nothing was written: the answer is the recorded position, and no entry is made.
+    Nothing {
+        /// The recorded position, in bytes of the stream.
+        position: i64,
+    },
+    /// Blocks that are recorded by one entry.
+    Blocks {
+        /// The recording's id.
+        recording: i64,
+        /// Where they lie.
+        written: Written,
+    },
+}
+
+/// A replay that is to be opened.
+#[derive(Clone, Copy, Debug)]
+pub struct Opening {
+    /// The recording that it gives.
+    pub recording: i64,
+    /// Where its first frame begins, in bytes of the stream.
+    pub next: i64,
+    /// Where it ends, in bytes of the stream.
+    pub bound: i64,
+}
+
+/// What is decided on the opening of a replay, before any frame is read.
+#[derive(Clone, Copy, Debug)]
+pub enum OpeningDecision {
+    /// It is refused, or opened.
+    Decided(Result<Opening, Refusal>),
+    /// It depends on whether a frame begins at a position strictly inside the recording: `BadPosition` where none does.
+    IfBoundary {
+        /// The position, in bytes of the stream.
+        position: i64,
+        /// What is decided where one does.
+        decided: Result<Opening, Refusal>,
+    },
+}
+
+/// What is decided on writing a block that lies from its first to its last position. `fits` tells whether it is a block
+/// of the terms, session and stream of the session's recording. Answers the block's end. Costs the open sessions.
+pub fn decide_write(
+    desk: &Desk,
+    session: &i64,
+    block: &Written,
+    fits: bool,
+) -> Result<Reply, Refusal>
+    ensures { result ≡ write_decision desk.now.state session.now block.now fits }
+{
+    if desk.is_broken() {
+        return Err(Refusal::Broken);
+    }
+    let Some(found) = desk.session(session) else {
+        return Err(Refusal::StaleSession);
+    };
+    if !fits || block.first != desk.next_position(&found) {
+        return Err(Refusal::BadBlock);
+    }
+    if found.written.is_some() {
+        return Err(Refusal::NeedSettle);
+    }
+    Ok(Reply::Written {
+        position: block.last,
+    })
+}
+
+/// What is decided on settling what a session wrote. Costs the open sessions.
+pub fn decide_settle(desk: &Desk, session: &i64) -> Result<Settling, Refusal>
+    ensures { result ≡ settle_decision desk.now.state session.now }
+{
+    if desk.is_broken() {
+        return Err(Refusal::Broken);
+    }
+    let Some(found) = desk.session(session) else {
+        return Err(Refusal::StaleSession);
+    };
+    let Some(written) = found.written else {
+        return Ok(Settling::Nothing {
+            position: desk.next_position(&found),
+        });
+    };
+    if !desk.has_room() {
+        return Err(Refusal::HistoryFull);
+    }
+    Ok(Settling::Blocks {
+        recording: found.recording,
+        written,
+    })
+}
+
+/// What is decided on opening a replay: docs/CONTROL.md, "Replays".
+pub fn decide_open(desk: &Desk, recording: &i64, position: &i64, length: &i64) -> OpeningDecision
+    ensures { result ≡ open_decision desk.now.state recording.now position.now length.now }
+{
+    if *position < -1 || *length < -1 {
+        return OpeningDecision::Decided(Err(Refusal::BadParameter));
+    }
+    let Some(known) = desk.recording(recording) else {
+        return OpeningDecision::Decided(Err(Refusal::UnknownRecording));
+    };
+    let next = begins_at(position, known);
+    if !known.is_within(&next) {
+        return OpeningDecision::Decided(Err(Refusal::BadPosition));
+    }
+    let decided = behind_boundary(desk, recording, &next, length);
+    opened_at(known, decided, &next)
+}
+
+// What is decided at a position, by what comes behind its test.
+fn opened_at(
+    known: &Registration,
+    decided: Result<Opening, Refusal>,
+    position: &i64,
+) -> OpeningDecision
+    ensures { result ≡ opened_at (Some known.now) decided position.now }
+{
+    if known.is_end(position) {
+        return OpeningDecision::Decided(decided);
+    }
+    OpeningDecision::IfBoundary {
+        position: *position,
+        decided,
+    }
+}
+
+/// Where a replay begins that was asked for at a position.
+fn begins_at(position: &i64, known: &Registration) -> i64
+    ensures { result ≡ begins_at position.now (Some known.now) }
+{
+    if *position == -1 {
+        return known.descriptor.start_position;
+    }
+    *position
+}
+
+/// Where a replay ends that begins at a position.
+fn bound_from(position: &i64, length: &i64) -> i64
+    requires { negsuc 0 ≤ℤ length.now }
+    ensures { result ≡ bound_from position.now length.now }
+{
+    if *length == -1 {
+        return LAST_NUMBER;
+    }
+    position.saturating_add(*length)
+}
+
+fn behind_boundary(
+    desk: &Desk,
+    recording: &i64,
+    next: &i64,
+    length: &i64,
+) -> Result<Opening, Refusal>
+    requires { negsuc 0 ≤ℤ length.now }
+    ensures { result ≡ checked (open_tests desk.now.state recording.now next.now length.now true) (block_checks ++ last_checks)
+        (Ok (record { recording = recording.now; next = next.now; bound = bound_from next.now length.now })) }
+{
+    if desk.open_replays() >= MAX_OPEN_REPLAYS || desk.next_replay() == LAST_NUMBER {
+        return Err(Refusal::MaxReplays);
+    }
+    Ok(Opening {
+        recording: *recording,
+        next: *next,
+        bound: bound_from(next, length),
+    })
+}
+
+/// What is decided on a poll for at most so many frames: the replay to be read from, or a refusal. Costs the open replays.
+pub fn decide_poll(desk: &Desk, replay: &i64, max: &i64) -> Result<OpenReplay, Refusal>
+    ensures { result ≡ poll_decision desk.now.state replay.now max.now }
+{
+    if *max < 1 || *max > 4096 {
+        return Err(Refusal::BadParameter);
+    }
+    desk.replay(replay).ok_or(Refusal::UnknownReplay)
+}
+
+/// What is decided on closing a replay. Costs the open replays.
+pub fn decide_close(desk: &Desk, replay: &i64) -> Result<Reply, Refusal>
+    ensures { result ≡ close_decision desk.now.state replay.now }
+{
+    if desk.replay(replay).is_none() {
+        return Err(Refusal::UnknownReplay);
+    }
+    Ok(Reply::Closed)
+}
+
+/// What is decided on a sweep: it is refused where a write has failed.
+pub fn decide_sweep(desk: &Desk) -> Result<(), Refusal>
+    ensures { result ≡ checked (sweep_tests desk.now.state) checks (Ok tt) }
+{
+    if !desk.is_broken() {
+        return Ok(());
+    }
+    Err(Refusal::Broken)
+}
+
+/// What is decided on verifying a recording: it has to be there.
+pub fn decide_verify(desk: &Desk, recording: &i64) -> Result<(), Refusal>
+    ensures { result ≡ checked (verify_tests desk.now.state recording.now) checks (Ok tt) }
+{
+    if desk.recording(recording).is_none() {
+        return Err(Refusal::UnknownRecording);
+    }
+    Ok(())
+}
