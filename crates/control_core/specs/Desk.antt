@@ -15,9 +15,13 @@ pub record DeskState : Type 0 where
   pub limit : ℕ
   pub is_broken : Bool
 
+-- an archive that is opened: nobody calls yet, and the numbers of sessions and replays begin at 0
+abbrev pub opened_desk : RegisterState → ℕ → ℕ → DeskState
+opened_desk register counted limit = record { register = register; callers = no_callers; counted = counted; limit = limit; is_broken = false }
+
 -- before the first recording
 abbrev pub new_desk : ℕ → DeskState
-new_desk limit = record { register = no_recordings; callers = no_callers; counted = 0; limit = limit; is_broken = false }
+new_desk limit = opened_desk no_recordings 0 limit
 
 -- the history has room for one more entry
 abbrev pub has_room : DeskState → Bool

@@ -13,6 +13,7 @@ pub mod laws;
 mod line;
 mod merge_line;
 mod number;
+mod opening;
 mod parse;
 mod print;
 mod refusal_line;

@@ -1,0 +1,27 @@
+//! The desk of an archive that is opened. docs/CONTROL.md, "Control state".
+
+ghost use Rattle.std.specs.Prelude.{◌≡◌};
+ghost use Rattle.control_core.specs.Desk.{opened_desk};
+
+use crate::desk::Desk;
+use crate::replays::Replays;
+use crate::sessions::Sessions;
+use archive_model::Register;
+use std::alloc::Global;
+
+impl Desk {
+    /// The desk of an archive with these recordings, of whose history so many entries count and may: nobody calls yet, and
+    /// the numbers of sessions and replays begin at 0. Does not allocate.
+    pub fn opened(alloc: Global, register: Register, counted: u32, limit: u32) -> Desk
+        ensures { result.state ≡ opened_desk register.state counted limit }
+    {
+        Desk {
+            register,
+            sessions: Sessions::new(alloc),
+            replays: Replays::new(alloc),
+            counted,
+            limit,
+            is_broken: false,
+        }
+    }
+}
