@@ -9,3 +9,4 @@ mod FragmentLemmas
 mod SeatLemmas
 mod DeskLemmas
 mod AgreementLemmas
+mod ExactLemmas

@@ -13,6 +13,7 @@ pub mod Decisions
 pub mod Turns
 pub mod Machine
 pub mod Agreement
+pub mod Exact
 pub mod Rules
 pub mod Calls
 pub mod Answers

@@ -92,7 +92,7 @@ Settles old session =
 
 -- the start and the recorded position need no frames
 abbrev pub AtPlace : DeskState → Option Registration → ℤ → Ends → Ends
-AtPlace old None position ends outcome new = ends outcome new
+AtPlace old None position ends outcome new = UnlessBoundary old ends outcome new
 AtPlace old (Some r) position ends outcome new = MatchBool (is_end position r) (ends outcome new) (UnlessBoundary old ends outcome new)
 
 abbrev pub Opens : DeskState → ℤ → ℤ → ℤ → Ends

@@ -1,6 +1,6 @@
 //! Laws of the definitions, each the contract of a function that does nothing.
 
-ghost use Rattle.std.specs.Prelude.{◌≡◌, ◌++◌, ◌↔◌, ℕ, List, Contains, Some, Ok, true};
+ghost use Rattle.std.specs.Prelude.{◌≡◌, ◌++◌, ◌↔◌, ℕ, List, Contains, Some, Ok, Result, IsFalse, true};
 ghost use Rattle.archive_model.specs.declared.command.Command.{Command};
 ghost use Rattle.archive_model.specs.State.{State, register_of};
 ghost use Rattle.archive_model.specs.Commands.{after, register_after};
@@ -13,6 +13,11 @@ ghost use Rattle.control_core.specs.Desk.{DeskState};
 ghost use Rattle.control_core.specs.Changes.{desk_after};
 ghost use Rattle.control_core.specs.Decisions.{Allows, command_in, decision_of};
 ghost use Rattle.control_core.specs.Agreement.{Agrees, HasWritten};
+ghost use Rattle.frame_core.specs.declared.refusal.Refusal.{Refusal};
+ghost use Rattle.archive_model.specs.declared.reply.Reply.{Reply};
+ghost use Rattle.control_core.specs.declared.event.Event.{Event};
+ghost use Rattle.control_core.specs.Machine.{Step};
+ghost use Rattle.control_core.specs.Exact.{Archive, ArchiveEnds, asked_of, gives_frames, told_of};
 ghost use Rattle.control_core.specs.Table.{Row, rows, is_served};
 ghost use Rattle.control_core.specs.Lines.{line_of};
 ghost use Rattle.control_core.specs.LineText.{Values, AreFit, line_with, text_with, IsShortText, IsSpelling};
@@ -52,4 +57,13 @@ pub fn the_desk_changes_its_register_as_the_command_says()
 pub fn the_desk_follows_the_state()
     ensures { (d : DeskState) (b : BookState) (c : Command) → Agrees d b.state → HasWritten d b.state c →
         IsWell b.state → Accepts b c → Agrees (desk_after d c) (after b.state c) }
+{}
+
+/// What a call is answered exactly, with the frames, is one of the answers that the desk machine allows, which knows none;
+/// of every call but a poll: docs/CONTROL.md, "Control state".
+#[tactic(auto, using(crate::proofs::ExactLemmas::exact_is_allowed))]
+pub fn an_exact_answer_is_allowed()
+    ensures { (a : Archive) (event : Event) (outcome : Result Reply Refusal) (new : Archive) →
+        IsFalse (gives_frames event) → ArchiveEnds a event outcome new →
+        Step a.desk (asked_of event) (told_of a.desk event outcome) new.desk }
 {}

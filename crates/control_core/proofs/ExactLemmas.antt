@@ -1,0 +1,181 @@
+-- What a call is answered exactly is one of the answers that the desk machine allows.
+use Rattle.std.proofs.Common.{◌≡◌, ◌⊎◌, inl, inr, ◌++◌, ℤ, Bool, true, false, cond, List, [], ◌∷◌, Option, Some, None, Result, Ok, Err, refl, ap, ◌∙◌, true≢false}
+use Rattle.std.specs.Prelude.{IsFalse, MatchBool, not, is_some}
+use Rattle.frame_core.specs.declared.block.Block.{Block}
+use Rattle.frame_core.specs.declared.refusal.Refusal.{Refusal}
+use Rattle.frame_core.specs.declared.refusal.Refusal.TheVariants.{BadBlock, BadPosition, Broken, StaleSession}
+use Rattle.archive_model.specs.declared.registration.Registration.{Registration}
+use Rattle.archive_model.specs.declared.reply.Reply.{Reply}
+use Rattle.archive_model.specs.declared.reply.Reply.TheVariants as replies
+use Rattle.archive_model.specs.Accepting.{begins_in}
+use Rattle.archive_model.specs.Checks.{Tests, block_checks, checked, checks, first_checks, last_checks}
+use Rattle.archive_model.specs.Register.{is_end, registration_in}
+use Rattle.control_core.specs.declared.asked.Told.TheVariants as told
+use Rattle.control_core.specs.declared.callers.RecorderSession.{RecorderSession}
+use Rattle.control_core.specs.declared.callers.Written.{Written}
+use Rattle.control_core.specs.declared.decision.Decision.{Decision}
+use Rattle.control_core.specs.declared.decision.Decision.TheVariants.{Refused, Answered, Accepted, IfBoundary}
+use Rattle.control_core.specs.declared.event.Event.{Event}
+use Rattle.control_core.specs.declared.event.Event.TheVariants as events
+use Rattle.control_core.specs.declared.turns.Opening.{Opening}
+use Rattle.control_core.specs.declared.turns.OpeningDecision.{OpeningDecision}
+use Rattle.control_core.specs.declared.turns.OpeningDecision.TheVariants as opening
+use Rattle.control_core.specs.Desk.{DeskState}
+use Rattle.control_core.specs.Changes.{after_close, after_open, after_write, bound_from, settled, settled_by, settled_position, settled_to}
+use Rattle.control_core.specs.Decisions.{decision_of}
+use Rattle.control_core.specs.Turns.{begins_at, close_tests, continues, open_tests, opened_at, opening_decided, opening_of, session_in, settle_tests, settling_by, settling_of, sweep_tests, verify_tests, write_tests}
+use Rattle.control_core.specs.Machine.{AtPlace, Breaks, Decided, Either, Ended, Faults, Outcome, Passing, Refuses, Step, UnlessBoundary, Unread}
+use Rattle.control_core.specs.Exact.{Archive, ArchiveEnds, DecisionEnds, Is, Leaves, OpeningEnds, SettlingEnds, SweepEnds, WriteEnds, asked_frames, asked_of, asked_opening, frames_of_one, gives_frames, plain, recording_at, settled_archive, span_of, told_of, with_desk, written}
+
+-- this answer and this archive are this outcome and its desk
+told_so : (answer : Result Reply Refusal) (x : Archive) (o : Result Reply Refusal) (b : Archive) → Is answer x o b → Ended (plain answer) x.desk (plain o) b.desk
+told_so answer x o b h = (ap plain h.0, ap (λ (y : Archive). y.desk) h.1)
+
+module _ {X : Type 0} (a : Archive) (F : Result X Refusal → Result Reply Refusal → Archive → Type 0) (refused : (r : Refusal) (o : Result Reply Refusal) (b : Archive) → F (Err r) o b → Is (Err r) a o b) where
+  -- the checks one after another
+  passing : (tests : Tests) (rs : List Refusal) (answer : Result X Refusal) (ends : Outcome → DeskState → Type 0) (o : Result Reply Refusal) (b : Archive)
+      → (F answer o b → ends (plain o) b.desk) → F (checked tests rs answer) o b → Passing a.desk tests rs ends (plain o) b.desk
+  passing tests [] answer ends o b done h = done h
+  passing tests (r ∷ rs) answer ends o b done h = by (tests r) h (passing tests rs answer ends o b done)
+    where
+      by : (t : Bool) → F (cond t (checked tests rs answer) (Err r)) o b → (F (checked tests rs answer) o b → Passing a.desk tests rs ends (plain o) b.desk)
+          → MatchBool t (Passing a.desk tests rs ends (plain o) b.desk) (Refuses a.desk r (plain o) b.desk)
+      by true h rest = rest h
+      by false h rest = told_so (Err r) a o b (refused r o b h)
+
+-- ---- requests
+
+exact_decision : (a : Archive) (decision : Decision) (o : Result Reply Refusal) (b : Archive) → DecisionEnds a (asked_frames a decision) o b → Decided a.desk decision (plain o) b.desk
+exact_decision a (Refused refusal) o b h = told_so _ a o b h
+exact_decision a (Answered reply) o b h = told_so _ a o b h
+exact_decision a (Accepted command) o b h = inl (told_so _ _ o b h)
+exact_decision a (IfBoundary id position (Ok command)) o b h = by (begins_in (recording_at a id) position) h
+  where
+    by : (t : Bool) → DecisionEnds a (cond t (Accepted command) (Refused BadPosition)) o b → Decided a.desk (IfBoundary id position (Ok command)) (plain o) b.desk
+    by true h = inr (inr (inl (told_so _ _ o b h)))
+    by false h = inl (told_so _ a o b h)
+exact_decision a (IfBoundary id position (Err refusal)) o b h = by (begins_in (recording_at a id) position) h
+  where
+    by : (t : Bool) → DecisionEnds a (cond t (Refused refusal) (Refused BadPosition)) o b → Decided a.desk (IfBoundary id position (Err refusal)) (plain o) b.desk
+    by true h = inr (inr (told_so _ a o b h))
+    by false h = inl (told_so _ a o b h)
+
+-- ---- writing
+
+writes_fit : (a : Archive) (session : ℤ) (block : Block) (o : Result Reply Refusal) (b : Archive)
+    → Leaves a (written a session block) (checked (write_tests a.desk session (span_of block) true) checks (Ok (replies.Written (span_of block).last))) o b
+    → Step a.desk (asked_of (events.Write session block)) (plain o) b.desk
+writes_fit a session block o b h =
+    let tests = write_tests a.desk session (span_of block) true in
+    let F = Leaves a (written a session block) in
+    let answer : Result Reply Refusal = Ok (replies.Written (span_of block).last) in
+    let written_so : Outcome → DeskState → Type 0 = Either (Ended (plain answer) (after_write session (span_of block) a.desk)) (Breaks a.desk) in
+    let behind : Outcome → DeskState → Type 0 = Either (Refuses a.desk BadBlock) (Passing a.desk tests last_checks written_so) in
+    passing a F (λ r o b h. h) tests (first_checks ++ block_checks) (checked tests last_checks answer) behind o b
+    (λ rest. inr (passing a F (λ r o b h. h) tests last_checks answer written_so o b (λ done. inl (told_so answer (written a session block) o b done)) rest)) h
+
+writes_not : (a : Archive) (session : ℤ) (block : Block) (o : Result Reply Refusal) (b : Archive)
+    → Leaves a (written a session block) (checked (write_tests a.desk session (span_of block) false) checks (Ok (replies.Written (span_of block).last))) o b
+    → Step a.desk (asked_of (events.Write session block)) (plain o) b.desk
+writes_not a session block o b h = by (not a.desk.is_broken) (is_some (session_in a.desk session)) (continues a.desk (session_in a.desk session) (span_of block))
+    (Passing a.desk (write_tests a.desk session (span_of block) true) last_checks (Either (Ended (plain (Ok (replies.Written (span_of block).last))) (after_write session (span_of block) a.desk)) (Breaks a.desk))) h
+  where
+    by : (works found place : Bool) (ends : Outcome → DeskState → Type 0)
+        → Leaves a (written a session block) (cond works (cond found (Err BadBlock) (Err StaleSession)) (Err Broken)) o b
+        → MatchBool works (MatchBool found (MatchBool place (Either (Refuses a.desk BadBlock) ends (plain o) b.desk) (Refuses a.desk BadBlock (plain o) b.desk)) (Refuses a.desk StaleSession (plain o) b.desk)) (Refuses a.desk Broken (plain o) b.desk)
+    by true true true ends h = inl (told_so _ a o b h)
+    by true true false ends h = told_so _ a o b h
+    by true false place ends h = told_so _ a o b h
+    by false found place ends h = told_so _ a o b h
+
+exact_write : (a : Archive) (session : ℤ) (block : Block) (o : Result Reply Refusal) (b : Archive) → WriteEnds a session block o b → Step a.desk (asked_of (events.Write session block)) (plain o) b.desk
+exact_write a session block o b (true, says, h) = writes_fit a session block o b h
+exact_write a session block o b (false, says, h) = writes_not a session block o b h
+
+-- ---- settling
+
+settles_by : (a : Archive) (session : ℤ) (s : RecorderSession) (w : Option Written) (o : Result Reply Refusal) (b : Archive) → settled (session_in a.desk session) a.desk ≡ settled_by s w a.desk
+    → SettlingEnds a session (Ok (settling_by a.desk s w)) o b → Ended (Ok (told.Reply (replies.Settled (settled_to a.desk s w)))) (settled_by s w a.desk) (plain o) b.desk
+settles_by a session s None o b same h = told_so _ a o b h
+settles_by a session s (Some w) o b same h = let is = told_so _ (settled_archive a session s.recording) o b h in (is.0, is.1 ∙ same)
+
+settles : (a : Archive) (session : ℤ) (found : Option RecorderSession) (o : Result Reply Refusal) (b : Archive) → session_in a.desk session ≡ found
+    → SettlingEnds a session (Ok (settling_of a.desk found)) o b → Ended (Ok (told.Reply (replies.Settled (settled_position a.desk found)))) (settled found a.desk) (plain o) b.desk
+settles a session None o b is h = told_so _ a o b h
+settles a session (Some s) o b is h = settles_by a session s s.written o b (ap (λ (x : Option RecorderSession). settled x a.desk) is) h
+
+exact_settle : (a : Archive) (session : ℤ) (o : Result Reply Refusal) (b : Archive) → ArchiveEnds a (events.Settle session) o b → Step a.desk (asked_of (events.Settle session)) (plain o) b.desk
+exact_settle a session o b h =
+    let found = session_in a.desk session in
+    let settled_so : Outcome → DeskState → Type 0 = Either (Ended (Ok (told.Reply (replies.Settled (settled_position a.desk found)))) (settled found a.desk)) (Breaks a.desk) in
+    passing a (SettlingEnds a session) (λ r o b h. h) (settle_tests a.desk session) checks (Ok (settling_of a.desk found)) settled_so o b
+    (λ done. inl (settles a session (session_in a.desk session) o b refl done)) h
+
+-- ---- opening a replay
+
+opens_behind : (a : Archive) (id position size : ℤ) (o : Result Reply Refusal) (b : Archive)
+    → OpeningEnds a (checked (open_tests a.desk id position size true) (block_checks ++ last_checks) (Ok (opening_of a.desk id position size))) o b
+    → Passing a.desk (open_tests a.desk id position size true) (block_checks ++ last_checks)
+    (Ended (Ok (told.Reply (replies.ReplayOpened a.desk.callers.next_replay))) (after_open id (begins_at position (registration_in a.desk.register id)) (bound_from (begins_at position (registration_in a.desk.register id)) size) a.desk)) (plain o) b.desk
+opens_behind a id position size o b h =
+    let next = begins_at position (registration_in a.desk.register id) in
+    let opened_so : Outcome → DeskState → Type 0 = Ended (Ok (told.Reply (replies.ReplayOpened a.desk.callers.next_replay))) (after_open id next (bound_from next size) a.desk) in
+    passing a (OpeningEnds a) (λ r o b h. h) (open_tests a.desk id position size true) (block_checks ++ last_checks) (Ok (opening_of a.desk id position size)) opened_so o b
+    (λ done. told_so _ (with_desk (after_open id (begins_at position (registration_in a.desk.register id)) (bound_from (begins_at position (registration_in a.desk.register id)) size) a.desk) a) o b done) h
+
+-- what the frames say at a place
+at_place : (a : Archive) (id next : ℤ) (found : Option Registration) (behind : Result Opening Refusal) (ends : Outcome → DeskState → Type 0) (o : Result Reply Refusal) (b : Archive)
+    → (OpeningEnds a behind o b → ends (plain o) b.desk) → OpeningEnds a (asked_opening a id (opened_at found behind next)) o b → AtPlace a.desk found next ends (plain o) b.desk
+at_place a id next None behind ends o b done h = by (begins_in (recording_at a id) next) h
+  where
+    by : (t : Bool) → OpeningEnds a (cond t behind (Err BadPosition)) o b → UnlessBoundary a.desk ends (plain o) b.desk
+    by true h = inr (inr (done h))
+    by false h = inl (told_so _ a o b h)
+at_place a id next (Some r) behind ends o b done h = by (is_end next r) (begins_in (recording_at a id) next) h
+  where
+    by : (t u : Bool) → OpeningEnds a (asked_opening a id (cond t (opening.Decided behind) (opening.IfBoundary next behind))) o b → MatchBool t (ends (plain o) b.desk) (UnlessBoundary a.desk ends (plain o) b.desk)
+    by true u h = done h
+    by false u h = inside (begins_in (recording_at a id) next) h
+      where
+        inside : (t : Bool) → OpeningEnds a (cond t behind (Err BadPosition)) o b → UnlessBoundary a.desk ends (plain o) b.desk
+        inside true h = inr (inr (done h))
+        inside false h = inl (told_so _ a o b h)
+
+exact_open : (a : Archive) (id position size : ℤ) (o : Result Reply Refusal) (b : Archive) → ArchiveEnds a (events.ReplayOpen id position size) o b → Step a.desk (asked_of (events.ReplayOpen id position size)) (plain o) b.desk
+exact_open a id position size o b h =
+    let tests = open_tests a.desk id position size true in
+    let found = registration_in a.desk.register id in
+    let behind = checked tests (block_checks ++ last_checks) (Ok (opening_of a.desk id position size)) in
+    let F : Result OpeningDecision Refusal → Result Reply Refusal → Archive → Type 0 = λ x. OpeningEnds a (asked_opening a id (opening_decided x)) in
+    let next = begins_at position found in
+    let opened_so : Outcome → DeskState → Type 0 = Passing a.desk tests (block_checks ++ last_checks) (Ended (Ok (told.Reply (replies.ReplayOpened a.desk.callers.next_replay))) (after_open id next (bound_from next size) a.desk)) in
+    passing a F (λ r o b h. h) tests first_checks (Ok (opened_at found behind next)) (AtPlace a.desk found next opened_so) o b
+    (at_place a id next found behind opened_so o b (opens_behind a id position size o b)) h
+
+-- ---- the others
+
+exact_close : (a : Archive) (number : ℤ) (o : Result Reply Refusal) (b : Archive) → ArchiveEnds a (events.ReplayClose number) o b → Step a.desk (asked_of (events.ReplayClose number)) (plain o) b.desk
+exact_close a number o b h =
+    let x = with_desk (after_close number a.desk) a in
+    passing a (Leaves a x) (λ r o b h. h) (close_tests a.desk number) checks (Ok replies.Closed) (Ended (plain (Ok replies.Closed)) x.desk) o b (λ done. told_so (Ok replies.Closed) x o b done) h
+
+exact_sweep : (a : Archive) (o : Result Reply Refusal) (b : Archive) → ArchiveEnds a events.Sweep o b → Step a.desk (asked_of events.Sweep) (plain o) b.desk
+exact_sweep a o b h =
+    let swept_so : Outcome → DeskState → Type 0 = λ outcome new. ((removed : Bool) × Ended (plain (Ok (replies.Swept removed))) a.desk outcome new) ⊎ Faults a.desk outcome new in
+    passing a (SweepEnds a) (λ r o b h. h) (sweep_tests a.desk) checks (Ok tt) swept_so o b (λ done. inl (done.0, told_so (Ok (replies.Swept done.0)) a o b done.1)) h
+
+exact_verify : (a : Archive) (id : ℤ) (o : Result Reply Refusal) (b : Archive) → ArchiveEnds a (events.Verify id) o b → Step a.desk (asked_of (events.Verify id)) (plain o) b.desk
+exact_verify a id o b h =
+    let answer : Result Reply Refusal = Ok (replies.Verified (frames_of_one (recording_at a id))) in
+    let verified_so : Outcome → DeskState → Type 0 = λ outcome new. ((frames : ℤ) × Ended (plain (Ok (replies.Verified frames))) a.desk outcome new) ⊎ Unread a.desk outcome new in
+    passing a (Leaves a a) (λ r o b h. h) (verify_tests a.desk id) checks answer verified_so o b (λ done. inl (frames_of_one (recording_at a id), told_so answer a o b done)) h
+
+pub exact_is_allowed : (a : Archive) (event : Event) (o : Result Reply Refusal) (b : Archive) → IsFalse (gives_frames event) → ArchiveEnds a event o b → Step a.desk (asked_of event) (told_of a.desk event o) b.desk
+exact_is_allowed a (events.Ask request) o b other h = exact_decision a (decision_of a.desk request) o b h
+exact_is_allowed a (events.Write session block) o b other h = exact_write a session block o b h
+exact_is_allowed a (events.Settle session) o b other h = exact_settle a session o b h
+exact_is_allowed a (events.ReplayOpen id position size) o b other h = exact_open a id position size o b h
+exact_is_allowed a (events.ReplayPoll number most) o b other h = absurd (true≢false other)
+exact_is_allowed a (events.ReplayClose number) o b other h = exact_close a number o b h
+exact_is_allowed a events.Sweep o b other h = exact_sweep a o b h
+exact_is_allowed a (events.Verify id) o b other h = exact_verify a id o b h

@@ -1,0 +1,232 @@
+-- What each call of an archive is answered exactly, by its state with the frames, its desk and what its sessions wrote.
+-- docs/CONTROL.md, "Requests", "Recorder sessions" and "Replays".
+use Rattle.std.specs.Prelude.{◌≡◌, ◌⊎◌, ◌++◌, ◌+ℤ◌, ℤ, pos, Bool, true, false, IsTrue, IsSomeAnd, MatchBool, List, [], ◌∷◌, length, unsigned_abs, Option, Some, None, is_none, Result, Ok, Err, if◌then◌else◌}
+use Rattle.std.specs.Ordering.{int_eq}
+use Rattle.frame_core.specs.declared.block.Block.{Block}
+use Rattle.frame_core.specs.declared.refusal.Refusal.{Refusal}
+use Rattle.frame_core.specs.declared.refusal.Refusal.TheVariants.{BadPosition}
+use Rattle.frame_core.specs.Block.{IsBlock, end_position}
+use Rattle.frame_core.specs.FrameEncoding.{aligned_length}
+use Rattle.archive_model.specs.declared.command.Command.{Command}
+use Rattle.archive_model.specs.declared.command.Command.TheVariants as commands
+use Rattle.archive_model.specs.declared.reply.PolledFrame.{PolledFrame}
+use Rattle.archive_model.specs.declared.reply.Reply.{Reply}
+use Rattle.archive_model.specs.declared.reply.Reply.TheVariants as replies
+use Rattle.archive_model.specs.Keyed.{find}
+use Rattle.archive_model.specs.State.{Recording, State, geometry_of, id_of, publication_of, registration_of}
+use Rattle.archive_model.specs.Accepting.{begins_in}
+use Rattle.archive_model.specs.Checks.{checked, checks}
+use Rattle.archive_model.specs.Commands.{after}
+use Rattle.archive_model.specs.Replay.{polled}
+use Rattle.control_core.specs.declared.asked.Asked.{Asked}
+use Rattle.control_core.specs.declared.asked.Asked.TheVariants as calls
+use Rattle.control_core.specs.declared.asked.Told.TheVariants as told
+use Rattle.control_core.specs.declared.callers.OpenReplay.{OpenReplay}
+use Rattle.control_core.specs.declared.callers.RecorderSession.{RecorderSession}
+use Rattle.control_core.specs.declared.callers.Written.{Written}
+use Rattle.control_core.specs.declared.decision.Decision.{Decision}
+use Rattle.control_core.specs.declared.decision.Decision.TheVariants.{Refused, Answered, Accepted, IfBoundary}
+use Rattle.control_core.specs.declared.event.Event.{Event}
+use Rattle.control_core.specs.declared.event.Event.TheVariants as events
+use Rattle.control_core.specs.declared.turns.Opening.{Opening}
+use Rattle.control_core.specs.declared.turns.OpeningDecision.{OpeningDecision}
+use Rattle.control_core.specs.declared.turns.OpeningDecision.TheVariants as opening
+use Rattle.control_core.specs.declared.turns.Settling.{Settling}
+use Rattle.control_core.specs.declared.turns.Settling.TheVariants as settling
+use Rattle.control_core.specs.Desk.{DeskState}
+use Rattle.control_core.specs.Changes.{after_close, after_open, after_poll, after_write, broken_desk, desk_after, reply_after, settled}
+use Rattle.control_core.specs.Decisions.{accepted, decision_of}
+use Rattle.control_core.specs.Turns.{close_decision, is_done_at, open_decision, poll_decision, replay_in, session_in, settle_decision, sweep_tests, verify_tests, write_decision}
+use Rattle.control_core.specs.Machine.{OrOutside, Outcome}
+
+-- The recordings with their frames, the desk, the blocks that each recorder session wrote and did not settle, and the
+-- state that is in doubt since a write failed.
+pub record Archive : Type 0 where
+  pub state : State
+  pub desk : DeskState
+  pub blocks : ℤ → List Block
+  pub doubt : Option State
+
+-- what a call may end with: its answer, and the archive then
+abbrev pub ArchiveEnd : Type 1
+ArchiveEnd = Result Reply Refusal → Archive → Type 0
+
+-- this answer, and this archive
+abbrev pub Is : Result Reply Refusal → Archive → ArchiveEnd
+Is answer after outcome new = (outcome ≡ answer) × (new ≡ after)
+
+-- a reply, and this archive; or a refusal, and nothing has changed
+abbrev pub Leaves : Archive → Archive → Result Reply Refusal → ArchiveEnd
+Leaves a after (Ok reply) = Is (Ok reply) after
+Leaves a after (Err refusal) = Is (Err refusal) a
+
+abbrev pub with_desk : DeskState → Archive → Archive
+with_desk d a = record a { desk = d }
+
+abbrev pub recording_at : Archive → ℤ → Option Recording
+recording_at a id = find id_of id a.state.recordings
+
+-- ---- requests
+
+-- what is decided once the frames are asked
+abbrev pub asked_frames : Archive → Decision → Decision
+asked_frames a (IfBoundary id position decided) = if begins_in (recording_at a id) position then accepted decided else Refused BadPosition
+asked_frames a (Refused refusal) = Refused refusal
+asked_frames a (Answered reply) = Answered reply
+asked_frames a (Accepted command) = Accepted command
+
+-- the archive after an accepted command
+abbrev pub archive_after : Archive → Command → Archive
+archive_after a command = record a { state = after a.state command; desk = desk_after a.desk command }
+
+abbrev pub DecisionEnds : Archive → Decision → ArchiveEnd
+DecisionEnds a (Refused refusal) = Is (Err refusal) a
+DecisionEnds a (Answered reply) = Is (Ok reply) a
+DecisionEnds a (Accepted command) = Is (Ok (reply_after a.desk command)) (archive_after a command)
+DecisionEnds a (IfBoundary id position decided) = λ outcome new. ⊥
+
+-- ---- writing and settling
+
+-- the blocks of a session are these
+abbrev pub with_session_blocks : ℤ → List Block → (ℤ → List Block) → ℤ → List Block
+with_session_blocks session blocks all n = if int_eq n session then blocks else all n
+
+-- where a block lies
+abbrev pub span_of : Block → Written
+span_of block = record { first = block.position; last = end_position block }
+
+abbrev pub written : Archive → ℤ → Block → Archive
+written a session block = record a { desk = after_write session (span_of block) a.desk; blocks = with_session_blocks session (a.blocks session ++ block ∷ []) a.blocks }
+
+-- a block of the terms, session and stream of the recording that a session writes
+abbrev pub IsBlockOf : Archive → Option RecorderSession → Block → Type 0
+IsBlockOf a None block = ⊥
+IsBlockOf a (Some s) block = IsSomeAnd (recording_at a s.recording) (λ r. IsBlock (geometry_of r.descriptor) (publication_of r.descriptor) block)
+
+abbrev pub WriteEnds : Archive → ℤ → Block → ArchiveEnd
+WriteEnds a session block outcome new =
+    (fits : Bool) × MatchBool fits (IsBlockOf a (session_in a.desk session) block) (IsBlockOf a (session_in a.desk session) block → ⊥)
+    × Leaves a (written a session block) (write_decision a.desk session (span_of block) fits) outcome new
+
+-- what a session wrote is recorded by one append
+abbrev pub settled_archive : Archive → ℤ → ℤ → Archive
+settled_archive a session id = record a {
+  state = after a.state (commands.Append id (a.blocks session));
+  desk = settled (session_in a.desk session) a.desk;
+  blocks = with_session_blocks session [] a.blocks;
+}
+
+abbrev pub SettlingEnds : Archive → ℤ → Result Settling Refusal → ArchiveEnd
+SettlingEnds a session (Err refusal) = Is (Err refusal) a
+SettlingEnds a session (Ok (settling.Nothing position)) = Is (Ok (replies.Settled position)) a
+SettlingEnds a session (Ok (settling.Blocks id w)) = Is (Ok (replies.Settled w.last)) (settled_archive a session id)
+
+-- ---- replays
+
+abbrev pub asked_opening : Archive → ℤ → OpeningDecision → Result Opening Refusal
+asked_opening a id (opening.Decided decided) = decided
+asked_opening a id (opening.IfBoundary position decided) = if begins_in (recording_at a id) position then decided else Err BadPosition
+
+abbrev pub OpeningEnds : Archive → Result Opening Refusal → ArchiveEnd
+OpeningEnds a (Err refusal) = Is (Err refusal) a
+OpeningEnds a (Ok o) = Is (Ok (replies.ReplayOpened a.desk.callers.next_replay)) (with_desk (after_open o.recording o.next o.bound a.desk) a)
+
+-- where frames end that begin at a position
+abbrev pub frames_end : ℤ → List PolledFrame → ℤ
+frames_end position [] = position
+frames_end position (f ∷ fs) = frames_end (f.position +ℤ pos (aligned_length f.frame)) fs
+
+-- where a replay goes on, or that it is done
+abbrev pub goes_on : Recording → OpenReplay → ℤ → Option ℤ
+goes_on r replay next = if is_done_at (registration_of r) replay.bound next then None else Some next
+
+abbrev pub PolledEnds : Archive → OpenReplay → ℤ → Option Recording → ArchiveEnd
+PolledEnds a replay most None = λ outcome new. ⊥
+PolledEnds a replay most (Some r) =
+    let frames = polled replay.next replay.bound (unsigned_abs most) r in
+    let next = frames_end replay.next frames in
+    Is (Ok (replies.Polled frames (goes_on r replay next))) (with_desk (after_poll replay.number next a.desk) a)
+
+abbrev pub PollingEnds : Archive → ℤ → Result OpenReplay Refusal → ArchiveEnd
+PollingEnds a most (Err refusal) = Is (Err refusal) a
+PollingEnds a most (Ok replay) = PolledEnds a replay most (recording_at a replay.recording)
+
+-- ---- sweeping and verifying
+
+abbrev pub SweepEnds : Archive → Result (Unit {0}) Refusal → ArchiveEnd
+SweepEnds a (Err refusal) = Is (Err refusal) a
+SweepEnds a (Ok done) = λ outcome new. (removed : Bool) × Is (Ok (replies.Swept removed)) a outcome new
+
+abbrev pub frames_of_one : Option Recording → ℤ
+frames_of_one None = pos 0
+frames_of_one (Some r) = pos (length r.frames)
+
+-- ---- calls
+
+abbrev pub ArchiveEnds : Archive → Event → ArchiveEnd
+ArchiveEnds a (events.Ask request) = DecisionEnds a (asked_frames a (decision_of a.desk request))
+ArchiveEnds a (events.Write session block) = WriteEnds a session block
+ArchiveEnds a (events.Settle session) = SettlingEnds a session (settle_decision a.desk session)
+ArchiveEnds a (events.ReplayOpen id position size) = OpeningEnds a (asked_opening a id (open_decision a.desk id position size))
+ArchiveEnds a (events.ReplayPoll number most) = PollingEnds a most (poll_decision a.desk number most)
+ArchiveEnds a (events.ReplayClose number) = Leaves a (with_desk (after_close number a.desk) a) (close_decision a.desk number)
+ArchiveEnds a events.Sweep = SweepEnds a (checked (sweep_tests a.desk) checks (Ok tt))
+ArchiveEnds a (events.Verify id) = Leaves a a (checked (verify_tests a.desk id) checks (Ok (replies.Verified (frames_of_one (recording_at a id)))))
+
+-- a write has failed, and this state is in doubt
+abbrev pub broken : State → Archive → Archive
+broken u a = record a { desk = broken_desk a.desk; doubt = Some u }
+
+-- a call that writes, and whose failing write breaks the archive
+abbrev pub breaks : Event → Bool
+breaks (events.Ask request) = true
+breaks (events.Write session block) = true
+breaks (events.Settle session) = true
+breaks _ = false
+
+-- the state that the call makes where it is accepted
+abbrev pub Makes : Archive → Event → State → Type 0
+Makes a event u = (reply : Reply) × ((b : Archive) × ArchiveEnds a event (Ok reply) b × (b.state ≡ u))
+
+-- after a device fault nothing has changed, or what the call makes is in doubt
+abbrev pub LeftByFault : Archive → Event → Archive → Type 0
+LeftByFault a event b = (b ≡ a) ⊎ (IsTrue (breaks event) × ((u : State) × Makes a event u × (b ≡ broken u a)))
+
+-- What a call ends with: its answer, want of memory, which changes nothing, or a device fault where the device had one.
+abbrev pub CallEnds : Archive → Event → Type 0 → ArchiveEnd
+CallEnds a event faulted = OrOutside a faulted (LeftByFault a event) (ArchiveEnds a event)
+
+-- ---- the same without frames
+
+abbrev pub asked_of : Event → Asked
+asked_of (events.Ask request) = calls.Ask request
+asked_of (events.Write session block) = calls.Write session (span_of block)
+asked_of (events.Settle session) = calls.Settle session
+asked_of (events.ReplayOpen id position size) = calls.ReplayOpen id position size
+asked_of (events.ReplayPoll number most) = calls.ReplayPoll number most
+asked_of (events.ReplayClose number) = calls.ReplayClose number
+asked_of events.Sweep = calls.Sweep
+asked_of (events.Verify id) = calls.Verify id
+
+abbrev pub plain : Result Reply Refusal → Outcome
+plain (Ok reply) = Ok (told.Reply reply)
+plain (Err refusal) = Err refusal
+
+abbrev pub from_position : Option OpenReplay → ℤ
+from_position None = pos 0
+from_position (Some replay) = replay.next
+
+-- a poll's frames by where they begin and end, and whether the replay is done
+abbrev pub plain_poll : ℤ → Result Reply Refusal → Outcome
+plain_poll first (Ok (replies.Polled frames next)) = Ok (told.Polled (record { first = first; last = frames_end first frames }) (is_none next))
+plain_poll first (Ok reply) = Ok (told.Reply reply)
+plain_poll first (Err refusal) = Err refusal
+
+abbrev pub told_of : DeskState → Event → Result Reply Refusal → Outcome
+told_of d (events.ReplayPoll number most) = plain_poll (from_position (replay_in d number))
+told_of d _ = plain
+
+-- a call that gives frames
+abbrev pub gives_frames : Event → Bool
+gives_frames (events.ReplayPoll number most) = true
+gives_frames _ = false
