@@ -76,14 +76,19 @@ recorder_rows =
     ∷ row (codes "block") (long & hex & none) (λ session bytes. Block session bytes)
     ∷ []
 
--- other requests to the catalogue
+-- requests that change the catalogue and open no recorder session
 abbrev pub catalogue_rows : List Row
 catalogue_rows =
     row (codes "stop") (long & long & none) (λ recording timestamp. Event (Ask (asks.Stop recording timestamp)))
     ∷ row (codes "truncate") (long & long & none) (λ recording position. Event (Ask (asks.Truncate recording position)))
     ∷ row (codes "purge-segments") (long & long & none) (λ recording position. Event (Ask (asks.PurgeSegments recording position)))
     ∷ row (codes "purge") (long & none) (λ recording. Event (Ask (asks.PurgeRecording recording)))
-    ∷ row (codes "list") (long & long & none) (λ from count. Event (Ask (asks.List from count)))
+    ∷ []
+
+-- requests that change nothing
+abbrev pub asking_rows : List Row
+asking_rows =
+    row (codes "list") (long & long & none) (λ from count. Event (Ask (asks.List from count)))
     ∷ row (codes "find") (long & int & int & text)
     (λ least stream session fragment. Event (Ask (asks.Find (record {
       least = least;
@@ -119,7 +124,7 @@ merge_rows =
 
 -- all lines
 abbrev pub rows : List Row
-rows = recorder_rows ++ (catalogue_rows ++ (archive_rows ++ merge_rows))
+rows = recorder_rows ++ (catalogue_rows ++ (asking_rows ++ (archive_rows ++ merge_rows)))
 
 -- a word is among these
 abbrev pub is_among : List (List ℕ) → List ℕ → Bool

@@ -2,7 +2,7 @@
 
 ghost use Rattle.std.specs.Prelude.{◌≡◌, ◌++◌};
 ghost use Rattle.frame_core.specs.Outcome.{Gives, Shows};
-ghost use Rattle.control_core.specs.Table.{start_row, extend_row, catalogue_rows, archive_rows, merge_rows, rows, is_served};
+ghost use Rattle.control_core.specs.Table.{start_row, extend_row, catalogue_rows, asking_rows, archive_rows, merge_rows, rows, is_served};
 ghost use Rattle.control_core.specs.Lines.{read, read_by, text_of, read_of, line_of};
 
 use crate::event::Event;
@@ -62,10 +62,33 @@ fn archive_line(alloc: Global, word: &str, words: &mut Words) -> Result<Line, Re
     })
 }
 
-// Requests to the catalogue that open no recorder session, before those.
+// Requests that change nothing, before those.
+fn asking_line(alloc: Global, word: &str, words: &mut Words) -> Result<Line, Refusal>
+    ensures { Gives (λ line. (line, words.new)) result
+        (read_by (asking_rows ++ (archive_rows ++ merge_rows)) word.now words.old) }
+{
+    Ok(Line::Event(Event::Ask(match word {
+        "list" => Request::List {
+            from: words.long()?,
+            count: words.long()?,
+        },
+        "find" => Request::Find(FindFields {
+            least: words.long()?,
+            stream_id: words.int()?,
+            session_id: words.int()?,
+            fragment: words.text(alloc)?,
+        }),
+        "positions" => Request::Positions {
+            recording: words.long()?,
+        },
+        _ => return archive_line(alloc, word, words),
+    })))
+}
+
+// Requests that change the catalogue and open no recorder session, before those.
 fn catalogue_line(alloc: Global, word: &str, words: &mut Words) -> Result<Line, Refusal>
     ensures { Gives (λ line. (line, words.new)) result
-        (read_by (catalogue_rows ++ (archive_rows ++ merge_rows)) word.now words.old) }
+        (read_by (catalogue_rows ++ (asking_rows ++ (archive_rows ++ merge_rows))) word.now words.old) }
 {
     Ok(Line::Event(Event::Ask(match word {
         "stop" => Request::Stop {
@@ -83,20 +106,7 @@ fn catalogue_line(alloc: Global, word: &str, words: &mut Words) -> Result<Line, 
         "purge" => Request::PurgeRecording {
             recording: words.long()?,
         },
-        "list" => Request::List {
-            from: words.long()?,
-            count: words.long()?,
-        },
-        "find" => Request::Find(FindFields {
-            least: words.long()?,
-            stream_id: words.int()?,
-            session_id: words.int()?,
-            fragment: words.text(alloc)?,
-        }),
-        "positions" => Request::Positions {
-            recording: words.long()?,
-        },
-        _ => return archive_line(alloc, word, words),
+        _ => return asking_line(alloc, word, words),
     })))
 }
 
