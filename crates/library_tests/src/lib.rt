@@ -5,6 +5,8 @@
 #[cfg(test)]
 mod archives;
 #[cfg(test)]
+mod catalogues;
+#[cfg(test)]
 mod disks;
 #[cfg(test)]
 mod frames;

@@ -1,0 +1,331 @@
+//! The catalogue: the bank of docs/STORAGE.md, "Entries", byte for byte, cut and changed; stops at each change of the disk;
+//! requests for memory refused.
+
+use archive_model::{Channel, StartFields};
+use catalogue_log::{Entry, Log, create, open};
+use disk_core::{Disk, FileId, MemoryDisk};
+use frame_core::Refusal;
+use std::alloc::{AllocError, Global};
+use std::process::Abort;
+use std::test::Fail;
+
+// The bank of docs/STORAGE.md, "Entries".
+const BANK: [u8; 108] = [
+    0x01, 0x01, 0x00, 0x00, 0x03, 0x00, 0x00, 0x00, 0x01, 0x00, 0x00, 0x00, 0x00, 0x00, 0x00, 0x00,
+    0x00, 0x00, 0x00, 0x00, 0x00, 0x00, 0x00, 0x00, 0x00, 0x00, 0x00, 0x00, 0x00, 0x00, 0x00, 0x00,
+    0x01, 0x01, 0x33, 0x00, 0x00, 0x00, 0x00, 0x00, 0x00, 0x00, 0x00, 0x00, 0xe8, 0x03, 0x00, 0x00,
+    0x00, 0x00, 0x00, 0x00, 0x00, 0x00, 0x00, 0x00, 0x00, 0x00, 0x00, 0x00, 0x2a, 0x00, 0x00, 0x00,
+    0x00, 0x00, 0x02, 0x00, 0x00, 0x00, 0x01, 0x00, 0x80, 0x05, 0x00, 0x00, 0x07, 0x00, 0x00, 0x00,
+    0xe9, 0x03, 0x00, 0x00, 0x01, 0x00, 0x63, 0x01, 0x02, 0x10, 0x00, 0x00, 0x00, 0x00, 0x00, 0x00,
+    0x00, 0x00, 0x00, 0x40, 0x00, 0x00, 0x00, 0x00, 0x00, 0x00, 0x00, 0x00,
+];
+
+// The start of the bank's recording.
+fn start(alloc: Global) -> Result<Entry, AllocError> {
+    Ok(Entry::Start {
+        recording: 0,
+        fields: StartFields {
+            stream_id: 1_001,
+            session_id: 7,
+            initial_term_id: 42,
+            term_length: 65_536,
+            mtu: 1_408,
+            segment_length: 131_072,
+            start_position: 0,
+            timestamp: 1_000,
+            channel: Channel::new(String::from_str(alloc, "c")?),
+        },
+    })
+}
+
+const SETTLE: Entry = Entry::Settle {
+    recording: 0,
+    position: 64,
+};
+
+const STOP: Entry = Entry::Stop {
+    recording: 0,
+    timestamp: 2_000,
+};
+
+// A catalogue with three entries, or with as many as the disk lets it have.
+fn story(alloc: Global, disk: &mut MemoryDisk) -> Result<(), Refusal> {
+    let mut log = create(alloc, disk, 3)?;
+    log.append(disk, &start(alloc)?)?;
+    log.append(disk, &SETTLE)?;
+    log.append(disk, &STOP)
+}
+
+// What opening answers: its name, and how many entries there are or at which offset the bank is damaged.
+fn answer(alloc: Global, disk: &mut MemoryDisk) -> (&'static str, i64) {
+    match open(alloc, disk) {
+        Ok((_, entries)) => ("entries", i64::try_from(entries.len()).unwrap_or(-1)),
+        Err(Refusal::Damaged { position, .. }) => ("Damaged", position),
+        Err(Refusal::NotCatalogue) => ("NotCatalogue", 0),
+        Err(Refusal::NewerVersion) => ("NewerVersion", 0),
+        Err(_) => ("another refusal", 0),
+    }
+}
+
+// What a file holds, up to 200 bytes.
+fn bytes_of(alloc: Global, disk: &mut MemoryDisk, file: FileId) -> Result<Vec<u8>, Fail> {
+    let mut bytes = vec![in alloc; 9; 200]?;
+    let count = disk.read_at(file, 0, bytes.as_mut_slice())?;
+    bytes.truncate(count);
+    Ok(bytes)
+}
+
+// The bank after its start and its settle.
+fn bank(alloc: Global, disk: &mut MemoryDisk) -> Result<Log, Fail> {
+    let mut log = create(alloc, disk, 3)?;
+    log.append(disk, &start(alloc)?)?;
+    log.append(disk, &SETTLE)?;
+    Ok(log)
+}
+
+#[test]
+fn a_bank_is_written_byte_for_byte(rt: HostRuntime) -> Result<(), Fail> {
+    let mut disk = MemoryDisk::new(rt.alloc());
+    bank(rt.alloc(), &mut disk)?;
+    assert!(rt; disk.changes() == 14 && disk.calls() == 14);
+    assert!(rt; bytes_of(rt.alloc(), &mut disk, FileId::BankA)?.as_slice() == BANK.as_slice());
+    assert!(rt; bytes_of(rt.alloc(), &mut disk, FileId::BankB)?.as_slice() == [0].as_slice());
+    Ok(())
+}
+
+#[test]
+fn a_bank_is_opened(rt: HostRuntime) -> Result<(), Fail> {
+    let mut disk = MemoryDisk::new(rt.alloc());
+    disk.write_at(FileId::BankA, 0, &BANK)?;
+    let (log, entries) = open(rt.alloc(), &mut disk)?;
+    assert!(rt; log.limit() == 3 && log.epoch() == 1 && log.counted() == 2);
+    assert!(rt; entries.len() == 2 && disk.changes() == 3);
+    Ok(())
+}
+
+#[test]
+fn a_full_history_takes_no_counted_entry(rt: HostRuntime) -> Result<(), Fail> {
+    let mut disk = MemoryDisk::new(rt.alloc());
+    let mut log = bank(rt.alloc(), &mut disk)?;
+    log.append(&mut disk, &STOP)?;
+    assert!(rt; log.append(&mut disk, &SETTLE) == Err(Refusal::HistoryFull));
+    log.append(&mut disk, &Entry::Restart)?;
+    assert!(rt; log.counted() == 3 && answer(rt.alloc(), &mut disk) == ("entries", 4));
+    Ok(())
+}
+
+#[test]
+fn a_limit_out_of_range_is_refused(rt: HostRuntime) {
+    for limit in [0u32, 16_777_217] {
+        let mut disk = MemoryDisk::new(rt.alloc());
+        assert!(rt; create(rt.alloc(), &mut disk, limit).err() == Some(Refusal::BadParameter));
+    }
+}
+
+// What opening the bank answers where its file is cut to a length.
+fn cut_bank(alloc: Global, length: u64) -> Result<(&'static str, i64), Fail> {
+    let mut disk = MemoryDisk::new(alloc);
+    disk.write_at(FileId::BankA, 0, &BANK)?;
+    disk.cut(FileId::BankA, length)?;
+    Ok(answer(alloc, &mut disk))
+}
+
+#[test]
+fn a_bank_is_cut_at_each_length(rt: HostRuntime) -> Result<(), Fail> {
+    // Lengths from one to the next row's: the entry that the bank ends in is damaged.
+    let rows = [
+        (0, 32, ("NotCatalogue", 0)),
+        (32, 88, ("Damaged", 32)),
+        (88, 108, ("Damaged", 87)),
+        (108, 109, ("entries", 2)),
+    ];
+    for (from, to, told) in rows {
+        for length in from..to {
+            assert!(rt; cut_bank(rt.alloc(), length)? == told);
+        }
+    }
+    Ok(())
+}
+
+// What opening the bank answers where a byte of it is 255.
+fn changed_bank(alloc: Global, offset: u64) -> Result<(&'static str, i64), Fail> {
+    let mut disk = MemoryDisk::new(alloc);
+    disk.write_at(FileId::BankA, 0, &BANK)?;
+    disk.write_at(FileId::BankA, offset, &[255])?;
+    Ok(answer(alloc, &mut disk))
+}
+
+#[test]
+fn each_byte_of_a_header_is_changed(rt: HostRuntime) -> Result<(), Fail> {
+    let rows = [
+        (0, 1, ("NotCatalogue", 0)),
+        (1, 2, ("NewerVersion", 0)),
+        (2, 4, ("NotCatalogue", 0)),
+        // A limit of 255, 65,283 and 16,711,683, and one that is too high; any epoch.
+        (4, 7, ("entries", 2)),
+        (7, 8, ("NotCatalogue", 0)),
+        (8, 16, ("entries", 2)),
+        (16, 32, ("NotCatalogue", 0)),
+        (32, 33, ("entries", 0)),
+    ];
+    for (from, to, told) in rows {
+        for offset in from..to {
+            assert!(rt; changed_bank(rt.alloc(), offset)? == told);
+        }
+    }
+    Ok(())
+}
+
+#[test]
+fn each_byte_of_a_start_is_changed(rt: HostRuntime) -> Result<(), Fail> {
+    let rows = [
+        // Kind, length and recording; the timestamp, and a negative one.
+        (33, 44, ("Damaged", 32)),
+        (44, 51, ("entries", 2)),
+        (51, 53, ("Damaged", 32)),
+        // A start position that is a multiple of 32, from which the settle is no step; one past 2^31 terms.
+        (53, 57, ("Damaged", 87)),
+        (57, 60, ("Damaged", 32)),
+        (60, 64, ("entries", 2)),
+        // Lengths of segments and terms, an MTU of 65,408, the other MTUs.
+        (64, 73, ("Damaged", 32)),
+        (73, 74, ("entries", 2)),
+        (74, 76, ("Damaged", 32)),
+        (76, 84, ("entries", 2)),
+        (84, 87, ("Damaged", 32)),
+    ];
+    for (from, to, told) in rows {
+        for offset in from..to {
+            assert!(rt; changed_bank(rt.alloc(), offset)? == told);
+        }
+    }
+    Ok(())
+}
+
+#[test]
+fn each_byte_of_a_settle_is_changed(rt: HostRuntime) -> Result<(), Fail> {
+    let rows = [
+        (87, 88, ("entries", 1)),
+        (88, 100, ("Damaged", 87)),
+        // Positions that are multiples of 32, and then such past 2^31 terms.
+        (100, 104, ("entries", 2)),
+        (104, 107, ("Damaged", 87)),
+        (107, 108, ("entries", 2)),
+    ];
+    for (from, to, told) in rows {
+        for offset in from..to {
+            assert!(rt; changed_bank(rt.alloc(), offset)? == told);
+        }
+    }
+    Ok(())
+}
+
+// What is found after a crash by a choice, where the disk stops after so many changes.
+fn found_after(alloc: Global, stop: u64, choice: u8) -> Result<(&'static str, i64), Fail> {
+    let mut disk = MemoryDisk::new(alloc);
+    disk.stop_after(stop);
+    let _ = story(alloc, &mut disk);
+    let mut left = disk.crash(&[choice])?;
+    Ok(answer(alloc, &mut left))
+}
+
+#[test]
+fn a_stop_while_it_is_created(rt: HostRuntime) -> Result<(), Fail> {
+    for stop in 0..6u64 {
+        for choice in [0u8, 1, 255] {
+            let told = if stop == 5 && choice == 1 {
+                ("entries", 0)
+            } else {
+                ("NotCatalogue", 0)
+            };
+            assert!(rt; found_after(rt.alloc(), stop, choice)? == told);
+        }
+    }
+    Ok(())
+}
+
+#[test]
+fn a_stop_at_each_change_of_three_appends(rt: HostRuntime) -> Result<(), Fail> {
+    // Changes before the stop, and how many entries are found by the choices 0, 1 and 255.
+    let rows = [
+        (6, [0, 0, 0]),
+        (7, [0, 0, 0]),
+        (8, [0, 0, 0]),
+        (9, [0, 1, 0]),
+        (10, [1, 1, 1]),
+        (11, [1, 1, 1]),
+        (12, [1, 1, 1]),
+        (13, [1, 2, 1]),
+        (14, [2, 2, 2]),
+        (15, [2, 2, 2]),
+        (16, [2, 2, 2]),
+        (17, [2, 3, 2]),
+        (18, [3, 3, 3]),
+    ];
+    for (stop, found) in rows {
+        assert!(rt; found_after(rt.alloc(), stop, 0)? == ("entries", found[0]));
+        assert!(rt; found_after(rt.alloc(), stop, 1)? == ("entries", found[1]));
+        assert!(rt; found_after(rt.alloc(), stop, 255)? == ("entries", found[2]));
+    }
+    Ok(())
+}
+
+#[test]
+fn a_log_is_broken_after_a_fault(rt: HostRuntime) -> Result<(), Fail> {
+    let mut disk = MemoryDisk::new(rt.alloc());
+    let mut log = bank(rt.alloc(), &mut disk)?;
+    disk.fail_at(4);
+    assert!(rt; log.append(&mut disk, &STOP) == Err(Refusal::DeviceFault));
+    assert!(rt; log.append(&mut disk, &STOP) == Err(Refusal::Broken));
+    assert!(rt; answer(rt.alloc(), &mut disk) == ("entries", 3));
+    Ok(())
+}
+
+// The log behind one entry more, where one request for memory is refused in the whole run. Where the log finds none, the
+// disk is as it was; where the disk finds none, that is a fault of it, and the log is opened again.
+fn append_again(
+    rt: &impl Abort,
+    alloc: Global,
+    disk: &mut MemoryDisk,
+    mut log: Log,
+    entry: &Entry,
+) -> Result<Log, Fail> {
+    let changes = disk.changes();
+    let entries = log.counted();
+    match log.append(disk, entry) {
+        Ok(()) => Ok(log),
+        Err(Refusal::NoMemory) => {
+            assert!(rt; disk.changes() == changes && log.counted() == entries);
+            log.append(disk, entry)?;
+            Ok(log)
+        }
+        Err(_) => {
+            let (mut log, found) = open(alloc, disk)?;
+            if found.len() == entries {
+                log.append(disk, entry)?;
+            }
+            Ok(log)
+        }
+    }
+}
+
+#[test]
+fn refused_memory_leaves_the_catalogue(rt: HostRuntime) -> Result<(), Fail> {
+    let mut disk = MemoryDisk::new(rt.alloc());
+    let first = match start(rt.alloc()) {
+        Ok(entry) => entry,
+        Err(_) => start(rt.alloc())?,
+    };
+    let mut log = match create(rt.alloc(), &mut disk, 3) {
+        Ok(log) => log,
+        Err(_) => create(rt.alloc(), &mut disk, 3)?,
+    };
+    log = append_again(&rt, rt.alloc(), &mut disk, log, &first)?;
+    log = append_again(&rt, rt.alloc(), &mut disk, log, &SETTLE)?;
+    let (log_again, entries) = match open(rt.alloc(), &mut disk) {
+        Ok(found) => found,
+        Err(_) => open(rt.alloc(), &mut disk)?,
+    };
+    assert!(rt; entries.len() == 2 && log_again.counted() == log.counted());
+    Ok(())
+}
