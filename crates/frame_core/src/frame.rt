@@ -119,10 +119,7 @@ impl FrameRef<'_> {
         match self.kind {
             FrameKind::Pad => self.payload.is_empty() && self.length >= 32,
             FrameKind::Message => {
-                if self.length < 32 {
-                    return false;
-                }
-                self.length as usize - 32 == self.payload.len()
+                self.length >= 32 && self.length as usize - 32 == self.payload.len()
             }
             FrameKind::Heartbeat => self.payload.is_empty() && self.length == 0,
         }
@@ -178,11 +175,7 @@ impl Frame {
     pub fn is_encodable(&self) -> bool
         ensures { MatchBool result (IsEncodable self.now) (IsEncodable self.now → ⊥) }
     {
-        let lent = self.as_ref();
-        if !lent.has_length() {
-            return false;
-        }
-        is_aligned(&self.term_offset)
+        self.as_ref().has_length() && is_aligned(&self.term_offset)
     }
 
     /// The 32 bytes of the frame's header: Aeron Transport Protocol Specification, "Data Frame" and "Padding Frame".
@@ -208,8 +201,5 @@ pub fn is_aligned(term_offset: &i32) -> bool
     ensures { let aligned = IsAligned term_offset.now in
         MatchBool result aligned (aligned → ⊥) }
 {
-    if *term_offset < 0 {
-        return false;
-    }
-    *term_offset as u32 % FRAME_ALIGNMENT as u32 == 0
+    *term_offset >= 0 && *term_offset as u32 % FRAME_ALIGNMENT as u32 == 0
 }
