@@ -88,7 +88,7 @@ pub fn block_of(alloc: Global, geometry: &Geometry, bytes: &[u8]) -> Result<Bloc
     Ok(Block { position, frames })
 }
 
-// Copies of lent frames.
+/// Copies of lent frames.
 fn owned(alloc: Global, lent: &[FrameRef<'_>]) -> Result<Items<Frame>, Refusal>
     ensures same { IfOk result (λ frames. frames ≡ map frame_of lent.now) }
     ensures memory { IfErr result (λ refusal. refusal ≡ NoMemory) }
@@ -100,7 +100,7 @@ fn owned(alloc: Global, lent: &[FrameRef<'_>]) -> Result<Items<Frame>, Refusal>
     Ok(frames)
 }
 
-// The position at which frames of one publication are a block.
+/// The position at which frames of one publication are a block.
 fn position_of(geometry: &Geometry, frames: &[Frame]) -> Option<i64>
     ensures { MatchOption result
         ((p : ℤ) → AreBlock geometry.now frames.now p → ⊥)
@@ -116,7 +116,7 @@ fn position_of(geometry: &Geometry, frames: &[Frame]) -> Option<i64>
     Some(span.position)
 }
 
-// The publication that a frame is of.
+/// The publication that a frame is of.
 fn publication_behind(frame: &Frame) -> Publication
     ensures { result ≡ publication_of frame.now }
 {
@@ -126,7 +126,7 @@ fn publication_behind(frame: &Frame) -> Publication
     }
 }
 
-// From where to where frames are a block of the publication.
+/// From where to where frames are a block of the publication.
 fn span_of(geometry: &Geometry, publication: &Publication, frames: &[Frame]) -> Option<Span>
     ensures span { MatchOption result
         ((p : ℤ) → AreBlockOf geometry.now publication.now frames.now p → ⊥)
@@ -155,7 +155,7 @@ fn span_of(geometry: &Geometry, publication: &Publication, frames: &[Frame]) -> 
     None
 }
 
-// Where a frame begins.
+/// Where a frame begins.
 fn start_of(geometry: &Geometry, frame: &Frame) -> Option<i64>
     ensures value { MatchOption result
         ((p : ℤ) → HasPosition geometry.now frame.now.term_id frame.now.term_offset p → ⊥)
@@ -189,7 +189,7 @@ pub fn are_encodable(frames: &[Frame]) -> bool
     true
 }
 
-// How many bytes one pad covers that lies inside its term.
+/// How many bytes one pad covers that lies inside its term.
 fn pad_size(geometry: &Geometry, ids: &BlockIds, first: &Frame, rest: &[Frame]) -> Option<u64>
     ensures size { MatchOption result
         (IsPadBlock geometry.now ids.now first.now rest.now → ⊥)
@@ -214,7 +214,7 @@ fn pad_size(geometry: &Geometry, ids: &BlockIds, first: &Frame, rest: &[Frame]) 
     Some(size)
 }
 
-// How many bytes messages cover that follow one another inside their term, the first frame and the rest.
+/// How many bytes messages cover that follow one another inside their term, the first frame and the rest.
 fn messages_size(
     geometry: &Geometry,
     ids: &BlockIds,
@@ -244,7 +244,7 @@ fn messages_size(
     Some(size)
 }
 
-// How many bytes messages with the ids cover that follow one another from an offset.
+/// How many bytes messages with the ids cover that follow one another from an offset.
 fn run_size(ids: &BlockIds, start: u32, frames: &[Frame]) -> Option<u64>
     ensures end { MatchOption result
         (run_end ids.now start frames.now ≡ None)
@@ -275,7 +275,7 @@ pub fn is_next(ids: &BlockIds, offset: u64, frame: &Frame) -> bool
         && frame.length <= ids.mtu
 }
 
-// Whether a frame is of the term, session and stream.
+/// Whether a frame is of the term, session and stream.
 #[tactic(auto, unfolding(crate::specs::Block::has_ids))]
 fn is_of(ids: &BlockIds, frame: &Frame) -> bool
     ensures { result ≡ has_ids ids.now frame.now }

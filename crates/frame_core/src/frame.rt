@@ -25,7 +25,7 @@ pub enum FrameKind {
 impl FrameKind {
     ghost use Rattle.frame_core.specs.FrameEncoding.{type_of};
 
-    // The number in the header's type field.
+    /// The number in the header's type field.
     fn number(self) -> u16
         ensures { result ≡ type_of self }
     {
@@ -111,7 +111,7 @@ impl FrameRef<'_> {
         })
     }
 
-    // Whether the length and the payload are those of the kind.
+    /// Whether the length and the payload are those of the kind.
     fn has_length(&self) -> bool
         ensures { let fits = HasLength self.now.kind self.now.length self.now.payload.now in
             MatchBool result fits (fits → ⊥) }
@@ -126,7 +126,7 @@ impl FrameRef<'_> {
     }
 }
 
-// The bytes of a length, rounded up to a multiple of 32.
+/// The bytes of a length, rounded up to a multiple of 32.
 fn aligned_size(length: &i32) -> u64
     ensures value { result ≡ aligned (unsigned_abs length.now) }
     ensures small { result < 2 ^ 33 }

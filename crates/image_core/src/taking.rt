@@ -10,8 +10,8 @@ use frame_core::limits::MAX_BLOCK_LENGTH;
 use frame_core::{BlockIds, Frame, FrameKind, Geometry, Publication, block_ids, is_next};
 use std::collections::BTreeMap;
 
-// Takes the first frames of a chain as a block into a list that has room for one, as many as follow one another in it
-// and the list can grow to. Answers where the block ends.
+/// Takes the first frames of a chain as a block into a list that has room for one, as many as follow one another in it
+/// and the list can grow to. Answers where the block ends.
 pub fn take_frames(
     held: &mut BTreeMap<u64, Frame>,
     geometry: &Geometry,
@@ -45,7 +45,7 @@ pub fn take_frames(
     }
 }
 
-// How many bytes of its term lie before a frame.
+/// How many bytes of its term lie before a frame.
 fn offset_of(frame: &Frame) -> u64
     ensures offset { result ≡ unsigned_abs frame.now.term_offset }
     ensures small { result ≤ 2 ^ 31 }
@@ -53,7 +53,7 @@ fn offset_of(frame: &Frame) -> u64
     u64::from(frame.term_offset.unsigned_abs())
 }
 
-// Where a block ends at the latest that begins at an offset.
+/// Where a block ends at the latest that begins at an offset.
 fn limit_behind(geometry: &Geometry, offset: u64) -> u64
     requires { offset ≤ 2 ^ 31 }
     ensures limit { result ≡ min (offset + 65536) (unsigned_abs geometry.now.term_length) }
@@ -62,8 +62,8 @@ fn limit_behind(geometry: &Geometry, offset: u64) -> u64
     (offset + MAX_BLOCK_LENGTH as u64).min(u64::from(geometry.term_length.unsigned_abs()))
 }
 
-// Takes the first frames behind those of a list, as long as they are messages of a block that follow one another from a
-// position and an offset in their term up to a limit, and the list can grow. Answers how many bytes they cover.
+/// Takes the first frames behind those of a list, as long as they are messages of a block that follow one another from a
+/// position and an offset in their term up to a limit, and the list can grow. Answers how many bytes they cover.
 fn take_messages(
     held: &mut BTreeMap<u64, Frame>,
     ids: &BlockIds,
@@ -91,8 +91,8 @@ fn take_messages(
     covered
 }
 
-// How many bytes the first frame covers, if it is the next message of a block: at a position, at an offset in its term,
-// and within a limit there.
+/// How many bytes the first frame covers, if it is the next message of a block: at a position, at an offset in its term,
+/// and within a limit there.
 fn next_size(
     held: &BTreeMap<u64, Frame>,
     ids: &BlockIds,
@@ -108,7 +108,7 @@ fn next_size(
     (*start == at && is_next(ids, offset, frame) && offset + size <= limit).then_some(size)
 }
 
-// Moves the first frame behind the others of a list that has room for it.
+/// Moves the first frame behind the others of a list that has room for it.
 fn take_first(held: &mut BTreeMap<u64, Frame>, frames: &mut Vec<Frame>)
     requires some { 0 < length held.old.entries }
     requires room { vec_len frames.old < vec_capacity frames.old }
