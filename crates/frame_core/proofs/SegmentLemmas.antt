@@ -1,6 +1,6 @@
 -- Segments hold whole terms.
-use Rattle.std.proofs.Common.{◌≡◌, ◌∙◌, sym, ap, ap₂, subst, ℕ, ◌+◌, ◌-◌, ◌*◌, ◌/◌, ◌%◌, ◌^◌, ◌<◌, ◌≤◌, arith}
-use Rattle.std.proofs.Math.Nat.{add-mul-mod_self_right, mod-lt, mod-eq-sub-div-mul}
+use Rattle.std.proofs.Common.{◌≡◌, ◌∙◌, ap, ap₂, ℕ, ◌+◌, ◌-◌, ◌*◌, ◌/◌, ◌%◌, ◌^◌, ◌<◌, ◌≤◌, arith}
+use Rattle.std.proofs.Math.Nat.{add-mul-mod_self_right, mod-lt}
 use Rattle.std.proofs.lemmas.Nat.{mod-pow-add, mod-mul-add, div-mul-add, div-add-mod'}
 use Rattle.frame_core.specs.Segment.{first_base, segment_base}
 

@@ -5,7 +5,7 @@ use Rattle.frame_core.specs.declared.frame.FrameKind.{FrameKind}
 use Rattle.frame_core.specs.declared.frame.FrameKind.TheVariants.{Pad, Message, Heartbeat}
 use Rattle.frame_core.specs.declared.frame.Frame.{Frame}
 use Rattle.frame_core.specs.declared.block.Block.{Block}
-use Rattle.frame_core.specs.declared.block.Place.{Place}
+use Rattle.frame_core.specs.declared.block.BlockIds.{BlockIds}
 use Rattle.frame_core.specs.declared.block.Publication.{Publication}
 use Rattle.frame_core.specs.declared.geometry.Geometry.{Geometry}
 use Rattle.frame_core.specs.declared.refusal.Refusal.{Refusal}
@@ -19,16 +19,16 @@ is_message Pad = false
 is_message Message = true
 is_message Heartbeat = false
 
--- of the place's term, session and stream
-unfoldable pub is_of_place : Place → Frame → Bool
-is_of_place p f = int_eq f.term_id p.term_id && int_eq f.session_id p.session_id && int_eq f.stream_id p.stream_id
+-- of the same term, session and stream
+unfoldable pub has_ids : BlockIds → Frame → Bool
+has_ids p f = int_eq f.term_id p.term_id && int_eq f.session_id p.session_id && int_eq f.stream_id p.stream_id
 
--- a message of the place at the offset, no longer than the MTU
-unfoldable pub is_part : Place → ℕ → Frame → Bool
-is_part p offset f = is_message f.kind && int_eq f.term_offset (pos offset) && is_of_place p f && int_le f.length p.mtu
+-- a message with the ids at the offset, no longer than the MTU
+unfoldable pub is_part : BlockIds → ℕ → Frame → Bool
+is_part p offset f = is_message f.kind && int_eq f.term_offset (pos offset) && has_ids p f && int_le f.length p.mtu
 
 -- where messages end that follow one another from an offset
-abbrev pub run_end : Place → ℕ → List Frame → Option ℕ
+abbrev pub run_end : BlockIds → ℕ → List Frame → Option ℕ
 run_end p offset [] = Some offset
 run_end p offset (f ∷ fs) = if is_part p offset f then run_end p (offset + aligned_length f) fs else None
 
@@ -38,14 +38,14 @@ AreEncodable [] = Unit {0}
 AreEncodable (f ∷ fs) = IsEncodable f × AreEncodable fs
 
 -- one pad inside its term
-pub record IsPadBlock (g : Geometry) (p : Place) (f : Frame) (fs : List Frame) : Type 0 where
+pub record IsPadBlock (g : Geometry) (p : BlockIds) (f : Frame) (fs : List Frame) : Type 0 where
   pub alone : fs ≡ []
   pub kind : f.kind ≡ Pad
-  pub of_place : is_of_place p f ≡ true
+  pub ids : has_ids p f ≡ true
   pub inside : (f.term_offset +ℤ pos (aligned_length f)) ≤ℤ g.term_length
 
 -- messages that follow one another inside their term, and cover at most 65,536 bytes
-pub record IsMessageBlock (g : Geometry) (p : Place) (f : Frame) (fs : List Frame) : Type 0 where
+pub record IsMessageBlock (g : Geometry) (p : BlockIds) (f : Frame) (fs : List Frame) : Type 0 where
   pub offset : ℕ
   pub begins : f.term_offset ≡ pos offset
   pub end : ℕ
@@ -53,15 +53,15 @@ pub record IsMessageBlock (g : Geometry) (p : Place) (f : Frame) (fs : List Fram
   pub inside : pos end ≤ℤ g.term_length
   pub covers : end ≤ offset + 65536
 
--- where a publication's blocks lie that begin with this frame
-abbrev pub place_of : Geometry → Publication → Frame → Place
-place_of g publication f = record { term_id = f.term_id; session_id = publication.session_id; stream_id = publication.stream_id; mtu = g.mtu }
+-- what a publication's blocks that begin with this frame have in common
+abbrev pub block_ids : Geometry → Publication → Frame → BlockIds
+block_ids g publication f = record { term_id = f.term_id; session_id = publication.session_id; stream_id = publication.stream_id; mtu = g.mtu }
 
 -- frames of a publication that are a block at a position
 abbrev pub AreBlockOf : Geometry → Publication → List Frame → ℤ → Type 0
 AreBlockOf g publication [] position = ⊥
 AreBlockOf g publication (f ∷ fs) position =
-    let p : Place = place_of g publication f in
+    let p : BlockIds = block_ids g publication f in
     HasPosition g f.term_id f.term_offset position × AreEncodable (f ∷ fs) × (IsPadBlock g p f fs ⊎ IsMessageBlock g p f fs)
 
 -- a block of a publication

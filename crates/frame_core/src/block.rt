@@ -2,7 +2,7 @@
 
 ghost use Rattle.std.specs.Prelude.{◌≡◌, ◌<◌, ◌≤◌, ◌∷◌, ◌+◌, ◌^◌, ◌≤ℤ◌, ◌<ℤ◌, ℤ, pos, map, IsTrue, IfOk, IfErr, IfSome, MatchOption};
 ghost use Rattle.std.specs.Bool.{MatchBool};
-ghost use Rattle.frame_core.specs.Block.{AreBlock, AreBlockOf, AreEncodable, IsBlock, IsBlockRefusal, IsMessageBlock, IsPadBlock, covered, end_position, is_of_place, is_part, place_of, publication_of, run_end};
+ghost use Rattle.frame_core.specs.Block.{AreBlock, AreBlockOf, AreEncodable, IsBlock, IsBlockRefusal, IsMessageBlock, IsPadBlock, covered, end_position, has_ids, is_part, block_ids, publication_of, run_end};
 ghost use Rattle.frame_core.specs.Datagram.{IsDatagram};
 ghost use Rattle.frame_core.specs.FrameEncoding.{aligned_length, frame_of};
 ghost use Rattle.frame_core.specs.Position.{HasPosition};
@@ -35,9 +35,9 @@ pub struct Publication {
     pub stream_id: i32,
 }
 
-/// What the frames of a block have in common.
+/// What the frames of a block have in common: whose they are, and how long each may be.
 #[derive(Clone, Copy, Debug, PartialEq, Eq)]
-pub struct Place {
+pub struct BlockIds {
     /// Their term.
     pub term_id: i32,
     /// Their session.
@@ -88,7 +88,7 @@ pub fn block_of(alloc: Global, geometry: &Geometry, bytes: &[u8]) -> Result<Bloc
     Ok(Block { position, frames })
 }
 
-// Copies of lent frames.
+/// Copies of lent frames.
 fn owned(alloc: Global, lent: &[FrameRef<'_>]) -> Result<Items<Frame>, Refusal>
     ensures same { IfOk result (λ frames. frames ≡ map frame_of lent.now) }
     ensures memory { IfErr result (λ refusal. refusal ≡ NoMemory) }
@@ -100,7 +100,7 @@ fn owned(alloc: Global, lent: &[FrameRef<'_>]) -> Result<Items<Frame>, Refusal>
     Ok(frames)
 }
 
-// The position at which frames of one publication are a block.
+/// The position at which frames of one publication are a block.
 fn position_of(geometry: &Geometry, frames: &[Frame]) -> Option<i64>
     ensures { MatchOption result
         ((p : ℤ) → AreBlock geometry.now frames.now p → ⊥)
@@ -116,7 +116,7 @@ fn position_of(geometry: &Geometry, frames: &[Frame]) -> Option<i64>
     Some(span.position)
 }
 
-// The publication that a frame is of.
+/// The publication that a frame is of.
 fn publication_behind(frame: &Frame) -> Publication
     ensures { result ≡ publication_of frame.now }
 {
@@ -126,7 +126,7 @@ fn publication_behind(frame: &Frame) -> Publication
     }
 }
 
-// From where to where frames are a block of the publication.
+/// From where to where frames are a block of the publication.
 fn span_of(geometry: &Geometry, publication: &Publication, frames: &[Frame]) -> Option<Span>
     ensures span { MatchOption result
         ((p : ℤ) → AreBlockOf geometry.now publication.now frames.now p → ⊥)
@@ -145,17 +145,17 @@ fn span_of(geometry: &Geometry, publication: &Publication, frames: &[Frame]) -> 
     if !are_encodable(frames) {
         return None;
     }
-    let place = place_behind(geometry, publication, first);
-    if let Some(size) = pad_size(geometry, &place, first, rest) {
+    let ids = block_ids(geometry, publication, first);
+    if let Some(size) = pad_size(geometry, &ids, first, rest) {
         return Some(Span { position, size });
     }
-    if let Some(size) = messages_size(geometry, &place, first, rest, frames) {
+    if let Some(size) = messages_size(geometry, &ids, first, rest, frames) {
         return Some(Span { position, size });
     }
     None
 }
 
-// Where a frame begins.
+/// Where a frame begins.
 fn start_of(geometry: &Geometry, frame: &Frame) -> Option<i64>
     ensures value { MatchOption result
         ((p : ℤ) → HasPosition geometry.now frame.now.term_id frame.now.term_offset p → ⊥)
@@ -166,10 +166,10 @@ fn start_of(geometry: &Geometry, frame: &Frame) -> Option<i64>
 }
 
 /// What the frames of the publication's blocks have in common that begin with a frame. Takes no memory.
-pub fn place_behind(geometry: &Geometry, publication: &Publication, first: &Frame) -> Place
-    ensures { result ≡ place_of geometry.now publication.now first.now }
+pub fn block_ids(geometry: &Geometry, publication: &Publication, first: &Frame) -> BlockIds
+    ensures { result ≡ block_ids geometry.now publication.now first.now }
 {
-    Place {
+    BlockIds {
         term_id: first.term_id,
         session_id: publication.session_id,
         stream_id: publication.stream_id,
@@ -189,11 +189,11 @@ pub fn are_encodable(frames: &[Frame]) -> bool
     true
 }
 
-// How many bytes one pad covers that lies inside its term.
-fn pad_size(geometry: &Geometry, place: &Place, first: &Frame, rest: &[Frame]) -> Option<u64>
+/// How many bytes one pad covers that lies inside its term.
+fn pad_size(geometry: &Geometry, ids: &BlockIds, first: &Frame, rest: &[Frame]) -> Option<u64>
     ensures size { MatchOption result
-        (IsPadBlock geometry.now place.now first.now rest.now → ⊥)
-        (λ size. IsPadBlock geometry.now place.now first.now rest.now × (size ≡ aligned_length first.now)) }
+        (IsPadBlock geometry.now ids.now first.now rest.now → ⊥)
+        (λ size. IsPadBlock geometry.now ids.now first.now rest.now × (size ≡ aligned_length first.now)) }
     ensures small { IfSome result (λ size. size < 2 ^ 33) }
 {
     match rest {
@@ -204,7 +204,7 @@ fn pad_size(geometry: &Geometry, place: &Place, first: &Frame, rest: &[Frame]) -
         FrameKind::Pad => {}
         FrameKind::Message | FrameKind::Heartbeat => return None,
     }
-    if !is_of(place, first) {
+    if !is_of(ids, first) {
         return None;
     }
     let size = first.aligned_length();
@@ -214,25 +214,25 @@ fn pad_size(geometry: &Geometry, place: &Place, first: &Frame, rest: &[Frame]) -
     Some(size)
 }
 
-// How many bytes messages cover that follow one another inside their term, the first frame and the rest.
+/// How many bytes messages cover that follow one another inside their term, the first frame and the rest.
 fn messages_size(
     geometry: &Geometry,
-    place: &Place,
+    ids: &BlockIds,
     first: &Frame,
     rest: &[Frame],
     frames: &[Frame],
 ) -> Option<u64>
     requires { frames.now ≡ first.now ∷ rest.now }
     ensures size { MatchOption result
-        (IsMessageBlock geometry.now place.now first.now rest.now → ⊥)
-        (λ size. IsMessageBlock geometry.now place.now first.now rest.now × (size ≡ covered frames.now)) }
+        (IsMessageBlock geometry.now ids.now first.now rest.now → ⊥)
+        (λ size. IsMessageBlock geometry.now ids.now first.now rest.now × (size ≡ covered frames.now)) }
     ensures small { IfSome result (λ size. size < 2 ^ 33) }
 {
     if first.term_offset < 0 {
         return None;
     }
     let start = first.term_offset as u32;
-    let Some(size) = run_size(place, start, frames) else {
+    let Some(size) = run_size(ids, start, frames) else {
         return None;
     };
     if size > MAX_BLOCK_LENGTH as u64 {
@@ -244,16 +244,16 @@ fn messages_size(
     Some(size)
 }
 
-// How many bytes messages of the place cover that follow one another from an offset.
-fn run_size(place: &Place, start: u32, frames: &[Frame]) -> Option<u64>
+/// How many bytes messages with the ids cover that follow one another from an offset.
+fn run_size(ids: &BlockIds, start: u32, frames: &[Frame]) -> Option<u64>
     ensures end { MatchOption result
-        (run_end place.now start frames.now ≡ None)
-        (λ size. (run_end place.now start frames.now ≡ Some (start + size)) × (size ≡ covered frames.now)) }
+        (run_end ids.now start frames.now ≡ None)
+        (λ size. (run_end ids.now start frames.now ≡ Some (start + size)) × (size ≡ covered frames.now)) }
     ensures small { IfSome result (λ size. size < 2 ^ 34) }
 {
     let mut offset = u64::from(start);
     for frame in frames {
-        if !is_next(place, offset, frame) {
+        if !is_next(ids, offset, frame) {
             return None;
         }
         offset += frame.aligned_length();
@@ -261,39 +261,26 @@ fn run_size(place: &Place, start: u32, frames: &[Frame]) -> Option<u64>
     Some(offset - u64::from(start))
 }
 
-/// Whether a frame is a message of the place that begins at the offset, in bytes of its term, and no longer than the
+/// Whether a frame is a message with the ids that begins at the offset, in bytes of its term, and no longer than the
 /// MTU: docs/PROTOCOL.md, "Blocks". Takes no memory.
 #[tactic(auto, unfolding(crate::specs::Block::is_part))]
-pub fn is_next(place: &Place, offset: u64, frame: &Frame) -> bool
+pub fn is_next(ids: &BlockIds, offset: u64, frame: &Frame) -> bool
     ensures starts { IsTrue result → offset < 2 ^ 31 }
-    ensures part { result ≡ is_part place.now offset frame.now }
+    ensures part { result ≡ is_part ids.now offset frame.now }
 {
-    match frame.kind {
-        FrameKind::Message => {}
-        FrameKind::Pad | FrameKind::Heartbeat => return false,
-    }
-    if frame.term_offset < 0 {
-        return false;
-    }
-    if frame.term_offset as u64 != offset {
-        return false;
-    }
-    if !is_of(place, frame) {
-        return false;
-    }
-    frame.length <= place.mtu
+    matches!(frame.kind, FrameKind::Message)
+        && frame.term_offset >= 0
+        && frame.term_offset as u64 == offset
+        && is_of(ids, frame)
+        && frame.length <= ids.mtu
 }
 
-// Whether a frame is of the place's term, session and stream.
-#[tactic(auto, unfolding(crate::specs::Block::is_of_place))]
-fn is_of(place: &Place, frame: &Frame) -> bool
-    ensures { result ≡ is_of_place place.now frame.now }
+/// Whether a frame is of the term, session and stream.
+#[tactic(auto, unfolding(crate::specs::Block::has_ids))]
+fn is_of(ids: &BlockIds, frame: &Frame) -> bool
+    ensures { result ≡ has_ids ids.now frame.now }
 {
-    if frame.term_id != place.term_id {
-        return false;
-    }
-    if frame.session_id != place.session_id {
-        return false;
-    }
-    frame.stream_id == place.stream_id
+    frame.term_id == ids.term_id
+        && frame.session_id == ids.session_id
+        && frame.stream_id == ids.stream_id
 }

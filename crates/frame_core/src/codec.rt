@@ -59,7 +59,7 @@ pub fn decode_header(bytes: &[u8]) -> Option<FrameRef<'_>>
     Some(frame_at(bytes, kind, HEADER_LENGTH))
 }
 
-// The kind of a frame with this type and length in its header.
+/// The kind of a frame with this type and length in its header.
 fn header_kind(number: u16, size: i32) -> Option<FrameKind>
     ensures { MatchOption result
         ((kind : FrameKind) → IsHeaderOfKind number size kind → ⊥)
@@ -90,7 +90,7 @@ pub fn encode_into(frame: &Frame, out: &mut [u8]) -> usize
     frame.encoded_length()
 }
 
-// The frame in front of the bytes, and how many of them it uses.
+/// The frame in front of the bytes, and how many of them it uses.
 fn front_of(bytes: &[u8]) -> Option<(FrameRef<'_>, usize)>
     ensures { MatchOption result
         (HasNoFront bytes.now)
@@ -111,7 +111,7 @@ fn front_of(bytes: &[u8]) -> Option<(FrameRef<'_>, usize)>
     Some((frame_at(bytes, body.kind, body.end), body.used))
 }
 
-// Whether a header is of version 0.
+/// Whether a header is of version 0.
 fn has_version(bytes: &[u8]) -> bool
     requires { 32 ≤ length bytes.now }
     ensures { IsTrue result ↔ (slice_index bytes.now 4 ≡ 0) }
@@ -119,7 +119,7 @@ fn has_version(bytes: &[u8]) -> bool
     bytes[4] == 0
 }
 
-// What stands behind a header.
+/// What stands behind a header.
 fn body_of(bytes: &[u8]) -> Option<Body>
     requires { 32 ≤ length bytes.now }
     ensures { MatchOption result
@@ -136,7 +136,7 @@ fn body_of(bytes: &[u8]) -> Option<Body>
     None
 }
 
-// What stands behind the header of a pad.
+/// What stands behind the header of a pad.
 fn pad_body(bytes: &[u8]) -> Option<Body>
     requires whole { 32 ≤ length bytes.now }
     requires number { u16_at bytes.now 6 ≡ 0 }
@@ -154,7 +154,7 @@ fn pad_body(bytes: &[u8]) -> Option<Body>
     })
 }
 
-// What stands behind the header of a data frame, which may be a heartbeat.
+/// What stands behind the header of a data frame, which may be a heartbeat.
 fn data_body(bytes: &[u8]) -> Option<Body>
     requires whole { 32 ≤ length bytes.now }
     requires number { u16_at bytes.now 6 ≡ 1 }
@@ -185,7 +185,7 @@ fn data_body(bytes: &[u8]) -> Option<Body>
     })
 }
 
-// The size, rounded up to a multiple of 32.
+/// The size, rounded up to a multiple of 32.
 fn aligned_size(size: usize) -> usize
     requires { size < 2 ^ 31 }
     ensures { result ≡ aligned size }
@@ -193,7 +193,7 @@ fn aligned_size(size: usize) -> usize
     (size + 31) / FRAME_ALIGNMENT * FRAME_ALIGNMENT
 }
 
-// The frame of a kind whose encoding stands in the bytes up to a place.
+/// The frame of a kind whose encoding stands in the bytes up to a place.
 fn frame_at(bytes: &[u8], kind: FrameKind, end: usize) -> FrameRef<'_>
     requires header { 32 ≤ end }
     requires whole { end ≤ length bytes.now }

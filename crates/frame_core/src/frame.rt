@@ -25,7 +25,7 @@ pub enum FrameKind {
 impl FrameKind {
     ghost use Rattle.frame_core.specs.FrameEncoding.{type_of};
 
-    // The number in the header's type field.
+    /// The number in the header's type field.
     fn number(self) -> u16
         ensures { result ≡ type_of self }
     {
@@ -111,7 +111,7 @@ impl FrameRef<'_> {
         })
     }
 
-    // Whether the length and the payload are those of the kind.
+    /// Whether the length and the payload are those of the kind.
     fn has_length(&self) -> bool
         ensures { let fits = HasLength self.now.kind self.now.length self.now.payload.now in
             MatchBool result fits (fits → ⊥) }
@@ -119,17 +119,14 @@ impl FrameRef<'_> {
         match self.kind {
             FrameKind::Pad => self.payload.is_empty() && self.length >= 32,
             FrameKind::Message => {
-                if self.length < 32 {
-                    return false;
-                }
-                self.length as usize - 32 == self.payload.len()
+                self.length >= 32 && self.length as usize - 32 == self.payload.len()
             }
             FrameKind::Heartbeat => self.payload.is_empty() && self.length == 0,
         }
     }
 }
 
-// The bytes of a length, rounded up to a multiple of 32.
+/// The bytes of a length, rounded up to a multiple of 32.
 fn aligned_size(length: &i32) -> u64
     ensures value { result ≡ aligned (unsigned_abs length.now) }
     ensures small { result < 2 ^ 33 }
@@ -178,11 +175,7 @@ impl Frame {
     pub fn is_encodable(&self) -> bool
         ensures { MatchBool result (IsEncodable self.now) (IsEncodable self.now → ⊥) }
     {
-        let lent = self.as_ref();
-        if !lent.has_length() {
-            return false;
-        }
-        is_aligned(&self.term_offset)
+        self.as_ref().has_length() && is_aligned(&self.term_offset)
     }
 
     /// The 32 bytes of the frame's header: Aeron Transport Protocol Specification, "Data Frame" and "Padding Frame".
@@ -208,8 +201,5 @@ pub fn is_aligned(term_offset: &i32) -> bool
     ensures { let aligned = IsAligned term_offset.now in
         MatchBool result aligned (aligned → ⊥) }
 {
-    if *term_offset < 0 {
-        return false;
-    }
-    *term_offset as u32 % FRAME_ALIGNMENT as u32 == 0
+    *term_offset >= 0 && *term_offset as u32 % FRAME_ALIGNMENT as u32 == 0
 }

@@ -18,7 +18,7 @@ mod segments;
 mod setup;
 
 pub use block::{
-    Block, Place, Publication, are_encodable, block_end, block_of, is_next, place_behind,
+    Block, BlockIds, Publication, are_encodable, block_end, block_ids, block_of, is_next,
 };
 pub use codec::{decode_front, decode_header, encode_into};
 pub use datagram::frames_of_datagram;

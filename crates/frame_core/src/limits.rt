@@ -25,14 +25,10 @@ pub const FRAME_ALIGNMENT: usize = 32;
 pub const MAX_BLOCK_LENGTH: usize = 65_536;
 /// Frames that a merge of a replay and the live stream holds at most.
 pub const MAX_HELD_FRAMES: usize = 4_096;
-/// Terms that a stream has at most.
-pub const MAX_TERMS: i64 = 2_147_483_648;
 /// Frames that a poll may ask for at most.
 pub const MAX_POLL: i64 = 4_096;
 /// Descriptors that a listing may ask for at most.
 pub const MAX_LIST: i64 = 1_024;
-/// Entries that a history may be given at most.
-pub const MAX_HISTORY: u32 = 16_777_216;
 /// Bytes of a control line at most, its end not counted.
 pub const MAX_LINE_LENGTH: usize = 262_144;
 /// Where recording ids and the numbers of sessions and replays stop.
@@ -44,13 +40,7 @@ pub fn is_term_length(length: i32) -> bool
     ensures value { result ≡ is_term_length length }
     ensures low { IsTrue result → pos 0 ≤ℤ length }
 {
-    if length < MIN_TERM_LENGTH {
-        return false;
-    }
-    if length > MAX_TERM_LENGTH {
-        return false;
-    }
-    (length as u32).is_power_of_two()
+    MIN_TERM_LENGTH <= length && length <= MAX_TERM_LENGTH && (length as u32).is_power_of_two()
 }
 
 /// Whether an MTU may be so many bytes: a multiple of 32, more than a header and at most `MAX_MTU`. Takes no memory.
@@ -58,11 +48,5 @@ pub fn is_term_length(length: i32) -> bool
 pub fn is_mtu(mtu: i32) -> bool
     ensures { result ≡ is_mtu mtu }
 {
-    if mtu <= HEADER_LENGTH as i32 {
-        return false;
-    }
-    if mtu > MAX_MTU {
-        return false;
-    }
-    mtu as u32 % FRAME_ALIGNMENT as u32 == 0
+    mtu > HEADER_LENGTH as i32 && mtu <= MAX_MTU && mtu as u32 % FRAME_ALIGNMENT as u32 == 0
 }

@@ -60,7 +60,7 @@ impl Nak {
     }
 }
 
-// The NAK frame in front of the bytes.
+/// The NAK frame in front of the bytes.
 fn nak_of(bytes: &[u8]) -> Option<Nak>
     ensures { MatchOption result (HasNoNak bytes.now) (IsNak bytes.now) }
 {
@@ -86,7 +86,7 @@ fn nak_of(bytes: &[u8]) -> Option<Nak>
     Some(nak)
 }
 
-// The fields of a NAK frame, at their places.
+/// The fields of a NAK frame, at their places.
 fn nak_at(bytes: &[u8]) -> Nak
     requires { 28 ≤ length bytes.now }
     ensures { result ≡ read_nak bytes.now }

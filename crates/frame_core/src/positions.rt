@@ -33,7 +33,7 @@ pub fn term_of(geometry: &Geometry, position: i64) -> (i32, i32)
     (term_after(geometry, terms as i32), offset as i32)
 }
 
-// How many whole terms lie before a position, and how many bytes behind them.
+/// How many whole terms lie before a position, and how many bytes behind them.
 fn split(position: u64, size: u32) -> (u32, u32)
     requires size { 0 < size }
     requires high { position < 2 ^ 31 * size }
@@ -45,14 +45,14 @@ fn split(position: u64, size: u32) -> (u32, u32)
     ((position / size) as u32, (position % size) as u32)
 }
 
-// How many terms a term is after the first one, with the wrap of term ids.
+/// How many terms a term is after the first one, with the wrap of term ids.
 fn since(geometry: &Geometry, term_id: i32) -> i32
     ensures { result ≡ terms_since geometry.now term_id }
 {
     term_id.wrapping_sub(geometry.initial_term_id)
 }
 
-// The term that is that many terms after the first one.
+/// The term that is that many terms after the first one.
 fn term_after(geometry: &Geometry, terms: i32) -> i32
     requires { pos 0 ≤ℤ terms }
     ensures { terms_since geometry.now result ≡ terms }
@@ -83,7 +83,7 @@ impl FrameRef<'_> {
     }
 }
 
-// The position of an offset in a term.
+/// The position of an offset in a term.
 #[tactic(auto, unfolding(crate::specs::Position::position_of))]
 fn place(geometry: &Geometry, term_id: &i32, offset: &i32) -> Option<u64>
     ensures value { result ≡ position_of geometry.now term_id.now offset.now }
@@ -103,7 +103,7 @@ fn place(geometry: &Geometry, term_id: &i32, offset: &i32) -> Option<u64>
     Some(behind(terms, geometry.term_length, *offset))
 }
 
-// Where an offset lies behind that many whole terms.
+/// Where an offset lies behind that many whole terms.
 fn behind(terms: i32, size: i32, offset: i32) -> u64
     requires terms { pos 0 ≤ℤ terms }
     requires low { pos 0 ≤ℤ offset }

@@ -86,7 +86,7 @@ impl Setup {
     }
 }
 
-// The setup frame in front of the bytes.
+/// The setup frame in front of the bytes.
 fn setup_of(bytes: &[u8]) -> Option<Setup>
     ensures { MatchOption result (HasNoSetup bytes.now) (IsSetup bytes.now) }
 {
@@ -109,7 +109,7 @@ fn setup_of(bytes: &[u8]) -> Option<Setup>
     }
 }
 
-// The fields of a setup frame, at their places.
+/// The fields of a setup frame, at their places.
 fn setup_at(bytes: &[u8]) -> Setup
     requires { 40 ≤ length bytes.now }
     ensures { result ≡ read_setup bytes.now }

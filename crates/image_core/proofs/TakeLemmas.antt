@@ -6,13 +6,13 @@ use Rattle.std.proofs.lemmas.Bool.Decides.{Decides-int_eq}
 use Rattle.std.proofs.lemmas.Int.{ints}
 use Rattle.std.proofs.lemmas.List.{map-append}
 use Rattle.frame_core.specs.declared.block.Block.{Block}
-use Rattle.frame_core.specs.declared.block.Place.{Place}
+use Rattle.frame_core.specs.declared.block.BlockIds.{BlockIds}
 use Rattle.frame_core.specs.declared.block.Publication.{Publication}
 use Rattle.frame_core.specs.declared.frame.Frame.{Frame}
 use Rattle.frame_core.specs.declared.frame.FrameKind.{FrameKind}
 use Rattle.frame_core.specs.declared.frame.FrameKind.TheVariants.{Heartbeat, Message, Pad}
 use Rattle.frame_core.specs.declared.geometry.Geometry.{Geometry}
-use Rattle.frame_core.specs.Block.{AreEncodable, IsMessageBlock, IsPadBlock, is_of_place, is_part, place_of, run_end}
+use Rattle.frame_core.specs.Block.{AreEncodable, IsMessageBlock, IsPadBlock, has_ids, is_part, block_ids, run_end}
 use Rattle.frame_core.specs.FrameEncoding.{HasLength, IsEncodable, aligned, aligned_length}
 use Rattle.frame_core.specs.Position.{HasPosition}
 use Rattle.frame_core.proofs.PositionLemmas.{given}
@@ -57,17 +57,17 @@ first_is g publication from high m behind before is spaced_all members_all some 
       inside = grind (arith, fits.inside);
     }
 
-of_place : (g : Geometry) (publication : Publication) (f : Frame) → is_of publication f ≡ true → is_of_place (place_of g publication f) f ≡ true
-unfolding is_of is_of_place
-of_place g publication f is = grind (arith, (Decides-int_eq f.term_id f.term_id).1 refl)
+same_ids : (g : Geometry) (publication : Publication) (f : Frame) → is_of publication f ≡ true → has_ids (block_ids g publication f) f ≡ true
+unfolding is_of has_ids
+same_ids g publication f is = grind (arith, (Decides-int_eq f.term_id f.term_id).1 refl)
 
 first_part : (g : Geometry) (publication : Publication) (f : Frame) (p offset : ℕ) → f.kind ≡ Message → IsAdmitted g publication f p → f.term_offset ≡ pos offset
-    → is_part (place_of g publication f) offset f ≡ true
+    → is_part (block_ids g publication f) offset f ≡ true
 unfolding is_part
-first_part g publication f p offset kind place begins =
-    grind (arith, (Decides-int_eq f.term_offset (pos offset)).1 begins, of_place g publication f place.of, place.within)
+first_part g publication f p offset kind fits begins =
+    grind (arith, (Decides-int_eq f.term_offset (pos offset)).1 begins, same_ids g publication f fits.of, fits.within)
 
--- a frame that has a place and is no message is a pad
+-- a frame that may join and is no message is a pad
 pad_kind : (kind : FrameKind) (mtu size : ℤ) → (kind ≡ Pad) ⊎ (kind ≡ Heartbeat) → is_within mtu kind size ≡ true → kind ≡ Pad
 pad_kind kind mtu size (inl pad) within = pad
 pad_kind kind mtu size (inr heartbeat) within = absurd (let no = rw heartbeat at within in cc)
@@ -95,7 +95,7 @@ members_rest g publication (m ∷ taken) after members = let rest = members_rest
 -- the first frame and those taken behind it, which are a block
 takes_block : (g : Geometry) (publication : Publication) (from high to : ℕ) (m : ℕ × Frame) (behind before taken after : List (ℕ × Frame)) (given : List Frame) → before ≡ m ∷ behind
     → IsFirst g publication from high m behind → behind ≡ taken ++ after → IsChain (end_of m) taken to → given ≡ m.1 ∷ map (λ x. x.1) taken
-    → IsPadBlock g (place_of g publication m.1) m.1 (map (λ x. x.1) taken) ⊎ IsMessageBlock g (place_of g publication m.1) m.1 (map (λ x. x.1) taken)
+    → IsPadBlock g (block_ids g publication m.1) m.1 (map (λ x. x.1) taken) ⊎ IsMessageBlock g (block_ids g publication m.1) m.1 (map (λ x. x.1) taken)
     → TakesBlock g publication from before given to after
 takes_block g publication from high to m behind before taken after given is first left chain frames block = record {
   taken = m ∷ taken;
@@ -113,14 +113,14 @@ takes_pad g publication from high m behind before given terms is first kind fram
     (inl (record {
       alone = refl;
       kind = pad_kind m.1.kind g.mtu m.1.length kind first.admitted.within;
-      of_place = of_place g publication m.1 first.admitted.of;
+      ids = same_ids g publication m.1 first.admitted.of;
       inside = omega (arith, ints, first.position.low, terms.least, first.inside);
     }))
 
 -- a message that is first is a block with the messages that were taken behind it
 pub takes_messages : (g : Geometry) (publication : Publication) (from high limit covered : ℕ) (m : ℕ × Frame) (behind before after : List (ℕ × Frame)) (lent given : List Frame) → HasTerms g
     → before ≡ m ∷ behind → IsFirst g publication from high m behind → m.1.kind ≡ Message → limit ≡ min (unsigned_abs m.1.term_offset + 65536) (unsigned_abs g.term_length) → lent ≡ m.1 ∷ []
-    → TakesMessages (place_of g publication m.1) (from + aligned_length m.1) (unsigned_abs m.1.term_offset + aligned_length m.1) limit behind lent covered after given
+    → TakesMessages (block_ids g publication m.1) (from + aligned_length m.1) (unsigned_abs m.1.term_offset + aligned_length m.1) limit behind lent covered after given
     → TakesBlock g publication from before given (from + aligned_length m.1 + covered) after
 takes_messages g publication from high limit covered m behind before after lent given terms is first kind limit_is alone takes =
     let offset : ℕ = unsigned_abs m.1.term_offset in
@@ -133,25 +133,25 @@ takes_messages g publication from high limit covered m behind before after lent 
       offset = offset;
       begins = begins;
       end = offset + aligned_length m.1 + covered;
-      ends = cond-true (is_part (place_of g publication m.1) offset m.1) (run_end (place_of g publication m.1) (offset + aligned_length m.1) (map (λ x. x.1) takes.taken)) None
+      ends = cond-true (is_part (block_ids g publication m.1) offset m.1) (run_end (block_ids g publication m.1) (offset + aligned_length m.1) (map (λ x. x.1) takes.taken)) None
           (first_part g publication m.1 m.0 offset kind first.admitted begins) ∙ takes.ends;
       inside = omega (arith, ints, few, limit_is, terms.least);
       covers = omega (arith, few, limit_is);
     }))
 
 -- a run goes on with the frames behind those that it has come over
-run_on : (place : Place) (offset end : ℕ) (fs others : List Frame) → run_end place offset fs ≡ Some end → run_end place offset (fs ++ others) ≡ run_end place end others
-run_on place offset end [] others is = let same : offset ≡ end = cc in ap (λ (o : ℕ). run_end place o others) same
-run_on place offset end (f ∷ fs) others is = grind (arith, run_on place (offset + aligned_length f) end fs others)
+run_on : (ids : BlockIds) (offset end : ℕ) (fs others : List Frame) → run_end ids offset fs ≡ Some end → run_end ids offset (fs ++ others) ≡ run_end ids end others
+run_on ids offset end [] others is = let same : offset ≡ end = cc in ap (λ (o : ℕ). run_end ids o others) same
+run_on ids offset end (f ∷ fs) others is = grind (arith, run_on ids (offset + aligned_length f) end fs others)
 
 -- some messages were taken, and what is left is spaced
-pub record HasTaken (place : Place) (from offset limit : ℕ) (before : List (ℕ × Frame)) (old : List Frame) (covered : ℕ) (after : List (ℕ × Frame)) (new : List Frame) : Type 0 where
-  pub takes : TakesMessages place from offset limit before old covered after new
+pub record HasTaken (ids : BlockIds) (from offset limit : ℕ) (before : List (ℕ × Frame)) (old : List Frame) (covered : ℕ) (after : List (ℕ × Frame)) (new : List Frame) : Type 0 where
+  pub takes : TakesMessages ids from offset limit before old covered after new
   pub spaced : AreSpaced (from + covered) (2 ^ 62) after
 
-pub takes_more : (place : Place) (from offset limit covered size : ℕ) (before after rest : List (ℕ × Frame)) (old now new : List Frame) → HasTaken place from offset limit before old covered after now
-    → next_size place (from + covered) (offset + covered) limit after ≡ Some size → MovesFirst after rest now new → HasTaken place from offset limit before old (covered + size) rest new
-takes_more place from offset limit covered size before after rest old now new has found moves =
+pub takes_more : (ids : BlockIds) (from offset limit covered size : ℕ) (before after rest : List (ℕ × Frame)) (old now new : List Frame) → HasTaken ids from offset limit before old covered after now
+    → next_size ids (from + covered) (offset + covered) limit after ≡ Some size → MovesFirst after rest now new → HasTaken ids from offset limit before old (covered + size) rest new
+takes_more ids from offset limit covered size before after rest old now new has found moves =
     let takes = has.takes in
     let m = moves.first in
     let it = rw moves.is at found in
@@ -163,8 +163,8 @@ takes_more place from offset limit covered size before after rest old now new ha
         taken = takes.taken ++ m ∷ [];
         left = takes.left ∙ ap (λ (ms : List (ℕ × Frame)). takes.taken ++ ms) moves.is ∙ sym (append_assoc takes.taken (m ∷ []) rest);
         chain = chain_append from (from + covered) (from + (covered + size)) takes.taken (m ∷ []) takes.chain (grind (arith, it), spaced.1, end);
-        ends = rw (map-append (λ (x : ℕ × Frame). x.1) takes.taken (m ∷ [])) (run_on place offset (offset + covered) (map (λ x. x.1) takes.taken) (m.1 ∷ []) takes.ends
-            ∙ cond-true (is_part place (offset + covered) m.1) (Some (offset + covered + aligned_length m.1)) None (grind (arith, it)) ∙ ap (λ (n : ℕ). Some n) (omega (arith, covers)));
+        ends = rw (map-append (λ (x : ℕ × Frame). x.1) takes.taken (m ∷ [])) (run_on ids offset (offset + covered) (map (λ x. x.1) takes.taken) (m.1 ∷ []) takes.ends
+            ∙ cond-true (is_part ids (offset + covered) m.1) (Some (offset + covered + aligned_length m.1)) None (grind (arith, it)) ∙ ap (λ (n : ℕ). Some n) (omega (arith, covers)));
         few = grind (arith, it);
         frames = moves.behind ∙ ap (λ (fs : List Frame). fs ++ m.1 ∷ []) takes.frames ∙ append_assoc old (map (λ x. x.1) takes.taken) (m.1 ∷ [])
             ∙ ap (λ (fs : List Frame). old ++ fs) (sym (map-append (λ (x : ℕ × Frame). x.1) takes.taken (m ∷ [])));

@@ -6,7 +6,7 @@ use Rattle.std.specs.BTreeMap.{is_at}
 use Rattle.frame_core.specs.declared.frame.Frame.{Frame}
 use Rattle.frame_core.specs.declared.block.Publication.{Publication}
 use Rattle.frame_core.specs.declared.geometry.Geometry.{Geometry}
-use Rattle.frame_core.specs.declared.block.Place.{Place}
+use Rattle.frame_core.specs.declared.block.BlockIds.{BlockIds}
 use Rattle.frame_core.specs.Block.{is_part, run_end}
 use Rattle.frame_core.specs.FrameEncoding.{IsEncodable, aligned_length}
 use Rattle.image_core.specs.Rebuild.{end_of, chain_end}
@@ -61,10 +61,10 @@ IsComing r f (Tells p) = p ≤ 2 ^ 31 * unsigned_abs r.geometry.term_length
 IsComing r f Drops = Unit {0}
 
 -- how many bytes the first frame covers, if it is the next message of a block: at a position, at an offset in its term, and within a limit there
-abbrev pub next_size : Place → ℕ → ℕ → ℕ → List (ℕ × Frame) → Option ℕ
-next_size place at offset limit [] = None
-next_size place at offset limit (m ∷ ms) =
-    if (m.0 == at) && is_part place offset m.1 && nat_le (offset + aligned_length m.1) limit then Some (aligned_length m.1) else None
+abbrev pub next_size : BlockIds → ℕ → ℕ → ℕ → List (ℕ × Frame) → Option ℕ
+next_size ids at offset limit [] = None
+next_size ids at offset limit (m ∷ ms) =
+    if (m.0 == at) && is_part ids offset m.1 && nat_le (offset + aligned_length m.1) limit then Some (aligned_length m.1) else None
 
 -- the first frame was moved behind the frames of a list
 pub record MovesFirst (before after : List (ℕ × Frame)) (old new : List Frame) : Type 0 where
@@ -73,10 +73,10 @@ pub record MovesFirst (before after : List (ℕ × Frame)) (old new : List Frame
   pub behind : new ≡ old ++ first.1 ∷ []
 
 -- the first frames were moved behind those of a list: messages of a block that follow one another from a position and an offset in their term up to a limit, and cover so many bytes
-pub record TakesMessages (place : Place) (from offset limit : ℕ) (before : List (ℕ × Frame)) (old : List Frame) (covered : ℕ) (after : List (ℕ × Frame)) (new : List Frame) : Type 0 where
+pub record TakesMessages (ids : BlockIds) (from offset limit : ℕ) (before : List (ℕ × Frame)) (old : List Frame) (covered : ℕ) (after : List (ℕ × Frame)) (new : List Frame) : Type 0 where
   pub taken : List (ℕ × Frame)
   pub left : before ≡ taken ++ after
   pub chain : IsChain from taken (from + covered)
-  pub ends : run_end place offset (map (λ m. m.1) taken) ≡ Some (offset + covered)
+  pub ends : run_end ids offset (map (λ m. m.1) taken) ≡ Some (offset + covered)
   pub few : offset + covered ≤ limit
   pub frames : new ≡ old ++ map (λ m. m.1) taken

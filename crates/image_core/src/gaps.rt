@@ -8,7 +8,7 @@ ghost use Rattle.image_core.specs.Rebuild.{term_end};
 
 use frame_core::{Geometry, Nak, Publication, term_of};
 
-// The end of the term in which a position lies.
+/// The end of the term in which a position lies.
 pub fn term_end(geometry: &Geometry, position: u64) -> u64
     requires terms { HasTerms geometry.now }
     requires small { position < 2 ^ 62 }
@@ -20,7 +20,7 @@ pub fn term_end(geometry: &Geometry, position: u64) -> u64
     (position / size + 1) * size
 }
 
-// A request for the range from a position to an end.
+/// A request for the range from a position to an end.
 pub fn nak_over(geometry: &Geometry, publication: &Publication, position: u64, end: u64) -> Nak
     requires terms { HasTerms geometry.now }
     requires position { position < 2 ^ 31 * unsigned_abs geometry.now.term_length }

@@ -11,7 +11,7 @@ ghost use Rattle.image_core.specs.Received.{is_free};
 use frame_core::{Frame, Refusal};
 use std::collections::BTreeMap;
 
-// Whether a range overlaps no frame that is held.
+/// Whether a range overlaps no frame that is held.
 pub fn is_free(held: &BTreeMap<u64, Frame>, position: u64, end: u64) -> bool
     requires spaced { AreSpaced 0 (2 ^ 62) held.now.entries }
     requires some { position < end }
@@ -23,7 +23,7 @@ pub fn is_free(held: &BTreeMap<u64, Frame>, position: u64, end: u64) -> bool
     }
 }
 
-// The end of the longest chain of held frames from a position.
+/// The end of the longest chain of held frames from a position.
 #[tactic(auto, using(crate::proofs::ChainLemmas::found, crate::proofs::ChainLemmas::chain_none))]
 pub fn chain_end(held: &BTreeMap<u64, Frame>, from: u64) -> u64
     requires spaced { AreSpaced 0 (2 ^ 62) held.now.entries }
@@ -37,7 +37,7 @@ pub fn chain_end(held: &BTreeMap<u64, Frame>, from: u64) -> u64
     end
 }
 
-// Where the first held frame begins that begins past a position, else the other position.
+/// Where the first held frame begins that begins past a position, else the other position.
 pub fn next_start(held: &BTreeMap<u64, Frame>, position: u64, other: u64) -> u64
     requires { position < 2 ^ 63 }
     ensures { result ≡ next_start position other held.now.entries }
@@ -48,7 +48,7 @@ pub fn next_start(held: &BTreeMap<u64, Frame>, position: u64, other: u64) -> u64
     }
 }
 
-// Puts a frame in, at its position.
+/// Puts a frame in, at its position.
 pub fn put(held: &mut BTreeMap<u64, Frame>, position: u64, frame: Frame) -> Result<(), Refusal>
     ensures entries { OnOk result
         (held.new.entries ≡ insert_entry nat_cmp held.old.entries position frame) }
@@ -61,7 +61,7 @@ pub fn put(held: &mut BTreeMap<u64, Frame>, position: u64, frame: Frame) -> Resu
     }
 }
 
-// Takes frames out, the last position first.
+/// Takes frames out, the last position first.
 pub fn withdraw(held: &mut BTreeMap<u64, Frame>, mut positions: Vec<u64>)
     ensures { held.new.entries ≡ without positions.items held.old.entries }
 {

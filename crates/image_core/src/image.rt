@@ -84,7 +84,7 @@ impl Image {
         Ok(Image::begun(alloc, setup.geometry(), publication, position as u64))
     }
 
-    // An image of the publication, with nothing received.
+    /// An image of the publication, with nothing received.
     fn begun(alloc: Global, geometry: Geometry, publication: Publication, position: u64) -> Image
         requires terms { HasTerms geometry }
         requires limit { position ≤ 2 ^ 31 * unsigned_abs geometry.term_length }
@@ -138,7 +138,7 @@ impl Image {
         ))
     }
 
-    // Where the gap ends.
+    /// Where the gap ends.
     fn gap_end(&self) -> u64
         requires { rebuilt self.now < self.now.high }
         ensures value { result ≡ gap_end self.now }
@@ -200,7 +200,7 @@ impl Image {
         }))
     }
 
-    // Takes in all frames of a datagram, or none of them.
+    /// Takes in all frames of a datagram, or none of them.
     fn insert_all(&mut self, frames: &[FrameRef<'_>]) -> Result<Inserted, Refusal>
         requires { AreEncodable (map frame_of frames.now) }
         ensures counts { IfOk result
@@ -225,7 +225,7 @@ impl Image {
         Ok(inserted)
     }
 
-    // Takes in a frame, and notes its position if it joins.
+    /// Takes in a frame, and notes its position if it joins.
     fn take_in(&mut self, frame: &FrameRef<'_>, noted: &mut Vec<u64>) -> Result<Fate, Refusal>
         requires { IsEncodable (frame_of frame.now) }
         ensures fate { IfOk result (λ it. it ≡ fate self.old (frame_of frame.now)) }
@@ -253,7 +253,7 @@ impl Image {
         }
     }
 
-    // Keeps a frame that joins, and notes its position.
+    /// Keeps a frame that joins, and notes its position.
     fn keep(
         &mut self,
         position: u64,
@@ -280,7 +280,7 @@ impl Image {
         Ok(())
     }
 
-    // Raises the high-water mark to where a heartbeat tells that the publication stands.
+    /// Raises the high-water mark to where a heartbeat tells that the publication stands.
     fn hear(&mut self, position: u64)
         requires { position ≤ 2 ^ 31 * unsigned_abs self.old.geometry.term_length }
         ensures { self.new ≡ record self.old { high = max self.old.high position } }
@@ -288,7 +288,7 @@ impl Image {
         self.high = self.high.max(position);
     }
 
-    // Takes frames out again that had joined.
+    /// Takes frames out again that had joined.
     fn leave(&mut self, positions: Vec<u64>, rebuilt: u64, high: u64)
         requires { IsKept (undone positions.items high self.old) rebuilt }
         ensures { self.new ≡ undone positions.items high self.old }
@@ -298,7 +298,7 @@ impl Image {
         self.high = high;
     }
 
-    // What becomes of a frame.
+    /// What becomes of a frame.
     fn fate(&self, frame: &FrameRef<'_>) -> Fate
         requires { IsEncodable (frame_of frame.now) }
         ensures fate { result ≡ fate self.now (frame_of frame.now) }
@@ -310,7 +310,7 @@ impl Image {
         }
     }
 
-    // What becomes of a message or a pad.
+    /// What becomes of a message or a pad.
     fn frame_fate(&self, frame: &FrameRef<'_>) -> Fate
         requires { IsEncodable (frame_of frame.now) }
         ensures fate { result ≡ frame_fate self.now (frame_of frame.now)
@@ -325,7 +325,7 @@ impl Image {
         }
     }
 
-    // What becomes of a heartbeat.
+    /// What becomes of a heartbeat.
     fn heartbeat_fate(&self, frame: &FrameRef<'_>) -> Fate
         ensures fate { result ≡ heartbeat_fate
             (if is_of self.now.publication (frame_of frame.now)
@@ -339,7 +339,7 @@ impl Image {
         }
     }
 
-    // Whether a range is open to a frame.
+    /// Whether a range is open to a frame.
     fn is_open(&self, position: u64, end: u64) -> bool
         requires { position < end }
         ensures { result ≡ is_open self.now position end }
@@ -350,7 +350,7 @@ impl Image {
     }
 }
 
-// Whether a datagram's type is neither that of data nor that of pads.
+/// Whether a datagram's type is neither that of data nor that of pads.
 #[tactic(auto, unfolding(frame_core::specs::FrameEncoding::u16_at))]
 fn is_foreign(datagram: &[u8]) -> bool
     ensures { MatchBool result (IsForeign datagram.now) (IsForeign datagram.now → ⊥) }

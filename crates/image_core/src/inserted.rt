@@ -20,7 +20,7 @@ pub struct Inserted {
 impl Inserted {
     ghost use Rattle.image_core.specs.Insert.{uncounted, counted};
 
-    // No frame is counted yet.
+    /// No frame is counted yet.
     pub(crate) fn uncounted(foreign: bool) -> Inserted
         ensures { result ≡ uncounted foreign }
     {
@@ -32,7 +32,7 @@ impl Inserted {
         }
     }
 
-    // One more frame is counted, by what becomes of it.
+    /// One more frame is counted, by what becomes of it.
     pub(crate) fn counted(self, fate: Fate) -> Inserted
         requires { self.held + self.dropped < 2 ^ 63 }
         ensures { result ≡ counted self fate }

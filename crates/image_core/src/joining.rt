@@ -8,7 +8,7 @@ ghost use Rattle.image_core.specs.Received.{is_inside, is_of, is_within, joining
 use frame_core::limits::HEADER_LENGTH;
 use frame_core::{FrameKind, FrameRef, Geometry, Publication};
 
-// Whether a frame is of the publication's session and stream.
+/// Whether a frame is of the publication's session and stream.
 #[tactic(auto, unfolding(crate::specs::Received::is_of))]
 pub fn is_of(publication: &Publication, frame: &FrameRef<'_>) -> bool
     ensures { result ≡ is_of publication.now (frame_of frame.now) }
@@ -16,7 +16,7 @@ pub fn is_of(publication: &Publication, frame: &FrameRef<'_>) -> bool
     frame.session_id == publication.session_id && frame.stream_id == publication.stream_id
 }
 
-// Whether a frame is a message or a pad with at most so many bytes in its datagram as the MTU allows.
+/// Whether a frame is a message or a pad with at most so many bytes in its datagram as the MTU allows.
 fn is_within(geometry: &Geometry, frame: &FrameRef<'_>) -> bool
     ensures { let it = frame_of frame.now in
         result ≡ is_within geometry.now.mtu it.kind it.length }
@@ -28,7 +28,7 @@ fn is_within(geometry: &Geometry, frame: &FrameRef<'_>) -> bool
     }
 }
 
-// Whether a frame lies inside its term.
+/// Whether a frame lies inside its term.
 #[tactic(auto, unfolding(crate::specs::Received::is_inside))]
 fn is_inside(geometry: &Geometry, frame: &FrameRef<'_>) -> bool
     ensures inside { result ≡ is_inside geometry.now (frame_of frame.now) }
@@ -39,7 +39,7 @@ fn is_inside(geometry: &Geometry, frame: &FrameRef<'_>) -> bool
     u64::from(frame.term_offset.unsigned_abs()) + frame.aligned_length() <= size
 }
 
-// The position at which a frame may join, if nothing that was received speaks against it.
+/// The position at which a frame may join, if nothing that was received speaks against it.
 #[tactic(auto, unfolding(crate::specs::Received::joining_position))]
 pub fn joining_position(
     geometry: &Geometry,
@@ -59,7 +59,7 @@ pub fn joining_position(
     }
 }
 
-// The position of a heartbeat of the publication.
+/// The position of a heartbeat of the publication.
 pub fn heartbeat_position(
     geometry: &Geometry,
     publication: &Publication,
@@ -79,7 +79,7 @@ pub fn heartbeat_position(
     }
 }
 
-// Half a term.
+/// Half a term.
 pub fn window(geometry: &Geometry) -> u64
     ensures half { result ≡ window geometry.now }
     ensures small { result < 2 ^ 31 }

@@ -29,7 +29,7 @@ pub fn repair(alloc: Global, frames: &[Frame], nak: &Nak) -> Result<Items<Items<
     Ok(datagrams)
 }
 
-// A datagram of one frame.
+/// A datagram of one frame.
 fn datagram_of(alloc: Global, frame: &Frame) -> Result<Items<u8>, Refusal>
     requires { IsEncodable frame.now }
     ensures bytes { IfOk result (λ datagram. datagram ≡ encoded frame.now) }
@@ -40,14 +40,14 @@ fn datagram_of(alloc: Global, frame: &Frame) -> Result<Items<u8>, Refusal>
     Ok(Items::from_vec(bytes))
 }
 
-// Whether a request asks for a frame.
+/// Whether a request asks for a frame.
 fn is_asked_for(nak: &Nak, frame: &Frame) -> bool
     ensures { result ≡ is_asked nak.now frame.now }
 {
     is_of_request(nak, frame) && is_in_range(nak, frame)
 }
 
-// Whether a frame is of a request's session, stream and term.
+/// Whether a frame is of a request's session, stream and term.
 #[tactic(auto, unfolding(crate::specs::Repair::is_of_request))]
 fn is_of_request(nak: &Nak, frame: &Frame) -> bool
     ensures { result ≡ is_of_request nak.now frame.now }
@@ -57,7 +57,7 @@ fn is_of_request(nak: &Nak, frame: &Frame) -> bool
         && frame.term_id == nak.term_id
 }
 
-// Whether a frame covers a byte of a request's range.
+/// Whether a frame covers a byte of a request's range.
 #[tactic(auto, unfolding(crate::specs::Repair::is_in_range))]
 fn is_in_range(nak: &Nak, frame: &Frame) -> bool
     ensures { result ≡ is_in_range nak.now frame.now }
@@ -65,14 +65,14 @@ fn is_in_range(nak: &Nak, frame: &Frame) -> bool
     shared_start(nak, frame) < shared_end(nak, frame)
 }
 
-// Where what a frame and a request's range share begins.
+/// Where what a frame and a request's range share begins.
 fn shared_start(nak: &Nak, frame: &Frame) -> i64
     ensures { result ≡ int_max frame.now.term_offset nak.now.term_offset }
 {
     i64::from(frame.term_offset).max(i64::from(nak.term_offset))
 }
 
-// Where it ends; at or before its beginning where they share nothing.
+/// Where it ends; at or before its beginning where they share nothing.
 fn shared_end(nak: &Nak, frame: &Frame) -> i64
     ensures { result ≡ int_min
         (frame.now.term_offset +ℤ pos (aligned_length frame.now))
@@ -81,14 +81,14 @@ fn shared_end(nak: &Nak, frame: &Frame) -> i64
     frame_end(frame).min(range_end(nak))
 }
 
-// Where a frame ends in its term.
+/// Where a frame ends in its term.
 fn frame_end(frame: &Frame) -> i64
     ensures { result ≡ frame.now.term_offset +ℤ pos (aligned_length frame.now) }
 {
     i64::from(frame.term_offset) + frame.aligned_length() as i64
 }
 
-// Where a request's range ends in its term.
+/// Where a request's range ends in its term.
 fn range_end(nak: &Nak) -> i64
     ensures { result ≡ nak.now.term_offset +ℤ nak.now.length }
 {

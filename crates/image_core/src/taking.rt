@@ -7,11 +7,11 @@ ghost use Rattle.image_core.specs.Rebuild.{chain_end};
 ghost use Rattle.image_core.specs.Take.{TakesBlock};
 
 use frame_core::limits::MAX_BLOCK_LENGTH;
-use frame_core::{Frame, FrameKind, Geometry, Place, Publication, is_next, place_behind};
+use frame_core::{BlockIds, Frame, FrameKind, Geometry, Publication, block_ids, is_next};
 use std::collections::BTreeMap;
 
-// Takes the first frames of a chain as a block into a list that has room for one, as many as follow one another in it
-// and the list can grow to. Answers where the block ends.
+/// Takes the first frames of a chain as a block into a list that has room for one, as many as follow one another in it
+/// and the list can grow to. Answers where the block ends.
 pub fn take_frames(
     held: &mut BTreeMap<u64, Frame>,
     geometry: &Geometry,
@@ -31,7 +31,7 @@ pub fn take_frames(
     let Some((_, first)) = held.pop_first() else {
         return from;
     };
-    let place = place_behind(geometry, publication, &first);
+    let ids = block_ids(geometry, publication, &first);
     let offset = offset_of(&first);
     let limit = limit_behind(geometry, offset);
     let size = first.aligned_length();
@@ -40,12 +40,12 @@ pub fn take_frames(
     match kind {
         FrameKind::Pad | FrameKind::Heartbeat => from + size,
         FrameKind::Message => {
-            from + size + take_messages(held, &place, from + size, offset + size, limit, frames)
+            from + size + take_messages(held, &ids, from + size, offset + size, limit, frames)
         }
     }
 }
 
-// How many bytes of its term lie before a frame.
+/// How many bytes of its term lie before a frame.
 fn offset_of(frame: &Frame) -> u64
     ensures offset { result ≡ unsigned_abs frame.now.term_offset }
     ensures small { result ≤ 2 ^ 31 }
@@ -53,7 +53,7 @@ fn offset_of(frame: &Frame) -> u64
     u64::from(frame.term_offset.unsigned_abs())
 }
 
-// Where a block ends at the latest that begins at an offset.
+/// Where a block ends at the latest that begins at an offset.
 fn limit_behind(geometry: &Geometry, offset: u64) -> u64
     requires { offset ≤ 2 ^ 31 }
     ensures limit { result ≡ min (offset + 65536) (unsigned_abs geometry.now.term_length) }
@@ -62,11 +62,11 @@ fn limit_behind(geometry: &Geometry, offset: u64) -> u64
     (offset + MAX_BLOCK_LENGTH as u64).min(u64::from(geometry.term_length.unsigned_abs()))
 }
 
-// Takes the first frames behind those of a list, as long as they are messages of a block that follow one another from a
-// position and an offset in their term up to a limit, and the list can grow. Answers how many bytes they cover.
+/// Takes the first frames behind those of a list, as long as they are messages of a block that follow one another from a
+/// position and an offset in their term up to a limit, and the list can grow. Answers how many bytes they cover.
 fn take_messages(
     held: &mut BTreeMap<u64, Frame>,
-    place: &Place,
+    ids: &BlockIds,
     from: u64,
     offset: u64,
     limit: u64,
@@ -76,12 +76,12 @@ fn take_messages(
     requires from { from ≤ 2 ^ 62 }
     requires within { offset ≤ limit }
     requires small { limit ≤ 2 ^ 31 }
-    ensures takes { TakesMessages place.now from offset limit held.old.entries frames.old.items
+    ensures takes { TakesMessages ids.now from offset limit held.old.entries frames.old.items
         result held.new.entries frames.new.items }
     ensures few { result ≤ 2 ^ 31 }
 {
     let mut covered = 0;
-    'each: while let Some(size) = next_size(held, place, from + covered, offset + covered, limit) {
+    'each: while let Some(size) = next_size(held, ids, from + covered, offset + covered, limit) {
         if frames.reserve(1).is_err() {
             return covered;
         }
@@ -91,24 +91,24 @@ fn take_messages(
     covered
 }
 
-// How many bytes the first frame covers, if it is the next message of a block: at a position, at an offset in its term,
-// and within a limit there.
+/// How many bytes the first frame covers, if it is the next message of a block: at a position, at an offset in its term,
+/// and within a limit there.
 fn next_size(
     held: &BTreeMap<u64, Frame>,
-    place: &Place,
+    ids: &BlockIds,
     at: u64,
     offset: u64,
     limit: u64,
 ) -> Option<u64>
     requires { offset < 2 ^ 33 }
-    ensures { result ≡ next_size place.now at offset limit held.now.entries }
+    ensures { result ≡ next_size ids.now at offset limit held.now.entries }
 {
     let (start, frame) = held.first_key_value()?;
     let size = frame.aligned_length();
-    (*start == at && is_next(place, offset, frame) && offset + size <= limit).then_some(size)
+    (*start == at && is_next(ids, offset, frame) && offset + size <= limit).then_some(size)
 }
 
-// Moves the first frame behind the others of a list that has room for it.
+/// Moves the first frame behind the others of a list that has room for it.
 fn take_first(held: &mut BTreeMap<u64, Frame>, frames: &mut Vec<Frame>)
     requires some { 0 < length held.old.entries }
     requires room { vec_len frames.old < vec_capacity frames.old }

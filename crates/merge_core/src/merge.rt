@@ -162,7 +162,7 @@ impl Merge {
     }
 }
 
-// Where a frame lies that is offered.
+/// Where a frame lies that is offered.
 fn position_of(geometry: &Geometry, frame: &Frame) -> Result<u64, Refusal>
     ensures value { result ≡ offer_position geometry.now frame.now }
     ensures small { IfOk result (λ p. p < 2 ^ 62) }
@@ -176,7 +176,7 @@ fn position_of(geometry: &Geometry, frame: &Frame) -> Result<u64, Refusal>
     }
 }
 
-// What becomes of a frame that is offered at a position.
+/// What becomes of a frame that is offered at a position.
 fn outcome(cursor: u64, held: &BTreeMap<u64, Frame>, position: u64) -> Offered
     ensures { (m : Merging) → m.cursor ≡ cursor → m.held ≡ held.now.entries
         → result ≡ offered_at position m }
@@ -190,7 +190,7 @@ fn outcome(cursor: u64, held: &BTreeMap<u64, Frame>, position: u64) -> Offered
     }
 }
 
-// Whether an end is the cursor, or that of the frame that is held at the position.
+/// Whether an end is the cursor, or that of the frame that is held at the position.
 fn joins_there(cursor: u64, held: &BTreeMap<u64, Frame>, position: u64, end: u64) -> bool
     requires { position < 2 ^ 62 }
     ensures { (m : Merging) → m.cursor ≡ cursor → m.held ≡ held.now.entries
@@ -203,7 +203,7 @@ fn joins_there(cursor: u64, held: &BTreeMap<u64, Frame>, position: u64, end: u64
         }
 }
 
-// Keeps an end at which the live stream may be joined, unless it is joined; and says whether it is.
+/// Keeps an end at which the live stream may be joined, unless it is joined; and says whether it is.
 fn keep_end(
     live_ends: &mut BTreeSet<u64>,
     is_merged: bool,
@@ -224,7 +224,7 @@ fn keep_end(
     Ok(false)
 }
 
-// Lets a frame go whose end could not be kept, for want of memory.
+/// Lets a frame go whose end could not be kept, for want of memory.
 fn let_go(held: &mut BTreeMap<u64, Frame>, position: u64) -> Refusal
     ensures entries { held.new.entries ≡ remove_entry (is_at (nat_cmp position)) held.old.entries }
     ensures refusal { result ≡ NoMemory }
@@ -233,7 +233,7 @@ fn let_go(held: &mut BTreeMap<u64, Frame>, position: u64) -> Refusal
     Refusal::NoMemory
 }
 
-// Whether the live stream is joined where the cursor is.
+/// Whether the live stream is joined where the cursor is.
 fn has_joined(is_merged: bool, live_ends: &BTreeSet<u64>, cursor: u64) -> bool
     ensures { result ≡ (is_merged || is_among cursor live_ends.now.keys) }
 {

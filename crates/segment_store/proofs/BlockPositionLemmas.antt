@@ -11,7 +11,7 @@ use Rattle.frame_core.specs.declared.block.Publication.{Publication}
 use Rattle.frame_core.specs.declared.frame.FrameKind.{FrameKind}
 use Rattle.frame_core.specs.declared.frame.Frame.{Frame}
 use Rattle.frame_core.specs.declared.geometry.Geometry.{Geometry}
-use Rattle.frame_core.specs.Block.{AreEncodable, AreBlockOf, covered, place_of}
+use Rattle.frame_core.specs.Block.{AreEncodable, AreBlockOf, covered, block_ids}
 use Rattle.frame_core.specs.FrameEncoding.{aligned_length, stored, stored_as}
 use Rattle.frame_core.specs.Position.{HasPosition, terms_since}
 use Rattle.frame_core.proofs.FrameEncodingLemmas.{length-header_of}
@@ -91,7 +91,7 @@ block_small g publication (f ∷ fs) position is = (
         let alone : length (stored_frames fs) ≡ 0 = ap (λ (others : List Frame). length (stored_frames others)) pad.alone in
         omega (arith, size, alone, length-append (stored f) (stored_frames fs))
     | inr messages ↦
-        let run = run_covers (place_of g publication f) messages.offset messages.end (f ∷ fs) messages.ends in
+        let run = run_covers (block_ids g publication f) messages.offset messages.end (f ∷ fs) messages.ends in
         omega (arith, run.0, messages.covers, stored_covered (f ∷ fs) is.1)
   ],
 )
@@ -111,7 +111,7 @@ block_stands image l g publication (f ∷ fs) position layout same is from holds
             subst (λ (others : List Frame). HoldsFrames image l (p + aligned_length f) others (p + covered (f ∷ fs))) (sym pad.alone) (omega (arith, alone)),
           )
       | inr messages ↦
-          let run = run_covers (place_of g publication f) messages.offset messages.end (f ∷ fs) messages.ends in
+          let run = run_covers (block_ids g publication f) messages.offset messages.end (f ∷ fs) messages.ends in
           let lies = position_in_term g f.term_id f.term_offset position is.0 in
           let begins : unsigned_abs f.term_offset ≡ messages.offset = ap unsigned_abs messages.begins in
           let width : unsigned_abs g.term_length ≡ unsigned_abs l.term_length = ap unsigned_abs same in

@@ -9,7 +9,7 @@ use Rattle.frame_core.specs.declared.frame.FrameKind.TheVariants.{Pad, Message, 
 use Rattle.frame_core.specs.FrameEncoding.{IsEncodable, HasLength, aligned_length, encoded, stored, stored_as}
 use Rattle.frame_core.proofs.FrontLemmas.{length-encoded}
 use Rattle.frame_core.proofs.FrameEncodingLemmas.{length-header_of}
-use Rattle.frame_core.specs.declared.block.Place.{Place}
+use Rattle.frame_core.specs.declared.block.BlockIds.{BlockIds}
 use Rattle.frame_core.specs.Block.{AreEncodable, covered, is_message, is_part, run_end}
 use Rattle.segment_store.specs.Stored.{stored_frames}
 
@@ -76,11 +76,11 @@ first_true : (x y : Bool) → (x && y) ≡ true → x ≡ true
 first_true true y is = refl
 first_true false y is = is
 
-part_is_message : (place : Place) (offset : ℕ) (f : Frame) → is_part place offset f ≡ true → f.kind ≡ Message
+part_is_message : (place : BlockIds) (offset : ℕ) (f : Frame) → is_part place offset f ≡ true → f.kind ≡ Message
 unfolding is_part
 part_is_message place offset f part = message_kind f.kind (first_true _ _ (first_true _ _ (first_true _ _ part)))
 
-by_part : (place : Place) (offset end : ℕ) (f : Frame) (fs : List Frame) (b : Bool) → is_part place offset f ≡ b
+by_part : (place : BlockIds) (offset end : ℕ) (f : Frame) (fs : List Frame) (b : Bool) → is_part place offset f ≡ b
     → (run_end place (offset + aligned_length f) fs ≡ Some end → (end ≡ offset + aligned_length f + covered fs) × AreMessages fs)
     → (if b then run_end place (offset + aligned_length f) fs else None) ≡ Some end → (end ≡ offset + covered (f ∷ fs)) × AreMessages (f ∷ fs)
 by_part place offset end f fs true part rest goes =
@@ -89,7 +89,7 @@ by_part place offset end f fs true part rest goes =
 by_part place offset end f fs false part rest none = absurd (cc)
 
 -- frames that follow one another are data frames, and end where they cover to
-pub run_covers : (place : Place) (offset end : ℕ) (frames : List Frame) → run_end place offset frames ≡ Some end → (end ≡ offset + covered frames) × AreMessages frames
+pub run_covers : (place : BlockIds) (offset end : ℕ) (frames : List Frame) → run_end place offset frames ≡ Some end → (end ≡ offset + covered frames) × AreMessages frames
 run_covers place offset end [] ends = (omega (arith, same_some ends), tt)
 run_covers place offset end (f ∷ fs) ends =
     by_part place offset end f fs (is_part place offset f) refl (run_covers place (offset + aligned_length f) end fs) ends

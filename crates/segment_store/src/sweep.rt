@@ -55,7 +55,7 @@ pub fn sweep_one<D: Disk>(disk: &mut D, keeps: &[Keep]) -> Result<bool, Refusal>
     }
 }
 
-// The first stale file.
+/// The first stale file.
 fn first_stale<D: Disk>(disk: &mut D, keeps: &[Keep]) -> Result<Option<FileId>, Refusal>
     requires { All IsKeep keeps.now }
     ensures first { IfOk result (IsFirst (D.life disk.new).obeys (reads (D.life disk.old).now) keeps.now) }
@@ -67,7 +67,7 @@ fn first_stale<D: Disk>(disk: &mut D, keeps: &[Keep]) -> Result<Option<FileId>, 
     Ok(stale.first().copied())
 }
 
-// Removes a file and syncs its name.
+/// Removes a file and syncs its name.
 fn remove_file<D: Disk>(disk: &mut D, file: FileId) -> Result<(), Refusal>
     ensures gone { OnOk result ((D.life disk.new).now file ≡ durable None) }
     ensures bounded { TouchesOnly file (D.life disk.old) (D.life disk.new) }
@@ -79,7 +79,7 @@ fn remove_file<D: Disk>(disk: &mut D, file: FileId) -> Result<(), Refusal>
     Ok(())
 }
 
-// Whether a file is stale.
+/// Whether a file is stale.
 fn is_stale(keeps: &[Keep], file: &FileId) -> bool
     requires { All IsKeep keeps.now }
     ensures { result ≡ is_stale keeps.now file.now }
@@ -93,21 +93,21 @@ fn is_stale(keeps: &[Keep], file: &FileId) -> bool
     }
 }
 
-// Whether a recording has this id.
+/// Whether a recording has this id.
 fn is_there(keeps: &[Keep], id: &i64) -> bool
     ensures { result ≡ list_any (is_recording id.now) keeps.now }
 {
     keeps.iter().any(|keep| is_recording(id, keep))
 }
 
-// Whether the id was given.
+/// Whether the id was given.
 fn was_there(keeps: &[Keep], id: &i64) -> bool
     ensures { result ≡ list_any (is_given id.now) keeps.now }
 {
     keeps.iter().any(|keep| is_given(id, keep))
 }
 
-// Whether a recording keeps the file of that id and base.
+/// Whether a recording keeps the file of that id and base.
 fn is_needed(keeps: &[Keep], id: &i64, base: &i64) -> bool
     requires { All IsKeep keeps.now }
     ensures { result ≡ list_any (is_kept id.now base.now) keeps.now }
@@ -115,7 +115,7 @@ fn is_needed(keeps: &[Keep], id: &i64, base: &i64) -> bool
     keeps.iter().any(|keep| is_kept(id, base, keep))
 }
 
-// Whether the id is that of a recording that is there.
+/// Whether the id is that of a recording that is there.
 fn is_recording(id: &i64, keep: &Keep) -> bool
     ensures { result ≡ is_recording id.now keep.now }
 {
@@ -125,7 +125,7 @@ fn is_recording(id: &i64, keep: &Keep) -> bool
     }
 }
 
-// Whether the id is below the next one.
+/// Whether the id is below the next one.
 fn is_given(id: &i64, keep: &Keep) -> bool
     ensures { result ≡ is_given id.now keep.now }
 {
@@ -135,7 +135,7 @@ fn is_given(id: &i64, keep: &Keep) -> bool
     }
 }
 
-// Whether the file of that id and base is kept.
+/// Whether the file of that id and base is kept.
 fn is_kept(id: &i64, base: &i64, keep: &Keep) -> bool
     requires { IsKeep keep.now }
     ensures { result ≡ is_kept id.now base.now keep.now }
@@ -150,7 +150,7 @@ fn is_kept(id: &i64, base: &i64, keep: &Keep) -> bool
     }
 }
 
-// Whether the recording keeps the file with this base.
+/// Whether the recording keeps the file with this base.
 fn keeps_base(layout: &Layout, recorded: &i64, active: bool, base: &i64) -> bool
     requires { IsLayout layout.now }
     ensures { result ≡ keeps_base layout.now recorded.now active base.now }
@@ -162,7 +162,7 @@ fn keeps_base(layout: &Layout, recorded: &i64, active: bool, base: &i64) -> bool
     }
 }
 
-// Whether a recorded byte has this base.
+/// Whether a recorded byte has this base.
 #[tactic(auto, unfolding(crate::specs::Stale::is_base_of_recorded))]
 fn is_base_of_recorded(layout: &Layout, recorded: &i64, base: &i64) -> bool
     requires { IsLayout layout.now }

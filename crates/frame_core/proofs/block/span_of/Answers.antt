@@ -10,19 +10,19 @@ returns-in_default-start_of-clause-span c =
 pub returns-in-Some-pad_size-clause-span : goal.returns-in-Some-pad_size-clause-span
 returns-in-Some-pad_size-clause-span c =
     let fits : FitsSigned w64 c.in-Some.position = search rules in
-    let pad = rw c.place_behind-place.ensures at c.in-Some-pad_size.ensures.size in
+    let pad = rw c.block_ids-ids.ensures at c.in-Some-pad_size.ensures.size in
     simp to_z-of_z (pad_is_block c.args.geometry.now c.args.publication.now c.args.frames.now _ c.first-item.result c.in-Some.position c.in-Some-pad_size.size (first_rest _ _ c.in-len1-up.len_at_least c.first-item.is)
     c.in-Some.ensures.value c.if-not-are_encodable.ensures pad)
 
 pub returns-in-Some-messages_size-clause-span : goal.returns-in-Some-messages_size-clause-span
 returns-in-Some-messages_size-clause-span c =
     let fits : FitsSigned w64 c.in-Some.position = search rules in
-    let messages = rw c.place_behind-place.ensures at c.in-Some-messages_size.ensures.size in
+    let messages = rw c.block_ids-ids.ensures at c.in-Some-messages_size.ensures.size in
     simp to_z-of_z (messages_are_block c.args.geometry.now c.args.publication.now c.args.frames.now _ c.first-item.result c.in-Some.position c.in-Some-messages_size.size (first_rest _ _ c.in-len1-up.len_at_least c.first-item.is)
     c.in-Some.ensures.value c.if-not-are_encodable.ensures messages)
 
 pub returns-clause-span : goal.returns-clause-span
 returns-clause-span c =
     no_block c.args.geometry.now c.args.publication.now c.args.frames.now _ c.first-item.result (first_rest _ _ c.in-len1-up.len_at_least c.first-item.is)
-    (rw c.place_behind-place.ensures at c.in_default-pad_size.ensures.size)
-    (rw c.place_behind-place.ensures at c.in_default-messages_size.ensures.size)
+    (rw c.block_ids-ids.ensures at c.in_default-pad_size.ensures.size)
+    (rw c.block_ids-ids.ensures at c.in_default-messages_size.ensures.size)

@@ -1,8 +1,8 @@
-use Rattle.std.proofs.Common.{rules, subst, sym, ap, ◌∙◌, ℤ, Option, Some, None, FitsSigned, w32, arith}
+use Rattle.std.proofs.Common.{rules, subst, sym, ◌∙◌, Option, FitsSigned, w32, arith}
 use Rattle.std.proofs.lemmas.Int.{to_z-of_z}
 use Rattle.std.specs.Prelude.{MatchOption}
-use Rattle.frame_core.specs.FrameEncoding.{IsAligned, i32_at, frame_of, type_of}
-use Rattle.frame_core.specs.Header.{StartsWithHeader, HasHeaderLength, IsHeaderOfKind}
+use Rattle.frame_core.specs.FrameEncoding.{IsAligned, i32_at, frame_of}
+use Rattle.frame_core.specs.Header.{StartsWithHeader, HasHeaderLength}
 use Rattle.frame_core.specs.declared.frame.Frame.{Frame}
 use Rattle.frame_core.specs.declared.frame.FrameRef.{FrameRef}
 use Rattle.frame_core.proofs.HeaderLemmas.{header_fields, header_kind_is, header_read}

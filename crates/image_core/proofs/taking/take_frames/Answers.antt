@@ -32,4 +32,4 @@ returns-in-Message c =
     rw c.aligned_length-size.ensures.value
     (takes_messages _ _ _ _ c.limit_behind-limit.result _ _ _ _ _ _ _ c.requires.terms c.in-Some.ensures.removal it c.in-Message.is
     (rw c.offset_of-offset.ensures.offset at c.limit_behind-limit.ensures.limit) (rw c.requires.empty at c.push_reserved.ensures.items)
-    (rw (c.place_behind-place.ensures, c.offset_of-offset.ensures.offset, c.aligned_length-size.ensures.value) at c.take_messages.ensures.takes))
+    (rw (c.block_ids-ids.ensures, c.offset_of-offset.ensures.offset, c.aligned_length-size.ensures.value) at c.take_messages.ensures.takes))

@@ -11,8 +11,8 @@ decided : (f : Frame) (b : Bool) → Fits f → HasLength f.kind f.length f.payl
 decided f true fits size offset = record { fits = fits; length = size; offset = offset }
 decided f false fits size offset = λ encodable. offset encodable.offset
 
-pub returns : goal.returns
-returns c =
+pub returns-then-has_length : goal.returns-then-has_length
+returns-then-has_length c =
     decided
     c.args.self.now
     c.is_aligned.result
@@ -25,5 +25,5 @@ returns c =
       term_id = search rules;
       reserved = search rules;
     })
-    (subst (λ (f : Frame). HasLength f.kind f.length f.payload) c.as_ref-lent.ensures c.if-not-has_length.ensures)
+    (subst (λ (f : Frame). HasLength f.kind f.length f.payload) c.as_ref.ensures c.if-has_length.ensures)
     c.is_aligned.ensures
