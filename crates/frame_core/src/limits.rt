@@ -29,6 +29,8 @@ pub const MAX_HELD_FRAMES: usize = 4_096;
 pub const MAX_POLL: i64 = 4_096;
 /// Descriptors that a listing may ask for at most.
 pub const MAX_LIST: i64 = 1_024;
+/// Entries that count in a history at most, and so the greatest history limit.
+pub const MAX_HISTORY: u32 = 16_777_216;
 /// Bytes of a control line at most, its end not counted.
 pub const MAX_LINE_LENGTH: usize = 262_144;
 /// Where recording ids and the numbers of sessions and replays stop.
