@@ -6,12 +6,12 @@ use Rattle.frame_core.specs.declared.frame.Frame.{Frame}
 use Rattle.frame_core.specs.declared.frame.FrameKind.{FrameKind}
 use Rattle.frame_core.specs.declared.frame.FrameKind.TheVariants.{Pad, Message, Heartbeat}
 use Rattle.frame_core.specs.declared.block.Block.{Block}
-use Rattle.frame_core.specs.declared.block.Place.{Place}
+use Rattle.frame_core.specs.declared.block.BlockIds.{BlockIds}
 use Rattle.frame_core.specs.declared.block.Publication.{Publication}
 use Rattle.frame_core.specs.declared.geometry.Geometry.{Geometry}
 use Rattle.frame_core.specs.FrameEncoding.{IsEncodable, HasLength, aligned_length}
 use Rattle.frame_core.specs.Position.{terms_since}
-use Rattle.frame_core.specs.Block.{AreBlockOf, AreEncodable, covered, run_end, is_part, is_of_place, is_message, place_of, end_position}
+use Rattle.frame_core.specs.Block.{AreBlockOf, AreEncodable, covered, run_end, is_part, has_ids, is_message, block_ids, end_position}
 use Rattle.archive_model.specs.Commands.{after, frames_of}
 use Rattle.archive_model.specs.Acceptance.{AreBlocksFrom}
 use Rattle.archive_model.specs.Histories.{AreContiguous}
@@ -28,8 +28,8 @@ contiguous_append g position middle (f ∷ fs) gs before is after =
     let next : middle ≡ (position +ℤ pos (aligned_length f)) +ℤ pos (covered fs) = omega (arith, ints) in
     (before.0, before.1, contiguous_append g (position +ℤ pos (aligned_length f)) middle fs gs before.2 next after)
 
--- what a message of a place at an offset is
-record IsPart (p : Place) (offset : ℕ) (f : Frame) : Type 0 where
+-- what a message with the ids at an offset is
+record IsPart (p : BlockIds) (offset : ℕ) (f : Frame) : Type 0 where
   kind : f.kind ≡ Message
   offset_is : f.term_offset ≡ pos offset
   term_is : f.term_id ≡ p.term_id
@@ -43,8 +43,8 @@ both : {a b : Bool} → a && b ≡ true → (a ≡ true) × (b ≡ true)
 both {a = true} {b = b} h = (refl, h)
 both {a = false} {b = b} h = absurd (true≢false (sym h))
 
-is_part_of : (p : Place) (offset : ℕ) (f : Frame) → is_part p offset f ≡ true → IsPart p offset f
-unfolding is_part is_of_place
+is_part_of : (p : BlockIds) (offset : ℕ) (f : Frame) → is_part p offset f ≡ true → IsPart p offset f
+unfolding is_part has_ids
 is_part_of p offset f h =
     let first = both h in
     let second = both first.0 in
@@ -62,7 +62,7 @@ run_rest : (b : Bool) (some : Option ℕ) (end : ℕ) → cond b some None ≡ S
 run_rest true some end h = (refl, h)
 run_rest false some end h = absurd cc
 
-run_grows : (p : Place) (offset : ℕ) (fs : List Frame) (end : ℕ) → run_end p offset fs ≡ Some end → offset ≤ end
+run_grows : (p : BlockIds) (offset : ℕ) (fs : List Frame) (end : ℕ) → run_end p offset fs ≡ Some end → offset ≤ end
 run_grows p offset [] end ends = let same : offset ≡ end = cc in omega arith
 run_grows p offset (f ∷ fs) end ends =
     let rest = run_rest (is_part p offset f) (run_end p (offset + aligned_length f) fs) end ends in
@@ -75,7 +75,7 @@ some_length f is encodable =
     let whole : unsigned_abs f.length ≡ 32 + length f.payload = ap unsigned_abs size in
     omega arith
 
-run_contiguous : (g : Geometry) (p : Place) (offset : ℕ) (position : ℤ) (fs : List Frame) (end : ℕ) → pos 0 ≤ℤ terms_since g p.term_id
+run_contiguous : (g : Geometry) (p : BlockIds) (offset : ℕ) (position : ℤ) (fs : List Frame) (end : ℕ) → pos 0 ≤ℤ terms_since g p.term_id
     → position ≡ terms_since g p.term_id *ℤ g.term_length +ℤ pos offset → AreEncodable fs → run_end p offset fs ≡ Some end → pos end ≤ℤ g.term_length → AreContiguous g position fs
 run_contiguous g p offset position [] end since place encodable ends inside = tt
 run_contiguous g p offset position (f ∷ fs) end since place encodable ends inside =
@@ -97,7 +97,7 @@ block_contiguous g publication [] position none = tt
 block_contiguous g publication (f ∷ fs) position (at, encodable, inl pad) = (at, pad.inside, rw pad.alone tt)
 block_contiguous g publication (f ∷ fs) position (at, encodable, inr run) =
     let place : position ≡ terms_since g f.term_id *ℤ g.term_length +ℤ pos run.offset = rw (← run.begins) at.place in
-    run_contiguous g (place_of g publication f) run.offset position (f ∷ fs) run.end at.since place encodable run.ends run.inside
+    run_contiguous g (block_ids g publication f) run.offset position (f ∷ fs) run.end at.since place encodable run.ends run.inside
 
 -- so do those of blocks
 pub blocks_contiguous : (g : Geometry) (publication : Publication) (position : ℤ) (blocks : List Block) → AreBlocksFrom g publication position blocks → AreContiguous g position (frames_of blocks)
