@@ -1,42 +1,73 @@
 -- What the book answers, and what stands in it then.
-use Rattle.std.proofs.Common.{false, ◌≡◌, ◌<◌, ◌+ℤ◌, ℕ, ℤ, pos, true, true≢false, List, ◌∷◌, Option, Some, None, Ok, length, IsTrue, IsFalse, refl, sym, ap, subst, ◌∙◌, arith, slice_get, slice_set, get_or, zero, suc, []}
+use Rattle.std.proofs.Common.{◌≡◌, ◌<◌, ◌+ℤ◌, ℕ, ℤ, pos, Bool, true, false, List, ◌∷◌, Option, Some, None, Result, Ok, Err, length, IsTrue, refl, sym, ap, subst, ◌∙◌, arith, slice_get, slice_set, get_or, [], ◌++◌}
+use Rattle.std.specs.Prelude.{IsSomeAnd, MatchBool, MatchOption, option_map}
 use Rattle.std.proofs.lemmas.Option.{slice_get_read}
 use Rattle.std.proofs.lemmas.Bool.Decides.{nat_tests}
 use Rattle.frame_core.specs.declared.block.Block.{Block}
+use Rattle.frame_core.specs.declared.refusal.Refusal.{Refusal}
+use Rattle.frame_core.specs.declared.refusal.Refusal.TheVariants.{UnknownRecording, NotActive, BadBlock, HistoryFull}
 use Rattle.frame_core.specs.Block.{covered}
-use Rattle.archive_model.specs.declared.command.Command.TheVariants.{Stop}
-use Rattle.archive_model.specs.declared.reply.Reply.TheVariants.{Stopped}
-use Rattle.archive_model.specs.State.{Recording, id_of, is_active, recorded_position}
-use Rattle.archive_model.specs.Descriptor.{is_negative}
-use Rattle.archive_model.specs.Commands.{frames_of, recorded_in}
-use Rattle.archive_model.specs.Acceptance.{BookState, Answers, Continue, recording_in, is_full, Of}
+use Rattle.frame_core.specs.Outcome.{Gives}
+use Rattle.archive_model.specs.declared.command.Command.TheVariants.{Append}
+use Rattle.archive_model.specs.declared.registration.Registration.{Registration}
+use Rattle.archive_model.specs.declared.reply.Reply.{Reply}
+use Rattle.archive_model.specs.declared.reply.Reply.TheVariants.{Settled}
+use Rattle.archive_model.specs.State.{Recording, id_of, is_active, recorded_position, register_of, registration_of}
+use Rattle.archive_model.specs.Register.{registration_in}
+use Rattle.archive_model.specs.Commands.{frames_of, recorded_in, reply_to}
+use Rattle.archive_model.specs.Acceptance.{BookState, Continue}
+use Rattle.archive_model.specs.Accepting.{Answers, has_room}
+use Rattle.archive_model.specs.Checks.{append_tests, checked, checks}
 use Rattle.archive_model.specs.Keyed.{find, change, Rise}
 use Rattle.archive_model.specs.Numbered.{IsPlaceOf}
 use Rattle.archive_model.specs.Kept.{Joins}
+use Rattle.archive_model.proofs.RegisterLemmas.{rise_push, rise_set}
+use Rattle.archive_model.proofs.StateLemmas.{found_registration}
 
-not_full : (b : BookState) → b.counted < b.limit → IsTrue (is_full b) → ⊥
-not_full b room full = grind (arith, nat_tests)
+-- what is found is what the register has
+registered_at : (b : BookState) (id : ℤ) (r : Recording) → find id_of id b.state.recordings ≡ Some r → registration_in (register_of b.state) id ≡ Some (registration_of r)
+registered_at b id r found = found_registration id b.state.recordings ∙ ap (option_map registration_of) found
 
-nothing : ⊥ → ⊥
-nothing h = h
+-- what an append is answered, by the tests over its recording
+append_answer : (b : BookState) (id : ℤ) (blocks : List Block) (r : Recording) (said : Bool) (result : Result Reply Refusal) → find id_of id b.state.recordings ≡ Some r → MatchBool said (Continue r blocks) (Continue r blocks → ⊥)
+    → Gives (λ (x : Reply). x) result (checked (append_tests (Some (registration_of r)) (has_room b) said) checks (Ok (reply_to b.state (Append id blocks)))) → Answers b (Append id blocks) result
+append_answer b id blocks r said result found says gives = (
+  said,
+  subst (λ (o : Option Recording). MatchBool said (IsSomeAnd o (λ x. Continue x blocks)) (IsSomeAnd o (λ x. Continue x blocks) → ⊥)) (sym found) says,
+  subst (λ (o : Option Registration). Gives (λ (x : Reply). x) result (checked (append_tests o (has_room b) said) checks (Ok (reply_to b.state (Append id blocks))))) (sym (registered_at b id r found)) gives,
+)
 
--- an active recording may be stopped
-pub accepts_stop : (b : BookState) (id timestamp : ℤ) (r : Recording) (position : ℤ) → is_negative timestamp ≡ false → recording_in b id ≡ Some r → is_active r ≡ true → b.counted < b.limit
-    → position ≡ recorded_position r → Answers b (Stop id timestamp) (Ok (Stopped position))
-accepts_stop b id timestamp r position time found active room stops =
-    let in_range : IsTrue (is_negative timestamp) → ⊥ = λ h. absurd (true≢false (sym h ∙ time)) in
-    let there : recording_in b id ≡ None → ⊥ = λ none. let clash : Some r ≡ None = sym found ∙ none in cc in
-    let runs : Of (recording_in b id) (λ x. IsFalse (is_active x)) → ⊥ =
-    λ h. let off : IsFalse (is_active r) = subst (λ (o : Option Recording). Of o (λ x. IsFalse (is_active x))) found h in grind (arith, active) in
-    let reply : Stopped position ≡ Stopped (recorded_in (recording_in b id)) = rw found (ap Stopped stops) in
-    ((nothing, (in_range, (there, (nothing, (runs, (nothing, (nothing, (nothing, (nothing, (nothing, (nothing, (nothing, (nothing, (nothing, (not_full b room, tt))))))))))))))), reply)
+pub append_unknown : (b : BookState) (id : ℤ) (blocks : List Block) → find id_of id b.state.recordings ≡ None → Answers b (Append id blocks) (Err UnknownRecording)
+append_unknown b id blocks none =
+    let gone : registration_in (register_of b.state) id ≡ None = found_registration id b.state.recordings ∙ ap (option_map registration_of) none in
+    (false, λ follow. subst (λ (o : Option Recording). IsSomeAnd o (λ x. Continue x blocks)) none follow, rw gone refl)
 
--- a recording that is changed under its id stays in order
+pub append_stopped : (b : BookState) (id : ℤ) (blocks : List Block) (r : Recording) (end : Option ℤ) → find id_of id b.state.recordings ≡ Some r → MatchOption end (Continue r blocks → ⊥) (λ z. Continue r blocks × (z ≡ recorded_position r +ℤ pos (covered (frames_of blocks))))
+    → is_active r ≡ false → Answers b (Append id blocks) (Err NotActive)
+append_stopped b id blocks r None found bad active = append_answer b id blocks r false (Err NotActive) found bad (rw active refl)
+append_stopped b id blocks r (Some end) found good active = append_answer b id blocks r true (Err NotActive) found good.0 (rw active refl)
+
+pub append_bad : (b : BookState) (id : ℤ) (blocks : List Block) (r : Recording) → find id_of id b.state.recordings ≡ Some r → is_active r ≡ true → (Continue r blocks → ⊥) → Answers b (Append id blocks) (Err BadBlock)
+append_bad b id blocks r found active bad = append_answer b id blocks r false (Err BadBlock) found bad (rw active refl)
+
+pub append_full : (b : BookState) (id : ℤ) (blocks : List Block) (r : Recording) → find id_of id b.state.recordings ≡ Some r → is_active r ≡ true → Continue r blocks → has_room b ≡ false → Answers b (Append id blocks) (Err HistoryFull)
+append_full b id blocks r found active next full = append_answer b id blocks r true (Err HistoryFull) found next (rw (active, full) refl)
+
+has_room_of : (b : BookState) → b.counted < b.limit → has_room b ≡ true
+has_room_of b room = grind (arith, nat_tests)
+
+pub append_settles : (b : BookState) (id : ℤ) (blocks : List Block) (place : ℕ) (end : ℤ) → Joins b id blocks place end → Answers b (Append id blocks) (Ok (Settled end))
+append_settles b id blocks place end joins =
+    let reply : Settled (recorded_in (find id_of id b.state.recordings) +ℤ pos (covered (frames_of blocks))) ≡ Settled end = rw joins.at.found (ap Settled (sym joins.end_is)) in
+    append_answer b id blocks joins.at.value true (Ok (Settled end)) joins.at.found joins.next (rw (joins.active, has_room_of b joins.room) (ap Ok reply))
+
+-- recordings stay in order where one is changed under its id, or one of the next id comes behind
 pub rising_set : (low : ℤ) (rs : List Recording) (place : ℕ) (r new : Recording) (next : ℤ) → Rise id_of low rs next → slice_get rs place ≡ Some r → id_of new ≡ id_of r
     → Rise id_of low (slice_set rs place new) next
-rising_set low [] place r new next rising gets same = rising
-rising_set low (x ∷ rs) zero r new next rising gets same = let is : x ≡ r = cc in let ids : id_of new ≡ id_of x = same ∙ ap id_of (sym is) in rw ids rising
-rising_set low (x ∷ rs) (suc place) r new next rising gets same = (rising.0, rising_set (id_of x +ℤ pos 1) rs place r new next rising.1 gets same)
+rising_set low rs place r new next rising gets same = rise_set id_of low next rs place r new rising gets same
+
+pub rising_push : (low : ℤ) (rs : List Recording) (r : Recording) (next : ℤ) → Rise id_of low rs next → id_of r ≡ next → Rise id_of low (rs ++ r ∷ []) (next +ℤ pos 1)
+rising_push low rs r next rising is = rise_push id_of low next rs r rising is
 
 -- what is read at a place
 pub read_at : (rs : List Recording) (place : ℕ) (r : Recording) → place < length rs → r ≡ get_or rs place r → slice_get rs place ≡ Some r
@@ -56,6 +87,12 @@ joins_at b id blocks place end r at is active next room ends =
 -- a recording at its place
 pub found_at : (id : ℤ) (rs : List Recording) (place : ℕ) (r : Recording) → IsPlaceOf id_of id rs place → r ≡ get_or rs place r → find id_of id rs ≡ Some r
 found_at id rs place r at is = at.found ∙ ap Some (stands id rs place r at is)
+
+-- the same of a book whose recordings are these
+pub found_in : (id : ℤ) (b : BookState) (rs shown : List Recording) (place : ℕ) (r : Recording) → IsPlaceOf id_of id shown place → shown ≡ rs → rs ≡ b.state.recordings → r ≡ get_or rs place r
+    → find id_of id b.state.recordings ≡ Some r
+found_in id b rs shown place r at same in_book is =
+    ap (find id_of id) (sym in_book) ∙ found_at id rs place r (subst (λ (xs : List Recording). IsPlaceOf id_of id xs place) same at) is
 
 -- to change the recording at its place is to change it under its id
 pub changed_at : (id : ℤ) (rs : List Recording) (place : ℕ) (r new : Recording) (f : Recording → Recording) → IsPlaceOf id_of id rs place → r ≡ get_or rs place r → new ≡ f r

@@ -4,6 +4,7 @@ pub mod ReplayLemmas
 pub mod ListLemmas
 pub mod HistoriesLemmas
 pub mod AcceptanceLemmas
+pub mod AnswerLemmas
 pub mod BookLemmas
 pub mod CommandsLemmas
 pub mod RegisterLemmas

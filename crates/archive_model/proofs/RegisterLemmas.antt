@@ -87,6 +87,10 @@ module _ {X : Type 0} (number : X → ℤ) where
   least_next low next [] rising = rising
   least_next low next (y ∷ ys) rising = let more = least_next (number y +ℤ pos 1) next ys rising.1 in omega (arith, ints, rising.0)
 
+  pub rise_length : (low next : ℤ) (xs : List X) → Rise number low xs next → (low +ℤ pos (length xs)) ≤ℤ next
+  rise_length low next [] rising = omega (arith, ints, rising)
+  rise_length low next (y ∷ ys) rising = let more = rise_length (number y +ℤ pos 1) next ys rising.1 in omega (arith, ints, rising.0)
+
   rise_at : (low next : ℤ) (xs : List X) (i : ℕ) (x : X) → Rise number low xs next → slice_get xs i ≡ Some x → low ≤ℤ number x
   rise_at low next [] i x rising gets = absurd cc
   rise_at low next (y ∷ ys) zero x rising gets = let same : number y ≡ number x = (let is : y ≡ x = cc in ap number is) in let first = rising.0 in omega (arith, ints)
@@ -255,30 +259,33 @@ keeps_added es next r keeps is laid =
 pub values_added : (es : List (ℤ × Registration)) (next : ℤ) (r : Registration) → values_of (es ++ (next, r) ∷ []) ≡ values_of es ++ r ∷ []
 values_added es next r = map-push (λ e. e.1) es (next, r)
 
--- the first recordings of a list are restarted
-abbrev pub restarted_first : ℕ → List Registration → List Registration
-restarted_first zero rs = rs
-restarted_first (suc i) [] = []
-restarted_first (suc i) (r ∷ rs) = restarted r ∷ restarted_first i rs
+-- a function is applied to the first values of a list
+module _ {X : Type 0} (f : X → X) where
+  abbrev pub first_made : ℕ → List X → List X
+  first_made zero xs = xs
+  first_made (suc i) [] = []
+  first_made (suc i) (x ∷ xs) = f x ∷ first_made i xs
 
-pub restarted_next : (i : ℕ) (rs : List Registration) (r new : Registration) → slice_get (restarted_first i rs) i ≡ Some r → new ≡ restarted r
-    → slice_set (restarted_first i rs) i new ≡ restarted_first (suc i) rs
-restarted_next zero [] r new gets is = refl
-restarted_next zero (x ∷ rs) r new gets is = let same : x ≡ r = cc in ap (λ (y : Registration). y ∷ rs) (is ∙ ap restarted (sym same))
-restarted_next (suc i) [] r new gets is = refl
-restarted_next (suc i) (x ∷ rs) r new gets is = ap (λ ys. restarted x ∷ ys) (restarted_next i rs r new gets is)
+  made_next : (i : ℕ) (xs : List X) (x new : X) → slice_get (first_made i xs) i ≡ Some x → new ≡ f x → slice_set (first_made i xs) i new ≡ first_made (suc i) xs
+  made_next zero [] x new gets is = refl
+  made_next zero (y ∷ xs) x new gets is = let same : y ≡ x = cc in ap (λ (z : X). z ∷ xs) (is ∙ ap f (sym same))
+  made_next (suc i) [] x new gets is = refl
+  made_next (suc i) (y ∷ xs) x new gets is = ap (λ ys. f y ∷ ys) (made_next i xs x new gets is)
 
-pub restarted_more : (es : List (ℤ × Registration)) (rs : List Registration) (i : ℕ) (r new : Registration) → values_of es ≡ restarted_first i rs → slice_get (values_of es) i ≡ Some r → new ≡ restarted r
-    → values_of (set_value_at es i new) ≡ restarted_first (i + 1) rs
-restarted_more es rs i r new done gets is =
-    let more : suc i ≡ i + 1 = omega arith in
-    values_set es i new ∙ ap (λ ys. slice_set ys i new) done ∙ restarted_next i rs r new (rw done at gets) is ∙ ap (λ k. restarted_first k rs) more
+  pub made_more : (i : ℕ) (xs ys : List X) (x new : X) → ys ≡ first_made i xs → slice_get ys i ≡ Some x → new ≡ f x → slice_set ys i new ≡ first_made (i + 1) xs
+  made_more i xs ys x new done gets is =
+      let more : suc i ≡ i + 1 = omega arith in
+      ap (λ zs. slice_set zs i new) done ∙ made_next i xs x new (rw done at gets) is ∙ ap (λ k. first_made k xs) more
 
-pub all_restarted : (i : ℕ) (rs : List Registration) → length rs ≤ i → restarted_first i rs ≡ map restarted rs
-all_restarted zero [] past = refl
-all_restarted zero (x ∷ rs) past = absurd (omega arith)
-all_restarted (suc i) [] past = refl
-all_restarted (suc i) (x ∷ rs) past = ap (λ ys. restarted x ∷ ys) (all_restarted i rs (omega arith))
+  pub all_made : (i : ℕ) (xs : List X) → length xs ≤ i → first_made i xs ≡ map f xs
+  all_made zero [] past = refl
+  all_made zero (x ∷ xs) past = absurd (omega arith)
+  all_made (suc i) [] past = refl
+  all_made (suc i) (x ∷ xs) past = ap (λ ys. f x ∷ ys) (all_made i xs (omega arith))
+
+pub restarted_more : (es : List (ℤ × Registration)) (rs : List Registration) (i : ℕ) (r new : Registration) → values_of es ≡ first_made restarted i rs → slice_get (values_of es) i ≡ Some r → new ≡ restarted r
+    → values_of (set_value_at es i new) ≡ first_made restarted (i + 1) rs
+restarted_more es rs i r new done gets is = values_set es i new ∙ made_more restarted i rs (values_of es) r new done gets is
 
 restart_is_kept : (r : Registration) (b : Bool) → (id_of (cond b (changed_by (Stop (negsuc 0)) r) r) ≡ id_of r) × (Laid r → Laid (cond b (changed_by (Stop (negsuc 0)) r) r))
 restart_is_kept r true = (refl, layout_kept (Stop (negsuc 0)) r)

@@ -151,7 +151,7 @@ unfolding is_start_position
 starts_low (pos p) term is = omega (arith, ints)
 starts_low (negsuc p) term is = absurd (true≢false (sym is))
 
-kept_fresh : (id : ℤ) (f : StartFields) → is_in_range f ≡ true → IsKept (fresh id f)
+pub kept_fresh : (id : ℤ) (f : StartFields) → is_in_range f ≡ true → IsKept (fresh id f)
 kept_fresh id f range =
     let first : ((is_layout f && is_start_position f.start_position f.term_length) && not (is_negative f.timestamp) ≡ true) × (is_channel f.channel ≡ true) = both range in
     let second : (is_layout f && is_start_position f.start_position f.term_length ≡ true) × (not (is_negative f.timestamp) ≡ true) = both first.0 in
@@ -180,7 +180,7 @@ blocks_encodable g publication position [] blocks = tt
 blocks_encodable g publication position (b ∷ bs) blocks =
     encodable_append b.frames (frames_of bs) (block_encodable g publication b.frames b.position blocks.0) (blocks_encodable g publication (end_position b) bs blocks.2)
 
-kept_appended : (r : Recording) (blocks : List Block) → IsKept r → Continue r blocks → is_active r ≡ true → IsKept (appended blocks r)
+pub kept_appended : (r : Recording) (blocks : List Block) → IsKept r → Continue r blocks → is_active r ≡ true → IsKept (appended blocks r)
 kept_appended r blocks kept next active = record {
   start = kept.start;
   term = kept.term;
@@ -193,7 +193,7 @@ kept_appended r blocks kept next active = record {
   stopped = λ off. absurd (true≢false (sym active ∙ off));
 }
 
-kept_stopped : (timestamp : ℤ) (r : Recording) → IsKept r → IsKept (stopped timestamp r)
+pub kept_stopped : (timestamp : ℤ) (r : Recording) → IsKept r → IsKept (stopped timestamp r)
 kept_stopped timestamp r kept = record {
   start = kept.start;
   term = kept.term;
@@ -204,7 +204,7 @@ kept_stopped timestamp r kept = record {
   stopped = λ off. refl;
 }
 
-kept_extended : (session_id : ℤ) (r : Recording) → IsKept r → IsKept (extended session_id r)
+pub kept_extended : (session_id : ℤ) (r : Recording) → IsKept r → IsKept (extended session_id r)
 kept_extended session_id r kept = record {
   start = kept.start;
   term = kept.term;
@@ -215,7 +215,7 @@ kept_extended session_id r kept = record {
   stopped = λ off. absurd (true≢false off);
 }
 
-kept_truncated : (r : Recording) (p : ℤ) → IsKept r → is_boundary_by (begins_frame p r) p (registration_of r) ≡ true → IsKept (truncated p r)
+pub kept_truncated : (r : Recording) (p : ℤ) → IsKept r → is_boundary_by (begins_frame p r) p (registration_of r) ≡ true → IsKept (truncated p r)
 kept_truncated r p kept cut =
     let left = truncation r p kept cut in
     record {
@@ -247,7 +247,7 @@ kept_purged r p kept base =
       stopped = λ off. kept.stopped off ∙ sym left.ends;
     }
 
-kept_restarted : (r : Recording) (b : Bool) → IsKept r → IsKept (cond b (stopped (negsuc 0) r) r)
+pub kept_restarted : (r : Recording) (b : Bool) → IsKept r → IsKept (cond b (stopped (negsuc 0) r) r)
 kept_restarted r true kept = kept_stopped (negsuc 0) r kept
 kept_restarted r false kept = kept
 

@@ -1,5 +1,5 @@
 -- Which commands an archive accepts, and what it answers. docs/CONTROL.md, "Requests" and "Refusals".
-use Rattle.std.specs.Prelude.{◌≡◌, ℤ, Bool, true, List, IsTrue, IsSomeAnd, MatchBool, Option, Some, None, Result, Ok, nat_lt}
+use Rattle.std.specs.Prelude.{◌≡◌, ℤ, Bool, true, false, List, IsTrue, IsSomeAnd, MatchBool, Option, Some, None, Result, Ok, nat_lt}
 use Rattle.frame_core.specs.declared.block.Block.{Block}
 use Rattle.frame_core.specs.declared.refusal.Refusal.{Refusal}
 use Rattle.frame_core.specs.Outcome.{Gives}
@@ -48,6 +48,17 @@ Says s (Extend f) said = said ≡ true
 Says s (PurgeSegments id position) said = said ≡ true
 Says s (PurgeRecording id) said = said ≡ true
 Says s Restart said = said ≡ true
+
+-- a new recording's channel and the frames of an append are copied
+abbrev pub takes_memory : Command → Bool
+takes_memory (Start f) = true
+takes_memory (Append id blocks) = true
+takes_memory (Stop id timestamp) = false
+takes_memory (Extend f) = false
+takes_memory (Truncate id position) = false
+takes_memory (PurgeSegments id position) = false
+takes_memory (PurgeRecording id) = false
+takes_memory Restart = false
 
 -- A command is accepted where each of its tests holds.
 abbrev pub Accepts : BookState → Command → Type 0

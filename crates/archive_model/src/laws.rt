@@ -1,15 +1,18 @@
 //! Laws of the definitions, each the contract of a function that does nothing.
 
-ghost use Rattle.std.specs.Prelude.{◌≡◌, ◌≤ℤ◌, ◌<ℤ◌, ◌++◌, ℕ, ℤ, pos, IsFalse, IsSomeAnd, IsTrue, List, Some};
+ghost use Rattle.std.specs.Prelude.{◌≡◌, ◌≢◌, ◌↔◌, ◌≤ℤ◌, ◌<ℤ◌, ◌++◌, ℕ, ℤ, pos, Err, IsFalse, IsSomeAnd, IsTrue, List, Ok, Some};
 ghost use Rattle.frame_core.specs.declared.block.Block.{Block};
+ghost use Rattle.frame_core.specs.declared.refusal.Refusal.{Refusal};
+ghost use Rattle.frame_core.specs.declared.refusal.Refusal.TheVariants.{NoMemory};
 ghost use Rattle.archive_model.specs.declared.command.Command.{Command};
+ghost use Rattle.archive_model.specs.declared.reply.Reply.{Reply};
 ghost use Rattle.archive_model.specs.State.{Recording as Recorded, State, empty, id_of, recorded_position, register_of, registration_of};
 ghost use Rattle.archive_model.specs.Keyed.{find, Rise};
 ghost use Rattle.archive_model.specs.Replay.{begins_frame, placed, placed_frames, replayed};
-ghost use Rattle.archive_model.specs.Commands.{after, after_all, appended, frames_of, purged, register_after, truncated};
+ghost use Rattle.archive_model.specs.Commands.{after, after_all, appended, frames_of, purged, register_after, reply_to, truncated};
 ghost use Rattle.archive_model.specs.Histories.{new_book};
 ghost use Rattle.archive_model.specs.Acceptance.{BookState};
-ghost use Rattle.archive_model.specs.Accepting.{Accepts};
+ghost use Rattle.archive_model.specs.Accepting.{Accepts, Answers};
 ghost use Rattle.archive_model.specs.Checks.{is_boundary_by};
 ghost use Rattle.archive_model.specs.Register.{is_later_base};
 ghost use Rattle.archive_model.specs.WellFormed.{AreAccepted, IsKept, IsWell, cuts};
@@ -65,6 +68,15 @@ pub fn accepted_commands_make_well_formed_states()
 pub fn the_register_follows_the_state()
     ensures { (b : BookState) (c : Command) → IsWell b.state → Accepts b c →
         register_of (after b.state c) ≡ register_after b.state c (register_of b.state) }
+{}
+
+/// An answer Ok says that the command is accepted and replied to, and an accepted command may be answered so; a refusal,
+/// but for want of memory, says that the command is not accepted.
+pub fn an_answer_says_whether_a_command_is_accepted()
+    ensures ok { (b : BookState) (c : Command) (reply : Reply) →
+        Answers b c (Ok reply) ↔ (Accepts b c × (reply ≡ reply_to b.state c)) }
+    ensures refused { (b : BookState) (c : Command) (refusal : Refusal) → refusal ≢ NoMemory →
+        Answers b c (Err refusal) → Accepts b c → ⊥ }
 {}
 
 /// A truncation at a boundary ends at its position.

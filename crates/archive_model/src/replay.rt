@@ -82,7 +82,7 @@ fn is_at(at: u64, position: &i64) -> bool
 }
 
 /// Whether a position lies before a bound.
-fn is_below(at: u64, bound: &i64) -> bool
+pub(crate) fn is_below(at: u64, bound: &i64) -> bool
     ensures below { result ≡ int_lt (pos at) bound.now }
     ensures small { IsTrue result → at < 2 ^ 63 }
 {

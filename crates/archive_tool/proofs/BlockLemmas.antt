@@ -1,24 +1,29 @@
--- A block that is written and settled at once.
-use Rattle.std.proofs.Common.{◌≡◌, ◌+ℤ◌, ℕ, ℤ, pos, true, false, List, [], ◌∷◌, ◌++◌, Option, Some, None, Result, Ok, Err, refl, sym, ap, subst, ◌∙◌, inl, inr, IsTrue, IsFalse, is_some, OnOk, OnErr}
+-- A block that is read, written and settled at once.
+use Rattle.std.proofs.Common.{◌≡◌, ◌+ℤ◌, ℕ, ℤ, pos, Bool, true, false, List, [], ◌∷◌, ◌++◌, Option, Some, None, Result, Ok, Err, refl, sym, ap, subst, ◌∙◌, true≢false, IsTrue, is_some, OnOk, OnErr}
+use Rattle.std.specs.Prelude.{IsSomeAnd, if◌then◌else◌, option_map}
 use Rattle.std.proofs.lemmas.List.{append-nil}
 use Rattle.frame_core.specs.declared.block.Block.{Block}
 use Rattle.frame_core.specs.declared.refusal.Refusal.{Refusal}
-use Rattle.frame_core.specs.declared.refusal.Refusal.TheVariants.{UnknownRecording, NotActive, HistoryFull, StaleSession, BadBlock, NeedSettle, Broken, NoMemory}
+use Rattle.frame_core.specs.declared.refusal.Refusal.TheVariants.{UnknownRecording, NotActive, HistoryFull, StaleSession, BadBlock, NoMemory}
 use Rattle.frame_core.specs.Block.{end_position, covered, AreBlock}
 use Rattle.frame_core.specs.Datagram.{IsDatagram}
 use Rattle.archive_model.specs.declared.command.Command.TheVariants.{Append}
 use Rattle.archive_model.specs.declared.reply.Reply.{Reply}
 use Rattle.archive_model.specs.declared.reply.Reply.TheVariants.{Settled}
 use Rattle.archive_model.specs.Keyed.{find, change}
-use Rattle.archive_model.specs.State.{Recording, is_active, recorded_position, geometry_of}
+use Rattle.archive_model.specs.State.{Recording, is_active, recorded_position, geometry_of, register_of, registration_of}
+use Rattle.archive_model.specs.Register.{registration_in}
 use Rattle.archive_model.specs.Commands.{recorded_in, reply_to}
-use Rattle.archive_model.specs.Acceptance.{NoneHolds, ComesFirst, before, checks, recording_in, is_full, book_after, BookState, Continue, Of, Answers, rules_of}
+use Rattle.archive_model.specs.Acceptance.{recording_in, book_after, BookState, Continue}
+use Rattle.archive_model.specs.Accepting.{Accepts, Answers, has_room}
+use Rattle.archive_model.specs.Checks.{checked, checks, passes}
+use Rattle.archive_model.proofs.AnswerLemmas.{answer_accepts, refusal_denies}
+use Rattle.archive_model.proofs.StateLemmas.{found_registration}
 use Rattle.control_core.specs.declared.callers.RecorderSession.{RecorderSession}
 use Rattle.control_core.specs.declared.callers.Written.{Written}
 use Rattle.control_core.specs.Control.{Control, session_number, with_written, written_to}
-use Rattle.control_core.specs.Rules.{HoldsOf, session_rules, write_rules, settle_rules, Continues, ContinuesAt}
-use Rattle.control_core.specs.Calls.{BlockEnds, BytesEnd, IsReadAs, OrNoMemory, geometry_in, session_geometry, after_write, after_settle, recording_of}
-use Rattle.archive_tool.proofs.RulesLemmas.{none_all, none-append}
+use Rattle.control_core.specs.Rules.{ContinuesAt, SaysBlock, session_tests, settle_tests, write_tests}
+use Rattle.control_core.specs.Calls.{BlockEnds, BytesEnd, IsReadAs, OrNoMemory, ReadEnds, session_geometry, after_write, after_settle, recording_of}
 use Rattle.control_core.proofs.ChangeLemmas.{find-change, changed_back}
 
 -- nothing is written where there is none
@@ -30,114 +35,108 @@ is_unwritten (Some written) none = let no : true ≡ false = none in cc
 abbrev pub written_of : Block → Option Written
 written_of b = Some (record { first = b.position; last = end_position b })
 
-module _ (a : Control) (s : RecorderSession) (r : Recording) (works : a.is_broken ≡ false) (there : recording_in a.book s.recording ≡ Some r) (active : is_active r ≡ true) where
-  never_of : (t : RecorderSession) → recording_in a.book t.recording ≡ Some r → (refusal : Refusal) → session_rules a (Some t) refusal → ⊥
-  never_of t here Broken holds = let is : a.is_broken ≡ true = holds in let no : true ≡ false = sym is ∙ works in cc
-  never_of t here UnknownRecording holds = let no : Some r ≡ None = sym here ∙ holds in cc
-  never_of t here NotActive holds = let is : is_active r ≡ false = subst (λ o. HoldsOf o (λ x. IsFalse (is_active x))) here holds in let no : true ≡ false = sym active ∙ is in cc
-  never_of t here StaleSession holds = let no : Some t ≡ None = holds in cc
-  never_of t here _ holds = holds
+-- how a line of bytes ends, where the session that it names is this one
+abbrev pub BytesAt : Control → ℤ → List ℕ → Option RecorderSession → Result Reply Refusal → Control → Type 0
+BytesAt a session bytes found outcome new =
+    (read : Result Block Refusal) × (IsTrue (passes (session_tests a found) checks) → IsReadAs (session_geometry a found) bytes read)
+    × ReadEnds a session (checked (session_tests a found) checks read) outcome new
 
-  never_session : (refusal : Refusal) → session_rules a (Some s) refusal → ⊥
-  never_session refusal holds = never_of s there refusal holds
+-- how a block ends, where the session is this one, and that one once the block is written
+abbrev pub BlockAt : Control → ℤ → Block → Option RecorderSession → Option RecorderSession → Result Reply Refusal → Control → Type 0
+BlockAt a session b found later outcome new =
+    let written = after_write a session b in
+    let to_settle = settle_tests written later in
+    (said : Bool) × SaysBlock a found b said
+    × (outcome ≡ checked (write_tests a found said) checks (checked to_settle checks (Ok (Settled (end_position b)))))
+    × (new ≡ if passes (write_tests a found said) checks then if passes to_settle checks then after_settle written session (b ∷ []) else written else a)
 
-  -- no rule of the session holds
-  pub none_session : NoneHolds (session_rules a (Some s)) checks
-  none_session = none_all (session_rules a (Some s)) never_session checks
+module _ (a : Control) (session : ℤ) (bytes : List ℕ) (works : a.is_broken ≡ false) where
+  refused_by_session : (found : Option RecorderSession) (refusal : Refusal) → find session_number session a.sessions ≡ found → passes (session_tests a found) checks ≡ false
+      → checked {X = Block} (session_tests a found) checks (Err refusal) ≡ Err refusal → BytesEnd a session bytes (Err refusal) a
+  refused_by_session found refusal is off first =
+      subst (λ (o : Option RecorderSession). BytesAt a session bytes o (Err refusal) a) (sym is) (Err refusal, λ pass. absurd (true≢false (sym pass ∙ off)), rw first (refl, refl))
 
-  -- bytes that are read as a block end as the block does
-  pub bytes_end : (session : ℤ) (b : Block) (found : find session_number session a.sessions ≡ Some s) (bytes : List ℕ) → IsDatagram bytes b.frames × AreBlock (geometry_of r.descriptor) b.frames b.position → (outcome : Result Reply Refusal) (new : Control) → BlockEnds a session b outcome new → BytesEnd a session bytes outcome new
-  bytes_end session b found bytes read outcome new ends =
-      let none = subst (λ o. NoneHolds (session_rules a o) checks) (sym found) none_session in
-      let terms : session_geometry a (find session_number session a.sessions) ≡ Some (geometry_of r.descriptor) = ap (session_geometry a) found ∙ ap geometry_in there in
-      let is_read : IsReadAs (session_geometry a (find session_number session a.sessions)) bytes (Ok b) = subst (λ o. IsReadAs o bytes (Ok b)) (sym terms) read in
-      inr (none, (Ok b, is_read, ends))
+  pub bytes_stale : find session_number session a.sessions ≡ None → BytesEnd a session bytes (Err StaleSession) a
+  bytes_stale none = refused_by_session None StaleSession none (rw works refl) (rw works refl)
 
-  module _ (session : ℤ) (b : Block) (found : find session_number session a.sessions ≡ Some s) where
-    -- a block that doesn't continue the recording
-    pub block_bad : (Continues a s b → ⊥) → BlockEnds a session b (Err BadBlock) a
-    block_bad bad =
-        let first : ComesFirst (write_rules a (Some s) b) BadBlock = (bad, none_all (session_rules a (Some s)) never_session (before BadBlock checks)) in
-        inl (subst (λ o. ComesFirst (write_rules a o b) BadBlock) (sym found) first, refl)
+  module _ (s : RecorderSession) (found : find session_number session a.sessions ≡ Some s) where
+    pub bytes_unknown : recording_in a.book s.recording ≡ None → BytesEnd a session bytes (Err UnknownRecording) a
+    bytes_unknown gone = refused_by_session (Some s) UnknownRecording found (rw (works, gone) refl) (rw (works, gone) refl)
 
-    module _ (continues : Continues a s b) where
-      early : NoneHolds (write_rules a (Some s) b) (before NeedSettle checks)
-      early = none-append (write_rules a (Some s) b) (before BadBlock checks) (BadBlock ∷ []) (none_all (session_rules a (Some s)) never_session (before BadBlock checks)) ((λ bad. bad continues), tt)
+    module _ (r : Recording) (there : recording_in a.book s.recording ≡ Some r) where
+      pub bytes_stopped : is_active r ≡ false → BytesEnd a session bytes (Err NotActive) a
+      bytes_stopped stopped = refused_by_session (Some s) NotActive found (rw (works, there, stopped) refl) (rw (works, there, stopped) refl)
 
-      -- what was written before has to be settled first
-      pub block_waits : IsTrue (is_some s.written) → BlockEnds a session b (Err NeedSettle) a
-      block_waits waits =
-          let first : ComesFirst (write_rules a (Some s) b) NeedSettle = (waits, early) in
-          inl (subst (λ o. ComesFirst (write_rules a o b) NeedSettle) (sym found) first, refl)
+      module _ (active : is_active r ≡ true) (b : Block) (read : IsDatagram bytes b.frames × AreBlock (geometry_of r.descriptor) b.frames b.position) where
+        -- bytes that are read as a block end as the block does
+        bytes_end : (outcome : Result Reply Refusal) (new : Control) → BlockEnds a session b outcome new → BytesEnd a session bytes outcome new
+        bytes_end outcome new ends =
+            let geometry : session_geometry a (Some s) ≡ Some (geometry_of r.descriptor) = rw there refl in
+            let is_read : IsReadAs (session_geometry a (Some s)) bytes (Ok b) = rw geometry read in
+            let gone_on : checked {X = Block} (session_tests a (Some s)) checks (Ok b) ≡ Ok b = rw (works, there, active) refl in
+            subst (λ (o : Option RecorderSession). BytesAt a session bytes o outcome new) (sym found) (Ok b, λ pass. is_read, rw gone_on ends)
 
-      module _ (none_written : s.written ≡ None) where
-        never_write : (refusal : Refusal) → write_rules a (Some s) b refusal → ⊥
-        never_write BadBlock holds = holds continues
-        never_write NeedSettle holds = let is : is_some s.written ≡ true = holds in let no : false ≡ true = sym (ap is_some none_written) ∙ is in cc
-        never_write refusal holds = never_session refusal holds
+        pub bytes_bad : (ContinuesAt r s b → ⊥) → BytesEnd a session bytes (Err BadBlock) a
+        bytes_bad bad =
+            let says : SaysBlock a (Some s) b false = λ follows. bad (subst (λ (o : Option Recording). IsSomeAnd o (λ x. ContinuesAt x s b)) there follows) in
+            bytes_end (Err BadBlock) a
+            (subst (λ (o : Option RecorderSession). BlockAt a session b o (find session_number session (after_write a session b).sessions) (Err BadBlock) a) (sym found)
+            (false, says, rw (works, there, active) refl, rw (works, there, active) refl))
 
-        may_write : NoneHolds (write_rules a (find session_number session a.sessions) b) checks
-        may_write = subst (λ o. NoneHolds (write_rules a o b) checks) (sym found) (none_all (write_rules a (Some s) b) never_write checks)
+        module _ (continues : ContinuesAt r s b) (unwritten : s.written ≡ None) where
+          says_so : SaysBlock a (Some s) b true
+          says_so = subst (λ (o : Option Recording). IsSomeAnd o (λ x. ContinuesAt x s b)) (sym there) continues
 
-        found_written : find session_number session (change session_number session (with_written (written_of b)) a.sessions) ≡ Some (with_written (written_of b) s)
-        found_written = find-change session_number session (with_written (written_of b)) a.sessions s (λ y. refl) found
+          later : find session_number session (after_write a session b).sessions ≡ Some (with_written (written_of b) s)
+          later = find-change session_number session (with_written (written_of b)) a.sessions s (λ y. refl) found
 
-        -- the block is written, and the history has no room for it
-        pub block_full : is_full a.book ≡ true → BlockEnds a session b (Err HistoryFull) (after_write a session b)
-        block_full full =
-            let written = after_write a session b in
-            let first : ComesFirst (settle_rules written (Some (with_written (written_of b) s))) HistoryFull = (full, none_all (session_rules a (Some (with_written (written_of b) s))) (never_of (with_written (written_of b) s) there) (before HistoryFull checks)) in
-            inr (may_write, subst (λ o. ComesFirst (settle_rules written o) HistoryFull) (sym found_written) first, refl)
+          -- a block that is written ends as settling does
+          ends_so : (outcome : Result Reply Refusal) (new : Control) → BlockAt a session b (Some s) (Some (with_written (written_of b) s)) outcome new → BytesEnd a session bytes outcome new
+          ends_so outcome new ends =
+              let at : BlockAt a session b (Some s) (find session_number session (after_write a session b).sessions) outcome new =
+              subst (λ (o : Option RecorderSession). BlockAt a session b (Some s) o outcome new) (sym later) ends in
+              bytes_end outcome new (subst (λ (o : Option RecorderSession). BlockAt a session b o (find session_number session (after_write a session b).sessions) outcome new) (sym found) at)
 
-        module _ (room : is_full a.book ≡ false) where
-          never_settle : (refusal : Refusal) → settle_rules (after_write a session b) (Some (with_written (written_of b) s)) refusal → ⊥
-          never_settle HistoryFull holds = let is : is_full a.book ≡ true = holds in let no : true ≡ false = sym is ∙ room in cc
-          never_settle refusal holds = never_of (with_written (written_of b) s) there refusal holds
+          -- the block is written, and the history has no room for it
+          pub bytes_full : has_room a.book ≡ false → BytesEnd a session bytes (Err HistoryFull) (after_write a session b)
+          bytes_full full = ends_so (Err HistoryFull) (after_write a session b) (true, says_so, rw (works, there, active, unwritten, full) refl, rw (works, there, active, unwritten, full) refl)
 
-          may_settle : NoneHolds (settle_rules (after_write a session b) (find session_number session (change session_number session (with_written (written_of b)) a.sessions))) checks
-          may_settle = subst (λ o. NoneHolds (settle_rules (after_write a session b) o) checks) (sym found_written) (none_all (settle_rules (after_write a session b) (Some (with_written (written_of b) s))) never_settle checks)
+          module _ (room : has_room a.book ≡ true) where
+            settled_as : record a { book = book_after a.book (Append s.recording (b ∷ [])) } ≡ after_settle (after_write a session b) session (b ∷ [])
+            settled_as =
+                let back : change session_number session (with_written None) (change session_number session (with_written (written_of b)) a.sessions) ≡ a.sessions =
+                changed_back session_number session (with_written (written_of b)) (with_written None) a.sessions s (λ y. refl) (ap (λ w. with_written w s) (sym unwritten)) found in
+                let same : recording_of (find session_number session (change session_number session (with_written (written_of b)) a.sessions)) ≡ s.recording = ap recording_of later in
+                ap (λ id. record a { book = book_after a.book (Append id (b ∷ [])) }) (sym same)
+                ∙ ap (λ xs. record a { book = book_after a.book (Append (recording_of (find session_number session (change session_number session (with_written (written_of b)) a.sessions))) (b ∷ [])); sessions = xs }) (sym back)
 
-          settled_as : record a { book = book_after a.book (Append s.recording (b ∷ [])) } ≡ after_settle (after_write a session b) session (b ∷ [])
-          settled_as =
-              let back : change session_number session (with_written None) (change session_number session (with_written (written_of b)) a.sessions) ≡ a.sessions =
-              changed_back session_number session (with_written (written_of b)) (with_written None) a.sessions s (λ y. refl) (ap (λ w. with_written w s) (sym none_written)) found in
-              let same : recording_of (find session_number session (change session_number session (with_written (written_of b)) a.sessions)) ≡ s.recording = ap recording_of found_written in
-              ap (λ id. record a { book = book_after a.book (Append id (b ∷ [])) }) (sym same)
-              ∙ ap (λ xs. record a { book = book_after a.book (Append (recording_of (find session_number session (change session_number session (with_written (written_of b)) a.sessions))) (b ∷ [])); sessions = xs }) (sym back)
+            bytes_settle : BytesEnd a session bytes (Ok (Settled (end_position b))) (record a { book = book_after a.book (Append s.recording (b ∷ [])) })
+            bytes_settle =
+                let writes : passes (write_tests a (Some s) true) checks ≡ true = rw (works, there, active, unwritten) refl in
+                let settles : passes (settle_tests (after_write a session b) (Some (with_written (written_of b) s))) checks ≡ true = rw (works, there, active, room) refl in
+                ends_so (Ok (Settled (end_position b))) _ (true, says_so, rw (works, there, active, unwritten, room) refl, rw (writes, settles) settled_as)
 
-          -- the block is written and settled
-          pub block_settles : BlockEnds a session b (Ok (Settled (end_position b))) (record a { book = book_after a.book (Append s.recording (b ∷ [])) })
-          block_settles = (may_write, may_settle, refl, settled_as)
+            starts_there : b.position ≡ recorded_position r
+            starts_there = continues.1 ∙ ap (λ w. written_to w (recorded_position r)) unwritten
 
-          starts_there : b.position ≡ recorded_position r
-          starts_there = (subst (λ o. HoldsOf o (λ x. ContinuesAt x s b)) there continues).1 ∙ ap (λ w. written_to w (recorded_position r)) none_written
+            -- the book accepts it, and answers where it ends
+            accepts : Accepts a.book (Append s.recording (b ∷ []))
+            accepts =
+                let known : registration_in (register_of a.book.state) s.recording ≡ Some (registration_of r) = found_registration s.recording a.book.state.recordings ∙ ap (option_map registration_of) there in
+                let next : Continue r (b ∷ []) = (λ none. cc, (continues.0, starts_there, tt)) in
+                (true, subst (λ (o : Option Recording). IsSomeAnd o (λ x. Continue x (b ∷ []))) (sym there) next, rw (known, active, room) refl)
 
-          never_append : (refusal : Refusal) → rules_of a.book (Append s.recording (b ∷ [])) refusal → ⊥
-          never_append UnknownRecording holds = let no : Some r ≡ None = sym there ∙ holds in cc
-          never_append NotActive holds = let is : is_active r ≡ false = subst (λ o. Of o (λ x. IsFalse (is_active x))) there holds in let no : true ≡ false = sym active ∙ is in cc
-          never_append BadBlock holds =
-              let block = subst (λ o. HoldsOf o (λ x. ContinuesAt x s b)) there continues in
-              let refused : Continue r (b ∷ []) → ⊥ = subst (λ o. Of o (λ x. Continue x (b ∷ []) → ⊥)) there holds in
-              refused (λ none. cc, (block.0, starts_there, tt))
-          never_append HistoryFull holds = let is : is_full a.book ≡ true = holds in let no : true ≡ false = sym is ∙ room in cc
-          never_append _ holds = holds
+            append_reply : reply_to a.book.state (Append s.recording (b ∷ [])) ≡ Settled (end_position b)
+            append_reply =
+                let start : recorded_in (recording_in a.book s.recording) ≡ b.position = ap recorded_in there ∙ sym starts_there in
+                ap (λ p. Settled (p +ℤ pos (covered (b.frames ++ [])))) start ∙ ap (λ fs. Settled (b.position +ℤ pos (covered fs))) (append-nil b.frames)
 
-          -- the book refuses it for want of memory alone
-          pub append_refused : (refusal : Refusal) → Answers a.book (Append s.recording (b ∷ [])) (Err refusal) → refusal ≡ NoMemory
-          append_refused NoMemory first = refl
-          append_refused refusal first = absurd (never_append refusal first.0)
-
-          -- the book answers where the block ends
-          pub append_reply : reply_to a.book.state (Append s.recording (b ∷ [])) ≡ Settled (end_position b)
-          append_reply =
-              let start : recorded_in (recording_in a.book s.recording) ≡ b.position = ap recorded_in there ∙ sym starts_there in
-              ap (λ p. Settled (p +ℤ pos (covered (b.frames ++ [])))) start ∙ ap (λ fs. Settled (b.position +ℤ pos (covered fs))) (append-nil b.frames)
-
-          -- what the book answers to it is what the line is answered
-          pub append_ends : (bytes : List ℕ) → IsDatagram bytes b.frames × AreBlock (geometry_of r.descriptor) b.frames b.position → (result : Result Reply Refusal) (new : BookState) → Answers a.book (Append s.recording (b ∷ [])) result → OnOk result (new ≡ book_after a.book (Append s.recording (b ∷ []))) → OnErr result (new ≡ a.book) → OrNoMemory a (BytesEnd a session bytes) result (record a { book = new })
-          append_ends bytes read (Ok reply) new answer ok err =
-              let told : reply ≡ Settled (end_position b) = answer.1 ∙ append_reply in
-              let settles = bytes_end session b found bytes read (Ok (Settled (end_position b))) (record a { book = book_after a.book (Append s.recording (b ∷ [])) }) block_settles in
-              subst (λ told. BytesEnd a session bytes (Ok told) (record a { book = new })) (sym told) (subst (λ book. BytesEnd a session bytes (Ok (Settled (end_position b))) (record a { book = book })) (sym ok) settles)
-          append_ends bytes read (Err NoMemory) new answer ok err = ap (λ book. record a { book = book }) err
-          append_ends bytes read (Err refusal) new answer ok err = absurd (never_append refusal answer.0)
+            -- what the book answers to it is what the line is answered
+            pub bytes_appended : (result : Result Reply Refusal) (new : BookState) → Answers a.book (Append s.recording (b ∷ [])) result → OnOk result (new ≡ book_after a.book (Append s.recording (b ∷ [])))
+                → OnErr result (new ≡ a.book) → OrNoMemory a (BytesEnd a session bytes) result (record a { book = new })
+            bytes_appended (Ok reply) new answer ok err =
+                let told : reply ≡ Settled (end_position b) = (answer_accepts a.book (Append s.recording (b ∷ [])) reply answer).1 ∙ append_reply in
+                subst (λ (x : Reply). BytesEnd a session bytes (Ok x) (record a { book = new })) (sym told)
+                (subst (λ (book : BookState). BytesEnd a session bytes (Ok (Settled (end_position b))) (record a { book = book })) (sym ok) bytes_settle)
+            bytes_appended (Err NoMemory) new answer ok err = ap (λ (book : BookState). record a { book = book }) err
+            bytes_appended (Err refusal) new answer ok err = absurd (refusal_denies a.book (Append s.recording (b ∷ [])) refusal (λ same. cc) answer accepts)

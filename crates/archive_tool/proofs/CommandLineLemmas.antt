@@ -1,5 +1,5 @@
 -- Which command words ask for that are a command's word alone.
-use Rattle.std.proofs.Common.{◌≡◌, ◌∙◌, ◌⊎◌, inl, inr, refl, ap, subst, ℕ, true, List, [], ◌∷◌, Option, Some, None, Result, Ok, Err, option_map, codes}
+use Rattle.std.proofs.Common.{◌≡◌, ◌∙◌, inl, inr, refl, ap, subst, ℕ, true, List, [], ◌∷◌, Option, Some, None, Result, Ok, Err, option_map, codes}
 use Rattle.std.specs.Prelude.{IfErr}
 use Rattle.clap.specs.Words.{App, FailsBy, HasKind, HasMatchesOf, Kinds, Row, fault_of, is_simple_and_free, kind_of, Text, is_simple, subcommand_name_of, subcommand_of, subcommand_rows_of, takes}
 use Rattle.clap.specs.declared.error.Error.{Error}

@@ -1,8 +1,7 @@
 mod PartsLemmas
-mod RulesLemmas
+mod StartLemmas
 mod ListingLemmas
 mod BlockLemmas
-mod ReplayEndsLemmas
 mod PollLemmas
 mod TranscriptLemmas
 mod ProgressLemmas

@@ -1,6 +1,5 @@
 -- The program's command line, and how it ends: docs/CONTROL.md, "The program".
 use Rattle.std.specs.Prelude.{◌≡◌, ◌⊎◌, ℕ, true, List, [], ◌∷◌, Option, Some, None, codes}
-use Rattle.std.specs.declared.io.ErrorKind.{ErrorKind as IoErrorKind}
 use Rattle.std.specs.declared.io.ErrorKind.TheVariants as io
 use Rattle.clap.specs.Simple.{on_top}
 use Rattle.clap.specs.Words.{App, HasMatchesOf, IsAmong, Kinds, fault_of, new_app, subcommand_name_of, with_subcommand}

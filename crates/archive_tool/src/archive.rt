@@ -160,7 +160,7 @@ impl Archive {
         if seat.written.is_some() {
             return Err(Refusal::NeedSettle);
         }
-        if self.book.is_full() {
+        if !self.book.has_room() {
             let first = block.position;
             self.callers
                 .set_written(session, Some(Written { first, last }));

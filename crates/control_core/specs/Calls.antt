@@ -1,5 +1,5 @@
 -- What each call is answered, and the control state after it. docs/CONTROL.md, "Requests".
-use Rattle.std.specs.Prelude.{◌≡◌, ◌&&◌, ◌||◌, ◌⊎◌, ◌+ℤ◌, ◌++◌, ℤ, pos, negsuc, Bool, not, ℕ, List, [], ◌∷◌, Option, Some, None, Result, Ok, Err, map, filter, take, int_le, unsigned_abs, if◌then◌else◌}
+use Rattle.std.specs.Prelude.{◌≡◌, ◌&&◌, ◌||◌, ◌+ℤ◌, ◌++◌, ℤ, pos, negsuc, Bool, not, ℕ, List, [], ◌∷◌, IsTrue, Option, Some, None, Result, Ok, Err, map, filter, take, int_le, unsigned_abs, if◌then◌else◌}
 use Rattle.std.specs.Int.{int_min}
 use Rattle.std.specs.Ordering.{int_eq}
 use Rattle.frame_core.specs.declared.block.Block.{Block}
@@ -17,12 +17,13 @@ use Rattle.archive_model.specs.declared.reply.Reply.{Reply}
 use Rattle.archive_model.specs.declared.reply.Reply.TheVariants.{Started, Settled, Recordings, ReplayOpened, Polled}
 use Rattle.archive_model.specs.Keyed.{find, change}
 use Rattle.archive_model.specs.State.{Recording, is_active, recorded_position, geometry_of}
-use Rattle.archive_model.specs.Acceptance.{Rules, NoneHolds, ComesFirst, checks, book_after, recording_in}
+use Rattle.archive_model.specs.Acceptance.{book_after, recording_in}
+use Rattle.archive_model.specs.Checks.{Tests, checked, checks, passes}
 use Rattle.archive_model.specs.Replay.{polled}
 use Rattle.control_core.specs.declared.callers.RecorderSession.{RecorderSession}
 use Rattle.control_core.specs.declared.callers.OpenReplay.{OpenReplay}
 use Rattle.control_core.specs.Control.{Control, session_number, replay_number, last_number, with_written, moved_to}
-use Rattle.control_core.specs.Rules.{session_rules, start_rules, list_rules, write_rules, settle_rules, open_rules, opening_position, poll_rules}
+use Rattle.control_core.specs.Rules.{SaysBlock, session_tests, start_tests, list_tests, write_tests, settle_tests, open_tests, opening_position, poll_tests, written_in}
 
 -- what a call on some state may end with: its answer, and the state then
 abbrev pub EndsIn : Type 0 → Type 1
@@ -32,10 +33,10 @@ EndsIn S = Result Reply Refusal → S → Type 0
 abbrev pub Ends : Type 1
 Ends = EndsIn Control
 
--- the first refusal whose rule holds, and nothing is changed; where no rule holds this reply and this state
-abbrev pub Checked : Control → Rules → Reply → Control → Ends
-Checked old rules reply after (Ok told) new = NoneHolds rules checks × (told ≡ reply) × (new ≡ after)
-Checked old rules reply after (Err refusal) new = ComesFirst rules refusal × (new ≡ old)
+-- the first refusal whose test does not hold, and nothing is changed; where each holds this reply and this state
+abbrev pub Checked : Control → Tests → Reply → Control → Ends
+Checked old tests reply after (Ok told) new = (checked tests checks (Ok reply) ≡ Ok told) × (new ≡ after)
+Checked old tests reply after (Err refusal) new = (checked tests checks (Ok reply) ≡ Err refusal) × (new ≡ old)
 
 -- a new recording, and a session that writes it
 abbrev pub after_start : Control → StartFields → Control
@@ -46,14 +47,14 @@ after_start a f = record a {
 }
 
 abbrev pub StartEnds : Control → StartFields → Ends
-StartEnds a f = Checked a (start_rules a f) (Started a.book.state.next a.next_session) (after_start a f)
+StartEnds a f = Checked a (start_tests a f) (Started a.book.state.next a.next_session) (after_start a f)
 
 -- the descriptors of recordings of at least an id, at most so many
 abbrev pub listed : ℤ → ℤ → List Recording → List Descriptor
 listed from count rs = take (unsigned_abs count) (filter (λ d. int_le from d.recording) (map (λ r. r.descriptor) rs))
 
 abbrev pub ListEnds : Control → ℤ → ℤ → Ends
-ListEnds a from count = Checked a (list_rules from count) (Recordings (listed from count a.book.state.recordings)) a
+ListEnds a from count = Checked a (list_tests from count) (Recordings (listed from count a.book.state.recordings)) a
 
 abbrev pub after_write : Control → ℤ → Block → Control
 after_write a session b = record a { sessions = change session_number session (with_written (Some (record { first = b.position; last = end_position b }))) a.sessions }
@@ -69,19 +70,16 @@ after_settle a session blocks = record a {
   sessions = change session_number session (with_written None) a.sessions;
 }
 
--- a block is written, and then settled: the first refusal, or the recorded position
+-- a block is written, and then settled: the first refusal, or the recorded position. Where settling is refused the block
+-- stays written
 abbrev pub BlockEnds : Control → ℤ → Block → Ends
-BlockEnds a session b (Ok reply) new =
+BlockEnds a session b outcome new =
+    let found = find session_number session a.sessions in
     let written = after_write a session b in
-    NoneHolds (write_rules a (find session_number session a.sessions) b) checks
-    × NoneHolds (settle_rules written (find session_number session written.sessions)) checks
-    × (reply ≡ Settled (end_position b))
-    × (new ≡ after_settle written session (b ∷ []))
-BlockEnds a session b (Err refusal) new =
-    let written = after_write a session b in
-    let rules = write_rules a (find session_number session a.sessions) b in
-    (ComesFirst rules refusal × (new ≡ a))
-    ⊎ (NoneHolds rules checks × ComesFirst (settle_rules written (find session_number session written.sessions)) refusal × (new ≡ written))
+    let to_settle = settle_tests written (find session_number session written.sessions) in
+    (said : Bool) × SaysBlock a found b said
+    × (outcome ≡ checked (write_tests a found said) checks (checked to_settle checks (Ok (Settled (end_position b)))))
+    × (new ≡ if passes (write_tests a found said) checks then if passes to_settle checks then after_settle written session (b ∷ []) else written else a)
 
 -- where a replay ends that was asked for with a length: -1 means that it has no end
 abbrev pub bound_of : ℤ → ℤ → ℤ
@@ -100,7 +98,7 @@ after_open a recording at size = record a {
 abbrev pub OpenEnds : Control → ℤ → ℤ → ℤ → Ends
 OpenEnds a recording position size =
     let found = recording_in a.book recording in
-    Checked a (open_rules a found position size) (ReplayOpened a.next_replay) (after_open a recording (start_in found position) size)
+    Checked a (open_tests a found position size) (ReplayOpened a.next_replay) (after_open a recording (start_in found position) size)
 
 -- where frames end that begin at a position
 abbrev pub end_of : ℤ → List PolledFrame → ℤ
@@ -137,7 +135,7 @@ after_poll a number (Some replay) most =
 abbrev pub PollEnds : Control → ℤ → ℤ → Ends
 PollEnds a number most =
     let found = find replay_number number a.replays in
-    Checked a (poll_rules a found most) (poll_reply a found most) (after_poll a number found most)
+    Checked a (poll_tests a found most) (poll_reply a found most) (after_poll a number found most)
 
 -- what a call ends with, or want of memory, which changes nothing
 abbrev pub OrNoMemory : {S : Type 0} → S → EndsIn S → EndsIn S
@@ -151,8 +149,7 @@ geometry_in None = None
 geometry_in (Some r) = Some (geometry_of r.descriptor)
 
 abbrev pub session_geometry : Control → Option RecorderSession → Option Geometry
-session_geometry a None = None
-session_geometry a (Some s) = geometry_in (recording_in a.book s.recording)
+session_geometry a found = geometry_in (written_in a found)
 
 -- bytes are a block, or how they are refused
 abbrev pub IsReadAs : Option Geometry → List ℕ → Result Block Refusal → Type 0
@@ -170,6 +167,6 @@ ReadEnds a session (Err refusal) outcome new = (outcome ≡ Err refusal) × (new
 abbrev pub BytesEnd : Control → ℤ → List ℕ → Ends
 BytesEnd a session bytes outcome new =
     let found = find session_number session a.sessions in
-    ((refusal : Refusal) × (outcome ≡ Err refusal) × ComesFirst (session_rules a found) refusal × (new ≡ a))
-    ⊎ (NoneHolds (session_rules a found) checks
-    × ((read : Result Block Refusal) × IsReadAs (session_geometry a found) bytes read × ReadEnds a session read outcome new))
+    let of_session = session_tests a found in
+    (read : Result Block Refusal) × (IsTrue (passes of_session checks) → IsReadAs (session_geometry a found) bytes read)
+    × ReadEnds a session (checked of_session checks read) outcome new

@@ -2,7 +2,8 @@
 
 use crate::vectors::{HELLO_AT_0, HELLO_AT_64, HELLO_AT_128, HELLO_IN_NEXT_TERM, PAD_AT_TERM_END};
 use archive_model::{
-    Book, Change, Channel, Command, Recording, Register, Registration, Reply, StartFields,
+    Book, Change, Channel, Command, ExtendFields, Recording, Register, Registration, Reply,
+    StartFields,
 };
 use frame_core::limits::LAST_NUMBER;
 use frame_core::{Geometry, Items, Refusal, block_of};
@@ -74,7 +75,7 @@ fn first_recording_and_replay(rt: HostRuntime) -> Result<(), Fail> {
         timestamp: 2_000,
     });
     assert!(rt; matches!(&stopped, Ok(Reply::Stopped { position: 192 })));
-    assert!(rt; book.is_full());
+    assert!(rt; !book.has_room());
     assert_eq!(rt; (book.recordings().len(), book.next_recording()), (1, 1));
     Ok(())
 }
@@ -94,6 +95,103 @@ fn pad_at_a_terms_end(rt: HostRuntime) -> Result<(), Fail> {
         return Err("two frames")?;
     };
     assert_eq!(rt; (at_end.position, behind.position), (65_472, 65_536));
+    Ok(())
+}
+
+// How an answer is told: a reply by its number, a refusal by itself.
+fn told(answer: Result<Reply, Refusal>) -> Result<i64, Refusal> {
+    match answer? {
+        Reply::Started { recording, .. } => Ok(recording),
+        Reply::Extended { session } => Ok(session),
+        Reply::Settled { position } | Reply::Stopped { position } | Reply::Truncated { position } =>
+            Ok(position),
+        Reply::Purged { segments } => Ok(segments),
+        Reply::Reopened { recordings } => Ok(recordings),
+        _ => Ok(-1),
+    }
+}
+
+fn stop(recording: i64, timestamp: i64) -> Command {
+    Command::Stop {
+        recording,
+        timestamp,
+    }
+}
+
+fn truncate(recording: i64, position: i64) -> Command {
+    Command::Truncate {
+        recording,
+        position,
+    }
+}
+
+fn purge_segments(recording: i64, position: i64) -> Command {
+    Command::PurgeSegments {
+        recording,
+        position,
+    }
+}
+
+fn extend(recording: i64, mtu: i32, join_position: i64) -> Command {
+    Command::Extend(ExtendFields {
+        recording,
+        stream_id: 1001,
+        session_id: 8,
+        initial_term_id: 42,
+        term_length: 65_536,
+        mtu,
+        join_position,
+    })
+}
+
+// Extension after a truncation, and each refusal that comes on the way, two of them due at once where they can be.
+#[test]
+fn a_recording_is_cut_and_goes_on(rt: HostRuntime) -> Result<(), Fail> {
+    let mut book = three_hellos(rt.alloc())?;
+    let active = Err(Refusal::ActiveRecording);
+    for (command, wanted) in [
+        (stop(7, -1), Err(Refusal::BadParameter)),
+        (stop(7, 2_000), Err(Refusal::UnknownRecording)),
+        (truncate(0, 65), active),
+        (Command::PurgeRecording { recording: 0 }, active),
+        (extend(0, 1_376, 192), active),
+        (Command::Restart, Ok(1)),
+        (stop(0, 2_000), Err(Refusal::NotActive)),
+        (truncate(0, 96), Err(Refusal::BadPosition)),
+        (truncate(0, 256), Err(Refusal::BadPosition)),
+        (extend(0, 1_376, 192), Err(Refusal::BadExtension)),
+        (truncate(0, 64), Ok(64)),
+        (truncate(0, 64), Err(Refusal::HistoryFull)),
+        (truncate(7, 64), Err(Refusal::UnknownRecording)),
+        (extend(0, 1_408, 64), Err(Refusal::HistoryFull)),
+        (extend(0, 1_408, 128), Err(Refusal::BadExtension)),
+        (purge_segments(0, 0), Err(Refusal::BadPosition)),
+    ] {
+        assert!(rt; told(book.apply(&command)) == wanted);
+    }
+    Ok(())
+}
+
+// A recording that goes on where it was cut, and then is gone.
+#[test]
+fn a_recording_goes_on_where_it_was_cut(rt: HostRuntime) -> Result<(), Fail> {
+    let mut book = Book::new(rt.alloc(), 8);
+    for (command, wanted) in [
+        (start(rt.alloc(), 0)?, Ok(0)),
+        (append(rt.alloc(), &[HELLO_AT_0, HELLO_AT_64])?, Ok(128)),
+        (append(rt.alloc(), &[HELLO_AT_0])?, Err(Refusal::BadBlock)),
+        (stop(0, 2_000), Ok(128)),
+        (truncate(0, 64), Ok(64)),
+        (extend(0, 1_408, 128), Err(Refusal::BadExtension)),
+        (extend(0, 1_408, 64), Ok(0)),
+        (Command::Restart, Ok(1)),
+        (Command::Restart, Ok(0)),
+        (Command::PurgeRecording { recording: 0 }, Ok(-1)),
+        (truncate(0, 64), Err(Refusal::UnknownRecording)),
+        (start(rt.alloc(), 0)?, Ok(1)),
+    ] {
+        assert!(rt; told(book.apply(&command)) == wanted);
+    }
     Ok(())
 }
 

@@ -2,7 +2,8 @@ use Rattle.std.proofs.Common.{List, ap, ◌∙◌, arith}
 use Rattle.std.specs.Map.{values_of}
 use Rattle.indexmap.specs.Layout.{length-set_value_at}
 use Rattle.archive_model.specs.declared.registration.Registration.{Registration}
-use Rattle.archive_model.proofs.RegisterLemmas.{all_restarted, keeps_restarted, restarted_more, values_length}
+use Rattle.archive_model.specs.Register.{restarted}
+use Rattle.archive_model.proofs.RegisterLemmas.{all_made, keeps_restarted, restarted_more, values_length}
 use Rattle.archive_model.proofs.register.Register.restart.Goals as goal
 
 pub index_mut-recording-requires : goal.index_mut-recording-requires
@@ -19,5 +20,5 @@ loop-index-preserved c = record {
 pub returns : goal.returns
 returns c =
     let all = values_length c.self.inside.map.entries in
-    let done = c.loop-index.invariant.done ∙ all_restarted c.loop-index.index (values_of c.self.inside.map.entries) (omega arith) in
+    let done = c.loop-index.invariant.done ∙ all_made restarted c.loop-index.index (values_of c.self.inside.map.entries) (omega arith) in
     rw (← c.self.view_is, c.loop-index.invariant.next) (ap (λ (rs : List Registration). record { recordings = rs; next = c.self.inside.next }) done)
