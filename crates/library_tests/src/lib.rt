@@ -5,6 +5,8 @@
 #[cfg(test)]
 mod archives;
 #[cfg(test)]
+mod desks;
+#[cfg(test)]
 mod disks;
 #[cfg(test)]
 mod frames;
