@@ -1,0 +1,125 @@
+//! What a desk refuses, and in which order: docs/CONTROL.md, "Refusals", by example.
+
+use archive_model::ExtendFields;
+use control_core::{Decision, Desk, Event, Line, Request, decide, laws, parse_line};
+use frame_core::Refusal;
+use std::alloc::Global;
+use std::test::*;
+
+// A request by its kind and two numbers.
+fn asked(kind: u8, recording: i64, number: i64) -> Request {
+    match kind {
+        0 => Request::Stop {
+            recording,
+            timestamp: number,
+        },
+        1 => Request::Truncate {
+            recording,
+            position: number,
+        },
+        2 => Request::PurgeSegments {
+            recording,
+            position: number,
+        },
+        3 => Request::PurgeRecording { recording },
+        4 => Request::Positions { recording },
+        5 => Request::List {
+            from: recording,
+            count: number,
+        },
+        _ => Request::Extend(ExtendFields {
+            recording,
+            stream_id: 1_001,
+            session_id: 8,
+            initial_term_id: 42,
+            term_length: 65_536,
+            mtu: 1_408,
+            join_position: number,
+        }),
+    }
+}
+
+// Makes an accepted request.
+fn make(alloc: Global, desk: &mut Desk, request: &Request) -> Result<(), Refusal> {
+    laws::what_is_decided_is_allowed();
+    let Decision::Accepted(command) = decide(alloc, desk, request) else {
+        return Err(Refusal::BadLine);
+    };
+    desk.reserve(&command)?;
+    desk.accept(command);
+    Ok(())
+}
+
+fn start(alloc: Global, desk: &mut Desk) -> Result<(), Refusal> {
+    match parse_line(alloc, b"start 1001 7 42 65536 1408 131072 0 1000 c")? {
+        Line::Event(Event::Ask(request)) => make(alloc, desk, &request),
+        _ => Err(Refusal::BadLine),
+    }
+}
+
+// Recording 0 is active, recording 1 is stopped where it began; three entries count.
+fn two_recordings(alloc: Global, limit: u32) -> Result<Desk, Refusal> {
+    let mut desk = Desk::new(alloc, limit);
+    start(alloc, &mut desk)?;
+    start(alloc, &mut desk)?;
+    make(alloc, &mut desk, &asked(0, 1, 5))?;
+    Ok(desk)
+}
+
+// 0: there is room; 1: there is none; 2: none, and a write failed.
+fn desk_of(alloc: Global, state: u8) -> Result<Desk, Refusal> {
+    let limit = if state == 0 { 4 } else { 3 };
+    let mut desk = two_recordings(alloc, limit)?;
+    if state == 2 {
+        desk.break_down();
+    }
+    Ok(desk)
+}
+
+fn told(decision: &Decision) -> u8 {
+    match decision {
+        Decision::Refused(refusal) => refusal.number(),
+        _ => 0,
+    }
+}
+
+// In each row that is refused two rules are broken at once, where the request has a later one.
+const ROWS: [(u8, u8, i64, i64, u8); 27] = [
+    (2, 0, 9, -1, 16),
+    (1, 0, 9, -1, 10),
+    (1, 0, 9, 5, 1),
+    (1, 0, 1, 5, 3),
+    (1, 0, 0, 5, 11),
+    (0, 0, 0, 5, 0),
+    (2, 6, 9, 0, 16),
+    (1, 6, 9, 0, 1),
+    (1, 6, 0, 64, 2),
+    (1, 6, 1, 64, 6),
+    (1, 6, 1, 0, 11),
+    (0, 6, 1, 0, 0),
+    (2, 1, 9, 0, 16),
+    (1, 1, 9, 0, 1),
+    (1, 1, 0, 64, 2),
+    (1, 1, 1, 64, 5),
+    (1, 1, 1, 0, 11),
+    (0, 1, 1, 0, 0),
+    (2, 2, 9, 0, 16),
+    (1, 2, 9, 0, 1),
+    (1, 2, 0, 0, 5),
+    (2, 3, 9, 0, 16),
+    (1, 3, 0, 0, 2),
+    (1, 3, 1, 0, 11),
+    (0, 3, 1, 0, 0),
+    (2, 4, 9, 0, 1),
+    (2, 5, -1, 1_025, 10),
+];
+
+#[test]
+fn refusals_come_in_their_order(rt: HostRuntime) -> Result<(), Fail> {
+    for (state, kind, recording, number, refusal) in ROWS {
+        let desk = desk_of(rt.alloc(), state)?;
+        let decision = decide(rt.alloc(), &desk, &asked(kind, recording, number));
+        assert!(rt; told(&decision) == refusal);
+    }
+    Ok(())
+}
