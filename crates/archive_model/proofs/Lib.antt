@@ -10,4 +10,5 @@ pub mod CommandsLemmas
 pub mod RegisterLemmas
 pub mod CutLemmas
 pub mod WellLemmas
+pub mod StreamLemmas
 pub mod StateLemmas

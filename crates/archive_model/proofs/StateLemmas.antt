@@ -20,13 +20,14 @@ use Rattle.archive_model.specs.Register as register
 use Rattle.archive_model.specs.Register.{RegisterState, is_later_base, changed_by, registered}
 use Rattle.archive_model.specs.State.{Recording, State, empty, id_of, is_active, recorded_position, registration_of, register_of, geometry_of, publication_of}
 use Rattle.archive_model.specs.Replay.{begins_frame}
-use Rattle.archive_model.specs.Commands.{after, after_all, appended, extended, frames_of, fresh, purged, recorded_in, register_after, restarted, stopped, truncated}
+use Rattle.archive_model.specs.Commands.{after, after_all, appended, ends_by, extended, frames_of, fresh, purged, recorded_in, register_after, restarted, stopped, truncated}
 use Rattle.archive_model.specs.Acceptance.{BookState, AreBlocksFrom, Continue, book_after}
 use Rattle.archive_model.specs.Accepting.{Accepts, Follow, begins_in}
 use Rattle.archive_model.specs.Checks.{is_boundary_by, is_of}
 use Rattle.archive_model.specs.Histories.{new_book}
-use Rattle.archive_model.specs.WellFormed.{AreAccepted, IsKept, IsWell}
+use Rattle.archive_model.specs.WellFormed.{AreAccepted, IsKept, IsOfStream, IsWell}
 use Rattle.archive_model.proofs.HistoriesLemmas.{covered-append, contiguous_append, blocks_contiguous}
+use Rattle.archive_model.proofs.StreamLemmas.{aligned_behind, blocks_of_stream, each_append, each_left, start_aligned}
 use Rattle.archive_model.proofs.CutLemmas.{Leaves}
 use Rattle.archive_model.proofs.WellLemmas.{both, is_purge, purge_leaves, truncation_leaves}
 use Rattle.archive_model.proofs.RegisterLemmas.{each_map, each_push, rise_push}
@@ -159,9 +160,11 @@ kept_fresh id f range =
     let lengths = layout_of f third.0 in
     record {
       start = starts_low f.start_position f.term_length third.1;
+      aligned = start_aligned f.start_position f.term_length third.1;
       term = lengths.0;
       segment = lengths.1;
       no_less = lengths.2;
+      of_stream = tt;
       encodable = tt;
       contiguous = tt;
       stopped = λ off. absurd (true≢false off);
@@ -183,9 +186,11 @@ blocks_encodable g publication position (b ∷ bs) blocks =
 pub kept_appended : (r : Recording) (blocks : List Block) → IsKept r → Continue r blocks → is_active r ≡ true → IsKept (appended blocks r)
 kept_appended r blocks kept next active = record {
   start = kept.start;
+  aligned = kept.aligned;
   term = kept.term;
   segment = kept.segment;
   no_less = kept.no_less;
+  of_stream = each_append (IsOfStream r.descriptor.stream_id) r.frames (frames_of blocks) kept.of_stream (blocks_of_stream (geometry_of r.descriptor) (publication_of r.descriptor) (recorded_position r) blocks next.1);
   encodable = encodable_append r.frames (frames_of blocks) kept.encodable (blocks_encodable (geometry_of r.descriptor) (publication_of r.descriptor) (recorded_position r) blocks next.1);
   contiguous =
       contiguous_append (geometry_of r.descriptor) r.descriptor.start_position (recorded_position r) r.frames (frames_of blocks) kept.contiguous refl
@@ -196,9 +201,11 @@ kept_appended r blocks kept next active = record {
 pub kept_stopped : (timestamp : ℤ) (r : Recording) → IsKept r → IsKept (stopped timestamp r)
 kept_stopped timestamp r kept = record {
   start = kept.start;
+  aligned = kept.aligned;
   term = kept.term;
   segment = kept.segment;
   no_less = kept.no_less;
+  of_stream = kept.of_stream;
   encodable = kept.encodable;
   contiguous = kept.contiguous;
   stopped = λ off. refl;
@@ -207,9 +214,11 @@ kept_stopped timestamp r kept = record {
 pub kept_extended : (session_id : ℤ) (r : Recording) → IsKept r → IsKept (extended session_id r)
 kept_extended session_id r kept = record {
   start = kept.start;
+  aligned = kept.aligned;
   term = kept.term;
   segment = kept.segment;
   no_less = kept.no_less;
+  of_stream = kept.of_stream;
   encodable = kept.encodable;
   contiguous = kept.contiguous;
   stopped = λ off. absurd (true≢false off);
@@ -220,9 +229,11 @@ kept_truncated r p kept cut =
     let left = truncation r p kept cut in
     record {
       start = kept.start;
+      aligned = kept.aligned;
       term = kept.term;
       segment = kept.segment;
       no_less = kept.no_less;
+      of_stream = each_left (IsOfStream r.descriptor.stream_id) (ends_by p) r.descriptor.start_position r.frames kept.of_stream;
       encodable = left.encodable;
       contiguous = left.contiguous;
       stopped = λ off. sym left.ends;
@@ -239,9 +250,11 @@ kept_purged r p kept base =
     let left = purge r p kept base in
     record {
       start = base_low p (registration_of r) base;
+      aligned = aligned_behind p r.descriptor.start_position (purged p r).frames r.frames (base_low p (registration_of r) base) kept.aligned left.ends;
       term = kept.term;
       segment = kept.segment;
       no_less = kept.no_less;
+      of_stream = each_left (IsOfStream r.descriptor.stream_id) (λ f. int_le p f.position) r.descriptor.start_position r.frames kept.of_stream;
       encodable = left.encodable;
       contiguous = left.contiguous;
       stopped = λ off. kept.stopped off ∙ sym left.ends;

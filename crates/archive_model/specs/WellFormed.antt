@@ -1,7 +1,10 @@
 -- States that accepted commands make.
 use Rattle.std.specs.Ordering.{int_eq}
-use Rattle.std.specs.Prelude.{◌≡◌, ◌≤ℤ◌, ℤ, pos, Bool, true, false, List, [], ◌∷◌}
+use Rattle.std.specs.Prelude.{◌≡◌, ◌≢◌, ◌≤ℤ◌, ℤ, pos, Bool, true, false, List, [], ◌∷◌}
+use Rattle.frame_core.specs.declared.frame.Frame.{Frame}
+use Rattle.frame_core.specs.declared.frame.FrameKind.TheVariants.{Heartbeat}
 use Rattle.frame_core.specs.Block.{AreEncodable}
+use Rattle.frame_core.specs.FrameEncoding.{IsAligned}
 use Rattle.frame_core.specs.Limits.{is_term_length}
 use Rattle.archive_model.specs.declared.command.Command.{Command}
 use Rattle.archive_model.specs.declared.command.Command.TheVariants.{PurgeRecording, Truncate}
@@ -11,13 +14,21 @@ use Rattle.archive_model.specs.Acceptance.{BookState, book_after}
 use Rattle.archive_model.specs.Accepting.{Accepts}
 use Rattle.archive_model.specs.Histories.{IsContiguous}
 
--- The frames of a recording have encodings and go without a gap from its start, each inside its term; its terms and
--- segments have lengths in their limits; where it isn't active it stopped at its recorded position.
+-- a data frame or a pad of a stream
+pub record IsOfStream (stream : ℤ) (f : Frame) : Type 0 where
+  pub kind : f.kind ≢ Heartbeat
+  pub stream_is : f.stream_id ≡ stream
+
+-- The frames of a recording are of its stream, have encodings and go without a gap from its start, a multiple of 32, each
+-- inside its term; its terms and segments have lengths in their limits; where it isn't active it stopped at its recorded
+-- position.
 pub record IsKept (r : Recording) : Type 0 where
   pub start : pos 0 ≤ℤ r.descriptor.start_position
+  pub aligned : IsAligned r.descriptor.start_position
   pub term : is_term_length r.descriptor.term_length ≡ true
   pub segment : is_term_length r.descriptor.segment_length ≡ true
   pub no_less : r.descriptor.term_length ≤ℤ r.descriptor.segment_length
+  pub of_stream : Each (IsOfStream r.descriptor.stream_id) r.frames
   pub encodable : AreEncodable r.frames
   pub contiguous : IsContiguous r
   pub stopped : is_active r ≡ false → r.descriptor.stop_position ≡ recorded_position r

@@ -40,7 +40,7 @@ take_nil (suc n) = refl
 
 module _ (image : DiskImage) (l : Layout) (g : Geometry) where
   -- a frame that is shown covers some bytes
-  covers : (limit : ℤ) (p : ℕ) (f : Frame) → ShowsFrame image l g limit p f → 0 < aligned_length f
+  pub covers : (limit : ℤ) (p : ℕ) (f : Frame) → ShowsFrame image l g limit p f → 0 < aligned_length f
   covers limit p f shown = covers_by f.kind f (belongs_stored l g p limit f shown.belongs) shown.encodable.length
 
   -- frames that are held are shown, one after another
@@ -50,7 +50,7 @@ module _ (image : DiskImage) (l : Layout) (g : Geometry) where
       (stored_shown image l g limit from h holds.0 encodable.0 belong.0, held_shown limit hs (from + aligned_length h) to holds.1 encodable.1 belong.1)
 
   -- a chain ends no lower than it begins
-  rises : (limit : ℤ) (frames : List Frame) (from to : ℕ) → IsChain image l g limit from frames to → from ≤ to
+  pub rises : (limit : ℤ) (frames : List Frame) (from to : ℕ) → IsChain image l g limit from frames to → from ≤ to
   rises limit [] from to is = omega (arith, is)
   rises limit (f ∷ fs) from to is = omega (arith, rises limit fs (from + aligned_length f) to is.1)
 

@@ -1,0 +1,5 @@
+use Rattle.engine_core.proofs.RecoveryLemmas.{one_state}
+use Rattle.engine_core.proofs.laws.an_image_recovers_to_one_state.Goals as goal
+
+pub returns : goal.returns
+returns c = one_state

@@ -1,0 +1,2 @@
+-- What a reader has to believe: what an image recovers to, and what the engine keeps of its files.
+pub mod Recovery

@@ -1,0 +1,4 @@
+//! The archive on one thread, with its crash promise.
+#![tactic(auto)]
+
+pub mod laws;
