@@ -37,6 +37,14 @@ fn three_hellos(rt: &impl Abort, alloc: Global) -> Result<MemoryDisk, Refusal> {
     Ok(disk)
 }
 
+// The same, asked for again where a request for memory was refused.
+fn stored(rt: &impl Abort, alloc: Global) -> Result<MemoryDisk, Refusal> {
+    match three_hellos(rt, alloc) {
+        Err(_) => three_hellos(rt, alloc),
+        disk => disk,
+    }
+}
+
 #[test]
 fn bounded_part_of_a_recording(rt: HostRuntime) -> Result<(), Fail> {
     let mut disk = three_hellos(&rt, rt.alloc())?;
@@ -78,7 +86,7 @@ fn damaged_frame(rt: HostRuntime) -> Result<(), Fail> {
 // Where memory is refused once, the replay stays where it is, and the poll may be made again.
 #[test]
 fn refused_memory_leaves_a_replay(rt: HostRuntime) -> Result<(), Fail> {
-    let mut disk = three_hellos(&rt, rt.alloc())?;
+    let mut disk = stored(&rt, rt.alloc())?;
     let mut replay = Replay::new(0, 0, -1);
     if polled(&rt, rt.alloc(), &mut disk, &mut replay, 192, 2).is_err() {
         assert!(rt; replay.next == 0);
