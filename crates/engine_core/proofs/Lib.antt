@@ -1,1 +1,2 @@
 pub mod RecoveryLemmas
+pub mod CommitLemmas

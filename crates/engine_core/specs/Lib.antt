@@ -1,2 +1,3 @@
 -- What a reader has to believe: what an image recovers to, and what the engine keeps of its files.
 pub mod Recovery
+pub mod Moves

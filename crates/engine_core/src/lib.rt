@@ -2,3 +2,6 @@
 #![tactic(auto)]
 
 pub mod laws;
+mod storage;
+
+pub use storage::Storage;
