@@ -35,7 +35,7 @@ use Rattle.archive_model.proofs.RegisterLemmas.{each_map, each_push, rise_push}
 -- values of a number that are changed, or gone
 
 module _ {X : Type 0} (number : X → ℤ) (P : X → Type 0) where
-  each_change : (n : ℤ) (f : X → X) (xs : List X) → Each P xs → ((x : X) → find number n xs ≡ Some x → P x → P (f x)) → Each P (change number n f xs)
+  pub each_change : (n : ℤ) (f : X → X) (xs : List X) → Each P xs → ((x : X) → find number n xs ≡ Some x → P x → P (f x)) → Each P (change number n f xs)
   each_change n f [] all keeps = tt
   each_change n f (x ∷ xs) all keeps = by (int_eq n (number x)) refl (each_change n f xs all.1)
     where
@@ -43,7 +43,7 @@ module _ {X : Type 0} (number : X → ℤ) (P : X → Type 0) where
       by true e later = (keeps x (rw e refl) all.0, all.1)
       by false e later = (all.0, later (λ y found. keeps y (rw e found)))
 
-  each_without : (n : ℤ) (xs : List X) → Each P xs → Each P (without number n xs)
+  pub each_without : (n : ℤ) (xs : List X) → Each P xs → Each P (without number n xs)
   each_without n [] all = tt
   each_without n (x ∷ xs) all = by (int_eq n (number x)) (each_without n xs all.1)
     where

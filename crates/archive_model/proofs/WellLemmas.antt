@@ -57,7 +57,7 @@ whole_terms t s first p i m segment base low none =
     let sums : (i + m * (d / s)) * t ≡ i * t + (m * (d / s)) * t = add-mul i (m * (d / s)) t in
     omega arith
 
-base_is_term : (start p t s a b : ℕ) → t ≡ 2 ^ a → s ≡ 2 ^ b → a ≤ b → start < p → segment_base start t s p ≡ p → (k : ℕ) × (p ≡ k * t)
+pub base_is_term : (start p t s a b : ℕ) → t ≡ 2 ^ a → s ≡ 2 ^ b → a ≤ b → start < p → segment_base start t s p ≡ p → (k : ℕ) × (p ≡ k * t)
 base_is_term start p t s a b term segment lower behind base =
     let parts : t * (start / t) + start % t ≡ start = div-add-mod start t in
     let first : first_base start t ≡ t * (start / t) = omega arith in

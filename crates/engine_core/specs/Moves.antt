@@ -1,24 +1,58 @@
 -- What an operation on the files of an archive did: docs/STORAGE.md, "Recovery".
-use Rattle.std.specs.Prelude.{◌≡◌, ◌<◌, IsTrue, Result, Ok, Err}
+use Rattle.std.specs.Prelude.{◌≡◌, ◌≢◌, ◌+◌, ◌<◌, ◌≤◌, ℕ, IsTrue, List, [], ◌∷◌, Result, Ok, Err}
 use Rattle.frame_core.specs.declared.refusal.Refusal.{Refusal}
 use Rattle.frame_core.specs.declared.refusal.Refusal.TheVariants.{DeviceFault, NoMemory}
-use Rattle.disk_core.specs.DiskImage.{Files}
+use Rattle.frame_core.specs.declared.frame.Frame.{Frame}
+use Rattle.frame_core.specs.Block.{covered}
+use Rattle.frame_core.specs.FrameEncoding.{aligned_length}
+use Rattle.disk_core.specs.declared.file_id.FileId.{FileId}
+use Rattle.disk_core.specs.declared.file_id.FileId.TheVariants.{BankA}
+use Rattle.disk_core.specs.DiskImage.{DiskImage, Files, reads}
 use Rattle.disk_core.specs.Life.{Life, LeavesOnly}
+use Rattle.segment_store.specs.declared.layout.Layout.{Layout}
+use Rattle.segment_store.specs.Layout.{file_of}
+use Rattle.segment_store.specs.Stored.{HoldsFrames}
+use Rattle.archive_model.specs.declared.command.Command.{Command}
+use Rattle.archive_model.specs.declared.command.Command.TheVariants.{Append}
 use Rattle.archive_model.specs.Keyed.{Each}
-use Rattle.archive_model.specs.State.{State, register_of}
+use Rattle.archive_model.specs.State.{Recording, State, register_of}
 use Rattle.archive_model.specs.WellFormed.{IsWell}
 use Rattle.catalogue_log.specs.declared.entry.Entry.{Entry}
 use Rattle.catalogue_log.specs.Fold.{MayFollow, after_entry, counts}
 use Rattle.catalogue_log.specs.LogState.{LogState}
-use Rattle.engine_core.specs.Recovery.{IsDurable, IsEither, IsSound, RecoversTo}
+use Rattle.engine_core.specs.Recovery.{IsDurable, IsEither, IsSound, RecoversTo, last_of, layout_of}
 
--- An entry leads from a state to another: it may follow those before it, and makes of all but the frames what the other
--- state has; that state's frames are durable.
-pub record Leads (files : Files) (s u : State) (e : Entry) : Type 0 where
+-- a command that records no frames
+abbrev pub IsRequested : Command → Type 0
+IsRequested (Append id blocks) = ⊥
+IsRequested _ = Unit {0}
+
+-- An entry may follow those of a state, and makes of all but the frames what another state has.
+pub record Enters (s u : State) (e : Entry) : Type 0 where
   pub follows : MayFollow (register_of s) e
   pub makes : after_entry (register_of s) e ≡ register_of u
   pub well : IsWell u
+
+-- An entry leads from a state to another, whose frames are durable.
+pub record Leads (files : Files) (s u : State) (e : Entry) : Type 0 where
+  pub enters : Enters s u e
   pub frames : Each (IsDurable files) u.recordings
+
+-- these frames lie in one file, from a position on
+abbrev pub LieIn : FileId → Layout → ℕ → List Frame → Type 0
+LieIn this l from [] = Unit {0}
+LieIn this l from (f ∷ fs) = (file_of l from ≡ this) × LieIn this l (from + aligned_length f) fs
+
+-- These frames are read behind what is recorded, and lie in one file.
+pub record Stands (image : DiskImage) (this : FileId) (r : Recording) (frames : List Frame) : Type 0 where
+  pub holds : HoldsFrames image (layout_of r.descriptor) (last_of r) frames (last_of r + covered frames)
+  pub lie : LieIn this (layout_of r.descriptor) (last_of r) frames
+
+-- no segment file reads otherwise than before
+pub record KeepsSegments (old new : Life) : Type 0 where
+  pub same : (file : FileId) → file ≢ BankA → reads new.now file ≡ reads old.now file
+  pub obeyed : IsTrue new.obeys → IsTrue old.obeys
+  pub faults : old.faults ≤ new.faults
 
 -- the log has room for an entry more
 abbrev pub HasRoom : LogState → Entry → Type 0

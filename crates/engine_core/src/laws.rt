@@ -1,10 +1,23 @@
 //! Laws of the definitions, each the contract of a function that does nothing.
 
-ghost use Rattle.std.specs.Prelude.{◌≡◌};
+ghost use Rattle.std.specs.Prelude.{◌≡◌, ◌+◌, ◌∷◌, [], unsigned_abs};
 ghost use Rattle.disk_core.specs.DiskImage.{DiskImage, Files, MayLeave};
-ghost use Rattle.archive_model.specs.State.{State};
+ghost use Rattle.frame_core.specs.declared.block.Block.{Block};
+ghost use Rattle.frame_core.specs.Block.{covered};
+ghost use Rattle.segment_store.specs.Layout.{IsBlockIn, IsFromStart, IsLayout, file_of};
+ghost use Rattle.segment_store.specs.Stored.{HoldsFrames};
+ghost use Rattle.archive_model.specs.declared.command.Command.{Command};
+ghost use Rattle.archive_model.specs.Acceptance.{BookState};
+ghost use Rattle.archive_model.specs.Accepting.{Accepts};
+ghost use Rattle.archive_model.specs.Commands.{after, frames_of};
+ghost use Rattle.archive_model.specs.Keyed.{Each};
+ghost use Rattle.archive_model.specs.State.{Recording, State, recorded_position};
+ghost use Rattle.archive_model.specs.WellFormed.{IsWell};
+ghost use Rattle.catalogue_log.specs.EntryBytes.{Fits};
+ghost use Rattle.catalogue_log.specs.History.{entry_of};
 ghost use Rattle.catalogue_log.specs.LogState.{LogState};
-ghost use Rattle.engine_core.specs.Recovery.{IsSound, Recovers};
+ghost use Rattle.engine_core.specs.Moves.{Enters, IsRequested, Leads, Stands};
+ghost use Rattle.engine_core.specs.Recovery.{IsDurable, IsSound, Recovers, layout_of};
 
 /// Every image that a crash may leave of a sound archive recovers to its state.
 pub fn a_sound_archive_recovers()
@@ -15,4 +28,34 @@ pub fn a_sound_archive_recovers()
 /// An image recovers to one state.
 pub fn an_image_recovers_to_one_state()
     ensures { (image : DiskImage) (s u : State) → Recovers image s → Recovers image u → s ≡ u }
+{}
+
+/// A command that records no frames leaves durable frames durable: so its entry leads from the state before it to the one
+/// after it.
+pub fn frames_stay_durable_where_none_is_recorded()
+    ensures frames { (files : Files) (b : BookState) (c : Command) → IsWell b.state → Accepts b c →
+        IsRequested c → Each (IsDurable files) b.state.recordings →
+        Each (IsDurable files) (after b.state c).recordings }
+    ensures leads { (files : Files) (b : BookState) (c : Command) → IsWell b.state → Accepts b c →
+        IsRequested c → Each (IsDurable files) b.state.recordings → Fits (entry_of b.state c) →
+        Leads files b.state (after b.state c) (entry_of b.state c) }
+{}
+
+/// The entry of any accepted command enters the state after it.
+#[tactic(auto, using(crate::proofs::StayLemmas::enters))]
+pub fn an_accepted_command_enters_the_state_after_it()
+    ensures { (b : BookState) (c : Command) → IsWell b.state → Accepts b c → Fits (entry_of b.state c) →
+        Enters b.state (after b.state c) (entry_of b.state c) }
+{}
+
+/// A block that begins where a recording ends, and is read there, stands behind what is recorded in the segment of its
+/// position.
+pub fn a_block_lies_in_one_segment()
+    ensures { (image : DiskImage) (r : Recording) (block : Block) → IsLayout (layout_of r.descriptor) →
+        IsFromStart (layout_of r.descriptor) block.position → IsBlockIn (layout_of r.descriptor) block →
+        block.position ≡ recorded_position r →
+        HoldsFrames image (layout_of r.descriptor) (unsigned_abs block.position) block.frames
+        (unsigned_abs block.position + covered block.frames) →
+        Stands image (file_of (layout_of r.descriptor) (unsigned_abs block.position)) r
+        (frames_of (block ∷ [])) }
 {}

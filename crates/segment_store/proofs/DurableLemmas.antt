@@ -33,7 +33,7 @@ durable_left file at bytes holds (Some left) leaves k inside =
     )
 
 -- bytes that stand in a durable file are durable
-durable_bytes : (file : FileState) (at : ℕ) (bytes : List ℕ) → file ≡ durable file.reads → Holds (bytes_of file.reads) at bytes → AreDurableBytes file at bytes
+pub durable_bytes : (file : FileState) (at : ℕ) (bytes : List ℕ) → file ≡ durable file.reads → Holds (bytes_of file.reads) at bytes → AreDurableBytes file at bytes
 durable_bytes file at bytes synced holds left leaves =
     durable_left file.reads at bytes holds left (subst (λ (f : FileState). LeavesFile (unsynced_from (at + length bytes) f) left) synced leaves)
 
@@ -55,7 +55,7 @@ same_base_of : (l : Layout) (p at : ℕ) → file_of l p ≡ file_of l at → ba
 same_base_of l p at same = cc
 
 -- bytes that end at or before a position of their file lie below its offset
-lies_below : (l : Layout) (p at size : ℕ) → p + size ≤ at → file_of l p ≡ file_of l at → offset_of l p + size ≤ offset_of l at
+pub lies_below : (l : Layout) (p at size : ℕ) → p + size ≤ at → file_of l p ≡ file_of l at → offset_of l p + size ≤ offset_of l at
 lies_below l p at size before same = omega (arith, before, same_base_of l p at same, base_before l p, base_before l at)
 
 -- frames end behind where they begin
