@@ -1,17 +1,19 @@
 -- What stands where some files have not changed.
-use Rattle.std.proofs.Common.{◌≡◌, ◌≢◌, ◌∙◌, sym, subst, refl, ℕ, ℤ, pos, ◌+◌, ◌+ℤ◌, ◌<ℤ◌, Bool, true, false, cond, true≢false, List, [], ◌∷◌, ◌++◌, Some, length, arith}
+use Rattle.std.proofs.Common.{◌≡◌, ◌≢◌, ◌∙◌, ap, sym, subst, refl, ℕ, ℤ, pos, ◌+◌, ◌+ℤ◌, ◌<ℤ◌, Bool, true, false, cond, true≢false, List, [], ◌∷◌, ◌++◌, Option, Some, length, arith}
 use Rattle.std.proofs.lemmas.Int.{ints}
 use Rattle.std.proofs.lemmas.Bool.Decides.{Decides-int_eq}
 use Rattle.std.specs.Ordering.{int_eq}
 use Rattle.disk_core.specs.declared.file_id.FileId.{FileId}
 use Rattle.disk_core.specs.declared.file_id.FileId.TheVariants.{BankA}
-use Rattle.disk_core.specs.DiskImage.{DiskImage, FileState, Files, LeavesFile}
+use Rattle.disk_core.specs.DiskImage.{DiskImage, FileState, Files, LeavesFile, bytes_of, durable}
+use Rattle.disk_core.specs.Standing.{Holds}
 use Rattle.disk_core.proofs.CallerLemmas.{unsynced_keeps}
 use Rattle.frame_core.specs.declared.frame.Frame.{Frame}
 use Rattle.frame_core.specs.FrameEncoding.{aligned_length, stored}
 use Rattle.segment_store.specs.declared.layout.Layout.{Layout}
 use Rattle.segment_store.specs.Layout.{file_of, offset_of}
 use Rattle.segment_store.specs.Stored.{AreDurableBytes, AreDurableFrames, HoldsFrames}
+use Rattle.segment_store.proofs.DurableLemmas.{durable_bytes}
 use Rattle.archive_model.specs.Keyed.{find, Each, Rise}
 use Rattle.archive_model.specs.State.{Recording, id_of}
 use Rattle.catalogue_log.specs.declared.entry.Entry.{Entry}
@@ -39,6 +41,12 @@ frames_same old new l (f ∷ fs) from to same stand = (
   subst (λ (state : FileState). AreDurableBytes state (offset_of l from) (stored f)) (sym same.0) stand.0,
   frames_same old new l fs (from + aligned_length f) to same.1 stand.1,
 )
+
+-- bytes that are read in a file which is on the disk as it reads are durable
+pub read_durable : (read : Option (List ℕ)) (file : FileState) (at : ℕ) (bytes : List ℕ) → file ≡ durable read → Holds (bytes_of read) at bytes → AreDurableBytes file at bytes
+read_durable read file at bytes synced holds =
+    let reads : file.reads ≡ read = ap (λ (state : FileState). state.reads) synced in
+    durable_bytes file at bytes (synced ∙ ap durable (sym reads)) (subst (λ (r : Option (List ℕ)). Holds (bytes_of r) at bytes) (sym reads) holds)
 
 -- durable frames stand in an image to which a crash left their files
 pub frames_left : (files : Files) (l : Layout) (frames : List Frame) (from to : ℕ) (image : DiskImage) → Lie (λ file. LeavesFile (files file) (image file)) l from frames → AreDurableFrames files l from frames to → HoldsFrames image l from frames to

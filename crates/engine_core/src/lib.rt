@@ -2,6 +2,7 @@
 #![tactic(auto)]
 
 pub mod laws;
+mod opening;
 mod storage;
 
 pub use storage::Storage;

@@ -1,0 +1,22 @@
+use Rattle.std.proofs.lemmas.Result.{IfErr-weaker}
+use Rattle.engine_core.proofs.OpeningLemmas.{ok_both, open_sound, read_opened, same_refusal, whole_refused}
+use Rattle.engine_core.proofs.opening.open_files.Goals as goal
+
+pub returns-clause-before : goal.returns-clause-before
+returns-clause-before g c =
+    read_opened (g.D.Disk.life c.args.disk.now) (g.D.Disk.life c.sync_segments.new.disk) (g.D.Disk.life c.open.new.disk) c.sync_segments.ensures.only c.open.ensures.same c.open.ensures.any_moment
+
+pub returns-clause-sound : goal.returns-clause-sound
+returns-clause-sound g c =
+    ok_both c.open.result _ _ _
+    (λ opened found rests obeys x recovers.
+    open_sound (g.D.Disk.life c.args.disk.now) (g.D.Disk.life c.sync_segments.new.disk) (g.D.Disk.life c.open.new.disk) _ opened.1.items x
+    (c.in_ok-sync_segments.ensures.synced (c.open.ensures.same.obeyed obeys)) c.sync_segments.ensures.only c.open.ensures.same (found obeys) (rests obeys) recovers)
+    c.open.ensures.found c.open.ensures.at_rest
+
+pub returns-clause-whole : goal.returns-clause-whole
+returns-clause-whole g c =
+    IfErr-weaker c.open.result _ _
+    (λ refusal refuses obeys x recovers.
+    whole_refused _ x refusal recovers (same_refusal (g.D.Disk.life c.args.disk.now) (g.D.Disk.life c.sync_segments.new.disk) refusal c.sync_segments.ensures.only (refuses obeys)))
+    c.open.ensures.refused

@@ -1,0 +1,35 @@
+-- What syncing an archive's files does, before they are read: docs/STORAGE.md, "Opening".
+use Rattle.std.specs.Prelude.{◌≡◌, ◌⊎◌, ◌<◌, ◌≤◌, ℕ, None, IsSome, IsTrue}
+use Rattle.frame_core.specs.declared.refusal.Refusal.{Refusal}
+use Rattle.frame_core.specs.declared.refusal.Refusal.TheVariants.{BadParameter, DeviceFault, NoMemory}
+use Rattle.disk_core.specs.declared.file_id.FileId.{FileId}
+use Rattle.disk_core.specs.DiskImage.{MayLeave, durable, reads}
+use Rattle.disk_core.specs.Life.{HasFailed, IsQuiet, Life, LeavesOnly}
+
+-- each file is as it was, or on the disk as it reads, and no crash leaves what it might not have left before
+pub record SyncsOnly (old new : Life) : Type 0 where
+  pub each : (file : FileId) → (new.now file ≡ old.now file) ⊎ (new.now file ≡ durable (reads old.now file))
+  pub any_moment : LeavesOnly old new (MayLeave old.now)
+  pub obeyed : IsTrue new.obeys → IsTrue old.obeys
+  pub faults : old.faults ≤ new.faults
+
+-- each file reads as before, and no crash leaves what it might not have left before
+pub record ReadsAsBefore (old new : Life) : Type 0 where
+  pub same : (file : FileId) → reads new.now file ≡ reads old.now file
+  pub any_moment : LeavesOnly old new (MayLeave old.now)
+  pub obeyed : IsTrue new.obeys → IsTrue old.obeys
+  pub faults : old.faults ≤ new.faults
+
+-- no archive is made: the history limit is out of its range, or a file is there; a fault, or want of memory for the listing
+abbrev pub RefusesNew : Life → Life → ℕ → Refusal → Type 0
+RefusesNew old new limit BadParameter =
+    IsQuiet old new × ((limit < 1) ⊎ (16777216 < limit) ⊎ (IsTrue new.obeys → (file : FileId) × IsSome (reads old.now file)))
+RefusesNew old new limit DeviceFault = HasFailed old new
+RefusesNew old new limit NoMemory = IsQuiet old new
+RefusesNew old new limit _ = ⊥
+
+-- an archive was made where there was none
+pub record IsMadeIn (old new : Life) (limit : ℕ) : Type 0 where
+  pub some : 1 ≤ limit
+  pub most : limit ≤ 16777216
+  pub empty : IsTrue new.obeys → (file : FileId) → reads old.now file ≡ None
