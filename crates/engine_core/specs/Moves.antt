@@ -8,14 +8,14 @@ use Rattle.archive_model.specs.Keyed.{Each}
 use Rattle.archive_model.specs.State.{State, register_of}
 use Rattle.archive_model.specs.WellFormed.{IsWell}
 use Rattle.catalogue_log.specs.declared.entry.Entry.{Entry}
-use Rattle.catalogue_log.specs.Fold.{MayFollow, after_entry, counts}
+use Rattle.catalogue_log.specs.Fold.{admits, after_entry, counts}
 use Rattle.catalogue_log.specs.LogState.{LogState}
 use Rattle.engine_core.specs.Recovery.{IsDurable, IsEither, IsSound, RecoversTo}
 
 -- An entry leads from a state to another: it may follow those before it, and makes of all but the frames what the other
 -- state has; that state's frames are durable.
 pub record Leads (files : Files) (s u : State) (e : Entry) : Type 0 where
-  pub follows : MayFollow (register_of s) e
+  pub admitted : IsTrue (admits (register_of s) e)
   pub makes : after_entry (register_of s) e ≡ register_of u
   pub well : IsWell u
   pub frames : Each (IsDurable files) u.recordings
