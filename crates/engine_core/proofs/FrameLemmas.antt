@@ -3,6 +3,7 @@ use Rattle.std.proofs.Common.{◌≡◌, ◌≢◌, ◌∙◌, sym, subst, refl,
 use Rattle.std.proofs.lemmas.Int.{ints}
 use Rattle.std.proofs.lemmas.Bool.Decides.{Decides-int_eq}
 use Rattle.std.specs.Ordering.{int_eq}
+use Rattle.disk_core.specs.declared.file_id.FileId.{FileId}
 use Rattle.disk_core.specs.declared.file_id.FileId.TheVariants.{BankA}
 use Rattle.disk_core.specs.DiskImage.{DiskImage, FileState, Files, LeavesFile}
 use Rattle.disk_core.proofs.CallerLemmas.{unsynced_keeps}
@@ -17,6 +18,7 @@ use Rattle.catalogue_log.specs.declared.entry.Entry.{Entry}
 use Rattle.catalogue_log.specs.Catalogue.{IsCatalogue}
 use Rattle.catalogue_log.specs.LogState.{IsAtRest, LogState}
 use Rattle.catalogue_log.proofs.AppendLemmas.{rest_left}
+use Rattle.engine_core.specs.Moves.{Lie}
 use Rattle.engine_core.specs.Recovery.{layout_of}
 
 -- the bank is no segment file
@@ -31,21 +33,35 @@ pub apart : (x : Recording) (l : Layout) (p at : ℕ) → id_of x ≢ l.recordin
 apart x l p at other same = other cc
 
 -- frames are durable where their files have not changed
-pub same_frames : (old new : Files) (l : Layout) (frames : List Frame) (from to : ℕ) → ((p : ℕ) → new (file_of l p) ≡ old (file_of l p)) → AreDurableFrames old l from frames to → AreDurableFrames new l from frames to
-same_frames old new l [] from to same stand = stand
-same_frames old new l (f ∷ fs) from to same stand = (
-  subst (λ (state : FileState). AreDurableBytes state (offset_of l from) (stored f)) (sym (same from)) stand.0,
-  same_frames old new l fs (from + aligned_length f) to same stand.1,
+pub frames_same : (old new : Files) (l : Layout) (frames : List Frame) (from to : ℕ) → Lie (λ file. new file ≡ old file) l from frames → AreDurableFrames old l from frames to → AreDurableFrames new l from frames to
+frames_same old new l [] from to same stand = stand
+frames_same old new l (f ∷ fs) from to same stand = (
+  subst (λ (state : FileState). AreDurableBytes state (offset_of l from) (stored f)) (sym same.0) stand.0,
+  frames_same old new l fs (from + aligned_length f) to same.1 stand.1,
 )
 
 -- durable frames stand in an image to which a crash left their files
+pub frames_left : (files : Files) (l : Layout) (frames : List Frame) (from to : ℕ) (image : DiskImage) → Lie (λ file. LeavesFile (files file) (image file)) l from frames → AreDurableFrames files l from frames to → HoldsFrames image l from frames to
+frames_left files l [] from to image left stand = stand
+frames_left files l (f ∷ fs) from to image left stand = (
+  stand.0 (image (file_of l from)) (unsynced_keeps (offset_of l from + length (stored f)) (files (file_of l from)) (image (file_of l from)) left.0),
+  frames_left files l fs (from + aligned_length f) to image left.1 stand.1,
+)
+
+pub lie_all : (P : FileId → Type 0) (l : Layout) (frames : List Frame) (from : ℕ) → ((p : ℕ) → P (file_of l p)) → Lie P l from frames
+lie_all P l [] from all = tt
+lie_all P l (f ∷ fs) from all = (all from, lie_all P l fs (from + aligned_length f) all)
+
+pub lie_then : (P Q : FileId → Type 0) (l : Layout) (frames : List Frame) (from : ℕ) → Lie P l from frames → ((file : FileId) → P file → Q file) → Lie Q l from frames
+lie_then P Q l [] from lie follows = tt
+lie_then P Q l (f ∷ fs) from lie follows = (follows (file_of l from) lie.0, lie_then P Q l fs (from + aligned_length f) lie.1 follows)
+
+pub same_frames : (old new : Files) (l : Layout) (frames : List Frame) (from to : ℕ) → ((p : ℕ) → new (file_of l p) ≡ old (file_of l p)) → AreDurableFrames old l from frames to → AreDurableFrames new l from frames to
+same_frames old new l frames from to same stand = frames_same old new l frames from to (lie_all (λ file. new file ≡ old file) l frames from same) stand
+
 pub left_frames : (files : Files) (l : Layout) (frames : List Frame) (from to : ℕ) (image : DiskImage) → AreDurableFrames files l from frames to → ((p : ℕ) → LeavesFile (files (file_of l p)) (image (file_of l p)))
     → HoldsFrames image l from frames to
-left_frames files l [] from to image stand left = stand
-left_frames files l (f ∷ fs) from to image stand left = (
-  stand.0 (image (file_of l from)) (unsynced_keeps (offset_of l from + length (stored f)) (files (file_of l from)) (image (file_of l from)) (left from)),
-  left_frames files l fs (from + aligned_length f) to image stand.1 left,
-)
+left_frames files l frames from to image stand left = frames_left files l frames from to image (lie_all (λ file. LeavesFile (files file) (image file)) l frames from left) stand
 
 -- a log at rest leaves its entries where a crash left the bank
 pub bank_left : (files : Files) (log : LogState) (entries : List Entry) (image : DiskImage) → IsAtRest files log entries → LeavesFile (files BankA) (image BankA) → IsCatalogue image log.header entries

@@ -5,3 +5,4 @@ pub mod StayLemmas
 pub mod WriteLemmas
 pub mod SettleLemmas
 pub mod BlockLemmas
+pub mod SweepLemmas

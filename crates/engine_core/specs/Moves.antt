@@ -1,5 +1,5 @@
 -- What an operation on the files of an archive did: docs/STORAGE.md, "Recovery".
-use Rattle.std.specs.Prelude.{◌≡◌, ◌≢◌, ◌+◌, ◌<◌, ◌≤◌, ℕ, IsTrue, List, [], ◌∷◌, Result, Ok, Err}
+use Rattle.std.specs.Prelude.{◌≡◌, ◌≢◌, ◌+◌, ◌<◌, ◌≤◌, ℕ, IsTrue, List, [], ◌∷◌, map, Result, Ok, Err}
 use Rattle.frame_core.specs.declared.refusal.Refusal.{Refusal}
 use Rattle.frame_core.specs.declared.refusal.Refusal.TheVariants.{DeviceFault, NoMemory}
 use Rattle.frame_core.specs.declared.frame.Frame.{Frame}
@@ -9,13 +9,15 @@ use Rattle.disk_core.specs.declared.file_id.FileId.{FileId}
 use Rattle.disk_core.specs.declared.file_id.FileId.TheVariants.{BankA}
 use Rattle.disk_core.specs.DiskImage.{DiskImage, Files, reads}
 use Rattle.disk_core.specs.Life.{Life, LeavesOnly}
+use Rattle.segment_store.specs.declared.keep.Keep.{Keep}
+use Rattle.segment_store.specs.declared.keep.Keep.TheVariants as keeps
 use Rattle.segment_store.specs.declared.layout.Layout.{Layout}
 use Rattle.segment_store.specs.Layout.{file_of}
 use Rattle.segment_store.specs.Stored.{HoldsFrames}
 use Rattle.archive_model.specs.declared.command.Command.{Command}
 use Rattle.archive_model.specs.declared.command.Command.TheVariants.{Append}
 use Rattle.archive_model.specs.Keyed.{Each}
-use Rattle.archive_model.specs.State.{Recording, State, register_of}
+use Rattle.archive_model.specs.State.{Recording, State, is_active, recorded_position, register_of}
 use Rattle.archive_model.specs.WellFormed.{IsWell}
 use Rattle.catalogue_log.specs.declared.entry.Entry.{Entry}
 use Rattle.catalogue_log.specs.Fold.{admits, after_entry, counts}
@@ -38,10 +40,14 @@ pub record Leads (files : Files) (s u : State) (e : Entry) : Type 0 where
   pub enters : Enters s u e
   pub frames : Each (IsDurable files) u.recordings
 
--- these frames lie in one file, from a position on
+-- each of these frames, one after another from a position on, lies in a file that has P
+abbrev pub Lie : (FileId → Type 0) → Layout → ℕ → List Frame → Type 0
+Lie P l from [] = Unit {0}
+Lie P l from (f ∷ fs) = P (file_of l from) × Lie P l (from + aligned_length f) fs
+
+-- they lie in one file
 abbrev pub LieIn : FileId → Layout → ℕ → List Frame → Type 0
-LieIn this l from [] = Unit {0}
-LieIn this l from (f ∷ fs) = (file_of l from ≡ this) × LieIn this l (from + aligned_length f) fs
+LieIn this l from frames = Lie (λ file. file ≡ this) l from frames
 
 -- These frames are read behind what is recorded, and lie in one file.
 pub record Stands (image : DiskImage) (this : FileId) (r : Recording) (frames : List Frame) : Type 0 where
@@ -58,11 +64,14 @@ pub record KeepsSegments (old new : Life) : Type 0 where
 abbrev pub HasRoom : LogState → Entry → Type 0
 HasRoom log e = IsTrue (counts e) → log.counted < log.header.history_limit
 
--- after success the archive is sound for the new state; where memory was refused it is sound for the old one, and no crash
--- leaves another
+-- the archive is sound for this state, and no crash leaves another
+abbrev pub Stays : Life → Life → LogState → State → Type 0
+Stays old new log s = IsSound new.now log s × LeavesOnly old new (RecoversTo (λ x. x ≡ s))
+
+-- after success the archive is sound for the new state; where memory was refused it stays with the old one
 abbrev pub RestsAfter : Result (Unit {0}) Refusal → Life → Life → LogState → State → State → Type 0
 RestsAfter (Ok done) old new log s u = IsSound new.now log u
-RestsAfter (Err NoMemory) old new log s u = IsSound new.now log s × LeavesOnly old new (RecoversTo (λ x. x ≡ s))
+RestsAfter (Err NoMemory) old new log s u = Stays old new log s
 RestsAfter (Err DeviceFault) old new log s u = Unit {0}
 RestsAfter (Err _) old new log s u = ⊥
 
@@ -73,3 +82,10 @@ pub record Moves (old new : Life) (log : LogState) (s u : State) (result : Resul
   pub rests : RestsAfter result old new log s u
   -- reading goes on over the old state, also after a fault
   pub frames : Each (IsDurable new.now) s.recordings
+
+-- what says which files of a recording are kept, and which of a state
+abbrev pub keep_of : Recording → Keep
+keep_of r = keeps.Recording (layout_of r.descriptor) (recorded_position r) (is_active r)
+
+abbrev pub keeps_of : State → List Keep
+keeps_of s = keeps.Below s.next ∷ map keep_of s.recordings

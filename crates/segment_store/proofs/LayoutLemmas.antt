@@ -10,7 +10,7 @@ use Rattle.segment_store.specs.declared.layout.Layout.{Layout}
 use Rattle.segment_store.specs.Layout.{IsLayout, base_of}
 
 -- a length in the limits is at least one byte
-length_positive : (length : ℤ) → is_term_length length ≡ true → 0 < unsigned_abs length
+pub length_positive : (length : ℤ) → is_term_length length ≡ true → 0 < unsigned_abs length
 length_positive length is =
     let power = is_power length is in
     subst (λ (n : ℕ). 0 < n) (sym (ap unsigned_abs power.3)) (pow_pos power.0)
