@@ -1,7 +1,10 @@
 //! What changes an archive. docs/CONTROL.md, "Requests".
 
+ghost use Rattle.std.specs.Prelude.{◌≡◌, IfOk};
+
 use crate::channel::Channel;
 use frame_core::{Block, Items};
+use std::alloc::{AllocError, Global};
 
 /// What a new recording is to be.
 #[derive(Debug, Drop)]
@@ -24,6 +27,25 @@ pub struct StartFields {
     pub timestamp: i64,
     /// Where the stream comes from.
     pub channel: Channel,
+}
+
+impl StartFields {
+    /// A copy. Costs the channel's length.
+    pub fn copy(&self, alloc: Global) -> Result<StartFields, AllocError>
+        ensures { IfOk result (λ copy. copy ≡ self.now) }
+    {
+        Ok(StartFields {
+            stream_id: self.stream_id,
+            session_id: self.session_id,
+            initial_term_id: self.initial_term_id,
+            term_length: self.term_length,
+            mtu: self.mtu,
+            segment_length: self.segment_length,
+            start_position: self.start_position,
+            timestamp: self.timestamp,
+            channel: self.channel.copy(alloc)?,
+        })
+    }
 }
 
 /// How a stopped recording goes on.

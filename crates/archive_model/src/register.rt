@@ -1,6 +1,6 @@
 //! The recordings of an archive without their frames, by rising id. docs/CONTROL.md, "Recordings".
 
-ghost use Rattle.std.specs.Prelude.{◌≡◌, ◌<◌, ◌<ℤ◌, ℤ, pos, length, IfSome, IsOk, IfErr, OnOk, OnErr, MatchOption, count_by};
+ghost use Rattle.std.specs.Prelude.{◌≡◌, ◌<◌, ◌<ℤ◌, ◌^◌, ℤ, pos, length, IfSome, IsOk, IfErr, OnOk, OnErr, MatchOption, count_by};
 ghost use Rattle.std.specs.Option.{option_copied};
 ghost use Rattle.frame_core.specs.declared.refusal.Refusal.TheVariants.{NoMemory};
 ghost use Rattle.archive_model.specs.Keyed.{Rise};
@@ -91,11 +91,12 @@ impl Register {
         count_active(self.recordings()) < MAX_ACTIVE_RECORDERS
     }
 
-    /// How many recordings are active. Costs a lookup at each recording.
+    /// How many recordings are active: fewer than there are ids. Costs a lookup at each recording.
     pub fn active_count(&self) -> usize
-        ensures { result ≡ active_count self.now.state }
+        ensures count { result ≡ active_count self.now.state }
+        ensures few { result < 2 ^ 63 }
     {
-        count_active(self.recordings())
+        count_active(self.map.values().as_slice())
     }
 }
 

@@ -20,8 +20,9 @@ use Rattle.control_core.specs.declared.event.Event.TheVariants as events
 use Rattle.control_core.specs.declared.turns.Opening.{Opening}
 use Rattle.control_core.specs.declared.turns.OpeningDecision.{OpeningDecision}
 use Rattle.control_core.specs.declared.turns.OpeningDecision.TheVariants as opening
+use Rattle.control_core.specs.Control.{written_to}
 use Rattle.control_core.specs.Desk.{DeskState}
-use Rattle.control_core.specs.Changes.{after_close, after_open, after_write, bound_from, settled, settled_by, settled_position, settled_to}
+use Rattle.control_core.specs.Changes.{after_close, after_open, after_write, bound_from, recorded_of, settled, settled_by, settled_position}
 use Rattle.control_core.specs.Decisions.{decision_of}
 use Rattle.control_core.specs.Turns.{begins_at, close_tests, continues, open_tests, opened_at, opening_decided, opening_of, session_in, settle_tests, settling_by, settling_of, sweep_tests, verify_tests, write_tests}
 use Rattle.control_core.specs.Machine.{AtPlace, Breaks, Decided, Either, Ended, Faults, Outcome, Passing, Refuses, Step, UnlessBoundary, Unread}
@@ -95,7 +96,7 @@ exact_write a session block o b (false, says, h) = writes_not a session block o 
 -- ---- settling
 
 settles_by : (a : Archive) (session : ℤ) (s : RecorderSession) (w : Option Written) (o : Result Reply Refusal) (b : Archive) → settled (session_in a.desk session) a.desk ≡ settled_by s w a.desk
-    → SettlingEnds a session (Ok (settling_by a.desk s w)) o b → Ended (Ok (told.Reply (replies.Settled (settled_to a.desk s w)))) (settled_by s w a.desk) (plain o) b.desk
+    → SettlingEnds a session (Ok (settling_by a.desk s w)) o b → Ended (Ok (told.Reply (replies.Settled (written_to w (recorded_of (registration_in a.desk.register s.recording)))))) (settled_by s w a.desk) (plain o) b.desk
 settles_by a session s None o b same h = told_so _ a o b h
 settles_by a session s (Some w) o b same h = let is = told_so _ (settled_archive a session s.recording) o b h in (is.0, is.1 ∙ same)
 

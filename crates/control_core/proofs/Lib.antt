@@ -7,6 +7,8 @@ pub mod ChangeLemmas
 mod ListingLemmas
 mod FragmentLemmas
 mod SeatLemmas
+mod FoundLemmas
+mod AllowedLemmas
 mod DeskLemmas
 mod AgreementLemmas
 mod ExactLemmas

@@ -4,7 +4,7 @@ use Rattle.std.proofs.lemmas.Option.{slice_get-get_or}
 use Rattle.std.proofs.lemmas.Int.{ints}
 use Rattle.archive_model.specs.Keyed.{change, without, Rise}
 use Rattle.archive_model.specs.Numbered.{IsPlaceOf}
-use Rattle.archive_model.proofs.RegisterLemmas.{without_at, found_number, rise_set}
+use Rattle.archive_model.proofs.RegisterLemmas.{without_at, found_number}
 
 module _ {X : Type 0} (number : X → ℤ) where
   rise_lower : (low least next : ℤ) (xs : List X) → least ≤ℤ low → Rise number low xs next → Rise number least xs next
@@ -27,9 +27,6 @@ module _ {X : Type 0} (number : X → ℤ) where
       let same : Some x ≡ Some placed.value = sym there ∙ placed.at in
       let made : new ≡ f placed.value = cc in
       ap (slice_set xs place) made ∙ sym (placed.changed f)
-
-  pub rise_written : (n next : ℤ) (xs : List X) (place : ℕ) (x new : X) → IsPlaceOf number n xs place → x ≡ get_or xs place x → number new ≡ number x → Rise number (pos 0) xs next → Rise number (pos 0) (slice_set xs place new) next
-  rise_written n next xs place x new placed gets same rising = rise_set number (pos 0) next xs place x new rising (slice_get-get_or xs place x placed.within ∙ ap Some (sym gets)) same
 
   -- to remove at the place of a number is to be without the value of the number
   pub remove_is_without : (next n : ℤ) (xs : List X) (place : ℕ) → Rise number (pos 0) xs next → IsPlaceOf number n xs place → remove xs place ≡ without number n xs

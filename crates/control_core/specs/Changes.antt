@@ -12,7 +12,7 @@ use Rattle.archive_model.specs.Keyed.{find, change, without}
 use Rattle.archive_model.specs.Register.{RegisterState, active_count, all_stopped, changed, registered, registration_in, segments_before, with_one, with_out}
 use Rattle.control_core.specs.declared.callers.RecorderSession.{RecorderSession}
 use Rattle.control_core.specs.declared.callers.Written.{Written}
-use Rattle.control_core.specs.Control.{CallersState, last_number, moved_to, no_callers, replay_number, session_number, with_written}
+use Rattle.control_core.specs.Control.{CallersState, last_number, moved_to, no_callers, replay_number, session_number, with_written, written_to}
 use Rattle.control_core.specs.Desk.{DeskState, is_replay_of}
 
 -- ---- sessions and replays
@@ -93,14 +93,14 @@ abbrev pub segments_of : Option Registration → ℤ → ℤ
 segments_of None position = pos 0
 segments_of (Some r) position = segments_before position r
 
-abbrev pub settled_to : DeskState → RecorderSession → Option Written → ℤ
-settled_to d s None = recorded_of (registration_in d.register s.recording)
-settled_to d s (Some w) = w.last
+-- where a session's next block begins: where what it wrote ends, or what is recorded where it wrote nothing
+abbrev pub next_position : DeskState → RecorderSession → ℤ
+next_position d s = written_to s.written (recorded_of (registration_in d.register s.recording))
 
--- where what a session wrote ends, or what is recorded where it wrote nothing
+-- up to where a session's recording is recorded once what it wrote is
 abbrev pub settled_position : DeskState → Option RecorderSession → ℤ
 settled_position d None = pos 0
-settled_position d (Some s) = settled_to d s s.written
+settled_position d (Some s) = next_position d s
 
 abbrev pub reply_after : DeskState → Command → Reply
 reply_after d (Start f) = replies.Started d.register.next d.callers.next_session

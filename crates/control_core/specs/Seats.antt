@@ -1,5 +1,5 @@
 -- What the desk's values keep beside what they show. docs/CONTROL.md, "Control state".
-use Rattle.std.specs.Prelude.{◌≤◌, ◌<◌, ℕ, ℤ, pos, List, length, IsTrue, true}
+use Rattle.std.specs.Prelude.{◌≢◌, ◌≤◌, ◌<◌, ℕ, ℤ, pos, List, [], ◌∷◌, length, IsTrue, true}
 use Rattle.archive_model.specs.declared.command.Command.{Command}
 use Rattle.archive_model.specs.declared.command.Command.TheVariants.{Start, Append, Stop, Extend, Truncate, PurgeSegments, PurgeRecording, Restart}
 use Rattle.archive_model.specs.Keyed.{Each, Rise}
@@ -7,6 +7,7 @@ use Rattle.archive_model.specs.Register.{RegisterState, id_of, is_active, regist
 use Rattle.archive_model.specs.Checks.{is_of}
 use Rattle.control_core.specs.declared.callers.RecorderSession.{RecorderSession}
 use Rattle.control_core.specs.declared.callers.OpenReplay.{OpenReplay}
+use Rattle.control_core.specs.Control.{CallersState, replay_number, session_number}
 use Rattle.control_core.specs.Desk.{DeskState}
 
 -- the open sessions by rising number, the next number, and how many more there is memory for
@@ -29,13 +30,31 @@ IsWriting g s = IsTrue (is_of (registration_in g s.recording) is_active)
 abbrev pub IsReading : RegisterState → OpenReplay → Type 0
 IsReading g r = IsTrue (is_of (registration_in g r.recording) (λ known. true))
 
--- Ids of recordings rise from 0 on and are below the next one; each session's recording is there and active, each
--- replay's is there; at most 64 replays are open.
-pub record KeepsSeats (g : RegisterState) (sessions : List RecorderSession) (replays : List OpenReplay) : Type 0 where
+-- no two sessions write one recording
+abbrev pub AreApart : List RecorderSession → Type 0
+AreApart [] = Unit {0}
+AreApart (s ∷ ss) = Each (λ other. other.recording ≢ s.recording) ss × AreApart ss
+
+-- The numbers of sessions rise from 0 on and are below the next one. Each session's recording is there and active, and no
+-- other session writes it. At most 64 sessions are open.
+pub record KeepsSessions (g : RegisterState) (ss : List RecorderSession) (next : ℤ) : Type 0 where
+  pub rising : Rise session_number (pos 0) ss next
+  pub writing : Each (IsWriting g) ss
+  pub apart : AreApart ss
+  pub few : length ss ≤ 64
+
+-- The numbers of replays rise from 0 on and are below the next one. Each replay's recording is there. At most 64 replays
+-- are open.
+pub record KeepsReplays (g : RegisterState) (rs : List OpenReplay) (next : ℤ) : Type 0 where
+  pub rising : Rise replay_number (pos 0) rs next
+  pub reading : Each (IsReading g) rs
+  pub few : length rs ≤ 64
+
+-- Ids of recordings rise from 0 on and are below the next one, and sessions and replays are of recordings that are there.
+pub record KeepsSeats (g : RegisterState) (c : CallersState) : Type 0 where
   pub rising : Rise id_of (pos 0) g.recordings g.next
-  pub writing : Each (IsWriting g) sessions
-  pub reading : Each (IsReading g) replays
-  pub few : length replays ≤ 64
+  pub sessions : KeepsSessions g c.sessions c.next_session
+  pub replays : KeepsReplays g c.replays c.next_replay
 
 -- the desk's state, and how many more recordings, sessions and replays it can take without memory
 pub record DeskView : Type 0 where

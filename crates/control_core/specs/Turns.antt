@@ -18,9 +18,9 @@ use Rattle.control_core.specs.declared.turns.OpeningDecision.{OpeningDecision}
 use Rattle.control_core.specs.declared.turns.OpeningDecision.TheVariants as opening
 use Rattle.control_core.specs.declared.turns.Settling.{Settling}
 use Rattle.control_core.specs.declared.turns.Settling.TheVariants as settling
-use Rattle.control_core.specs.Control.{last_number, replay_number, session_number, written_to}
+use Rattle.control_core.specs.Control.{last_number, replay_number, session_number}
 use Rattle.control_core.specs.Desk.{DeskState, has_room}
-use Rattle.control_core.specs.Changes.{bound_from, recorded_of}
+use Rattle.control_core.specs.Changes.{bound_from, next_position, recorded_of}
 
 abbrev pub session_in : DeskState → ℤ → Option RecorderSession
 session_in d number = find session_number number d.callers.sessions
@@ -29,10 +29,6 @@ abbrev pub replay_in : DeskState → ℤ → Option OpenReplay
 replay_in d number = find replay_number number d.callers.replays
 
 -- ---- writing
-
--- where a session's next block begins
-abbrev pub next_position : DeskState → RecorderSession → ℤ
-next_position d s = written_to s.written (recorded_of (registration_in d.register s.recording))
 
 -- the block begins where the session's next one has to
 abbrev pub continues : DeskState → Option RecorderSession → Written → Bool

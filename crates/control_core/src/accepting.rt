@@ -1,15 +1,16 @@
-//! What an accepted command makes of the desk. docs/CONTROL.md, "Requests".
+//! What an accepted command makes of the desk, and answers. docs/CONTROL.md, "Requests".
 
-ghost use Rattle.std.specs.Prelude.{◌≡◌, ◌<◌, Some, OnOk, IfErr};
+ghost use Rattle.std.specs.Prelude.{◌≡◌, ◌<◌, Some, OnOk, IfErr, IsTrue};
 ghost use Rattle.frame_core.specs.declared.refusal.Refusal.TheVariants.{NoMemory};
-ghost use Rattle.archive_model.specs.Register.{registered};
-ghost use Rattle.control_core.specs.Changes.{desk_after, settled, writer_of};
+ghost use Rattle.archive_model.specs.Checks.{is_of};
+ghost use Rattle.archive_model.specs.Register.{is_later_base, registration_in};
+ghost use Rattle.control_core.specs.Changes.{desk_after, reply_after, segments_of, settled, settled_position, writer_of};
 ghost use Rattle.control_core.specs.Decisions.{Allows};
-ghost use Rattle.control_core.specs.Seats.{HasRoomFor};
+ghost use Rattle.control_core.specs.Seats.{HasRoomFor, KeepsSeats};
 
 use crate::callers::RecorderSession;
 use crate::desk::Desk;
-use archive_model::{Change, Command, Descriptor, ExtendFields, Registration, StartFields};
+use archive_model::{Change, Command, ExtendFields, Registration, Reply, StartFields};
 use frame_core::Refusal;
 
 impl Desk {
@@ -27,6 +28,64 @@ impl Desk {
             }
             Command::Extend(_) => self.sessions.reserve(),
             _ => Ok(()),
+        }
+    }
+
+    /// What an accepted command answers, by the desk before it. Costs a lookup; of an append the open sessions, of a
+    /// restart a lookup at each recording.
+    pub fn reply(&self, command: &Command) -> Reply
+        requires { Allows self.now.state command.now }
+        ensures reply { result ≡ reply_after self.now.state command.now }
+        ensures seats { KeepsSeats self.now.state.register self.now.state.callers }
+    {
+        match command {
+            Command::Start(_) => Reply::Started {
+                recording: self.register.next_recording(),
+                session: self.sessions.next(),
+            },
+            Command::Append { recording, .. } => Reply::Settled {
+                position: self.settled_position(recording),
+            },
+            Command::Stop { recording, .. } => Reply::Stopped {
+                position: self.recorded_position(recording),
+            },
+            Command::Extend(_) => Reply::Extended {
+                session: self.sessions.next(),
+            },
+            Command::Truncate { position, .. } => Reply::Truncated {
+                position: *position,
+            },
+            Command::PurgeSegments {
+                recording,
+                position,
+            } => Reply::Purged {
+                segments: self.segments_before(recording, position),
+            },
+            Command::PurgeRecording { .. } => Reply::PurgedRecording,
+            Command::Restart => Reply::Reopened {
+                recordings: self.register.active_count() as i64,
+            },
+        }
+    }
+
+    /// Up to where a recording is recorded once what its session wrote is; 0 where it has none.
+    fn settled_position(&self, recording: &i64) -> i64
+        ensures { result ≡ settled_position self.now.state (writer_of self.now.state recording.now) }
+    {
+        match self.sessions.writer(recording) {
+            Some(session) => self.next_position(&session),
+            None => 0,
+        }
+    }
+
+    /// How many segments of a recording lie before a position where a later one begins.
+    fn segments_before(&self, recording: &i64, position: &i64) -> i64
+        requires { IsTrue (is_of (registration_in self.now.state.register recording.now) (is_later_base position.now)) }
+        ensures { result ≡ segments_of (registration_in self.now.state.register recording.now) position.now }
+    {
+        match self.recording(recording) {
+            Some(known) => known.segments_before(position),
+            None => 0,
         }
     }
 
@@ -64,7 +123,7 @@ impl Desk {
         ensures { self.new.state ≡ desk_after self.old.state (Command.Start fields) }
     {
         let id = self.register.next_recording();
-        let _ = self.register.add(registered(&id, fields));
+        let _ = self.register.add(Registration::begun_with(&id, fields));
         self.sessions.open(&id);
         self.counted += 1;
     }
@@ -152,29 +211,5 @@ impl Desk {
         self.register.restart();
         self.sessions.clear();
         self.replays.clear();
-    }
-}
-
-fn registered(id: &i64, fields: StartFields) -> Registration
-    ensures { result ≡ registered id.now fields }
-{
-    let recorded = fields.start_position;
-    let descriptor = Descriptor {
-        recording: *id,
-        start_timestamp: fields.timestamp,
-        stop_timestamp: -1,
-        start_position: fields.start_position,
-        stop_position: -1,
-        initial_term_id: fields.initial_term_id,
-        segment_length: fields.segment_length,
-        term_length: fields.term_length,
-        mtu: fields.mtu,
-        session_id: fields.session_id,
-        stream_id: fields.stream_id,
-        channel: fields.channel,
-    };
-    Registration {
-        descriptor,
-        recorded,
     }
 }

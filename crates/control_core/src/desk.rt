@@ -4,8 +4,9 @@ ghost use Rattle.std.specs.Prelude.{◌≡◌, length, option_copied, IfSome, �
 ghost use Rattle.std.specs.List.{list_any};
 ghost use Rattle.archive_model.specs.Register.{HasLayout, may_begin, may_record, registration_in, no_recordings};
 ghost use Rattle.control_core.specs.Control.{no_callers};
-ghost use Rattle.control_core.specs.Changes.{recorded_of};
-ghost use Rattle.control_core.specs.Turns.{next_position, replay_in, session_in};
+ghost use Rattle.control_core.specs.Changes.{next_position, recorded_of};
+ghost use Rattle.control_core.specs.Turns.{replay_in, session_in};
+ghost use Rattle.control_core.specs.Seats.{KeepsSeats};
 ghost use Rattle.control_core.specs.Desk.{new_desk, has_room, has_session_number, is_replayed, is_replay_before};
 
 use crate::callers::{OpenReplay, RecorderSession};
@@ -30,6 +31,7 @@ pub struct Desk {
 }
 
 impl Model for Desk {
+    ghost use Rattle.control_core.specs.Control.{CallersState};
     ghost use Rattle.control_core.specs.Seats.{DeskView, KeepsSeats};
 
     ghost Value = { DeskView };
@@ -52,7 +54,12 @@ impl Model for Desk {
       replays = d.replays.room;
     } };
 
-    ghost invariant = { λ d. KeepsSeats d.register.state d.sessions.values d.replays.values };
+    ghost invariant = { λ d. KeepsSeats d.register.state (record {
+      sessions = d.sessions.values;
+      replays = d.replays.values;
+      next_session = d.sessions.next;
+      next_replay = d.replays.next;
+    }) };
 }
 
 impl Desk {
@@ -74,13 +81,15 @@ impl Desk {
     pub fn recording(&self, id: &i64) -> Option<&Registration>
         ensures found { option_copied result ≡ registration_in self.now.state.register id.now }
         ensures layout { IfSome result (λ r. HasLayout r.now.descriptor) }
+        ensures seats { KeepsSeats self.now.state.register self.now.state.callers }
     {
         self.register.recording(id)
     }
 
     /// The recordings, by rising id.
     pub fn recordings(&self) -> &[Registration]
-        ensures { result.now ≡ self.now.state.register.recordings }
+        ensures all { result.now ≡ self.now.state.register.recordings }
+        ensures seats { KeepsSeats self.now.state.register self.now.state.callers }
     {
         self.register.recordings()
     }
@@ -130,14 +139,16 @@ impl Desk {
 
     /// The recorder session of a number. Costs the sessions that are open.
     pub fn session(&self, number: &i64) -> Option<RecorderSession>
-        ensures { result ≡ session_in self.now.state number.now }
+        ensures found { result ≡ session_in self.now.state number.now }
+        ensures seats { KeepsSeats self.now.state.register self.now.state.callers }
     {
         self.sessions.get(number)
     }
 
     /// The open replay of a number. Costs the replays that are open.
     pub fn replay(&self, number: &i64) -> Option<OpenReplay>
-        ensures { result ≡ replay_in self.now.state number.now }
+        ensures found { result ≡ replay_in self.now.state number.now }
+        ensures seats { KeepsSeats self.now.state.register self.now.state.callers }
     {
         self.replays.get(number)
     }

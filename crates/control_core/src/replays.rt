@@ -3,7 +3,7 @@
 ghost use Rattle.std.specs.Prelude.{◌≡◌, ◌+ℤ◌, ◌++◌, ◌∷◌, [], ◌<◌, ◌≢◌, not, pos, filter, length, IfErr, OnOk};
 ghost use Rattle.std.specs.List.{list_any};
 ghost use Rattle.frame_core.specs.declared.refusal.Refusal.TheVariants.{NoMemory};
-ghost use Rattle.archive_model.specs.Keyed.{find, change, without};
+ghost use Rattle.archive_model.specs.Keyed.{find, change, without, Rise};
 ghost use Rattle.control_core.specs.Control.{last_number, moved_to, replay_number};
 ghost use Rattle.control_core.specs.Desk.{is_replay_of, is_replay_before};
 
@@ -22,10 +22,8 @@ pub struct Replays {
 }
 
 impl Model for Replays {
-    ghost use Rattle.std.specs.Prelude.{◌-◌, pos};
+    ghost use Rattle.std.specs.Prelude.{◌-◌};
     ghost use Rattle.std.specs.Vec.{vec_capacity, vec_len};
-    ghost use Rattle.archive_model.specs.Keyed.{Rise};
-    ghost use Rattle.control_core.specs.Control.{replay_number};
     ghost use Rattle.control_core.specs.Seats.{ReplaysView};
 
     ghost Value = { ReplaysView };
@@ -35,8 +33,6 @@ impl Model for Replays {
       next = r.next;
       room = vec_capacity r.values - vec_len r.values;
     } };
-
-    ghost invariant = { λ r. Rise replay_number (pos 0) r.values.items r.next };
 }
 
 impl Replays {
@@ -138,6 +134,7 @@ impl Replays {
 
     /// The replay of a number is gone. Costs the replays that are open.
     pub fn close(&mut self, number: &i64)
+        requires { Rise replay_number (pos 0) self.old.values self.old.next }
         ensures values { self.new.values ≡ without replay_number number.now self.old.values }
         ensures next { self.new.next ≡ self.old.next }
     {

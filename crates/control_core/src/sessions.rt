@@ -21,10 +21,8 @@ pub struct Sessions {
 }
 
 impl Model for Sessions {
-    ghost use Rattle.std.specs.Prelude.{◌-◌, pos};
+    ghost use Rattle.std.specs.Prelude.{◌-◌};
     ghost use Rattle.std.specs.Vec.{vec_capacity, vec_len};
-    ghost use Rattle.archive_model.specs.Keyed.{Rise};
-    ghost use Rattle.control_core.specs.Control.{session_number};
     ghost use Rattle.control_core.specs.Seats.{SessionsView};
 
     ghost Value = { SessionsView };
@@ -34,8 +32,6 @@ impl Model for Sessions {
       next = s.next;
       room = vec_capacity s.values - vec_len s.values;
     } };
-
-    ghost invariant = { λ s. Rise session_number (pos 0) s.values.items s.next };
 }
 
 impl Sessions {

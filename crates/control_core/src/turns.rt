@@ -11,7 +11,7 @@ use crate::callers::{OpenReplay, Written};
 use crate::desk::Desk;
 use archive_model::{Registration, Reply};
 use frame_core::Refusal;
-use frame_core::limits::{LAST_NUMBER, MAX_OPEN_REPLAYS};
+use frame_core::limits::{LAST_NUMBER, MAX_OPEN_REPLAYS, MAX_POLL};
 
 /// What there is to settle.
 #[derive(Clone, Copy, Debug)]
@@ -186,7 +186,7 @@ fn behind_boundary(
 pub fn decide_poll(desk: &Desk, replay: &i64, max: &i64) -> Result<OpenReplay, Refusal>
     ensures { result ≡ poll_decision desk.now.state replay.now max.now }
 {
-    if *max < 1 || *max > 4096 {
+    if *max < 1 || *max > MAX_POLL {
         return Err(Refusal::BadParameter);
     }
     desk.replay(replay).ok_or(Refusal::UnknownReplay)

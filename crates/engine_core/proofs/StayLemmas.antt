@@ -214,9 +214,9 @@ frames_stay files b (PurgeRecording id) well accepted requested stand = each_wit
 frames_stay files b Restart well accepted requested stand = each_map (IsDurable files) restarted b.state.recordings (λ r stands. restarted_stands files r (is_active r) stands) stand
 
 -- the entry of an accepted command may follow those of the state, and makes the register of the state after it
-pub enters : (b : BookState) (c : Command) → IsWell b.state → Accepts b c → Fits (entry_of b.state c) → Enters b.state (after b.state c) (entry_of b.state c)
-enters b c well accepted fits = record { follows = (fits, entry_admitted b c well accepted); makes = register_kept b c well accepted; well = well_after b c well accepted }
+pub enters : (b : BookState) (c : Command) → IsWell b.state → Accepts b c → Enters b.state (after b.state c) (entry_of b.state c)
+enters b c well accepted = record { admitted = entry_admitted b c well accepted; makes = register_kept b c well accepted; well = well_after b c well accepted }
 
 -- so its entry leads from the state before it to the one after it
-pub leads : (files : Files) (b : BookState) (c : Command) → IsWell b.state → Accepts b c → IsRequested c → Each (IsDurable files) b.state.recordings → Fits (entry_of b.state c) → Leads files b.state (after b.state c) (entry_of b.state c)
-leads files b c well accepted requested stand fits = record { enters = enters b c well accepted fits; frames = frames_stay files b c well accepted requested stand }
+pub leads : (files : Files) (b : BookState) (c : Command) → IsWell b.state → Accepts b c → IsRequested c → Each (IsDurable files) b.state.recordings → Leads files b.state (after b.state c) (entry_of b.state c)
+leads files b c well accepted requested stand = record { enters = enters b c well accepted; frames = frames_stay files b c well accepted requested stand }

@@ -20,7 +20,7 @@ use Rattle.archive_model.specs.Keyed.{Each}
 use Rattle.archive_model.specs.State.{Recording, State, is_active, recorded_position, register_of}
 use Rattle.archive_model.specs.WellFormed.{IsWell}
 use Rattle.catalogue_log.specs.declared.entry.Entry.{Entry}
-use Rattle.catalogue_log.specs.Fold.{MayFollow, after_entry, counts}
+use Rattle.catalogue_log.specs.Fold.{admits, after_entry, counts}
 use Rattle.catalogue_log.specs.LogState.{LogState}
 use Rattle.engine_core.specs.Recovery.{IsDurable, IsEither, IsSound, RecoversTo, last_of, layout_of}
 
@@ -31,7 +31,7 @@ IsRequested _ = Unit {0}
 
 -- An entry may follow those of a state, and makes of all but the frames what another state has.
 pub record Enters (s u : State) (e : Entry) : Type 0 where
-  pub follows : MayFollow (register_of s) e
+  pub admitted : IsTrue (admits (register_of s) e)
   pub makes : after_entry (register_of s) e ≡ register_of u
   pub well : IsWell u
 

@@ -1,26 +1,19 @@
 -- What a poll gives where a disk image holds the recording's frames.
 use Rattle.std.proofs.Common.{◌≡◌, ◌⊎◌, ◌∙◌, inl, inr, sym, ap, subst, refl, ℕ, ℤ, pos, ◌≤ℤ◌, ◌<ℤ◌, ◌+◌, ◌<◌, ◌≤◌, Bool, true, false, zero, suc, List, [], ◌∷◌, length, take, arith}
 use Rattle.std.proofs.lemmas.Int.{ints}
-use Rattle.std.specs.Prelude.{int_lt, unsigned_abs, if◌then◌else◌}
+use Rattle.std.specs.Prelude.{int_lt, if◌then◌else◌}
 use Rattle.disk_core.specs.DiskImage.{DiskImage}
 use Rattle.frame_core.specs.declared.frame.Frame.{Frame}
-use Rattle.frame_core.specs.declared.frame.FrameKind.{FrameKind}
-use Rattle.frame_core.specs.declared.frame.FrameKind.TheVariants.{Pad, Message, Heartbeat}
 use Rattle.frame_core.specs.declared.geometry.Geometry.{Geometry}
 use Rattle.frame_core.specs.Block.{AreEncodable}
-use Rattle.frame_core.specs.FrameEncoding.{HasLength, aligned_length}
+use Rattle.frame_core.specs.FrameEncoding.{aligned_length}
 use Rattle.segment_store.specs.declared.layout.Layout.{Layout}
 use Rattle.segment_store.specs.Boundary.{IsChain}
-use Rattle.segment_store.specs.DamagedFrame.{ShowsFrame, is_stored}
+use Rattle.segment_store.specs.DamagedFrame.{ShowsFrame}
 use Rattle.segment_store.specs.Stored.{HoldsFrames}
 use Rattle.segment_store.proofs.DurableLemmas.{stored_shown, one_shown}
-use Rattle.segment_store.proofs.ReadLemmas.{belongs_ends, belongs_stored}
+use Rattle.segment_store.proofs.ReadLemmas.{belongs_covers, belongs_ends}
 use Rattle.replay_core.specs.Poll.{BeginBefore, Belong, Polls, BreaksOff, before}
-
-covers_by : (kind : FrameKind) (f : Frame) → is_stored kind ≡ true → HasLength kind f.length f.payload → 0 < aligned_length f
-covers_by Pad f is long = omega (arith, ints, long.0)
-covers_by Message f is long = omega (arith, ints, ap unsigned_abs long)
-covers_by Heartbeat f is long = absurd (cc)
 
 -- what begins at or past the bound does not begin before it
 not_before : (bound : ℤ) (from : ℕ) (test : Bool) → int_lt (pos from) bound ≡ test → bound ≤ℤ pos from → test ≡ false
@@ -41,7 +34,7 @@ take_nil (suc n) = refl
 module _ (image : DiskImage) (l : Layout) (g : Geometry) where
   -- a frame that is shown covers some bytes
   pub covers : (limit : ℤ) (p : ℕ) (f : Frame) → ShowsFrame image l g limit p f → 0 < aligned_length f
-  covers limit p f shown = covers_by f.kind f (belongs_stored l g p limit f shown.belongs) shown.encodable.length
+  covers limit p f shown = belongs_covers l g p limit f shown.encodable shown.belongs
 
   -- frames that are held are shown, one after another
   pub held_shown : (limit : ℤ) (held : List Frame) (from to : ℕ) → HoldsFrames image l from held to → AreEncodable held → Belong l g limit from held → IsChain image l g limit from held to

@@ -6,6 +6,7 @@ use Rattle.disk_core.specs.DiskImage.{DiskImage, Files, reads}
 use Rattle.disk_core.specs.Life.{Life, IsQuiet}
 use Rattle.frame_core.specs.declared.frame.Frame.{Frame}
 use Rattle.frame_core.specs.declared.geometry.Geometry.{Geometry}
+use Rattle.frame_core.specs.Block.{covered}
 use Rattle.frame_core.specs.FrameEncoding.{aligned_length}
 use Rattle.segment_store.specs.declared.layout.Layout.{Layout}
 use Rattle.segment_store.specs.Boundary.{IsChain}
@@ -16,6 +17,7 @@ use Rattle.replay_core.specs.Poll.{BeginBefore}
 pub record HasRead (old new : Life) (l : Layout) (g : Geometry) (recorded bound : ℤ) (most : ℕ) (next at : ℤ) (frames : List Frame) : Type 0 where
   pub quiet : IsQuiet old new
   pub onwards : next ≤ℤ at
+  pub covers : at ≡ next +ℤ pos (covered frames)
   pub few : length frames ≤ most
   pub stand : IsTrue new.obeys → IsChain (reads old.now) l g recorded (unsigned_abs next) frames (unsigned_abs at)
   pub before : IsTrue new.obeys → BeginBefore bound (unsigned_abs next) frames
@@ -32,6 +34,10 @@ module _ (image : DiskImage) (l : Layout) (g : Geometry) (limit : ℤ) where
       → BeginBefore bound from (frames ++ f ∷ [])
   before_more bound [] from to f is before low = (omega (arith, ints, is, low), tt)
   before_more bound (h ∷ hs) from to f is before low = (before.0, before_more bound hs (from + aligned_length h) to f is.1 before.1 low)
+
+covered_more : (frames : List Frame) (f : Frame) → covered (frames ++ f ∷ []) ≡ covered frames + aligned_length f
+covered_more [] f = omega arith
+covered_more (h ∷ hs) f = omega (arith, covered_more hs f)
 
 -- a frame more has been read
 pub one_more : (old mid new : Life) (l : Layout) (g : Geometry) (recorded bound : ℤ) (most : ℕ) (next at end : ℤ) (frames : List Frame) (f : Frame)
@@ -50,6 +56,7 @@ one_more old mid new l g recorded bound most next at end frames f read quiet sta
         faults = omega (arith, quiet.faults, read.quiet.faults);
       };
       onwards = omega (arith, ints, is, read.onwards);
+      covers = is ∙ ap (λ (z : ℤ). z +ℤ pos (aligned_length f)) read.covers ∙ omega (arith, ints, covered_more frames f);
       few = omega (arith, length-append frames (f ∷ []), fewer);
       stand = λ obeys. subst (IsChain image l g recorded (unsigned_abs next) (frames ++ f ∷ [])) ends
           (chain_more image l g recorded frames (unsigned_abs next) (unsigned_abs at) f (stand obeys)

@@ -68,6 +68,15 @@ pub belongs_stored : (l : Layout) (g : Geometry) (p : ℕ) (limit : ℤ) (f : Fr
 unfolding belongs_at
 belongs_stored l g p limit f belongs = first_true _ _ (first_true _ _ (first_true _ _ (first_true _ _ belongs)))
 
+covers_by : (kind : FrameKind) (f : Frame) → is_stored kind ≡ true → HasLength kind f.length f.payload → 0 < aligned_length f
+covers_by Pad f is long = omega (arith, ints, long.0)
+covers_by Message f is long = omega (arith, ints, ap unsigned_abs long)
+covers_by Heartbeat f is long = absurd (cc)
+
+-- a frame that belongs at a position covers some bytes
+pub belongs_covers : (l : Layout) (g : Geometry) (p : ℕ) (limit : ℤ) (f : Frame) → IsEncodable f → belongs_at l g p limit f ≡ true → 0 < aligned_length f
+belongs_covers l g p limit f encodable belongs = covers_by f.kind f (belongs_stored l g p limit f belongs) encodable.length
+
 by_kind : (kind : FrameKind) (f : Frame) → HasLength kind f.length f.payload → is_stored kind ≡ true → length (encoded f) ≤ unsigned_abs f.length
 by_kind Pad f long is = omega (arith, ints, long.0, length-encoded f, ap length long.1)
 by_kind Message f long is = omega (arith, length-encoded f, ap unsigned_abs long)

@@ -1,15 +1,16 @@
 use Rattle.std.proofs.Common.{◌≡◌, ◌<◌, refl, ap, rules, arith, FitsSigned, w64}
 use Rattle.std.proofs.lemmas.Int.{to_z-of_z}
 use Rattle.archive_model.specs.declared.command.Command.TheVariants as commands
-use Rattle.archive_model.specs.Register.{registered, with_one}
+use Rattle.archive_model.specs.Register.{active_count, registered, with_one}
 use Rattle.control_core.specs.Seats.{DeskView}
-use Rattle.control_core.proofs.DeskLemmas.{keeps_begun, room_of, start_lengths}
+use Rattle.control_core.proofs.DeskLemmas.{keeps_begun}
+use Rattle.control_core.proofs.AllowedLemmas.{room_of, start_few, start_lengths}
 use Rattle.control_core.proofs.desk.Desk.begin.Goals as goal
 
 pub add-requires-clause-layout : goal.add-requires-clause-layout
 add-requires-clause-layout c =
     let lengths = start_lengths c.args.self.now.state c.args.fields c.requires.allowed in
-    rw c.registered.ensures (record { term = lengths.0; segment = lengths.1 })
+    rw c.begun_with.ensures (record { term = lengths.0; segment = lengths.1 })
 
 pub overflow_add-self : goal.overflow_add-self
 overflow_add-self c =
@@ -23,5 +24,7 @@ pub invariant_of-self : goal.invariant_of-self
 invariant_of-self c =
     let fits : FitsSigned w64 c.next_recording-id.result = search rules in
     let added : c.add.new.self.state ≡ with_one (registered c.next_recording-id.result c.args.fields) c.self.inside.register.state = search rules in
-    rw (added, c.open.ensures.values, to_z-of_z w64 c.next_recording-id.result fits, c.next_recording-id.ensures)
-    (keeps_begun c.self.inside.register.state _ _ _ (registered c.self.inside.register.state.next c.args.fields) c.self.invariant refl refl)
+    let register : c.self.inside.register.state ≡ c.args.self.now.state.register = ap (λ (v : DeskView). v.state.register) c.self.view_is in
+    let few : active_count c.self.inside.register.state < 64 = rw register (start_few c.args.self.now.state c.args.fields c.requires.allowed) in
+    rw (added, c.open.ensures.values, c.open.ensures.next, to_z-of_z w64 c.next_recording-id.result fits, c.next_recording-id.ensures)
+    (keeps_begun c.self.inside.register.state _ (registered c.self.inside.register.state.next c.args.fields) refl refl few c.self.invariant)

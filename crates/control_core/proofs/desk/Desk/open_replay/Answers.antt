@@ -1,4 +1,4 @@
-use Rattle.std.proofs.Common.{◌≡◌, ◌<◌, true, ap, length}
+use Rattle.std.proofs.Common.{◌≡◌, ◌<◌, true, refl, ap, length}
 use Rattle.std.specs.Prelude.{is_some}
 use Rattle.archive_model.specs.Register.{registration_in}
 use Rattle.control_core.specs.Seats.{DeskView}
@@ -11,4 +11,4 @@ invariant_of-self c =
     let replays : c.self.inside.replays.values ≡ c.args.self.now.state.callers.replays = ap (λ (v : DeskView). v.state.callers.replays) c.self.view_is in
     let few : length c.self.inside.replays.values < 64 = rw replays c.requires.few in
     let there : is_some (registration_in c.self.inside.register.state c.args.opening.now.recording) ≡ true = rw register c.requires.there in
-    rw c.open.ensures.values (keeps_opened _ _ _ _ few there c.self.invariant)
+    rw (c.open.ensures.values, c.open.ensures.next) (keeps_opened _ _ _ refl few there c.self.invariant)

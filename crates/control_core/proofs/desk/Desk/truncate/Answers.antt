@@ -2,4 +2,4 @@ use Rattle.control_core.proofs.DeskLemmas.{keeps_truncated}
 use Rattle.control_core.proofs.desk.Desk.truncate.Goals as goal
 
 pub invariant_of-self : goal.invariant_of-self
-invariant_of-self c = rw (c.change.ensures.state, c.end.ensures.values) (keeps_truncated _ _ _ _ _ c.self.invariant)
+invariant_of-self c = rw (c.change.ensures.state, c.end.ensures.values, c.end.ensures.next) (keeps_truncated _ _ _ _ c.self.invariant)

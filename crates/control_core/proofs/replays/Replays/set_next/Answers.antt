@@ -1,10 +1,6 @@
-use Rattle.std.proofs.Common.{ap}
 use Rattle.control_core.specs.Control.{replay_number, moved_to}
-use Rattle.control_core.proofs.SeatLemmas.{set_is_change, rise_written}
+use Rattle.control_core.proofs.SeatLemmas.{set_is_change}
 use Rattle.control_core.proofs.replays.Replays.set_next.Goals as goal
-
-pub invariant_of-self : goal.invariant_of-self
-invariant_of-self c = rise_written replay_number c.args.number.now _ _ c.in-Some.place _ _ (rw (← c.as_slice.ensures.value) c.in-Some.ensures) c.index_mut-replay.ensures.value (ap replay_number c.move_to.ensures) c.self.invariant
 
 pub returns-clause-values : goal.returns-clause-values
 returns-clause-values c = rw (← c.self.view_is) (set_is_change replay_number c.args.number.now c.self.inside.values.items c.in-Some.place (moved_to c.args.next.now) _ _ (rw (← c.as_slice.ensures.value) c.in-Some.ensures) c.index_mut-replay.ensures.value c.move_to.ensures)

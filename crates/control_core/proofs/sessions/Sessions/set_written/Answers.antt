@@ -1,10 +1,7 @@
 use Rattle.std.proofs.Common.{refl}
 use Rattle.control_core.specs.Control.{session_number, with_written}
-use Rattle.control_core.proofs.SeatLemmas.{set_is_change, rise_written}
+use Rattle.control_core.proofs.SeatLemmas.{set_is_change}
 use Rattle.control_core.proofs.sessions.Sessions.set_written.Goals as goal
-
-pub invariant_of-self : goal.invariant_of-self
-invariant_of-self c = rise_written session_number c.args.number.now _ _ c.in-Some.place _ _ (rw (← c.as_slice.ensures.value) c.in-Some.ensures) c.index_mut.ensures.value refl c.self.invariant
 
 pub returns-clause-values : goal.returns-clause-values
 returns-clause-values c = rw (← c.self.view_is) (set_is_change session_number c.args.number.now c.self.inside.values.items c.in-Some.place (with_written c.args.written) _ _ (rw (← c.as_slice.ensures.value) c.in-Some.ensures) c.index_mut.ensures.value refl)
