@@ -1,2 +1,4 @@
 pub mod RecoveryLemmas
 pub mod CommitLemmas
+pub mod ReadLemmas
+pub mod CountLemmas

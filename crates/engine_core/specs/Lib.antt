@@ -1,3 +1,4 @@
 -- What a reader has to believe: what an image recovers to, and what the engine keeps of its files.
 pub mod Recovery
 pub mod Moves
+pub mod Reading

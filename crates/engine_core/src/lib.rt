@@ -2,6 +2,7 @@
 #![tactic(auto)]
 
 pub mod laws;
+mod reading;
 mod storage;
 
 pub use storage::Storage;
