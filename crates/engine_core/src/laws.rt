@@ -18,6 +18,11 @@ ghost use Rattle.catalogue_log.specs.History.{entry_of};
 ghost use Rattle.catalogue_log.specs.LogState.{LogState};
 ghost use Rattle.engine_core.specs.Moves.{Enters, IsRequested, Leads, Stands};
 ghost use Rattle.engine_core.specs.Recovery.{IsDurable, IsSound, Recovers, layout_of};
+ghost use Rattle.control_core.specs.Agreement.{Agrees};
+ghost use Rattle.control_core.specs.Changes.{desk_after};
+ghost use Rattle.control_core.specs.Decisions.{Allows};
+ghost use Rattle.control_core.specs.Desk.{DeskState};
+ghost use Rattle.engine_core.specs.Reading.{IsAtBoundary};
 
 /// Every image that a crash may leave of a sound archive recovers to its state.
 pub fn a_sound_archive_recovers()
@@ -58,4 +63,11 @@ pub fn a_block_lies_in_one_segment()
         (unsigned_abs block.position + covered block.frames) →
         Stands image (file_of (layout_of r.descriptor) (unsigned_abs block.position)) r
         (frames_of (block ∷ [])) }
+
+/// While commands are accepted that the desk allows, the next position of each open replay stays a boundary of its
+/// recording.
+pub fn open_replays_stay_at_boundaries()
+    ensures { (d : DeskState) (b : BookState) (c : Command) → Agrees d b.state → IsWell b.state → Accepts b c → Allows d c →
+        Each (IsAtBoundary b.state) d.callers.replays →
+        Each (IsAtBoundary (after b.state c)) (desk_after d c).callers.replays }
 {}
