@@ -10,3 +10,6 @@ pub mod OpeningLemmas
 pub mod ReadLemmas
 pub mod CountLemmas
 pub mod ReplayStayLemmas
+pub mod LaidLemmas
+pub mod OrderlyLemmas
+pub mod OrderlyCallLemmas
