@@ -11,5 +11,6 @@ pub mod ReadLemmas
 pub mod CountLemmas
 pub mod ReplayStayLemmas
 pub mod LaidLemmas
+pub mod FoundLemmas
 pub mod OrderlyLemmas
 pub mod OrderlyCallLemmas

@@ -15,7 +15,7 @@ use Rattle.archive_model.specs.declared.registration.Registration.{Registration}
 use Rattle.archive_model.specs.Checks.{block_checks, first_checks, is_boundary_by, is_of, last_checks}
 use Rattle.archive_model.specs.Descriptor.{is_in_range}
 use Rattle.archive_model.specs.Keyed.{find, change, Each, Rise}
-use Rattle.archive_model.specs.Register.{RegisterState, all_stopped, changed, changed_by, id_of, is_end, is_later_base, is_within, registered, registration_in, with_one, with_out}
+use Rattle.archive_model.specs.Register.{RegisterState, all_stopped, changed, changed_by, is_end, is_later_base, is_within, registered, registration_in, with_one, with_out}
 use Rattle.archive_model.proofs.RegisterLemmas.{each_push, id_kept}
 use Rattle.archive_model.proofs.StateLemmas.{each_found}
 use Rattle.archive_model.proofs.WellLemmas.{both}
@@ -29,50 +29,10 @@ use Rattle.control_core.specs.Desk.{DeskState, is_replay_before, is_replay_of}
 use Rattle.control_core.specs.Seats.{AreApart, KeepsSeats}
 use Rattle.control_core.specs.Turns.{session_in}
 use Rattle.control_core.proofs.AllowedLemmas.{before_position, passes_at, purge_base}
-use Rattle.control_core.proofs.ChangeLemmas.{find-change}
 use Rattle.control_core.proofs.FoundLemmas.{each_both, each_filter, each_weaker, found_left, found_other}
 use Rattle.engine_core.specs.Orderly.{AreLaid, AreOrderly, IsOrderly, LiesBehind, ReadsFromStart, WroteBehind}
+use Rattle.engine_core.proofs.FoundLemmas.{differs, not_so, some_changed, some_more}
 use Rattle.engine_core.proofs.LaidLemmas.{all_stopped_laid, changed_laid, laid_begun, laid_extended, laid_purged, laid_settled, laid_stopped, laid_truncated, le_true, one_less_laid, one_more_laid, test_of}
-
--- ---- what is found of an id
-
-some_here : (n : ℤ) (f : Registration → Registration) (rs : List Registration) (P : Registration → Type 0) → ((r : Registration) → id_of (f r) ≡ id_of r) → ((r : Registration) → find id_of n rs ≡ Some r → P r → P (f r))
-    → IsSomeAnd (find id_of n rs) P → IsSomeAnd (find id_of n (change id_of n f rs)) P
-some_here n f rs P kept so has = by (find id_of n rs) refl has
-  where
-    by : (o : Option Registration) → find id_of n rs ≡ o → IsSomeAnd o P → IsSomeAnd (find id_of n (change id_of n f rs)) P
-    by None found has = absurd has
-    by (Some r) found has = subst (λ (o : Option Registration). IsSomeAnd o P) (sym (find-change id_of n f rs r kept found)) (so r found has)
-
--- what holds of the recording of an id holds of it once one is changed
-some_changed : (id n : ℤ) (f : Registration → Registration) (rs : List Registration) (P : Registration → Type 0) → ((r : Registration) → id_of (f r) ≡ id_of r)
-    → (id ≡ n → (r : Registration) → find id_of n rs ≡ Some r → P r → P (f r)) → IsSomeAnd (find id_of id rs) P → IsSomeAnd (find id_of id (change id_of n f rs)) P
-some_changed id n f rs P kept so has = by (int_eq id n) refl
-  where
-    by : (b : Bool) → int_eq id n ≡ b → IsSomeAnd (find id_of id (change id_of n f rs)) P
-    by true is =
-        let same : id ≡ n = (Decides-int_eq id n).0 is in
-        subst (λ (z : ℤ). IsSomeAnd (find id_of z (change id_of n f rs)) P) (sym same) (some_here n f rs P kept (so same) (subst (λ (z : ℤ). IsSomeAnd (find id_of z rs) P) same has))
-    by false is = subst (λ (o : Option Registration). IsSomeAnd o P) (sym (found_other id n f rs kept is)) has
-
-some_more : (id : ℤ) (rs more : List Registration) (P : Registration → Type 0) → IsSomeAnd (find id_of id rs) P → IsSomeAnd (find id_of id (rs ++ more)) P
-some_more id [] more P has = absurd has
-some_more id (r ∷ rs) more P has = by (int_eq id (id_of r)) has (some_more id rs more P)
-  where
-    by : (b : Bool) → IsSomeAnd (cond b (Some r) (find id_of id rs)) P → (IsSomeAnd (find id_of id rs) P → IsSomeAnd (find id_of id (rs ++ more)) P) → IsSomeAnd (cond b (Some r) (find id_of id (rs ++ more))) P
-    by true has later = has
-    by false has later = later has
-
-differs : (m n : ℤ) → m ≢ n → int_eq m n ≡ false
-differs m n other = by (int_eq m n) refl
-  where
-    by : (b : Bool) → int_eq m n ≡ b → b ≡ false
-    by true is = absurd (other ((Decides-int_eq m n).0 is))
-    by false is = refl
-
-not_so : (b : Bool) → not b ≡ true → b ≡ false
-not_so true is = absurd (true≢false (sym is))
-not_so false is = refl
 
 -- ---- sessions and replays
 
