@@ -14,3 +14,4 @@ pub mod LaidLemmas
 pub mod FoundLemmas
 pub mod OrderlyLemmas
 pub mod OrderlyCallLemmas
+pub mod OrderlyAskLemmas

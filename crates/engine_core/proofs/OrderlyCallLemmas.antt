@@ -1,9 +1,9 @@
--- The other calls keep the desk orderly, and what an orderly desk says of the positions that are asked of the files.
+-- The calls that are no commands keep the desk orderly, and so does an opening.
 use Rattle.std.proofs.Common.{◌≡◌, ◌∙◌, sym, ap, subst, refl, inl, inr, ℕ, suc, ℤ, pos, negsuc, ◌+◌, ◌*◌, ◌^◌, ◌-ℤ◌, ◌+ℤ◌, ◌*ℤ◌, ◌≤◌, ◌≤ℤ◌, ◌&&◌, ◌||◌, not, Bool, true, false, cond, true≢false, FitsSigned, List, [], ◌∷◌, ◌++◌, Option, Some, None, Result, Ok, Err, int_le, unsigned_abs, arith}
 use Rattle.std.proofs.lemmas.Int.{ints, SFits-int_wrap}
 use Rattle.std.proofs.lemmas.Bool.Decides.{Decides-int_eq}
 use Rattle.std.proofs.Math.Nat.{mul-le-mul_left, mul_comm}
-use Rattle.std.specs.Prelude.{IfSome, IsSomeAnd, is_some}
+use Rattle.std.specs.Prelude.{IsSomeAnd, is_some}
 use Rattle.std.specs.Int.{w32}
 use Rattle.frame_core.specs.declared.block.Block.{Block}
 use Rattle.frame_core.specs.declared.block.Publication.{Publication}
@@ -13,14 +13,13 @@ use Rattle.frame_core.specs.declared.refusal.Refusal.{Refusal}
 use Rattle.frame_core.specs.declared.refusal.Refusal.TheVariants.{ActiveRecording, BadBlock, BadExtension, BadParameter, BadPosition, Broken, NeedSettle, NotActive, StaleSession, UnknownRecording, UnknownReplay, ActiveReplay, MaxRecordings, MaxReplays, HistoryFull}
 use Rattle.frame_core.specs.Block.{AreBlockOf, IsBlock, block_ids, covered, end_position}
 use Rattle.frame_core.specs.Position.{HasPosition, terms_since}
-use Rattle.segment_store.specs.Layout.{IsFromStart}
 use Rattle.segment_store.proofs.StoredLemmas.{run_covers}
 use Rattle.archive_model.specs.declared.registration.Registration.{Registration}
 use Rattle.archive_model.specs.declared.reply.Reply.{Reply}
 use Rattle.archive_model.specs.declared.reply.Reply.TheVariants.{Written as WrittenReply}
 use Rattle.archive_model.specs.Checks.{Tests, block_checks, checked, checks, first_checks, is_boundary_by, is_of, last_checks, passes}
 use Rattle.archive_model.specs.Keyed.{find}
-use Rattle.archive_model.specs.Register.{RegisterState, all_stopped, id_of, is_active, is_end, is_within, no_recordings, registration_in}
+use Rattle.archive_model.specs.Register.{RegisterState, all_stopped, is_active, is_end, is_within, no_recordings, registration_in}
 use Rattle.archive_model.specs.State.{geometry_of, publication_of}
 use Rattle.archive_model.proofs.RegisterLemmas.{each_push}
 use Rattle.archive_model.proofs.StateLemmas.{each_change, each_found, each_without}
@@ -40,9 +39,7 @@ use Rattle.control_core.specs.Exact.{span_of}
 use Rattle.control_core.specs.Seats.{IsWriting, KeepsSeats}
 use Rattle.control_core.specs.Turns.{begins_at, continues, has_written, open_decision, open_tests, opened_at, opening_decided, opening_of, replay_in, session_in, write_decision, write_tests}
 use Rattle.control_core.proofs.AllowedLemmas.{before_position, passes_at}
-use Rattle.engine_core.specs.Orderly.{AreOrderly, IsLaid, IsOrderly, LetsOpen, LiesBehind, ReadsFromStart, WroteBehind, stream_end}
-use Rattle.engine_core.specs.Reading.{IsLaidOut}
-use Rattle.engine_core.specs.Recovery.{layout_of}
+use Rattle.engine_core.specs.Orderly.{AreOrderly, IsOrderly, LetsOpen, LiesBehind, ReadsFromStart, WroteBehind, stream_end}
 use Rattle.engine_core.proofs.LaidLemmas.{all_stopped_laid, entries_laid, le_true, none_laid}
 use Rattle.engine_core.proofs.OrderlyLemmas.{nobody}
 
@@ -111,7 +108,7 @@ passed tests (r ∷ rs) answer made is = by (tests r) is (passed tests rs answer
 
 -- where a session's next block begins
 
-begins_behind : (d : DeskState) (s : RecorderSession) (r : Registration) (o : Option Written) (w : Written) → registration_in d.register s.recording ≡ Some r → s.written ≡ o → continues d (Some s) w ≡ true → w.first ≡ written_to o r.recorded
+pub begins_behind : (d : DeskState) (s : RecorderSession) (r : Registration) (o : Option Written) (w : Written) → registration_in d.register s.recording ≡ Some r → s.written ≡ o → continues d (Some s) w ≡ true → w.first ≡ written_to o r.recorded
 begins_behind d s r o w there has is =
     (Decides-int_eq w.first (next_position d s)).0 is ∙ ap (λ (x : Option Written). written_to x (recorded_of (registration_in d.register s.recording))) has
     ∙ ap (λ (x : Option Registration). written_to o (recorded_of x)) there
@@ -121,7 +118,7 @@ nothing_written None is = refl
 nothing_written (Some w) is = absurd (true≢false (sym is))
 
 -- the recording that a session writes is there
-is_there : (o : Option Registration) (test : Registration → Bool) → is_of o test ≡ true → (r : Registration) × (o ≡ Some r)
+pub is_there : (o : Option Registration) (test : Registration → Bool) → is_of o test ≡ true → (r : Registration) × (o ≡ Some r)
 is_there None test is = absurd (true≢false (sym is))
 is_there (Some r) test is = (r, refl)
 
@@ -237,46 +234,3 @@ orderly_opened entries counted limit admitted = nobody (after_entries no_recordi
 pub orderly_restarted : (entries : List Entry) (counted limit : ℕ) → AreAdmitted no_recordings entries → IsOrderly (opened_desk (all_stopped (after_entries no_recordings entries)) counted limit)
 orderly_restarted entries counted limit admitted =
     nobody (all_stopped (after_entries no_recordings entries)) (all_stopped_laid (after_entries no_recordings entries) (entries_laid no_recordings entries admitted none_laid))
-
--- ---- positions that are asked of the files
-
--- a recording that is there is laid
-pub laid_of : (d : DeskState) (id : ℤ) (r : Registration) → IsOrderly d → registration_in d.register id ≡ Some r → IsLaid r
-laid_of d id r orderly found = each_found id_of IsLaid id d.register.recordings r orderly.register.laid found
-
-pub laid_out_of : (d : DeskState) (id : ℤ) (r : Registration) → IsOrderly d → registration_in d.register id ≡ Some r → IsLaidOut r
-laid_out_of d id r orderly found = (laid_of d id r orderly found).laid_out
-
--- what a session wrote lies behind what is recorded
-pub written_behind : (d : DeskState) (number : ℤ) (s : RecorderSession) (r : Registration) (w : Written) → IsOrderly d → session_in d number ≡ Some s → registration_in d.register s.recording ≡ Some r → s.written ≡ Some w → LiesBehind w r
-written_behind d number s r w orderly found there has =
-    let wrote : WroteBehind d.register s = each_found session_number (WroteBehind d.register) number d.callers.sessions s orderly.sessions found in
-    subst (λ (o : Option Registration). IsSomeAnd o (LiesBehind w)) there (subst (λ (o : Option Written). IfSome o (λ x. IsSomeAnd (registration_in d.register s.recording) (LiesBehind x))) has wrote)
-
-pub written_from_start : (d : DeskState) (number : ℤ) (s : RecorderSession) (r : Registration) (w : Written) → IsOrderly d → session_in d number ≡ Some s → registration_in d.register s.recording ≡ Some r → s.written ≡ Some w
-    → IsFromStart (layout_of r.descriptor) w.first
-written_from_start d number s r w orderly found there has =
-    let laid = laid_of d s.recording r orderly there in
-    let lies = written_behind d number s r w orderly found there has in omega (arith, ints, laid.from_start, lies.behind)
-
--- a block that goes on where a session writes begins behind what is recorded, and so behind the start
-pub block_behind : (d : DeskState) (number : ℤ) (s : RecorderSession) (r : Registration) (w : Written) → IsOrderly d → session_in d number ≡ Some s → registration_in d.register s.recording ≡ Some r → continues d (Some s) w ≡ true → r.recorded ≤ℤ w.first
-block_behind d number s r w orderly found there goes_on = by s.written refl
-  where
-    by : (o : Option Written) → s.written ≡ o → r.recorded ≤ℤ w.first
-    by None has = let at : w.first ≡ r.recorded = begins_behind d s r None w there has goes_on in omega (arith, ints, at)
-    by (Some v) has =
-        let at : w.first ≡ v.last = begins_behind d s r (Some v) w there has goes_on in
-        let lies = written_behind d number s r v orderly found there has in omega (arith, ints, at, lies.behind, lies.forward)
-
-pub block_from_start : (d : DeskState) (number : ℤ) (s : RecorderSession) (r : Registration) (w : Written) → IsOrderly d → session_in d number ≡ Some s → registration_in d.register s.recording ≡ Some r → continues d (Some s) w ≡ true
-    → IsFromStart (layout_of r.descriptor) w.first
-block_from_start d number s r w orderly found there goes_on =
-    let laid = laid_of d s.recording r orderly there in
-    let behind = block_behind d number s r w orderly found there goes_on in omega (arith, ints, laid.from_start, behind)
-
--- an open replay goes on at the start of its recording or behind it
-pub replay_from_start : (d : DeskState) (number : ℤ) (replay : OpenReplay) (r : Registration) → IsOrderly d → replay_in d number ≡ Some replay → registration_in d.register replay.recording ≡ Some r → IsFromStart (layout_of r.descriptor) replay.next
-replay_from_start d number replay r orderly found there =
-    let reads : ReadsFromStart d.register replay = each_found replay_number (ReadsFromStart d.register) number d.callers.replays replay orderly.replays found in
-    subst (λ (o : Option Registration). IsSomeAnd o (λ known. known.descriptor.start_position ≤ℤ replay.next)) there reads

@@ -16,7 +16,10 @@ use Rattle.segment_store.specs.Layout.{file_of}
 use Rattle.segment_store.specs.Stored.{HoldsFrames}
 use Rattle.archive_model.specs.declared.command.Command.{Command}
 use Rattle.archive_model.specs.declared.command.Command.TheVariants.{Append}
+use Rattle.archive_model.specs.declared.registration.Registration.{Registration}
 use Rattle.archive_model.specs.Keyed.{Each}
+use Rattle.archive_model.specs.Register as register
+use Rattle.archive_model.specs.Register.{RegisterState}
 use Rattle.archive_model.specs.State.{Recording, State, is_active, recorded_position, register_of}
 use Rattle.archive_model.specs.WellFormed.{IsWell}
 use Rattle.catalogue_log.specs.declared.entry.Entry.{Entry}
@@ -89,3 +92,10 @@ keep_of r = keeps.Recording (layout_of r.descriptor) (recorded_position r) (is_a
 
 abbrev pub keeps_of : State → List Keep
 keeps_of s = keeps.Below s.next ∷ map keep_of s.recordings
+
+-- the same, by what the register has
+abbrev pub registered_keep : Registration → Keep
+registered_keep g = keeps.Recording (layout_of g.descriptor) g.recorded (register.is_active g)
+
+abbrev pub registered_keeps : RegisterState → List Keep
+registered_keeps g = keeps.Below g.next ∷ map registered_keep g.recordings

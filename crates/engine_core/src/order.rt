@@ -1,10 +1,11 @@
 //! The engine's desk stays orderly, so that the files are asked for no position outside a recording. Laws, each the
 //! contract of a function that does nothing.
 
-ghost use Rattle.std.specs.Prelude.{◌≡◌, ◌≤ℤ◌, ℕ, ℤ, Bool, List, Ok, Some, true};
+ghost use Rattle.std.specs.Prelude.{◌≡◌, ◌≤ℤ◌, ℕ, ℤ, All, Bool, List, Ok, Some, true};
 ghost use Rattle.frame_core.specs.declared.block.Block.{Block};
 ghost use Rattle.frame_core.specs.Block.{IsBlock};
 ghost use Rattle.segment_store.specs.Layout.{IsFromStart};
+ghost use Rattle.segment_store.specs.Stale.{IsKeep};
 ghost use Rattle.archive_model.specs.declared.command.Command.{Command};
 ghost use Rattle.archive_model.specs.declared.registration.Registration.{Registration};
 ghost use Rattle.archive_model.specs.declared.reply.Reply.{Reply};
@@ -22,6 +23,7 @@ ghost use Rattle.control_core.specs.Desk.{DeskState, opened_desk};
 ghost use Rattle.control_core.specs.Exact.{span_of};
 ghost use Rattle.control_core.specs.Seats.{KeepsSeats};
 ghost use Rattle.control_core.specs.Turns.{continues, open_decision, replay_in, session_in, write_decision};
+ghost use Rattle.engine_core.specs.Moves.{registered_keeps};
 ghost use Rattle.engine_core.specs.Orderly.{IsOrderly, LetsOpen, LiesBehind};
 ghost use Rattle.engine_core.specs.Reading.{IsLaidOut};
 ghost use Rattle.engine_core.specs.Recovery.{layout_of};
@@ -78,4 +80,6 @@ pub(crate) fn an_orderly_desk_asks_from_the_start_on()
     ensures replay { (d : DeskState) (number : ℤ) (replay : OpenReplay) (r : Registration) → IsOrderly d →
         replay_in d number ≡ Some replay → registration_in d.register replay.recording ≡ Some r →
         IsFromStart (layout_of r.descriptor) replay.next }
+    // What a sweep keeps.
+    ensures keeps { (d : DeskState) → IsOrderly d → All IsKeep (registered_keeps d.register) }
 {}

@@ -1,4 +1,4 @@
-use Rattle.engine_core.proofs.OrderlyCallLemmas.{block_from_start, laid_out_of, replay_from_start, written_behind, written_from_start}
+use Rattle.engine_core.proofs.OrderlyAskLemmas.{block_from_start, keeps_are, laid_out_of, replay_from_start, written_behind, written_from_start}
 use Rattle.engine_core.proofs.order.an_orderly_desk_asks_from_the_start_on.Goals as goal
 
 pub returns-clause-laid_out : goal.returns-clause-laid_out
@@ -15,3 +15,6 @@ returns-clause-settled c = written_from_start
 
 pub returns-clause-replay : goal.returns-clause-replay
 returns-clause-replay c = replay_from_start
+
+pub returns-clause-keeps : goal.returns-clause-keeps
+returns-clause-keeps c = keeps_are
