@@ -35,7 +35,7 @@ no_command : (c : Command) → None ≡ Some c → ⊥
 no_command c e = cc e
 
 -- a reply is no command
-answered_none : (o : Result Reply Refusal) (c : Command) → command_in (answered o) ≡ Some c → ⊥
+pub answered_none : (o : Result Reply Refusal) (c : Command) → command_in (answered o) ≡ Some c → ⊥
 answered_none (Ok reply) c e = cc e
 answered_none (Err refusal) c e = cc e
 
@@ -59,7 +59,7 @@ passes_on tests (r ∷ rs) more first second = by (tests r) first (λ rest. pass
     by true all rest = rest all
     by false all rest = all
 
-at_boundary : (found : Option Registration) (id position : ℤ) (behind : Result Command Refusal) (c : Command) → command_in (if_boundary found id position behind) ≡ Some c → command_in (accepted behind) ≡ Some c
+pub at_boundary : (found : Option Registration) (id position : ℤ) (behind : Result Command Refusal) (c : Command) → command_in (if_boundary found id position behind) ≡ Some c → command_in (accepted behind) ≡ Some c
 at_boundary None id position behind c e = e
 at_boundary (Some r) id position behind c e = by (is_end position r) behind e
   where
@@ -68,7 +68,7 @@ at_boundary (Some r) id position behind c e = by (is_end position r) behind e
     by false (Ok command) e = e
     by false (Err refusal) e = absurd (no_command c e)
 
-in_front : (tests : Tests) (rs : List Refusal) (decision : Decision) (c : Command) → command_in (decided (checked tests rs (Ok decision))) ≡ Some c → (passes tests rs ≡ true) × (command_in decision ≡ Some c)
+pub in_front : (tests : Tests) (rs : List Refusal) (decision : Decision) (c : Command) → command_in (decided (checked tests rs (Ok decision))) ≡ Some c → (passes tests rs ≡ true) × (command_in decision ≡ Some c)
 in_front tests [] decision c e = (refl, e)
 in_front tests (r ∷ rs) decision c e = by (tests r) e (in_front tests rs decision c)
   where

@@ -12,7 +12,7 @@ use Rattle.archive_model.specs.declared.command.StartFields.{StartFields}
 use Rattle.archive_model.specs.declared.command.ExtendFields.{ExtendFields}
 use Rattle.archive_model.specs.declared.registration.Registration.{Registration}
 use Rattle.archive_model.specs.declared.reply.Reply.{Reply}
-use Rattle.archive_model.specs.Keyed.{find}
+use Rattle.archive_model.specs.Keyed.{Each, find}
 use Rattle.archive_model.specs.Register.{RegisterState, extends, is_active, is_end, is_later_base, is_within, may_begin, may_record, registration_in}
 use Rattle.archive_model.specs.Descriptor.{is_in_range}
 use Rattle.archive_model.specs.Commands.{frames_of, recorded_in}
@@ -34,7 +34,7 @@ use Rattle.control_core.specs.Desk.{DeskState, has_room, has_session_number, is_
 use Rattle.control_core.specs.Changes.{settled, writer_of}
 use Rattle.control_core.specs.Decisions.{Allows, accepted, answered, command_in, command_tests, decided, decision_of, if_boundary, truncate_tests}
 use Rattle.control_core.specs.Turns.{has_written, session_in, settle_decision, settle_tests, settling_by, settling_of}
-use Rattle.control_core.specs.Seats.{AreApart, IsWriting}
+use Rattle.control_core.specs.Seats.{AreApart, IsWriting, KeepsSeats}
 use Rattle.control_core.specs.Agreement.{Agrees}
 use Rattle.control_core.specs.Exact.{Archive, asked_frames, book_of, recording_at}
 use Rattle.control_core.specs.Consistent.{HasBlocks, IsAcceptable, IsConsistent, SettlesByAppend, is_append}
@@ -267,8 +267,10 @@ there_active : (o : Option Registration) → is_of o is_active ≡ true → is_s
 there_active None has = absurd (true≢false (sym has))
 there_active (Some r) has = refl
 
-pub settling_accepted : (a : Archive) (number id : ℤ) (w : Written) → IsConsistent a → settle_decision a.desk number ≡ Ok (settling.Blocks id w) → SettlesByAppend a number id
-settling_accepted a number id w consistent e =
+-- whatever the replays are
+pub settling_by_append : (a : Archive) (number id : ℤ) (w : Written) → Agrees a.desk a.state → KeepsSeats a.desk.register a.desk.callers → Each (λ s. HasBlocks a s s.written) a.desk.callers.sessions
+    → settle_decision a.desk number ≡ Ok (settling.Blocks id w) → SettlesByAppend a number id
+settling_by_append a number id w agrees seats blocks e =
     let d = a.desk in
     let is = held (settle_tests d number) checks (settling_of d (session_in d number)) (settling.Blocks id w) e in
     let settles = settling_session d number id w (session_in d number) refl is.1 in
@@ -281,18 +283,18 @@ settling_accepted a number id w consistent e =
     let room : has_room d ≡ true = ap (λ t. not t || has_room d) (sym wrote) ∙ full.0 in
     let writing : is_of (registration_in d.register id) is_active ≡ true =
     subst (λ (z : ℤ). is_of (registration_in d.register z) is_active ≡ true) settles.recording
-    (each_found session_number (IsWriting d.register) number d.callers.sessions s consistent.seats.sessions.writing settles.found) in
+    (each_found session_number (IsWriting d.register) number d.callers.sessions s seats.sessions.writing settles.found) in
     let known = there_active (registration_in d.register id) writing in
-    let has : HasBlocks a s (Some w) = subst (HasBlocks a s) settles.written (each_found session_number (λ x. HasBlocks a x x.written) number d.callers.sessions s consistent.blocks settles.found) in
+    let has : HasBlocks a s (Some w) = subst (HasBlocks a s) settles.written (each_found session_number (λ x. HasBlocks a x x.written) number d.callers.sessions s blocks settles.found) in
     let at : s.number ≡ number = found_number number d.callers.sessions s settles.found in
     let follow : Follow a.state id (a.blocks number) = subst (λ (z : ℤ). Follow a.state z (a.blocks number)) settles.recording (subst (λ (z : ℤ). Follow a.state s.recording (a.blocks z)) at has.follow) in
     let ends : w.last ≡ recorded_in (recording_at a id) +ℤ pos (covered (frames_of (a.blocks number))) =
     subst (λ (z : ℤ). w.last ≡ recorded_in (recording_at a z) +ℤ pos (covered (frames_of (a.blocks number)))) settles.recording
     (subst (λ (z : ℤ). w.last ≡ recorded_in (recording_at a s.recording) +ℤ pos (covered (frames_of (a.blocks z)))) at has.last) in
-    let writer : writer_of d id ≡ Some s = subst (λ (z : ℤ). writer_of d z ≡ Some s) settles.recording (writer_is number d.callers.sessions s consistent.seats.sessions.apart settles.found) in
+    let writer : writer_of d id ≡ Some s = subst (λ (z : ℤ). writer_of d z ≡ Some s) settles.recording (writer_is number d.callers.sessions s seats.sessions.apart settles.found) in
     record {
       acceptable = record {
-        accepted = (true, follow, subst (WithRegister (λ g. model.append_tests (registration_in g id) (has_room d) true)) consistent.agrees (and_true known (and_true writing (and_true room refl))));
+        accepted = (true, follow, subst (WithRegister (λ g. model.append_tests (registration_in g id) (has_room d) true)) agrees (and_true known (and_true writing (and_true room refl))));
         allowed = and_true whole.0 (and_true known (and_true writing (and_true room refl)));
         written = record {
           session = s;
@@ -306,3 +308,6 @@ settling_accepted a number id w consistent e =
       same = ap (λ (o : Option RecorderSession). settled o d) (writer ∙ sym settles.found);
       room = has_entry d room;
     }
+
+pub settling_accepted : (a : Archive) (number id : ℤ) (w : Written) → IsConsistent a → settle_decision a.desk number ≡ Ok (settling.Blocks id w) → SettlesByAppend a number id
+settling_accepted a number id w consistent e = settling_by_append a number id w consistent.agrees consistent.seats consistent.blocks e

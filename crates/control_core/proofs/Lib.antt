@@ -6,12 +6,12 @@ mod LineTextLemmas
 pub mod ChangeLemmas
 mod ListingLemmas
 mod FragmentLemmas
-mod SeatLemmas
+pub mod SeatLemmas
 pub mod FoundLemmas
 pub mod AllowedLemmas
-mod DeskLemmas
-mod AgreementLemmas
-mod DecidedLemmas
-mod CallLemmas
-mod PollLemmas
-mod ExactLemmas
+pub mod DeskLemmas
+pub mod AgreementLemmas
+pub mod DecidedLemmas
+pub mod CallLemmas
+pub mod PollLemmas
+pub mod ExactLemmas

@@ -86,6 +86,13 @@ impl Desk {
         self.register.recording(id)
     }
 
+    /// The id that the next recording gets.
+    pub fn next_recording(&self) -> i64
+        ensures { result ≡ self.now.state.register.next }
+    {
+        self.register.next_recording()
+    }
+
     /// The recordings, by rising id.
     pub fn recordings(&self) -> &[Registration]
         ensures all { result.now ≡ self.now.state.register.recordings }

@@ -15,3 +15,9 @@ pub mod FoundLemmas
 pub mod OrderlyLemmas
 pub mod OrderlyCallLemmas
 pub mod OrderlyAskLemmas
+pub mod FailingLemmas
+pub mod EndedLemmas
+pub mod WrittenLemmas
+pub mod MakeLemmas
+pub mod AskLemmas
+pub mod InsideLemmas

@@ -33,7 +33,7 @@ use Rattle.catalogue_log.proofs.AppendLemmas.{rest_left}
 use Rattle.catalogue_log.proofs.OneLemmas.{one_bank}
 use Rattle.engine_core.specs.Recovery.{HoldsRecording, IsDurable, IsSound, Recovers, layout_of, first_of, last_of}
 
-durable_hold : (files : Files) (image : DiskImage) (rs : List Recording) → MayLeave files image → Each (IsDurable files) rs → Each (HoldsRecording image) rs
+pub durable_hold : (files : Files) (image : DiskImage) (rs : List Recording) → MayLeave files image → Each (IsDurable files) rs → Each (HoldsRecording image) rs
 durable_hold files image [] leaves all = tt
 durable_hold files image (r ∷ rs) leaves all =
     (durable_stand files (layout_of r.descriptor) r.frames (first_of r) (last_of r) image all.0 leaves, durable_hold files image rs leaves all.1)

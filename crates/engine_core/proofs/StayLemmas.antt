@@ -114,13 +114,13 @@ later_bases start t s p q k behind whole base later =
     ap (λ (n : ℕ). q - (q - n) % s) begins ∙ ap (λ (n : ℕ). q - n) (sym same)
 
 -- what a purge's position is
-record IsLater (r : Recording) (p : ℤ) : Type 0 where
-  at : ℕ
-  is : p ≡ pos at
-  behind : unsigned_abs r.descriptor.start_position < at
-  base : segment_base (unsigned_abs r.descriptor.start_position) (unsigned_abs r.descriptor.term_length) (unsigned_abs r.descriptor.segment_length) at ≡ at
+pub record IsLater (r : Recording) (p : ℤ) : Type 0 where
+  pub at : ℕ
+  pub is : p ≡ pos at
+  pub behind : unsigned_abs r.descriptor.start_position < at
+  pub base : segment_base (unsigned_abs r.descriptor.start_position) (unsigned_abs r.descriptor.term_length) (unsigned_abs r.descriptor.segment_length) at ≡ at
 
-is_later : (r : Recording) (p : ℤ) → is_later_base p (registration_of r) ≡ true → IsLater r p
+pub is_later : (r : Recording) (p : ℤ) → is_later_base p (registration_of r) ≡ true → IsLater r p
 unfolding is_later_base
 is_later r (pos q) base =
     let first : (nat_lt (unsigned_abs r.descriptor.start_position) q && int_le (pos q) (recorded_position r) ≡ true) × (_ ≡ true) = both base in
@@ -130,7 +130,7 @@ is_later r (pos q) base =
 is_later r (negsuc q) base = absurd (true≢false (sym base))
 
 -- the bases of the recording's segments behind a purge
-same_bases : (r : Recording) (p : ℤ) (q : ℕ) → IsKept r → (later : IsLater r p) → later.at ≤ q → base_of (layout_of (purged p r).descriptor) q ≡ base_of (layout_of r.descriptor) q
+pub same_bases : (r : Recording) (p : ℤ) (q : ℕ) → IsKept r → (later : IsLater r p) → later.at ≤ q → base_of (layout_of (purged p r).descriptor) q ≡ base_of (layout_of r.descriptor) q
 unfolding base_of
 same_bases r p q kept later behind =
     let t = is_power r.descriptor.term_length kept.term in

@@ -1,7 +1,12 @@
--- What a reader has to believe: what an image recovers to, and what the engine keeps of its files.
+-- What a reader has to believe: what an image recovers to, what the engine keeps of an archive, how calls end, and openings.
 pub mod Recovery
-pub mod Moves
+pub mod Consistent
+pub mod Calls
+pub mod Opened
 pub mod Opening
 pub mod Reading
+-- what only private functions say
+pub mod Moves
+pub mod Making
 -- Representation: what the values of src/ keep.
 pub mod Orderly

@@ -4,6 +4,7 @@
 pub mod laws;
 mod opening;
 mod order;
+mod parts;
 mod reading;
 mod storage;
 

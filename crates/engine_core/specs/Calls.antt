@@ -1,0 +1,90 @@
+-- A call of a crash-consistent archive, and calls one after another: docs/STORAGE.md, "Recovery"; docs/CONTROL.md, "Requests".
+use Rattle.std.specs.Prelude.{◌≡◌, ◌++◌, IsTrue, Bool, true, false, List, [], ◌∷◌, Result, Ok, Err}
+use Rattle.disk_core.specs.Life.{HasFailed, Life, LeavesOnly}
+use Rattle.frame_core.specs.declared.refusal.Refusal.{Refusal}
+use Rattle.frame_core.specs.declared.refusal.Refusal.TheVariants.{DeviceFault, NoMemory}
+use Rattle.archive_model.specs.declared.reply.Reply.{Reply}
+use Rattle.archive_model.specs.State.{State}
+use Rattle.catalogue_log.specs.LogState.{LogState}
+use Rattle.control_core.specs.declared.event.Event.{Event}
+use Rattle.control_core.specs.declared.event.Event.TheVariants as events
+use Rattle.control_core.specs.declared.request.Request.TheVariants.{Truncate}
+use Rattle.control_core.specs.Desk.{DeskState}
+use Rattle.control_core.specs.Exact.{Archive, ArchiveEnd, CallEnds, broken}
+use Rattle.engine_core.specs.Recovery.{RecoversTo}
+use Rattle.engine_core.specs.Consistent.{IsConsistent, MayStand, MayStandIn}
+
+-- ---- a call
+
+-- A call ends as it may and leaves a crash-consistent archive; a crash at any moment of it leaves the state before it,
+-- the one after it, or the one in doubt.
+pub record Ended (old new : Life) (log : LogState) (desk : DeskState) (a : Archive) (Ends : Archive → Type 0) : Type 0 where
+  pub after : Archive
+  pub ends : Ends after
+  pub consistent : IsConsistent new log desk after
+  pub any_moment : LeavesOnly old new (RecoversTo (MayStandIn a after))
+
+-- its answer is read from segment files
+abbrev pub is_read : Event → Bool
+is_read (events.ReplayOpen id position size) = true
+is_read (events.ReplayPoll number most) = true
+is_read events.Sweep = true
+is_read (events.Verify id) = true
+is_read (events.Ask (Truncate id position)) = true
+is_read _ = false
+
+-- it changes the archive by what it reads: a truncation, at a position that frames have to have
+abbrev pub is_cut : Event → Bool
+is_cut (events.Ask (Truncate id position)) = true
+is_cut _ = false
+
+-- a fact that rests on reading, where it is one: the disk has to obey the crash model
+abbrev pub IfRead : Bool → Life → Type 0 → Type 0
+IfRead reading life Fact = (IsTrue reading → IsTrue life.obeys) → Fact
+
+-- the exact end of a call
+abbrev pub EndsAs : Life → Life → Event → Archive → Result Reply Refusal → Archive → Type 0
+EndsAs old new event a outcome b = IfRead (is_read event) new (CallEnds a event (HasFailed old new) outcome b)
+
+-- ---- a commit
+
+-- what a commit that is to lead from an archive to another ends with
+abbrev pub CommitEnds : Archive → Reply → Archive → Type 0 → ArchiveEnd
+CommitEnds a reply b faulted (Ok told) c = (told ≡ reply) × (c ≡ b)
+CommitEnds a reply b faulted (Err NoMemory) c = c ≡ a
+CommitEnds a reply b faulted (Err DeviceFault) c = faulted × (c ≡ broken b.state a)
+CommitEnds a reply b faulted (Err refusal) c = ⊥
+
+-- ---- calls one after another
+
+-- a call and its answer
+abbrev pub Call : Type 0
+Call = Event × Result Reply Refusal
+
+-- each call ends as it may, from where the one before left the archive; of a fault nothing is asked
+abbrev pub Run : Archive → List Call → Archive → Type 0
+Run a [] b = b ≡ a
+Run a (call ∷ calls) b = (mid : Archive) × CallEnds a call.0 (Unit {0}) call.1 mid × Run mid calls b
+
+-- a state that stood after the first of these calls, or was in doubt then
+pub record Stood (a : Archive) (calls : List Call) (x : State) : Type 0 where
+  pub front : List Call
+  pub back : List Call
+  pub split : calls ≡ front ++ back
+  pub mid : Archive
+  pub run : Run a front mid
+  pub stands : MayStand mid x
+
+-- events with their answers
+abbrev pub calls_of : List Event → List (Result Reply Refusal) → List Call
+calls_of [] outcomes = []
+calls_of (event ∷ events) [] = []
+calls_of (event ∷ events) (outcome ∷ outcomes) = (event, outcome) ∷ calls_of events outcomes
+
+-- Calls of a crash-consistent archive are a run and leave such an archive; a crash at any moment of them leaves a state
+-- that stood after the first of them, or was in doubt then.
+pub record Ran (old new : Life) (log : LogState) (desk : DeskState) (a : Archive) (calls : List Call) : Type 0 where
+  pub after : Archive
+  pub run : Run a calls after
+  pub consistent : IsConsistent new log desk after
+  pub any_moment : LeavesOnly old new (RecoversTo (Stood a calls))
