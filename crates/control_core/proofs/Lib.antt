@@ -14,4 +14,8 @@ mod AgreementLemmas
 mod DecidedLemmas
 mod CallLemmas
 mod PollLemmas
+mod BoundaryLemmas
+mod StayLemmas
+mod CommandLemmas
+mod ConsistentLemmas
 mod ExactLemmas
