@@ -18,7 +18,7 @@ use Rattle.archive_model.proofs.StateLemmas.{base_of_purge, each_found, purged_e
 use Rattle.archive_model.proofs.HistoriesLemmas.{covered-append}
 
 -- what is found stays found behind more recordings
-find_push : (id : ℤ) (rs more : List Recording) (r : Recording) → find id_of id rs ≡ Some r → find id_of id (rs ++ more) ≡ Some r
+pub find_push : (id : ℤ) (rs more : List Recording) (r : Recording) → find id_of id rs ≡ Some r → find id_of id (rs ++ more) ≡ Some r
 find_push id [] more r found = absurd cc
 find_push id (x ∷ rs) more r found = by (int_eq id (id_of x)) found (find_push id rs more r)
   where
@@ -27,7 +27,7 @@ find_push id (x ∷ rs) more r found = by (int_eq id (id_of x)) found (find_push
     by false h rest = rest h
 
 -- what is found is found as it was, or changed
-find_changed : (id other : ℤ) (f : Recording → Recording) → ((r : Recording) → id_of (f r) ≡ id_of r) → (rs : List Recording) (r : Recording) → find id_of id rs ≡ Some r
+pub find_changed : (id other : ℤ) (f : Recording → Recording) → ((r : Recording) → id_of (f r) ≡ id_of r) → (rs : List Recording) (r : Recording) → find id_of id rs ≡ Some r
     → ((find id_of other rs ≡ Some r) × (find id_of id (change id_of other f rs) ≡ Some (f r))) ⊎ (find id_of id (change id_of other f rs) ≡ Some r)
 find_changed id other f same [] r found = absurd cc
 find_changed id other f same (x ∷ rs) r found = by (int_eq other (id_of x)) (int_eq id (id_of x)) refl refl found (find_changed id other f same rs r)
@@ -45,7 +45,7 @@ find_changed id other f same (x ∷ rs) r found = by (int_eq other (id_of x)) (i
     by false false e this is later = rw (e, this) (later is)
 
 -- the recording of another id is found as it was
-find_other : (id other : ℤ) (f : Recording → Recording) → ((r : Recording) → id_of (f r) ≡ id_of r) → int_eq id other ≡ false → (rs : List Recording) → find id_of id (change id_of other f rs) ≡ find id_of id rs
+pub find_other : (id other : ℤ) (f : Recording → Recording) → ((r : Recording) → id_of (f r) ≡ id_of r) → int_eq id other ≡ false → (rs : List Recording) → find id_of id (change id_of other f rs) ≡ find id_of id rs
 find_other id other f same apart [] = refl
 find_other id other f same apart (x ∷ rs) = by (int_eq other (id_of x)) (int_eq id (id_of x)) refl refl (find_other id other f same apart rs)
   where
@@ -59,7 +59,7 @@ find_other id other f same apart (x ∷ rs) = by (int_eq other (id_of x)) (int_e
     by false true e this later = rw this refl
     by false false e this later = rw this later
 
-find_kept : (id other : ℤ) → int_eq id other ≡ false → (rs : List Recording) → find id_of id (without id_of other rs) ≡ find id_of id rs
+pub find_kept : (id other : ℤ) → int_eq id other ≡ false → (rs : List Recording) → find id_of id (without id_of other rs) ≡ find id_of id rs
 find_kept id other apart [] = refl
 find_kept id other apart (x ∷ rs) = by (int_eq other (id_of x)) (int_eq id (id_of x)) refl refl (find_kept id other apart rs)
   where

@@ -157,7 +157,7 @@ begun_all (negsuc n) at [] reached = refl
 begun_all (negsuc n) at (f ∷ fs) reached = ap (λ gs. f ∷ gs) (begun_all (negsuc n) (at + aligned_length f) fs refl)
 begun_all (pos q) at fs reached = keep_all q at fs (grind (arith, nat_tests))
 
-unreached : (p : ℤ) (at : ℕ) → int_lt (pos at) p ≡ true → int_le p (pos at) ≡ false
+pub unreached : (p : ℤ) (at : ℕ) → int_lt (pos at) p ≡ true → int_le p (pos at) ≡ false
 unreached (negsuc n) at before = absurd (true≢false (sym before))
 unreached (pos q) at before = grind (arith, nat_tests)
 

@@ -97,7 +97,7 @@ pub polls_first : (count : ℕ) (found all rest : List PolledFrame) → length f
 polls_first count found all rest many is = subst (λ (n : ℕ). found ≡ take n all) many (sym (take-append_seam found rest) ∙ ap (take (length found)) is)
 
 -- frames behind others begin where those end
-placed-append : (at : ℤ) (fs gs : List Frame) → placed at (fs ++ gs) ≡ placed at fs ++ placed (at +ℤ pos (covered fs)) gs
+pub placed-append : (at : ℤ) (fs gs : List Frame) → placed at (fs ++ gs) ≡ placed at fs ++ placed (at +ℤ pos (covered fs)) gs
 placed-append at [] gs = let same : at ≡ at +ℤ pos 0 = omega (arith, ints) in ap (λ (z : ℤ). placed z gs) same
 placed-append at (f ∷ fs) gs =
     let next : (at +ℤ pos (aligned_length f)) +ℤ pos (covered fs) ≡ at +ℤ pos (covered (f ∷ fs)) = omega (arith, ints) in

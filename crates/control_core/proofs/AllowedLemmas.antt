@@ -2,6 +2,7 @@
 use Rattle.std.proofs.Common.{◌≡◌, ◌<◌, ◌&&◌, not, ℤ, pos, negsuc, Bool, true, false, List, [], ◌∷◌, ◌++◌, refl, sym, ◌∙◌, true≢false, arith, unsigned_abs}
 use Rattle.std.proofs.lemmas.Bool.Decides.{nat_tests, Decides-int_eq}
 use Rattle.std.specs.Prelude.{int_le, is_some}
+use Rattle.std.specs.List.{list_any}
 use Rattle.std.specs.Ordering.{int_eq}
 use Rattle.frame_core.specs.Limits.{is_mtu, is_term_length}
 use Rattle.frame_core.specs.declared.refusal.Refusal.{Refusal}
@@ -13,7 +14,7 @@ use Rattle.archive_model.specs.declared.command.ExtendFields.{ExtendFields}
 use Rattle.archive_model.specs.Checks.{Tests, block_checks, first_checks, is_of, last_checks, passes}
 use Rattle.archive_model.specs.Descriptor.{is_channel, is_in_range, is_layout, is_negative, is_start_position}
 use Rattle.archive_model.specs.Register.{active_count, is_active, is_later_base, may_begin, may_record, registration_in}
-use Rattle.control_core.specs.Desk.{DeskState, has_room, has_session_number}
+use Rattle.control_core.specs.Desk.{DeskState, has_room, has_session_number, is_replay_before, is_replayed}
 use Rattle.control_core.specs.Decisions.{Allows, command_tests}
 
 pub both : (a b : Bool) → (a && b) ≡ true → (a ≡ true) × (b ≡ true)
@@ -87,3 +88,13 @@ pub extend_few : (d : DeskState) (f : ExtendFields) → Allows d (commands.Exten
 extend_few d f allows =
     let counts = passes_at (command_tests d (commands.Extend f)) before_count (MaxReplays ∷ HistoryFull ∷ []) MaxRecordings allows in
     few_active d (both (may_record d.register) (has_session_number d) counts).0
+
+-- the checks before the one of open replays
+abbrev pub before_replays : List Refusal
+before_replays = first_checks ++ block_checks ++ NeedSettle ∷ []
+
+pub truncate_unread : (d : DeskState) (id position : ℤ) → Allows d (commands.Truncate id position) → not (is_replayed d id) ≡ true
+truncate_unread d id position allows = passes_at (command_tests d (commands.Truncate id position)) before_replays (MaxRecordings ∷ MaxReplays ∷ HistoryFull ∷ []) ActiveReplay allows
+
+pub purge_unread : (d : DeskState) (id position : ℤ) → Allows d (commands.PurgeSegments id position) → not (list_any (is_replay_before id position) d.callers.replays) ≡ true
+purge_unread d id position allows = passes_at (command_tests d (commands.PurgeSegments id position)) before_replays (MaxRecordings ∷ MaxReplays ∷ HistoryFull ∷ []) ActiveReplay allows

@@ -35,7 +35,7 @@ use Rattle.control_core.specs.Changes.{settled, writer_of}
 use Rattle.control_core.specs.Decisions.{Allows, accepted, answered, command_in, command_tests, decided, decision_of, if_boundary, truncate_tests}
 use Rattle.control_core.specs.Turns.{has_written, session_in, settle_decision, settle_tests, settling_by, settling_of}
 use Rattle.control_core.specs.Seats.{AreApart, IsWriting, KeepsSeats}
-use Rattle.control_core.specs.Agreement.{Agrees}
+use Rattle.control_core.specs.Agreement.{Agrees, WroteBlocks}
 use Rattle.control_core.specs.Exact.{Archive, asked_frames, book_of, recording_at}
 use Rattle.control_core.specs.Consistent.{HasBlocks, IsAcceptable, IsConsistent, SettlesByAppend, is_append}
 use Rattle.control_core.proofs.AgreementLemmas.{passes_on, passing}
@@ -311,3 +311,12 @@ settling_by_append a number id w agrees seats blocks e =
 
 pub settling_accepted : (a : Archive) (number id : ℤ) (w : Written) → IsConsistent a → settle_decision a.desk number ≡ Ok (settling.Blocks id w) → SettlesByAppend a number id
 settling_accepted a number id w consistent e = settling_by_append a number id w consistent.agrees consistent.seats consistent.blocks e
+
+-- the session that a settling's append was written by
+pub settled_session : (a : Archive) (number id : ℤ) (w : Written) → IsConsistent a → settle_decision a.desk number ≡ Ok (settling.Blocks id w) → (by : WroteBlocks a.desk a.state id (a.blocks number)) → session_in a.desk number ≡ Some by.session
+settled_session a number id w consistent e by =
+    let d = a.desk in
+    let is = held (settle_tests d number) checks (settling_of d (session_in d number)) (settling.Blocks id w) e in
+    let settles = settling_session d number id w (session_in d number) refl is.1 in
+    let writer : writer_of d id ≡ Some settles.session = subst (λ (z : ℤ). writer_of d z ≡ Some settles.session) settles.recording (writer_is number d.callers.sessions settles.session consistent.seats.sessions.apart settles.found) in
+    settles.found ∙ sym writer ∙ by.writer

@@ -25,14 +25,14 @@ use Rattle.control_core.proofs.FoundLemmas.{each_both, each_filter, each_weaker,
 
 -- ---- lists of sessions and replays
 
-other_session : (id : ℤ) (s : RecorderSession) → not (is_session_of id s) ≡ true → int_eq s.recording id ≡ false
+pub other_session : (id : ℤ) (s : RecorderSession) → not (is_session_of id s) ≡ true → int_eq s.recording id ≡ false
 other_session id s is = by (int_eq s.recording id) is
   where
     by : (b : Bool) → not b ≡ true → b ≡ false
     by true h = absurd (true≢false (sym h))
     by false h = refl
 
-other_replay : (id : ℤ) (r : OpenReplay) → not (is_replay_of id r) ≡ true → int_eq r.recording id ≡ false
+pub other_replay : (id : ℤ) (r : OpenReplay) → not (is_replay_of id r) ≡ true → int_eq r.recording id ≡ false
 unfolding is_replay_of
 other_replay id r is = by (int_eq r.recording id) is
   where
@@ -93,7 +93,7 @@ without_shorter number n (x ∷ xs) = by (int_eq n (number x)) (without_shorter 
     by true rest = omega arith
     by false rest = omega (arith, rest)
 
-not_same : (m n : ℤ) → m ≢ n → int_eq m n ≡ false
+pub not_same : (m n : ℤ) → m ≢ n → int_eq m n ≡ false
 not_same m n differs = by (int_eq m n) refl
   where
     by : (b : Bool) → int_eq m n ≡ b → b ≡ false
@@ -134,7 +134,7 @@ sessions_begun g ss next r ids is active few keeps = record {
   few = one_more_session g ss (begun_session next g.next) keeps.writing keeps.apart few;
 }
 
-not_both : (o : Option Registration) → is_of o is_active ≡ true → is_of o (λ r. not (is_active r)) ≡ true → ⊥
+pub not_both : (o : Option Registration) → is_of o is_active ≡ true → is_of o (λ r. not (is_active r)) ≡ true → ⊥
 not_both None active stopped = true≢false (sym active)
 not_both (Some r) active stopped = true≢false (sym stopped ∙ ap not active)
 

@@ -16,7 +16,7 @@ module _ {X : Type 0} (number : X → ℤ) where
   rise_lower low least next [] lower rising = omega (arith, ints)
   rise_lower low least next (y ∷ ys) lower rising = (omega (arith, ints, rising.0), rising.1)
 
-  least_next : (low next : ℤ) (xs : List X) → Rise number low xs next → low ≤ℤ next
+  pub least_next : (low next : ℤ) (xs : List X) → Rise number low xs next → low ≤ℤ next
   least_next low next [] rising = rising
   least_next low next (y ∷ ys) rising = let more = least_next (number y +ℤ pos 1) next ys rising.1 in omega (arith, ints, rising.0)
 

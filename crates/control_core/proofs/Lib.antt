@@ -14,4 +14,8 @@ pub mod AgreementLemmas
 pub mod DecidedLemmas
 pub mod CallLemmas
 pub mod PollLemmas
+mod BoundaryLemmas
+mod StayLemmas
+mod CommandLemmas
+mod ConsistentLemmas
 pub mod ExactLemmas

@@ -57,7 +57,7 @@ module _ {X : Type 0} (P : X → Type 0) where
       by true is rest = ((all.0, is), rest)
       by false is rest = rest
 
-  each_first : (n : ℕ) (xs : List X) → Each P xs → Each P (take n xs)
+  pub each_first : (n : ℕ) (xs : List X) → Each P xs → Each P (take n xs)
   each_first zero xs all = tt
   each_first (suc n) [] all = tt
   each_first (suc n) (x ∷ xs) all = (all.0, each_first n xs all.1)

@@ -35,12 +35,13 @@ abbrev pub IsAtBoundary : State → OpenReplay → Type 0
 IsAtBoundary s replay = IsSomeAnd (find id_of replay.recording s.recordings) (λ r. IsTrue (is_boundary replay.next r))
 
 -- The desk's register is the state's, which is well-formed; the desk keeps its seats; what each session wrote goes on
--- where its recording ends; each replay goes on at a boundary.
+-- where its recording ends, and where no session is open nothing is written; each replay goes on at a boundary.
 pub record IsConsistent (a : Archive) : Type 0 where
   pub agrees : Agrees a.desk a.state
   pub well : IsWell a.state
   pub seats : KeepsSeats a.desk.register a.desk.callers
   pub blocks : Each (λ s. HasBlocks a s s.written) a.desk.callers.sessions
+  pub unwritten : (n : ℤ) → session_in a.desk n ≡ None → a.blocks n ≡ []
   pub boundaries : Each (IsAtBoundary a.state) a.desk.callers.replays
 
 -- a command that the archive accepts and its desk allows; what an append records is what the recording's session wrote

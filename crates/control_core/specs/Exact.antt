@@ -1,6 +1,6 @@
 -- What each call of an archive is answered exactly, by its state with the frames, its desk and what its sessions wrote.
 -- docs/CONTROL.md, "Requests", "Recorder sessions" and "Replays".
-use Rattle.std.specs.Prelude.{◌≡◌, ◌⊎◌, ◌++◌, ◌+ℤ◌, ℤ, pos, Bool, true, false, IsTrue, IsSomeAnd, MatchBool, List, [], ◌∷◌, length, unsigned_abs, Option, Some, None, is_none, is_some, Result, Ok, Err, if◌then◌else◌}
+use Rattle.std.specs.Prelude.{◌≡◌, ◌⊎◌, ◌++◌, ◌+ℤ◌, ℕ, ℤ, pos, Bool, true, false, IsTrue, IsSomeAnd, MatchBool, List, [], ◌∷◌, length, unsigned_abs, Option, Some, None, is_none, is_some, Result, Ok, Err, if◌then◌else◌}
 use Rattle.std.specs.Ordering.{int_eq}
 use Rattle.frame_core.specs.declared.block.Block.{Block}
 use Rattle.frame_core.specs.declared.refusal.Refusal.{Refusal}
@@ -13,7 +13,7 @@ use Rattle.archive_model.specs.declared.reply.PolledFrame.{PolledFrame}
 use Rattle.archive_model.specs.declared.reply.Reply.{Reply}
 use Rattle.archive_model.specs.declared.reply.Reply.TheVariants as replies
 use Rattle.archive_model.specs.Keyed.{find}
-use Rattle.archive_model.specs.State.{Recording, State, geometry_of, id_of, publication_of, registration_of}
+use Rattle.archive_model.specs.State.{Recording, State, geometry_of, id_of, publication_of, register_of, registration_of}
 use Rattle.archive_model.specs.Acceptance.{BookState}
 use Rattle.archive_model.specs.Accepting.{begins_in}
 use Rattle.archive_model.specs.Checks.{checked, checks}
@@ -34,7 +34,7 @@ use Rattle.control_core.specs.declared.turns.OpeningDecision.{OpeningDecision}
 use Rattle.control_core.specs.declared.turns.OpeningDecision.TheVariants as opening
 use Rattle.control_core.specs.declared.turns.Settling.{Settling}
 use Rattle.control_core.specs.declared.turns.Settling.TheVariants as settling
-use Rattle.control_core.specs.Desk.{DeskState}
+use Rattle.control_core.specs.Desk.{DeskState, opened_desk}
 use Rattle.control_core.specs.Changes.{after_close, after_open, after_poll, after_write, broken_desk, desk_after, reply_after, settled}
 use Rattle.control_core.specs.Decisions.{accepted, decision_of}
 use Rattle.control_core.specs.Turns.{close_decision, is_done_at, open_decision, poll_decision, replay_in, session_in, settle_decision, sweep_tests, verify_tests, write_decision}
@@ -47,6 +47,10 @@ pub record Archive : Type 0 where
   pub desk : DeskState
   pub blocks : ℤ → List Block
   pub doubt : Option State
+
+-- an archive that is opened with these recordings: nobody has written, and nothing is in doubt
+abbrev pub opened_archive : State → ℕ → ℕ → Archive
+opened_archive s counted limit = record { state = s; desk = opened_desk (register_of s) counted limit; blocks = λ session. []; doubt = None }
 
 -- the plain book of the archive
 abbrev pub book_of : Archive → BookState

@@ -17,7 +17,7 @@ ghost use Rattle.frame_core.specs.declared.refusal.Refusal.{Refusal};
 ghost use Rattle.archive_model.specs.declared.reply.Reply.{Reply};
 ghost use Rattle.control_core.specs.declared.event.Event.{Event};
 ghost use Rattle.control_core.specs.Machine.{Step};
-ghost use Rattle.control_core.specs.Exact.{Archive, ArchiveEnds, asked_frames, asked_of, book_of, told_of};
+ghost use Rattle.control_core.specs.Exact.{Archive, ArchiveEnds, archive_after, asked_frames, asked_of, book_of, opened_archive, told_of};
 ghost use Rattle.control_core.specs.Consistent.{IsAcceptable, IsConsistent, MakesCommand, SettlesByAppend, is_append};
 ghost use Rattle.control_core.specs.Turns.{MayOpen, open_decision, opening_in, settle_decision};
 ghost use Rattle.control_core.specs.declared.turns.Opening.{Opening};
@@ -108,4 +108,21 @@ pub fn an_exact_answer_is_allowed()
     ensures { (a : Archive) (event : Event) (outcome : Result Reply Refusal) (new : Archive) →
         IsConsistent a → ArchiveEnds a event outcome new →
         Step a.desk (asked_of event) (told_of a.desk event outcome) new.desk }
+{}
+
+/// A consistent archive still is after an accepted command that is no append: docs/CONTROL.md, "Control state".
+pub fn a_command_keeps_the_archive_consistent()
+    ensures { (a : Archive) (c : Command) → IsFalse (is_append c) → IsConsistent a → IsAcceptable a c →
+        IsConsistent (archive_after a c) }
+{}
+
+/// An archive that is opened with a well-formed state is consistent: docs/CONTROL.md, "Control state".
+pub fn an_opened_archive_is_consistent()
+    ensures { (s : State) (counted limit : ℕ) → IsWell s → IsConsistent (opened_archive s counted limit) }
+{}
+
+/// A consistent archive still is after each call, answered or refused: docs/CONTROL.md, "Control state".
+pub fn a_call_keeps_the_archive_consistent()
+    ensures { (a : Archive) (event : Event) (outcome : Result Reply Refusal) (new : Archive) → IsConsistent a →
+        ArchiveEnds a event outcome new → IsConsistent new }
 {}

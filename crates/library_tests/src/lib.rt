@@ -7,6 +7,8 @@ mod archives;
 #[cfg(test)]
 mod catalogues;
 #[cfg(test)]
+mod desk_calls;
+#[cfg(test)]
 mod desks;
 #[cfg(test)]
 mod disks;

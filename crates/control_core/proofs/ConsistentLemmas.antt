@@ -1,0 +1,424 @@
+-- An archive that is consistent still is after each call.
+use Rattle.std.proofs.Common.{◌≡◌, ◌≢◌, ◌+ℤ◌, ◌⊎◌, inl, inr, ◌&&◌, ◌||◌, not, ℤ, pos, negsuc, Bool, true, false, cond, List, [], ◌∷◌, ◌++◌, append-nil, map, ℕ, Option, Some, None, Result, Ok, Err, refl, sym, ap, subst, ◌∙◌, true≢false, int_le, unsigned_abs}
+use Rattle.std.specs.Prelude.{IsFalse, IsSomeAnd, MatchBool, is_some, option_map}
+use Rattle.std.specs.Ordering.{int_eq}
+use Rattle.std.proofs.lemmas.Bool.Decides.{Decides-int_eq}
+use Rattle.frame_core.specs.declared.block.Block.{Block}
+use Rattle.frame_core.specs.declared.frame.Frame.{Frame}
+use Rattle.frame_core.specs.declared.refusal.Refusal.{Refusal}
+use Rattle.frame_core.specs.declared.refusal.Refusal.TheVariants.{BadPosition}
+use Rattle.frame_core.specs.Block.{IsBlock, covered, end_position}
+use Rattle.archive_model.specs.declared.command.Command.{Command}
+use Rattle.archive_model.specs.declared.command.Command.TheVariants as commands
+use Rattle.archive_model.specs.declared.registration.Registration.{Registration}
+use Rattle.archive_model.specs.declared.reply.Reply.{Reply}
+use Rattle.archive_model.specs.Keyed.{Each, Rise, find}
+use Rattle.archive_model.specs.Register as register
+use Rattle.archive_model.specs.Register.{RegisterState, is_end, registration_in}
+use Rattle.archive_model.specs.WellFormed.{IsWell}
+use Rattle.archive_model.specs.State.{Recording, State, geometry_of, id_of, publication_of, recorded_position, register_of, registration_of}
+use Rattle.archive_model.specs.Accepting.{Follow, begins_in}
+use Rattle.archive_model.specs.Acceptance.{Continue}
+use Rattle.archive_model.specs.Checks.{Tests, block_checks, checked, checks, first_checks, is_boundary_by, is_of, last_checks, passes}
+use Rattle.archive_model.specs.Commands.{after, appended, frames_of, recorded_in}
+use Rattle.archive_model.specs.Replay.{is_boundary, polled}
+use Rattle.archive_model.proofs.CommandsLemmas.{find_other}
+use Rattle.archive_model.proofs.RegisterLemmas.{each_push, found_number as number_found}
+use Rattle.archive_model.proofs.StateLemmas.{each_found, found_registration, well_after}
+use Rattle.archive_model.proofs.WellLemmas.{both}
+use Rattle.control_core.specs.declared.callers.OpenReplay.{OpenReplay}
+use Rattle.control_core.specs.declared.callers.RecorderSession.{RecorderSession}
+use Rattle.control_core.specs.declared.callers.Written.{Written}
+use Rattle.control_core.specs.declared.decision.Decision.{Decision}
+use Rattle.control_core.specs.declared.decision.Decision.TheVariants as decisions
+use Rattle.control_core.specs.declared.event.Event.{Event}
+use Rattle.control_core.specs.declared.event.Event.TheVariants as events
+use Rattle.control_core.specs.declared.turns.Opening.{Opening}
+use Rattle.control_core.specs.declared.turns.OpeningDecision.{OpeningDecision}
+use Rattle.control_core.specs.declared.turns.OpeningDecision.TheVariants as opening
+use Rattle.control_core.specs.declared.turns.Settling.{Settling}
+use Rattle.control_core.specs.declared.turns.Settling.TheVariants as settling
+use Rattle.control_core.specs.Control.{moved_to, replay_number, session_number, with_written}
+use Rattle.control_core.specs.Desk.{DeskState}
+use Rattle.control_core.specs.Changes.{after_close, after_open, after_poll, next_position, settled, settled_by}
+use Rattle.control_core.specs.Decisions.{decision_of}
+use Rattle.control_core.specs.Turns.{begins_at, close_decision, continues, has_written, open_decision, open_tests, opened_at, opening_decided, opening_in, opening_of, poll_decision, poll_tests, replay_in, replay_of, session_in, settle_decision, sweep_tests, write_decision, write_tests}
+use Rattle.control_core.specs.Seats.{AreApart, KeepsSeats}
+use Rattle.control_core.specs.Agreement.{Agrees, WroteBlocks}
+use Rattle.control_core.specs.Exact.{Archive, ArchiveEnds, DecisionEnds, IsBlockOf, Leaves, OpeningEnds, PolledEnds, PollingEnds, SettlingEnds, SweepEnds, asked_frames, asked_opening, book_of, frames_end, opened_archive, recording_at, settled_archive, span_of, with_desk, with_session_blocks, written}
+use Rattle.control_core.specs.Consistent.{HasBlocks, IsAcceptable, IsAtBoundary, IsConsistent, SettlesByAppend, Wrote, is_append}
+use Rattle.control_core.proofs.AgreementLemmas.{agrees}
+use Rattle.control_core.proofs.BoundaryLemmas.{boundary_appended, boundary_polled}
+use Rattle.control_core.proofs.CallLemmas.{opening_allowed, refused_unchanged}
+use Rattle.control_core.proofs.CommandLemmas.{consistent_after}
+use Rattle.control_core.proofs.DecidedLemmas.{decided_accepted, found_number, held, settled_session, settling_accepted}
+use Rattle.control_core.proofs.DeskLemmas.{keeps_closed, keeps_moved, keeps_none, keeps_opened, keeps_settled, keeps_written, not_same}
+use Rattle.control_core.proofs.FoundLemmas.{each_both, each_weaker}
+use Rattle.control_core.proofs.StayLemmas.{at_changed, blocks_stay, each_changed, each_without, goes_on_at, is_at, none_before, same_recording}
+
+-- ---- other calls on replays
+
+-- replays that are others, where what is recorded and written is as it was
+with_replays : (a : Archive) (d : DeskState) → IsConsistent a → d.register ≡ a.desk.register → d.callers.sessions ≡ a.desk.callers.sessions → KeepsSeats d.register d.callers → Each (IsAtBoundary a.state) d.callers.replays → IsConsistent (with_desk d a)
+with_replays a d consistent register sessions seats boundaries = record {
+  agrees = register ∙ consistent.agrees;
+  well = consistent.well;
+  seats = seats;
+  blocks = each_weaker (λ s. HasBlocks a s s.written) (λ s. HasBlocks (with_desk d a) s s.written) d.callers.sessions (λ s has. blocks_stay a (with_desk d a) s s.written refl (λ r found. same_recording a (with_desk d a) s r found) has)
+      (subst (λ (ss : List RecorderSession). Each (λ s. HasBlocks a s s.written) ss) (sym sessions) consistent.blocks);
+  unwritten = λ n none. consistent.unwritten n (subst (λ (ss : List RecorderSession). find session_number n ss ≡ None) sessions none);
+  boundaries = boundaries;
+}
+
+closed : (a : Archive) (number : ℤ) → IsConsistent a → IsConsistent (with_desk (after_close number a.desk) a)
+closed a number consistent =
+    with_replays a (after_close number a.desk) consistent refl refl (keeps_closed a.desk.register a.desk.callers number consistent.seats)
+    (each_without replay_number (IsAtBoundary a.state) number a.desk.callers.replays consistent.boundaries)
+
+-- a replay that is moved to where its poll ends
+moved : (a : Archive) (number most : ℤ) (replay : OpenReplay) (r : Recording) → IsConsistent a → replay_in a.desk number ≡ Some replay → recording_at a replay.recording ≡ Some r
+    → IsConsistent (with_desk (after_poll replay.number (frames_end replay.next (polled replay.next replay.bound (unsigned_abs most) r)) a.desk) a)
+moved a number most replay r consistent is found =
+    let next = frames_end replay.next (polled replay.next replay.bound (unsigned_abs most) r) in
+    let d = after_poll replay.number next a.desk in
+    let at = goes_on_at a.state replay (each_found replay_number (IsAtBoundary a.state) number a.desk.callers.replays replay consistent.boundaries is) in
+    let this : at.recording ≡ r = (let same : Some at.recording ≡ Some r = sym at.found ∙ found in cc) in
+    let boundary : is_boundary replay.next r ≡ true = subst (λ (x : Recording). is_boundary replay.next x ≡ true) this at.boundary in
+    let ends : is_boundary next r ≡ true = boundary_polled r replay.next replay.bound (unsigned_abs most) boundary in
+    let number_is : replay.number ≡ number = replay_found number a.desk.callers.replays replay is in
+    with_replays a d consistent refl refl (keeps_moved a.desk.register a.desk.callers replay.number next consistent.seats)
+    (each_changed replay_number (IsAtBoundary a.state) (IsAtBoundary a.state) replay.number (pos 0) a.desk.callers.next_replay (moved_to next) a.desk.callers.replays consistent.seats.replays.rising
+    (λ x there old.
+    let one : x ≡ replay = (let same : Some x ≡ Some replay = sym there ∙ subst (λ (n : ℤ). find replay_number n a.desk.callers.replays ≡ Some replay) (sym number_is) is in cc) in
+    let where_it_is : find id_of x.recording a.state.recordings ≡ Some r = subst (λ (y : OpenReplay). find id_of y.recording a.state.recordings ≡ Some r) (sym one) found in
+    is_at a.state (moved_to next x) r where_it_is ends) (λ x other old. old) consistent.boundaries)
+  where
+    replay_found : (n : ℤ) (rs : List OpenReplay) (x : OpenReplay) → find replay_number n rs ≡ Some x → x.number ≡ n
+    replay_found n rs x found = number_found replay_number n rs x found
+
+-- what is opened goes on at a boundary
+
+abbrev pub IsEndOr : Bool → ℤ → Option Registration → Type 0
+IsEndOr begins position found = (r : Registration) → found ≡ Some r → (is_end position r ≡ true) ⊎ (begins ≡ true)
+
+asked_front : (a : Archive) (id : ℤ) (tests : Tests) (rs : List Refusal) (decision : OpeningDecision) (o : Opening) → asked_opening a id (opening_decided (checked tests rs (Ok decision))) ≡ Ok o
+    → (passes tests rs ≡ true) × (asked_opening a id decision ≡ Ok o)
+asked_front a id tests [] decision o e = (refl, e)
+asked_front a id tests (r ∷ rs) decision o e = by (tests r) e (asked_front a id tests rs decision o)
+  where
+    by : (b : Bool) → asked_opening a id (opening_decided (cond b (checked tests rs (Ok decision)) (Err r))) ≡ Ok o → (asked_opening a id (opening_decided (checked tests rs (Ok decision))) ≡ Ok o → (passes tests rs ≡ true) × (asked_opening a id decision ≡ Ok o))
+        → ((b && passes tests rs) ≡ true) × (asked_opening a id decision ≡ Ok o)
+    by true e rest = rest e
+    by false e rest = absurd cc
+
+asked_at : (a : Archive) (id next : ℤ) (found : Option Registration) (behind : Result Opening Refusal) (o : Opening) → asked_opening a id (opened_at found behind next) ≡ Ok o → IsEndOr (begins_in (recording_at a id) next) next found × (behind ≡ Ok o)
+asked_at a id next None behind o e = (λ r none. absurd cc, by (begins_in (recording_at a id) next) e)
+  where
+    by : (b : Bool) → cond b behind (Err BadPosition) ≡ Ok o → behind ≡ Ok o
+    by true e = e
+    by false e = absurd cc
+asked_at a id next (Some r) behind o e = by (is_end next r) refl e
+  where
+    same : (x : Registration) → Some r ≡ Some x → r ≡ x
+    same x is = cc
+
+    inside : (b : Bool) → cond b behind (Err BadPosition) ≡ Ok o → (b ≡ true) × (behind ≡ Ok o)
+    inside true e = (refl, e)
+    inside false e = absurd cc
+
+    by : (b : Bool) → is_end next r ≡ b → asked_opening a id (cond b (opening.Decided behind) (opening.IfBoundary next behind)) ≡ Ok o → IsEndOr (begins_in (recording_at a id) next) next (Some r) × (behind ≡ Ok o)
+    by true is e = (λ x found. inl (subst (λ (y : Registration). is_end next y ≡ true) (same x found) is), e)
+    by false is e = let asked = inside (begins_in (recording_at a id) next) e in (λ x found. inr asked.0, asked.1)
+
+-- the position of a recording that is found, which is an end or where a frame begins
+at_found : (s : State) (id next bound number : ℤ) (found : Option Recording) → find id_of id s.recordings ≡ found → IsEndOr (begins_in found next) next (option_map registration_of found) → is_some (option_map registration_of found) ≡ true
+    → IsAtBoundary s (record { number = number; recording = id; next = next; bound = bound })
+at_found s id next bound number None is ends there = absurd (true≢false (sym there))
+at_found s id next bound number (Some r) is ends there = is_at s (record { number = number; recording = id; next = next; bound = bound }) r is (by (ends (registration_of r) refl))
+  where
+    or_true : (b : Bool) → (b || true) ≡ true
+    or_true true = refl
+    or_true false = refl
+
+    by : (is_end next (registration_of r) ≡ true) ⊎ (begins_in (Some r) next ≡ true) → is_boundary next r ≡ true
+    by (inl end) = rw end refl
+    by (inr begins) = rw begins (or_true (is_end next (registration_of r)))
+
+decided_in : (a : Archive) (id : ℤ) (decision : OpeningDecision) (o : Opening) → asked_opening a id decision ≡ Ok o → opening_in decision ≡ Some o
+decided_in a id (opening.Decided (Ok x)) o e = let same : x ≡ o = cc in ap Some same
+decided_in a id (opening.Decided (Err refusal)) o e = absurd cc
+decided_in a id (opening.IfBoundary position x) o e = by (begins_in (recording_at a id) position) x e
+  where
+    by : (b : Bool) (y : Result Opening Refusal) → cond b y (Err BadPosition) ≡ Ok o → opening_in (opening.IfBoundary position y) ≡ Some o
+    by true (Ok y) e = let same : y ≡ o = cc in ap Some same
+    by true (Err refusal) e = absurd cc
+    by false y e = absurd cc
+
+opened : (a : Archive) (id position size : ℤ) (o : Opening) → IsConsistent a → asked_opening a id (open_decision a.desk id position size) ≡ Ok o → IsConsistent (with_desk (after_open o.recording o.next o.bound a.desk) a)
+opened a id position size o consistent e =
+    let d = a.desk in
+    let tests = open_tests d id position size true in
+    let found = registration_in d.register id in
+    let next = begins_at position found in
+    let behind = checked tests (block_checks ++ last_checks) (Ok (opening_of d id position size)) in
+    let front = asked_front a id tests first_checks (opened_at found behind next) o e in
+    let place = asked_at a id next found behind o front.1 in
+    let made = held tests (block_checks ++ last_checks) (opening_of d id position size) o place.1 in
+    let may = opening_allowed d id position size o (decided_in a id (open_decision d id position size) o e) in
+    let known : found ≡ option_map registration_of (recording_at a id) = ap (λ (g : RegisterState). registration_in g id) consistent.agrees ∙ found_registration id a.state.recordings in
+    let in_range : Bool = int_le (negsuc 0) position && int_le (negsuc 0) size in
+    let inside : Bool = is_of found (is_boundary_by true next) in
+    let range : (in_range ≡ true) × ((is_some found && (inside && true)) ≡ true) = both front.0 in
+    let there : (is_some found ≡ true) × ((inside && true) ≡ true) = both range.1 in
+    let boundary : IsAtBoundary a.state (record { number = d.callers.next_replay; recording = id; next = next; bound = (opening_of d id position size).bound }) =
+    at_found a.state id next (opening_of d id position size).bound d.callers.next_replay (recording_at a id) refl
+    (subst (IsEndOr (begins_in (recording_at a id) next) next) known place.0) (subst (λ (x : Option Registration). is_some x ≡ true) known there.0) in
+    let new : OpenReplay = record { number = d.callers.next_replay; recording = o.recording; next = o.next; bound = o.bound } in
+    let at : IsAtBoundary a.state new = subst (λ (x : Opening). IsAtBoundary a.state (record { number = d.callers.next_replay; recording = x.recording; next = x.next; bound = x.bound })) made.1 boundary in
+    with_replays a (after_open o.recording o.next o.bound d) consistent refl refl (keeps_opened d.register d.callers new refl may.few may.there consistent.seats)
+    (each_push (IsAtBoundary a.state) d.callers.replays new consistent.boundaries at)
+
+-- ---- writing
+
+-- a block that may be written: of a session that wrote nothing, where its recording ends
+pub record MayWrite (a : Archive) (session : ℤ) (block : Block) : Type 0 where
+  pub writer : RecorderSession
+  pub found : session_in a.desk session ≡ Some writer
+  pub none : writer.written ≡ None
+  pub recording : Recording
+  pub there : recording_at a writer.recording ≡ Some recording
+  pub is_block : IsBlock (geometry_of recording.descriptor) (publication_of recording.descriptor) block
+  pub position : block.position ≡ recorded_position recording
+
+recorded_at : (a : Archive) (s : RecorderSession) (r : Recording) → Agrees a.desk a.state → recording_at a s.recording ≡ Some r → s.written ≡ None → next_position a.desk s ≡ recorded_position r
+recorded_at a s r agree there none =
+    let known : registration_in a.desk.register s.recording ≡ Some (registration_of r) =
+    ap (λ (g : RegisterState). registration_in g s.recording) agree ∙ found_registration s.recording a.state.recordings ∙ ap (option_map registration_of) there in
+    rw (none, known) refl
+
+may_write : (a : Archive) (session : ℤ) (block : Block) (found : Option RecorderSession) → IsConsistent a → session_in a.desk session ≡ found → is_some found ≡ true → continues a.desk found (span_of block) ≡ true → not (has_written found) ≡ true
+    → IsBlockOf a found block → MayWrite a session block
+may_write a session block None consistent is there at none of = absurd of
+may_write a session block (Some s) consistent is there at none of = by (recording_at a s.recording) refl of
+  where
+    unwritten : (o : Option Written) → not (is_some o) ≡ true → o ≡ None
+    unwritten None h = refl
+    unwritten (Some w) h = absurd (true≢false (sym h))
+
+    by : (o : Option Recording) → recording_at a s.recording ≡ o → IsSomeAnd o (λ r. IsBlock (geometry_of r.descriptor) (publication_of r.descriptor) block) → MayWrite a session block
+    by None e h = absurd h
+    by (Some r) e h =
+        let wrote_none = unwritten s.written none in
+        record {
+          writer = s;
+          found = is;
+          none = wrote_none;
+          recording = r;
+          there = e;
+          is_block = h;
+          position = (Decides-int_eq block.position (next_position a.desk s)).0 at ∙ recorded_at a s r consistent.agrees e wrote_none;
+        }
+
+write_allowed : (a : Archive) (session : ℤ) (block : Block) (fits : Bool) (reply : Reply) → IsConsistent a → MatchBool fits (IsBlockOf a (session_in a.desk session) block) (IsBlockOf a (session_in a.desk session) block → ⊥)
+    → write_decision a.desk session (span_of block) fits ≡ Ok reply → MayWrite a session block
+write_allowed a session block fits reply consistent says e =
+    let found = session_in a.desk session in
+    let is = held (write_tests a.desk session (span_of block) fits) checks _ reply e in
+    let placed_well : Bool = fits && continues a.desk found (span_of block) in
+    let none : Bool = not (has_written found) in
+    let whole : (not a.desk.is_broken ≡ true) × ((is_some found && (placed_well && (none && true))) ≡ true) = both is.0 in
+    let there : (is_some found ≡ true) × ((placed_well && (none && true)) ≡ true) = both whole.1 in
+    let place : (placed_well ≡ true) × ((none && true) ≡ true) = both there.1 in
+    let last : (none ≡ true) × (true ≡ true) = both place.1 in
+    let parts : (fits ≡ true) × (continues a.desk found (span_of block) ≡ true) = both place.0 in
+    let of : IsBlockOf a found block = subst (λ (t : Bool). MatchBool t (IsBlockOf a found block) (IsBlockOf a found block → ⊥)) parts.0 says in
+    may_write a session block found consistent refl there.0 parts.1 last.0 of
+
+this_session : (session : ℤ) (bs : List Block) (all : ℤ → List Block) (n : ℤ) → n ≡ session → with_session_blocks session bs all n ≡ bs
+this_session session bs all n is = let same : int_eq n session ≡ true = (Decides-int_eq n session).1 is in rw same refl
+
+other_blocks : (session : ℤ) (bs : List Block) (all : ℤ → List Block) (n : ℤ) → int_eq session n ≡ false → with_session_blocks session bs all n ≡ all n
+other_blocks session bs all n other =
+    let differs : n ≢ session = λ same. true≢false (sym ((Decides-int_eq session n).1 (sym same)) ∙ other) in
+    let apart = not_same n session differs in rw apart refl
+
+none_beside : (session : ℤ) (bs : List Block) (all : ℤ → List Block) (n : ℤ) (ss : List RecorderSession) (s : RecorderSession) → find session_number session ss ≡ Some s → find session_number n ss ≡ None → with_session_blocks session bs all n ≡ all n
+none_beside session bs all n ss s found none = other_blocks session bs all n (by (int_eq session n) refl)
+  where
+    by : (b : Bool) → int_eq session n ≡ b → b ≡ false
+    by true is =
+        let same : session ≡ n = (Decides-int_eq session n).0 is in
+        let clash : Some s ≡ None = sym found ∙ ap (λ (z : ℤ). find session_number z ss) same ∙ none in absurd cc
+    by false is = refl
+
+wrote_block : (a : Archive) (session : ℤ) (block : Block) (may : MayWrite a session block) → IsConsistent a → Wrote (written a session block) (with_written (Some (span_of block)) may.writer) (span_of block)
+wrote_block a session block may consistent =
+    let s = may.writer in
+    let b = written a session block in
+    let number : s.number ≡ session = found_number session a.desk.callers.sessions s may.found in
+    let has : HasBlocks a s None = subst (HasBlocks a s) may.none (each_found session_number (λ x. HasBlocks a x x.written) session a.desk.callers.sessions s consistent.blocks may.found) in
+    let before : a.blocks session ≡ [] = ap a.blocks (sym number) ∙ has in
+    let alone : b.blocks s.number ≡ block ∷ [] = this_session session (a.blocks session ++ block ∷ []) a.blocks s.number number ∙ ap (λ (bs : List Block). bs ++ block ∷ []) before in
+    let some : (block ∷ []) ≢ [] = λ e. cc in
+    let next : Continue may.recording (block ∷ []) = (some, (may.is_block, may.position, tt)) in
+    let frames : frames_of (block ∷ []) ≡ block.frames = append-nil block.frames in
+    let ends : end_position block ≡ recorded_position may.recording +ℤ pos (covered (frames_of (block ∷ []))) = ap (λ (z : ℤ). z +ℤ pos (covered block.frames)) may.position ∙ ap (λ (fs : List Frame). recorded_position may.recording +ℤ pos (covered fs)) (sym frames) in
+    record {
+      follow = subst (λ (o : Option Recording). IsSomeAnd o (λ r. Continue r (b.blocks s.number))) (sym may.there) (subst (Continue may.recording) (sym alone) next);
+      last = subst (λ (o : Option Recording). end_position block ≡ recorded_in o +ℤ pos (covered (frames_of (b.blocks s.number)))) (sym may.there)
+          (subst (λ (bs : List Block). end_position block ≡ recorded_position may.recording +ℤ pos (covered (frames_of bs))) (sym alone) ends);
+    }
+
+wrote : (a : Archive) (session : ℤ) (block : Block) → IsConsistent a → MayWrite a session block → IsConsistent (written a session block)
+wrote a session block consistent may =
+    let b = written a session block in
+    let ss = a.desk.callers.sessions in
+    record {
+      agrees = consistent.agrees;
+      well = consistent.well;
+      seats = keeps_written a.desk.register a.desk.callers session (Some (span_of block)) consistent.seats;
+      blocks = each_changed session_number (λ s. HasBlocks a s s.written) (λ s. HasBlocks b s s.written) session (pos 0) a.desk.callers.next_session (with_written (Some (span_of block))) ss consistent.seats.sessions.rising
+          (λ x found has.
+          let same : may.writer ≡ x = (let one : Some may.writer ≡ Some x = sym may.found ∙ found in cc) in
+          subst (λ (y : RecorderSession). Wrote b (with_written (Some (span_of block)) y) (span_of block)) same (wrote_block a session block may consistent))
+          (λ x other has. blocks_stay a b x x.written (other_blocks session (a.blocks session ++ block ∷ []) a.blocks x.number other) (λ r found. same_recording a b x r found) has) consistent.blocks;
+      unwritten = λ n none.
+          let before : session_in a.desk n ≡ None = none_before session_number n session (with_written (Some (span_of block))) ss (λ x. refl) none in
+          none_beside session (a.blocks session ++ block ∷ []) a.blocks n ss may.writer may.found before ∙ consistent.unwritten n before;
+      boundaries = consistent.boundaries;
+    }
+
+-- ---- settling
+
+-- a session of another number writes another recording
+apart_of : (n : ℤ) (ss : List RecorderSession) (s : RecorderSession) → AreApart ss → find session_number n ss ≡ Some s → Each (λ x. int_eq n x.number ≡ false → x.recording ≢ s.recording) ss
+apart_of n [] s apart found = tt
+apart_of n (x ∷ ss) s apart found = by (int_eq n x.number) refl found (apart_of n ss s apart.1)
+  where
+    by : (b : Bool) → int_eq n x.number ≡ b → cond b (Some x) (find session_number n ss) ≡ Some s → (find session_number n ss ≡ Some s → Each (λ y. int_eq n y.number ≡ false → y.recording ≢ s.recording) ss)
+        → (int_eq n x.number ≡ false → x.recording ≢ s.recording) × Each (λ y. int_eq n y.number ≡ false → y.recording ≢ s.recording) ss
+    by true is e rest =
+        let same : x ≡ s = cc in (
+          λ other. absurd (true≢false (sym is ∙ other)),
+          each_weaker (λ y. y.recording ≢ x.recording) (λ y. int_eq n y.number ≡ false → y.recording ≢ s.recording) ss (λ y differs other e'. differs (e' ∙ ap (λ (z : RecorderSession). z.recording) (sym same))) apart.0,
+        )
+    by false is e rest =
+        let differs : s.recording ≢ x.recording = each_found session_number (λ y. y.recording ≢ x.recording) n ss s apart.0 e in
+        (λ other same. differs (sym same), rest e)
+
+abbrev pub with_settled : Archive → ℤ → ℤ → DeskState → Archive
+with_settled a session id d = record a { state = after a.state (commands.Append id (a.blocks session)); desk = d; blocks = with_session_blocks session [] a.blocks }
+
+settles : (a : Archive) (session id : ℤ) → IsConsistent a → SettlesByAppend a session id → (wrote_blocks : WroteBlocks a.desk a.state id (a.blocks session)) → session_in a.desk session ≡ Some wrote_blocks.session → IsConsistent (settled_archive a session id)
+settles a session id consistent settling wb found =
+    let s = wb.session in
+    let c = commands.Append id (a.blocks session) in
+    let d = settled_by s (Some wb.written) a.desk in
+    let ss = a.desk.callers.sessions in
+    let number : s.number ≡ session = found_number session ss s found in
+    let desk : settled (session_in a.desk session) a.desk ≡ d = ap (λ (o : Option RecorderSession). settled o a.desk) found ∙ ap (λ (o : Option Written). settled_by s o a.desk) wb.has in
+    let b = with_settled a session id d in
+    let follow : Follow a.state id (a.blocks session) = settling_follow a session id s (subst (λ (o : Option Written). HasBlocks a s o) wb.has (each_found session_number (λ x. HasBlocks a x x.written) session ss s consistent.blocks found)) number wb.recording in
+    let all_apart : Each (λ x. int_eq session x.number ≡ false → x.recording ≢ s.recording) ss = apart_of session ss s consistent.seats.sessions.apart found in
+    let kept : IsConsistent b = record {
+      agrees = subst (λ (x : DeskState). Agrees x (after a.state c)) (settling.same ∙ desk) (agrees a.desk (book_of a) c consistent.agrees wb consistent.well settling.acceptable.accepted);
+      well = well_after (book_of a) c consistent.well settling.acceptable.accepted;
+      seats = keeps_settled a.desk.register a.desk.callers s.recording wb.written.last s.number consistent.seats;
+      blocks = each_changed session_number (λ x. HasBlocks a x x.written × (int_eq session x.number ≡ false → x.recording ≢ s.recording)) (λ x. HasBlocks b x x.written) s.number (pos 0) a.desk.callers.next_session (with_written None) ss
+          consistent.seats.sessions.rising
+          (λ x there has. this_session session [] a.blocks x.number (found_number s.number ss x there ∙ number))
+          (λ x other has.
+          let apart : int_eq session x.number ≡ false = subst (λ (z : ℤ). int_eq z x.number ≡ false) number other in
+          let differs : x.recording ≢ id = λ same. has.1 apart (same ∙ sym wb.recording) in
+          let rest : recording_at b x.recording ≡ recording_at a x.recording = find_other x.recording id (appended (a.blocks session)) (λ r. refl) (not_same x.recording id differs) a.state.recordings in
+          blocks_stay a b x x.written (other_blocks session [] a.blocks x.number apart) (λ r at. same_recording a b x r (rest ∙ at)) has.0)
+          (each_both (λ x. HasBlocks a x x.written) (λ x. int_eq session x.number ≡ false → x.recording ≢ s.recording) (λ x. HasBlocks a x x.written × (int_eq session x.number ≡ false → x.recording ≢ s.recording)) ss (λ x has apart. (has, apart)) consistent.blocks all_apart);
+      unwritten = λ n none.
+          let before : session_in a.desk n ≡ None = none_before session_number n s.number (with_written None) ss (λ x. refl) none in
+          none_beside session [] a.blocks n ss s found before ∙ consistent.unwritten n before;
+      boundaries = each_weaker (IsAtBoundary a.state) (IsAtBoundary (after a.state c)) a.desk.callers.replays
+          (λ r at. at_changed a.state r id (appended (a.blocks session)) (λ x. refl)
+          (λ x there this boundary. boundary_appended (a.blocks session) x r.next (subst (λ (o : Option Recording). IsSomeAnd o (λ y. Continue y (a.blocks session))) this follow) boundary) at) consistent.boundaries;
+    } in
+    subst (λ (x : DeskState). IsConsistent (with_settled a session id x)) (sym desk) kept
+  where
+    settling_follow : (a : Archive) (session id : ℤ) (s : RecorderSession) {w : Written} → HasBlocks a s (Some w) → s.number ≡ session → s.recording ≡ id → Follow a.state id (a.blocks session)
+    settling_follow a session id s has number recording = subst (λ (z : ℤ). Follow a.state z (a.blocks session)) recording (subst (λ (z : ℤ). Follow a.state s.recording (a.blocks z)) number has.follow)
+
+-- ---- calls
+
+asked : (a : Archive) (decision : Decision) (reply : Reply) (b : Archive) → IsConsistent a → ((c : Command) → decision ≡ decisions.Accepted c → IsAcceptable a c × IsFalse (is_append c)) → DecisionEnds a decision (Ok reply) b → IsConsistent b
+asked a (decisions.Refused r) reply b consistent accepts h = absurd (let clash = h.0 in cc)
+asked a (decisions.Answered answer) reply b consistent accepts h = subst IsConsistent (sym h.1) consistent
+asked a (decisions.Accepted c) reply b consistent accepts h = let is = accepts c refl in subst IsConsistent (sym h.1) (consistent_after a c is.1 consistent is.0)
+asked a (decisions.IfBoundary id position decided) reply b consistent accepts h = absurd h
+
+left_consistent : (a x : Archive) (decision : Result Reply Refusal) (reply : Reply) (b : Archive) → ((y : Reply) → decision ≡ Ok y → IsConsistent x) → Leaves a x decision (Ok reply) b → IsConsistent b
+left_consistent a x (Ok answer) reply b kept h = subst IsConsistent (sym h.1) (kept answer refl)
+left_consistent a x (Err r) reply b kept h = absurd (let clash = h.0 in cc)
+
+settled_consistent : (a : Archive) (session : ℤ) (decision : Result Settling Refusal) (reply : Reply) (b : Archive) → IsConsistent a → settle_decision a.desk session ≡ decision → SettlingEnds a session decision (Ok reply) b → IsConsistent b
+settled_consistent a session (Err r) reply b consistent is h = absurd (let clash = h.0 in cc)
+settled_consistent a session (Ok (settling.Nothing position)) reply b consistent is h = subst IsConsistent (sym h.1) consistent
+settled_consistent a session (Ok (settling.Blocks id w)) reply b consistent is h =
+    let by_append = settling_accepted a session id w consistent is in
+    let found = settled_session a session id w consistent is by_append.acceptable.written in
+    subst IsConsistent (sym h.1) (settles a session id consistent by_append by_append.acceptable.written found)
+
+opened_consistent : (a : Archive) (id position size : ℤ) (decision : Result Opening Refusal) (reply : Reply) (b : Archive) → IsConsistent a → asked_opening a id (open_decision a.desk id position size) ≡ decision → OpeningEnds a decision (Ok reply) b → IsConsistent b
+opened_consistent a id position size (Err r) reply b consistent is h = absurd (let clash = h.0 in cc)
+opened_consistent a id position size (Ok o) reply b consistent is h = subst IsConsistent (sym h.1) (opened a id position size o consistent is)
+
+polled_consistent : (a : Archive) (number most : ℤ) (replay : OpenReplay) (found : Option Recording) (reply : Reply) (b : Archive) → IsConsistent a → replay_in a.desk number ≡ Some replay → recording_at a replay.recording ≡ found
+    → PolledEnds a replay most found (Ok reply) b → IsConsistent b
+polled_consistent a number most replay None reply b consistent is at h = absurd h
+polled_consistent a number most replay (Some r) reply b consistent is at h = subst IsConsistent (sym h.1) (moved a number most replay r consistent is at)
+
+replay_is : (tests : Tests) (rs : List Refusal) (found : Option OpenReplay) (replay : OpenReplay) → checked tests rs (replay_of found) ≡ Ok replay → found ≡ Some replay
+replay_is tests [] None replay e = absurd cc
+replay_is tests [] (Some x) replay e = let same : x ≡ replay = cc in ap Some same
+replay_is tests (r ∷ rs) found replay e = by (tests r) e (replay_is tests rs found replay)
+  where
+    by : (b : Bool) → cond b (checked tests rs (replay_of found)) (Err r) ≡ Ok replay → (checked tests rs (replay_of found) ≡ Ok replay → found ≡ Some replay) → found ≡ Some replay
+    by true e rest = rest e
+    by false e rest = absurd cc
+
+polling_consistent : (a : Archive) (number most : ℤ) (decision : Result OpenReplay Refusal) (reply : Reply) (b : Archive) → IsConsistent a → poll_decision a.desk number most ≡ decision → PollingEnds a most decision (Ok reply) b → IsConsistent b
+polling_consistent a number most (Err r) reply b consistent is h = absurd (let clash = h.0 in cc)
+polling_consistent a number most (Ok replay) reply b consistent is h =
+    polled_consistent a number most replay (recording_at a replay.recording) reply b consistent (replay_is (poll_tests a.desk number most) checks (replay_in a.desk number) replay is) refl h
+
+sweep_consistent : (a : Archive) (decision : Result (Unit {0}) Refusal) (reply : Reply) (b : Archive) → IsConsistent a → SweepEnds a decision (Ok reply) b → IsConsistent b
+sweep_consistent a (Err r) reply b consistent h = absurd (let clash = h.0 in cc)
+sweep_consistent a (Ok done) reply b consistent h = subst IsConsistent (sym h.1.1) consistent
+
+answered : (a : Archive) (event : Event) (reply : Reply) (b : Archive) → IsConsistent a → ArchiveEnds a event (Ok reply) b → IsConsistent b
+answered a (events.Ask request) reply b consistent h = asked a (asked_frames a (decision_of a.desk request)) reply b consistent (λ c is. decided_accepted a request c consistent.agrees is) h
+answered a (events.Write session block) reply b consistent (fits, says, h) =
+    left_consistent a (written a session block) (write_decision a.desk session (span_of block) fits) reply b (λ y is. wrote a session block consistent (write_allowed a session block fits y consistent says is)) h
+answered a (events.Settle session) reply b consistent h = settled_consistent a session (settle_decision a.desk session) reply b consistent refl h
+answered a (events.ReplayOpen id position size) reply b consistent h = opened_consistent a id position size (asked_opening a id (open_decision a.desk id position size)) reply b consistent refl h
+answered a (events.ReplayPoll number most) reply b consistent h = polling_consistent a number most (poll_decision a.desk number most) reply b consistent refl h
+answered a (events.ReplayClose number) reply b consistent h = left_consistent a _ (close_decision a.desk number) reply b (λ y is. closed a number consistent) h
+answered a events.Sweep reply b consistent h = sweep_consistent a (checked (sweep_tests a.desk) checks (Ok tt)) reply b consistent h
+answered a (events.Verify id) reply b consistent h = left_consistent a a _ reply b (λ y is. consistent) h
+
+pub consistent_call : (a : Archive) (event : Event) (outcome : Result Reply Refusal) (b : Archive) → IsConsistent a → ArchiveEnds a event outcome b → IsConsistent b
+consistent_call a event (Ok reply) b consistent h = answered a event reply b consistent h
+consistent_call a event (Err refusal) b consistent h = subst IsConsistent (sym (refused_unchanged a event refusal b h)) consistent
+
+-- ---- opening
+
+rise_registrations : (low next : ℤ) (rs : List Recording) → Rise id_of low rs next → Rise register.id_of low (map registration_of rs) next
+rise_registrations low next [] rising = rising
+rise_registrations low next (r ∷ rs) rising = (rising.0, rise_registrations (id_of r +ℤ pos 1) next rs rising.1)
+
+pub consistent_opened : (s : State) (counted limit : ℕ) → IsWell s → IsConsistent (opened_archive s counted limit)
+consistent_opened s counted limit well = record {
+  agrees = refl;
+  well = well;
+  seats = keeps_none (register_of s) (rise_registrations (pos 0) s.next s.recordings well.rising);
+  blocks = tt;
+  unwritten = λ n none. refl;
+  boundaries = tt;
+}

@@ -1,0 +1,224 @@
+//! What a desk decides on the calls that are no requests, what is looked for, and the limits: docs/CONTROL.md, by example.
+
+use crate::desks::{make, told};
+use archive_model::{Channel, Reply};
+use control_core::{
+    Decision, Desk, Event, FindFields, Line, OpeningDecision, Request, Written, decide,
+    decide_close, decide_open, decide_poll, decide_settle, decide_sweep, decide_verify,
+    decide_write, laws, parse_line,
+};
+use frame_core::Refusal;
+use std::alloc::Global;
+use std::test::*;
+
+fn start_request(alloc: Global) -> Result<Request, Refusal> {
+    match parse_line(alloc, b"start 1001 7 42 65536 1408 131072 0 1000 c")? {
+        Line::Event(Event::Ask(request)) => Ok(request),
+        _ => Err(Refusal::BadLine),
+    }
+}
+
+// An archive of so many active recordings.
+fn recording(alloc: Global, count: u8, limit: u32) -> Result<Desk, Refusal> {
+    let mut desk = Desk::new(alloc, limit);
+    let request = start_request(alloc)?;
+    for _ in 0..count {
+        make(alloc, &mut desk, &request)?;
+    }
+    Ok(desk)
+}
+
+// Opens a replay of a recording from its start.
+fn open(desk: &mut Desk, recording: i64) -> Result<(), Refusal> {
+    laws::what_is_opened_is_allowed();
+    let OpeningDecision::Decided(decided) = decide_open(desk, &recording, &-1, &-1) else {
+        return Err(Refusal::BadLine);
+    };
+    let opening = decided?;
+    desk.reserve_replay()?;
+    desk.open_replay(&opening);
+    Ok(())
+}
+
+fn number_of<T: Drop>(decided: &Result<T, Refusal>) -> u8 {
+    match decided {
+        Ok(_) => 0,
+        Err(refusal) => refusal.number(),
+    }
+}
+
+fn opened(decision: &OpeningDecision) -> u8 {
+    match decision {
+        OpeningDecision::Decided(Err(refusal)) => refusal.number(),
+        _ => 0,
+    }
+}
+
+// The refusal of a call by its kind, or 0. Replay 0 and session 0 are of recording 0, which is active and empty.
+fn called(desk: &Desk, kind: u8, number: i64, other: i64) -> u8 {
+    match kind {
+        0 => number_of(&decide_settle(desk, &number)),
+        1 => opened(&decide_open(desk, &number, &other, &-1)),
+        2 => number_of(&decide_poll(desk, &number, &other)),
+        3 => number_of(&decide_close(desk, &number)),
+        4 => number_of(&decide_sweep(desk)),
+        5 => number_of(&decide_verify(desk, &number)),
+        _ => {
+            let block = Written {
+                first: other,
+                last: other.saturating_add(64),
+            };
+            number_of(&decide_write(desk, &number, &block, true))
+        }
+    }
+}
+
+// Whether a write failed, the kind, the session, replay or recording, and another number.
+const CALLS: [(bool, u8, i64, i64, u8); 20] = [
+    (true, 0, 9, 0, 16),
+    (false, 0, 9, 0, 12),
+    (false, 0, 0, 0, 0),
+    (true, 1, 9, -2, 10),
+    (true, 1, 9, 64, 1),
+    (true, 1, 0, 64, 5),
+    (true, 1, 0, 0, 0),
+    (true, 2, 9, 0, 10),
+    (true, 2, 9, 4_097, 10),
+    (true, 2, 9, 4_096, 9),
+    (true, 2, 0, 1, 0),
+    (true, 3, 9, 0, 9),
+    (true, 3, 0, 0, 0),
+    (true, 4, 0, 0, 16),
+    (false, 4, 0, 0, 0),
+    (true, 5, 9, 0, 1),
+    (true, 5, 0, 0, 0),
+    (true, 6, 9, 64, 16),
+    (false, 6, 9, 64, 12),
+    (false, 6, 0, 64, 13),
+];
+
+fn with_replay(alloc: Global, is_broken: bool) -> Result<Desk, Refusal> {
+    let mut desk = recording(alloc, 1, 2)?;
+    open(&mut desk, 0)?;
+    if is_broken {
+        desk.break_down();
+    }
+    Ok(desk)
+}
+
+#[test]
+fn calls_are_refused_in_their_order(rt: HostRuntime) -> Result<(), Fail> {
+    for (is_broken, kind, number, other, refusal) in CALLS {
+        let desk = with_replay(rt.alloc(), is_broken)?;
+        assert!(rt; called(&desk, kind, number, other) == refusal);
+    }
+    Ok(())
+}
+
+#[test]
+fn a_written_block_is_settled_before_the_next(rt: HostRuntime) -> Result<(), Fail> {
+    let mut desk = recording(rt.alloc(), 1, 1)?;
+    desk.note_written(&0, &Written { first: 0, last: 64 });
+    let misplaced = called(&desk, 6, 0, 0);
+    let unsettled = called(&desk, 6, 0, 64);
+    let full = called(&desk, 0, 0, 0);
+    assert!(rt; misplaced == 13);
+    assert!(rt; unsettled == 14);
+    assert!(rt; full == 11);
+    Ok(())
+}
+
+fn stopped(alloc: Global) -> Result<Desk, Refusal> {
+    let mut desk = recording(alloc, 1, 2)?;
+    let stop = Request::Stop {
+        recording: 0,
+        timestamp: 5,
+    };
+    make(alloc, &mut desk, &stop)?;
+    open(&mut desk, 0)?;
+    Ok(desk)
+}
+
+// The history is full, too.
+#[test]
+fn a_replay_keeps_its_recording(rt: HostRuntime) -> Result<(), Fail> {
+    let desk = stopped(rt.alloc())?;
+    let truncate = Request::Truncate {
+        recording: 0,
+        position: 0,
+    };
+    let purge = Request::PurgeRecording { recording: 0 };
+    let truncated = told(&decide(rt.alloc(), &desk, &truncate));
+    let purged = told(&decide(rt.alloc(), &desk, &purge));
+    assert!(rt; truncated == 4);
+    assert!(rt; purged == 4);
+    Ok(())
+}
+
+fn many_replays(alloc: Global) -> Result<Desk, Refusal> {
+    let mut desk = recording(alloc, 1, 1)?;
+    for _ in 0..64 {
+        open(&mut desk, 0)?;
+    }
+    Ok(desk)
+}
+
+#[test]
+fn at_most_64_replays_are_open(rt: HostRuntime) -> Result<(), Fail> {
+    let desk = many_replays(rt.alloc())?;
+    let refused = called(&desk, 1, 0, 0);
+    assert!(rt; refused == 8);
+    Ok(())
+}
+
+// The history is full, too.
+#[test]
+fn at_most_64_recordings_are_active(rt: HostRuntime) -> Result<(), Fail> {
+    let desk = recording(rt.alloc(), 64, 64)?;
+    let request = start_request(rt.alloc())?;
+    let refused = told(&decide(rt.alloc(), &desk, &request));
+    assert!(rt; refused == 7);
+    Ok(())
+}
+
+// The id that is found, or the refusal's number below -1.
+fn found(decision: &Decision) -> i64 {
+    match decision {
+        Decision::Answered(Reply::Found { recording }) => *recording,
+        Decision::Refused(refusal) => -1 - i64::from(refusal.number()),
+        _ => -1_000,
+    }
+}
+
+fn sought(
+    alloc: Global,
+    least: i64,
+    session_id: i32,
+    fragment: &'static str,
+) -> Result<Request, Refusal> {
+    Ok(Request::Find(FindFields {
+        least,
+        stream_id: 1_001,
+        session_id,
+        fragment: Channel::new(String::from_str(alloc, fragment)?),
+    }))
+}
+
+const SOUGHT: [(i64, i32, &'static str, i64); 6] = [
+    (0, 7, "c", 1),
+    (1, 7, "c", 1),
+    (2, 7, "c", -1),
+    (0, 8, "c", -1),
+    (0, 7, "d", -1),
+    (-1, 7, "c", -11),
+];
+
+#[test]
+fn the_greatest_id_is_found(rt: HostRuntime) -> Result<(), Fail> {
+    let desk = recording(rt.alloc(), 2, 2)?;
+    for (least, session_id, fragment, id) in SOUGHT {
+        let request = sought(rt.alloc(), least, session_id, fragment)?;
+        assert!(rt; found(&decide(rt.alloc(), &desk, &request)) == id);
+    }
+    Ok(())
+}
