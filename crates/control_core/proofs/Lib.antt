@@ -9,9 +9,9 @@ mod FragmentLemmas
 mod SeatLemmas
 pub mod FoundLemmas
 pub mod AllowedLemmas
-mod DeskLemmas
-mod AgreementLemmas
-mod DecidedLemmas
-mod CallLemmas
+pub mod DeskLemmas
+pub mod AgreementLemmas
+pub mod DecidedLemmas
+pub mod CallLemmas
 mod PollLemmas
-mod ExactLemmas
+pub mod ExactLemmas
