@@ -1,5 +1,5 @@
 -- Places of open files.
-use Rattle.std.proofs.Common.{◌≡◌, ◌≢◌, ℕ, ◌+◌, ◌-◌, ◌<◌, ◌≤◌, List, [], ◌∷◌, ◌++◌, Some, map, length, get_or, slice_get, remove, option_map, Contains, inl, inr, sym, ap, ◌∙◌, subst, refl, arith, length-append}
+use Rattle.std.proofs.Common.{◌≡◌, ◌≢◌, ℕ, zero, suc, ◌+◌, ◌-◌, ◌<◌, ◌≤◌, List, [], ◌∷◌, ◌++◌, Some, map, length, get_or, slice_get, slice_set, remove, option_map, Contains, inl, inr, sym, ap, ◌∙◌, subst, refl, arith, length-append}
 use Rattle.std.proofs.lemmas.List.{length-map, get_or_push}
 use Rattle.std.proofs.lemmas.Bool.{cases_eq, cases_lt}
 use Rattle.std.proofs.lemmas.Option.{slice_get-map, slice_get_read, slice_get-get_or, slice_get_within, get_or_from_slice_get}
@@ -48,6 +48,12 @@ module _ {X : Type 0} where
           get_or-remove_above values i value (contains.0 - 1) (omega arith) within ∙ ap (λ (n : ℕ). get_or values n value) (omega arith) ∙ contains.2,
         )
   ]
+
+-- what was set in a place stands there
+pub set_place : {X : Type 0} (values : List X) (i : ℕ) (value : X) → i < length values → slice_get (slice_set values i value) i ≡ Some value
+set_place [] i value inside = absurd (omega arith)
+set_place (one ∷ rest) zero value inside = refl
+set_place (one ∷ rest) (suc i) value inside = set_place rest i value (omega arith)
 
 -- what a place shows of its item
 pub place_of_map : {X Y : Type 0} (f : X → Y) (items : List X) (i : ℕ) (item : X) → i < length items → item ≡ get_or items i item → slice_get (map f items) i ≡ Some (f item)

@@ -7,6 +7,7 @@ pub mod HostDisk
 -- what only private functions say, representation, and the proof of a law
 pub mod Noted
 pub mod EventCodes
+pub mod Places
 pub mod OpenFiles
 pub mod HostFolder
 pub mod WellFormed

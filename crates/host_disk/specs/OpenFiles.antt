@@ -2,7 +2,7 @@
 use Rattle.std.specs.Prelude.{◌≢◌, List, map, Bool, IsTrue}
 use Rattle.std.specs.List.{Contains}
 use Rattle.disk_core.specs.declared.file_id.FileId.{FileId}
-use Rattle.host_disk.specs.declared.open_files.OpenFile.{OpenFile}
+use Rattle.host_disk.specs.declared.system.OpenFile.{OpenFile}
 use Rattle.host_disk.specs.declared.open_files.OpenFiles.{OpenFiles}
 
 abbrev pub entries_of : OpenFiles → List OpenFile

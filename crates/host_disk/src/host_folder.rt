@@ -1,25 +1,16 @@
-//! The calls of a real folder, each noted with its answer: docs/STORAGE.md, "Folders".
-//!
-//! No contract guards the bodies of this file. What they are trusted with is that each one makes the
-//! system call that it notes, on the file of that name: to be read, and tried by tests. All that is
-//! decided beside it (names, which files stay open, what is asked after a failure) stands elsewhere.
-ghost use Rattle.std.specs.Prelude.{◌≡◌, ◌≤◌, length, [], ◌∷◌, List, IfOk, IfSome, OnOk};
-ghost use Rattle.std.specs.List.Sorted.{IsStrictlySortedBy};
-ghost use Rattle.disk_core.specs.FileNames.{file_cmp};
+//! A real folder, with the files that are open in it.
+ghost use Rattle.std.specs.Prelude.{◌≡◌, [], ◌∷◌, List, IfOk, OnOk};
 ghost use Rattle.host_disk.specs.Events.{Held, opened};
 
-use crate::Folder;
-use crate::file_names::file_named;
 use crate::open_files::OpenFiles;
 use crate::record::{Note, Record};
+use crate::system::{Absent, Found, Names, OpenFile, list_files, open_file};
+use crate::{Folder, OpenFault};
 use disk_core::{Fault, FileId, ListFault};
-use std::alloc::{AllocError, Global};
-use std::collections::BTreeSet;
+use std::alloc::Global;
 use std::fmt::Write;
-use std::fs::{self, DirEntry, File, OpenOptions};
+use std::fs::{self, File};
 use std::io;
-use std::os::unix::fs::{FileExt, MetadataExt};
-use thiserror::Error;
 
 /// The longest name of a file of an archive, in bytes.
 const NAME_LENGTH: usize = 48;
@@ -29,43 +20,32 @@ const NAME_LENGTH: usize = 48;
 pub struct HostFolder {
     rt: HostRuntime,
     alloc: Global,
-    folder: File,
+    names: Names,
     // The folder's path, with a slash behind it.
     folder_path: String,
     // The path of the file that a call is about.
     path: String,
     open_files: OpenFiles,
-    // A name came or went since the folder was last synced.
-    are_names_new: bool,
-    // A sync of the folder has failed.
-    are_names_lost: bool,
     record: Record,
 }
 
-/// Why a folder is not opened.
-#[derive(Clone, Copy, Debug, PartialEq, Eq, Error)]
-pub enum OpenFault {
-    /// It is not there, is no folder, or the system refused it.
-    #[error("the folder cannot be opened")]
-    Device,
-    /// Another process, or another disk of this one, has it open.
-    #[error("the folder is in use")]
-    Busy,
-    /// There was no memory for what a disk keeps: its open files and their names.
-    #[error("no memory for the folder")]
-    NoMemory,
+// Where a file was found: among the open ones, or nowhere.
+#[derive(Drop)]
+enum Place {
+    At(usize),
+    Nowhere(Absent),
 }
 
 impl HostFolder {
-    ghost use Rattle.host_disk.specs.HostFolder.{events_of, IsHeldAt, IsHeldUnsynced, IsPathOf};
+    ghost use Rattle.host_disk.specs.HostFolder.{events_of, IsHeldAt, IsPlaceOf, IsPathOf};
 
-    /// Opens a folder and locks it. What the folder holds is not said.
+    /// Opens a folder and locks it. What the folder holds is not said. Nothing is made or changed.
     pub fn open(rt: HostRuntime, alloc: Global, path: &str) -> Result<HostFolder, OpenFault>
         ensures { IfOk result (λ folder. (held : List Held) × (events_of folder ≡ opened held ∷ [])) }
     {
         let real = fs::canonicalize(&rt, path).map_err(|_| OpenFault::Device)?;
         let folder = File::open(&rt, &real).map_err(|_| OpenFault::Device)?;
-        lock(&folder)?;
+        let names = Names::lock(folder)?;
         let folder_path = format!(in alloc; "{}/", real.display()).map_err(
             |_| OpenFault::NoMemory,
         )?;
@@ -77,12 +57,10 @@ impl HostFolder {
         Ok(HostFolder {
             rt,
             alloc,
-            folder,
+            names,
             folder_path,
             path,
             open_files,
-            are_names_new: true,
-            are_names_lost: false,
             record: Record::begin(),
         })
     }
@@ -99,210 +77,54 @@ impl HostFolder {
         Ok(())
     }
 
-    // The place of a file among the open ones, if it is there.
-    fn find(&mut self, file: FileId) -> io::Result<Option<usize>>
+    // Where a file is, which is opened if it is there.
+    fn find(&mut self, file: FileId) -> io::Result<Place>
         ensures same { events_of self.new ≡ events_of self.old }
-        ensures place { IfOk result (λ found. IfSome found (λ place. IsHeldAt self.new file place)) }
+        ensures place { IfOk result (IsPlaceOf self.new file) }
     {
         if let Some(place) = self.open_files.place_of(file) {
-            return Ok(Some(place));
+            return Ok(Place::At(place));
         }
         self.name(file)?;
-        match opened_file(&self.rt, self.path.as_str())? {
-            Some(handle) => Ok(Some(self.hold(file, handle)?)),
-            None => Ok(None),
+        match open_file(
+            &self.rt,
+            file,
+            self.folder_path.as_str(),
+            self.path.as_str(),
+        )? {
+            Found::There(opened) => Ok(Place::At(self.hold(opened)?)),
+            Found::Missing(absent) => Ok(Place::Nowhere(absent)),
         }
     }
 
-    // The same of a file that is made where it is absent.
+    // The place of a file, which is made where it is absent.
     fn find_or_make(&mut self, file: FileId) -> io::Result<usize>
         ensures same { events_of self.new ≡ events_of self.old }
         ensures place { IfOk result (λ place. IsHeldAt self.new file place) }
     {
-        if let Some(place) = self.find(file)? {
+        if let Place::At(place) = self.find(file)? {
             return Ok(place);
         }
         self.name(file)?;
-        self.are_names_new = true;
-        let handle = File::create_new(&self.rt, self.path.as_str())?;
-        self.hold(file, handle)
+        let made = self.names.make(
+            &self.rt,
+            file,
+            self.folder_path.as_str(),
+            self.path.as_str(),
+        )?;
+        self.hold(made)
     }
 
-    fn hold(&mut self, file: FileId, handle: File) -> io::Result<usize>
+    // Holds an opened file.
+    fn hold(&mut self, opened: OpenFile) -> io::Result<usize>
         ensures same { events_of self.new ≡ events_of self.old }
-        ensures place { IfOk result (λ place. IsHeldAt self.new file place) }
+        ensures place { IfOk result (λ place. IsHeldAt self.new opened.file place) }
     {
-        match self.open_files.hold(file, handle) {
+        match self.open_files.hold(opened) {
             Some(place) => Ok(place),
             None => Err(io::ErrorKind::ResourceBusy.into()),
         }
     }
-
-    fn measure(&mut self, file: FileId) -> io::Result<u64>
-        ensures { events_of self.new ≡ events_of self.old }
-    {
-        match self.find(file)? {
-            Some(place) => Ok(self.open_files.handle(place).metadata()?.len()),
-            None => Ok(0),
-        }
-    }
-
-    fn read_once(&mut self, file: FileId, at: u64, into: &mut [u8]) -> io::Result<usize>
-        ensures same { events_of self.new ≡ events_of self.old }
-        ensures within { IfOk result (λ n. n ≤ length into.old) }
-    {
-        match self.find(file)? {
-            Some(place) => self.open_files.handle(place).read_at(into, at),
-            None => Ok(0),
-        }
-    }
-
-    fn write_all(&mut self, file: FileId, at: u64, bytes: &[u8]) -> io::Result<()>
-        ensures same { events_of self.new ≡ events_of self.old }
-        ensures unsynced { OnOk result (IsHeldUnsynced self.new file) }
-    {
-        let place = self.find_or_make(file)?;
-        self.open_files.mark(place, true);
-        self.open_files.handle(place).write_all_at(bytes, at)
-    }
-
-    fn shorten(&mut self, file: FileId, len: u64) -> io::Result<()>
-        ensures { events_of self.new ≡ events_of self.old }
-    {
-        let Some(place) = self.find(file)? else {
-            return Ok(());
-        };
-        if self.open_files.handle(place).metadata()?.len() <= len {
-            return Ok(());
-        }
-        self.open_files.mark(place, true);
-        self.open_files.handle(place).set_len(len)
-    }
-
-    fn unlink(&mut self, file: FileId) -> io::Result<()>
-        ensures { events_of self.new ≡ events_of self.old }
-    {
-        self.open_files.close(file);
-        self.name(file)?;
-        self.are_names_new = true;
-        match fs::remove_file(&self.rt, self.path.as_str()) {
-            Err(error) if error.kind() == io::ErrorKind::NotFound => Ok(()),
-            answer => answer,
-        }
-    }
-
-    fn flush(&mut self, file: FileId) -> io::Result<()>
-        ensures { events_of self.new ≡ events_of self.old }
-    {
-        if let Some(place) = self.find(file)? {
-            self.open_files.handle(place).sync_data()?;
-            self.open_files.mark(place, false);
-        }
-        self.sync_names()
-    }
-
-    // Syncs the folder where a name came or went. Once that has failed it fails for good.
-    fn sync_names(&mut self) -> io::Result<()>
-        ensures { events_of self.new ≡ events_of self.old }
-    {
-        if self.are_names_lost {
-            return Err(io::ErrorKind::Other.into());
-        }
-        if self.are_names_new {
-            self.are_names_lost = true;
-            self.folder.sync_all()?;
-            self.are_names_lost = false;
-            self.are_names_new = false;
-        }
-        Ok(())
-    }
-
-    // The files of the folder, in order.
-    fn files(&self) -> Result<Vec<FileId>, ListFault>
-        ensures { IfOk result (λ files. IsStrictlySortedBy file_cmp files.items) }
-    {
-        let mut found = BTreeSet::new(self.alloc);
-        let entries = fs::read_dir(&self.rt, self.folder_path.as_str()).map_err(list_fault)?;
-        for entry in entries {
-            if let Some(file) = listed_file(self.alloc, entry)? {
-                if found.insert(file).is_err() {
-                    return Err(ListFault::NoMemory);
-                }
-            }
-        }
-        in_order(self.alloc, &found)
-    }
-}
-
-// Locks a folder against a second opening.
-fn lock(folder: &File) -> Result<(), OpenFault> {
-    match folder.metadata() {
-        Ok(found) if found.is_dir() => {}
-        _ => return Err(OpenFault::Device),
-    }
-    match folder.try_lock() {
-        Ok(()) => Ok(()),
-        Err(fs::TryLockError::WouldBlock) => Err(OpenFault::Busy),
-        Err(fs::TryLockError::Error(_)) => Err(OpenFault::Device),
-    }
-}
-
-// Opens a file, if it is there. Whatever else has its name is refused, and a link is not followed.
-fn opened_file(rt: &HostRuntime, path: &str) -> io::Result<Option<File>> {
-    let named = match fs::symlink_metadata(rt, path) {
-        Ok(named) => named,
-        Err(error) if error.kind() == io::ErrorKind::NotFound => return Ok(None),
-        Err(error) => return Err(error),
-    };
-    if !named.is_file() {
-        return Err(io::ErrorKind::Unsupported.into());
-    }
-    let handle = OpenOptions::new().read(true).write(true).open(rt, path)?;
-    // The name might have come to be a link's in between.
-    let found = handle.metadata()?;
-    if found.dev() != named.dev() || found.ino() != named.ino() {
-        return Err(io::ErrorKind::Unsupported.into());
-    }
-    Ok(Some(handle))
-}
-
-// The file of an entry of the folder, none for another name.
-fn listed_file(
-    alloc: Global,
-    entry: io::Result<DirEntry<HostRuntime>>,
-) -> Result<Option<FileId>, ListFault> {
-    let entry = match entry {
-        Ok(entry) => entry,
-        // A name that is no UTF-8 is no file's.
-        Err(error) if error.kind() == io::ErrorKind::InvalidFilename => return Ok(None),
-        Err(error) => return Err(list_fault(error)),
-    };
-    let named = file_named(alloc, entry.file_name()).map_err(|_| ListFault::NoMemory)?;
-    if named.is_none() {
-        return Ok(None);
-    }
-    match entry.file_type() {
-        Ok(kind) if kind.is_file() => Ok(named),
-        _ => Err(ListFault::Device),
-    }
-}
-
-fn list_fault(error: io::Error) -> ListFault {
-    if error.kind() == io::ErrorKind::OutOfMemory {
-        ListFault::NoMemory
-    } else {
-        ListFault::Device
-    }
-}
-
-fn in_order(alloc: Global, files: &BTreeSet<FileId>) -> Result<Vec<FileId>, ListFault>
-    ensures { IfOk result (λ files. IsStrictlySortedBy file_cmp files.items) }
-{
-    files
-        .iter()
-        .copied()
-        .collect(alloc)
-        .map_err(|_| ListFault::NoMemory)
 }
 
 impl Folder for HostFolder {
@@ -311,57 +133,89 @@ impl Folder for HostFolder {
     ghost events = { events_of };
 
     fn len(&mut self, file: FileId) -> Result<u64, Fault> {
-        let len = self.measure(file).map_err(|_| Fault)?;
-        self.record = self.record.then(&Note::Measured(file, len));
-        Ok(len)
+        match self.find(file) {
+            Ok(Place::At(place)) => self.open_files.at(place).len(&mut self.record),
+            Ok(Place::Nowhere(absent)) => Ok(absent.len(&mut self.record)),
+            Err(_) => Err(Fault),
+        }
     }
 
     fn read_some(&mut self, file: FileId, at: u64, into: &mut [u8]) -> Result<usize, Fault> {
         self.record = self.record.then(&Note::Asked(into));
-        let count = self.read_once(file, at, into).map_err(|_| Fault)?;
-        self.record = self.record.then(&Note::Gave(file, at, count, into));
-        Ok(count)
+        match self.find(file) {
+            Ok(Place::At(place)) => self.open_files.at(place).read(&mut self.record, at, into),
+            Ok(Place::Nowhere(absent)) => Ok(absent.read(&mut self.record, at, into)),
+            Err(_) => Err(Fault),
+        }
     }
 
     fn write(&mut self, file: FileId, at: u64, bytes: &[u8]) -> Result<(), Fault> {
-        if self.write_all(file, at, bytes).is_err() {
+        let Ok(place) = self.find_or_make(file) else {
             self.record = self.record.then(&Note::WriteFailed(file, at, bytes.len()));
             return Err(Fault);
-        }
-        self.record = self.record.then(&Note::Wrote(file, at, bytes));
-        Ok(())
+        };
+        self.open_files.mark(place, true);
+        self.open_files.at(place).write(&mut self.record, at, bytes)
     }
 
     fn cut(&mut self, file: FileId, len: u64) -> Result<(), Fault> {
-        if self.shorten(file, len).is_err() {
-            self.record = self.record.then(&Note::CutFailed(file, len));
-            return Err(Fault);
+        match self.find(file) {
+            Ok(Place::At(place)) => {
+                self.open_files.mark(place, true);
+                self.open_files.at(place).cut(&mut self.record, len)
+            }
+            Ok(Place::Nowhere(absent)) => {
+                absent.cut(&mut self.record, len);
+                Ok(())
+            }
+            Err(_) => {
+                self.record = self.record.then(&Note::CutFailed(file, len));
+                Err(Fault)
+            }
         }
-        self.record = self.record.then(&Note::Cut(file, len));
-        Ok(())
     }
 
     fn remove(&mut self, file: FileId) -> Result<(), Fault> {
-        if self.unlink(file).is_err() {
+        self.open_files.close(file);
+        if self.name(file).is_err() {
             self.record = self.record.then(&Note::RemoveFailed(file));
             return Err(Fault);
         }
-        self.record = self.record.then(&Note::Removed(file));
-        Ok(())
+        self.names.remove(
+            &self.rt,
+            file,
+            self.folder_path.as_str(),
+            self.path.as_str(),
+            &mut self.record,
+        )
     }
 
     fn sync(&mut self, file: FileId) -> Result<(), Fault> {
-        if self.flush(file).is_err() {
-            self.record = self.record.then(&Note::SyncFailed(file));
-            return Err(Fault);
+        match self.find(file) {
+            Ok(Place::At(place)) => {
+                let answer = self
+                    .open_files
+                    .at(place)
+                    .sync(&mut self.record, &mut self.names);
+                if answer.is_ok() {
+                    self.open_files.mark(place, false);
+                }
+                answer
+            }
+            Ok(Place::Nowhere(absent)) => absent.sync(&mut self.record, &mut self.names),
+            Err(_) => {
+                self.record = self.record.then(&Note::SyncFailed(file));
+                Err(Fault)
+            }
         }
-        self.record = self.record.then(&Note::Synced(file));
-        Ok(())
     }
 
     fn list(&mut self) -> Result<Vec<FileId>, ListFault> {
-        let files = self.files()?;
-        self.record = self.record.then(&Note::Listed(&files));
-        Ok(files)
+        list_files(
+            &self.rt,
+            self.alloc,
+            self.folder_path.as_str(),
+            &mut self.record,
+        )
     }
 }

@@ -7,11 +7,14 @@ pub mod folder_disk;
 pub mod host_disk;
 pub mod host_folder;
 pub mod lost;
+pub mod open_fault;
 mod open_files;
 mod record;
+mod system;
 
 pub use folder::Folder;
 pub use folder_disk::FolderDisk;
 pub use host_disk::HostDisk;
-pub use host_folder::{HostFolder, OpenFault};
+pub use host_folder::HostFolder;
 pub use lost::Lost;
+pub use open_fault::OpenFault;

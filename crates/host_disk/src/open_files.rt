@@ -2,22 +2,12 @@
 ghost use Rattle.std.specs.Prelude.{◌≡◌, ◌≢◌, ◌<◌, ◌≤◌, ◌↔◌, ◌+◌, length, IsTrue, IsFalse, IfOk, IfSome, IfNone, Some, slice_get, slice_set, [], All, true, false};
 ghost use Rattle.std.specs.List.{Contains};
 
+use crate::system::OpenFile;
 use disk_core::FileId;
 use std::alloc::{AllocError, Global};
-use std::fs::File;
 
 /// How many files are held open at once: more than an archive writes between two syncs.
 const OPEN_FILES: usize = 128;
-
-/// A file that is held open.
-#[derive(Drop)]
-struct OpenFile {
-    file: FileId,
-    handle: File,
-    // Written or cut since it was last synced. The system tells of bytes that did not reach the disk at a
-    // sync, and may forget it once the file is closed.
-    is_unsynced: bool,
-}
 
 /// The files that are held open, each in its place.
 #[derive(Drop)]
@@ -51,23 +41,17 @@ impl OpenFiles {
         None
     }
 
-    /// Holds a file open, and closes another where so many are held. None where each of those is unsynced,
-    /// or where there is no memory.
-    pub(crate) fn hold(&mut self, file: FileId, handle: File) -> Option<usize>
-        ensures held { IfSome result (λ place. slice_get (held self.new) place ≡ Some file) }
+    /// Holds an opened file, and closes another where so many are held. None where each of those is
+    /// unsynced, or where there is no memory.
+    pub(crate) fn hold(&mut self, opened: OpenFile) -> Option<usize>
+        ensures held { IfSome result (λ place. slice_get (held self.new) place ≡ Some opened.file) }
         ensures unsynced { KeepsUnsynced self.old self.new }
     {
         if !self.make_room() {
             return None;
         }
         // It allocates nothing: the room was reserved.
-        self.entries
-            .push(OpenFile {
-                file,
-                handle,
-                is_unsynced: false,
-            })
-            .ok()?;
+        self.entries.push(opened).ok()?;
         Some(self.entries.len() - 1)
     }
 
@@ -91,10 +75,12 @@ impl OpenFiles {
     }
 
     /// The file in a place.
-    pub(crate) fn handle(&self, place: usize) -> &File
+    pub(crate) fn at(&self, place: usize) -> &OpenFile
         requires { place < length (entries_of self.now) }
+        ensures file { slice_get (held self.now) place ≡ Some result.now.file }
+        ensures flag { slice_get (unsynced self.now) place ≡ Some result.now.is_unsynced }
     {
-        &self.entries[place].handle
+        &self.entries[place]
     }
 
     /// Says of the file in a place whether it was written or cut since it was last synced.
@@ -102,6 +88,7 @@ impl OpenFiles {
         requires { place < length (entries_of self.old) }
         ensures same_files { held self.new ≡ held self.old }
         ensures marked { unsynced self.new ≡ slice_set (unsynced self.old) place is_unsynced }
+        ensures flag { slice_get (unsynced self.new) place ≡ Some is_unsynced }
     {
         self.entries[place].is_unsynced = is_unsynced;
     }

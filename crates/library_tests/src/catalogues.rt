@@ -1,8 +1,8 @@
 //! The catalogue: the bank of docs/STORAGE.md, "Entries", byte for byte, cut and changed; stops at each change of the disk;
 //! requests for memory refused.
 
-use archive_model::{Channel, StartFields};
-use catalogue_log::{Entry, Log, create, open};
+use archive_model::{Channel, Command, StartFields};
+use catalogue_log::{Entry, Log, create, open, register_from};
 use disk_core::{Disk, FileId, MemoryDisk};
 use frame_core::Refusal;
 use std::alloc::{AllocError, Global};
@@ -20,21 +20,26 @@ const BANK: [u8; 108] = [
     0x00, 0x00, 0x00, 0x40, 0x00, 0x00, 0x00, 0x00, 0x00, 0x00, 0x00, 0x00,
 ];
 
+// What the bank's recording is.
+fn fields(alloc: Global) -> Result<StartFields, AllocError> {
+    Ok(StartFields {
+        stream_id: 1_001,
+        session_id: 7,
+        initial_term_id: 42,
+        term_length: 65_536,
+        mtu: 1_408,
+        segment_length: 131_072,
+        start_position: 0,
+        timestamp: 1_000,
+        channel: Channel::new(String::from_str(alloc, "c")?),
+    })
+}
+
 // The start of the bank's recording.
 fn start(alloc: Global) -> Result<Entry, AllocError> {
     Ok(Entry::Start {
         recording: 0,
-        fields: StartFields {
-            stream_id: 1_001,
-            session_id: 7,
-            initial_term_id: 42,
-            term_length: 65_536,
-            mtu: 1_408,
-            segment_length: 131_072,
-            start_position: 0,
-            timestamp: 1_000,
-            channel: Channel::new(String::from_str(alloc, "c")?),
-        },
+        fields: fields(alloc)?,
     })
 }
 
@@ -100,6 +105,32 @@ fn a_bank_is_opened(rt: HostRuntime) -> Result<(), Fail> {
     let (log, entries) = open(rt.alloc(), &mut disk)?;
     assert!(rt; log.limit() == 3 && log.epoch() == 1 && log.counted() == 2);
     assert!(rt; entries.len() == 2 && disk.changes() == 3);
+    Ok(())
+}
+
+#[test]
+fn a_start_is_committed_byte_for_byte(rt: HostRuntime) -> Result<(), Fail> {
+    let mut disk = MemoryDisk::new(rt.alloc());
+    let mut log = create(rt.alloc(), &mut disk, 3)?;
+    let command = Command::Start(fields(rt.alloc())?);
+    log.append(&mut disk, &Entry::of_command(rt.alloc(), &0, &command)?)?;
+    log.append(&mut disk, &SETTLE)?;
+    assert!(rt; bytes_of(rt.alloc(), &mut disk, FileId::BankA)?.as_slice() == BANK.as_slice());
+    Ok(())
+}
+
+#[test]
+fn entries_make_a_register(rt: HostRuntime) -> Result<(), Fail> {
+    let mut disk = MemoryDisk::new(rt.alloc());
+    disk.write_at(FileId::BankA, 0, &BANK)?;
+    let (_, entries) = open(rt.alloc(), &mut disk)?;
+    let register = register_from(rt.alloc(), entries.as_slice())?;
+    assert!(rt; register.next_recording() == 1 && register.active_count() == 1);
+    assert!(rt;
+        register
+            .recording(&0)
+            .is_some_and(|found| found.recorded == 64)
+    );
     Ok(())
 }
 

@@ -1,5 +1,5 @@
 use Rattle.std.proofs.Common.{◌≢◌, List, Contains, get_or, subst, sym, ap, ◌∙◌}
-use Rattle.host_disk.specs.declared.open_files.OpenFile.{OpenFile}
+use Rattle.host_disk.specs.declared.system.OpenFile.{OpenFile}
 use Rattle.host_disk.specs.OpenFiles.{entries_of}
 use Rattle.host_disk.proofs.OpenFileLemmas.{stays_removed, place_shows}
 use Rattle.host_disk.proofs.open_files.OpenFiles.close.Goals as goal

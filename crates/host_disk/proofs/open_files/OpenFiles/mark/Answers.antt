@@ -1,7 +1,10 @@
-use Rattle.std.proofs.Common.{ap}
+use Rattle.std.proofs.Common.{◌≡◌, ap, subst, sym, arith, List, Bool, Some, slice_get}
+use Rattle.host_disk.proofs.OpenFileLemmas.{set_place}
+use Rattle.std.proofs.lemmas.List.{length-map}
+use Rattle.host_disk.specs.OpenFiles.{unsynced}
 use Rattle.std.proofs.lemmas.List.{map-set}
 use Rattle.std.proofs.Math.Seq.{map-set_same}
-use Rattle.host_disk.specs.declared.open_files.OpenFile.{OpenFile}
+use Rattle.host_disk.specs.declared.system.OpenFile.{OpenFile}
 use Rattle.host_disk.specs.OpenFiles.{entries_of}
 use Rattle.host_disk.proofs.open_files.OpenFiles.mark.Goals as goal
 
@@ -10,3 +13,8 @@ returns-clause-same_files c = map-set_same (λ (entry : OpenFile). entry.file) (
 
 pub returns-clause-marked : goal.returns-clause-marked
 returns-clause-marked c = map-set (λ (entry : OpenFile). entry.is_unsynced) (entries_of c.args.self.now) c.args.place _
+
+pub returns-clause-flag : goal.returns-clause-flag
+returns-clause-flag c =
+    subst (λ (flags : List Bool). slice_get flags c.args.place ≡ Some c.args.is_unsynced) (sym (returns-clause-marked c))
+    (set_place (unsynced c.args.self.now) c.args.place c.args.is_unsynced (omega (arith, c.requires, length-map (entries_of c.args.self.now) (λ (entry : OpenFile). entry.is_unsynced))))

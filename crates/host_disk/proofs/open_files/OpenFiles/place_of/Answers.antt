@@ -1,6 +1,6 @@
 use Rattle.std.proofs.Common.{rules, ◌≡◌, ◌≢◌, ◌<◌, Some, length, slice_get, arith}
 use Rattle.std.proofs.lemmas.List.{length-map}
-use Rattle.host_disk.specs.declared.open_files.OpenFile.{OpenFile}
+use Rattle.host_disk.specs.declared.system.OpenFile.{OpenFile}
 use Rattle.host_disk.specs.OpenFiles.{entries_of, held}
 use Rattle.host_disk.proofs.OpenFileLemmas.{none_more, none_in, place_of_map}
 use Rattle.host_disk.proofs.open_files.OpenFiles.place_of.Goals as goal

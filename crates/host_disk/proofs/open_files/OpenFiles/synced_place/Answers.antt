@@ -1,6 +1,6 @@
 use Rattle.std.proofs.Common.{◌<◌, true, Bool, Some, length, ap, ◌∙◌, arith}
 use Rattle.std.proofs.lemmas.List.{length-map}
-use Rattle.host_disk.specs.declared.open_files.OpenFile.{OpenFile}
+use Rattle.host_disk.specs.declared.system.OpenFile.{OpenFile}
 use Rattle.host_disk.specs.OpenFiles.{entries_of, unsynced}
 use Rattle.host_disk.proofs.OpenFileLemmas.{all_more, all_in, place_of_map}
 use Rattle.host_disk.proofs.open_files.OpenFiles.synced_place.Goals as goal

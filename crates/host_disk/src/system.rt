@@ -1,0 +1,347 @@
+//! The system calls on a folder and its files, each noted with its answer: docs/STORAGE.md, "Folders".
+//!
+//! No contract guards the bodies of this file, and nothing else notes what the system has answered. Each
+//! is trusted to make the system call that it notes, on the file of that name: to be read, and tried by
+//! tests. Which file a call is of, under which path, which files stay open and what is asked after a
+//! failure is decided elsewhere, and proved.
+ghost use Rattle.std.specs.Prelude.{◌≡◌, ◌≤◌, ◌++◌, ◌∷◌, length, IfOk, MatchResult, IsTrue};
+ghost use Rattle.std.specs.List.Sorted.{IsStrictlySortedBy};
+ghost use Rattle.disk_core.specs.FileNames.{file_cmp, name_of};
+ghost use Rattle.host_disk.specs.Places.{IsFoundOf};
+ghost use Rattle.host_disk.specs.Events.{measured, gave, wrote, write_failed, cut, cut_failed, gone, remove_failed, flushed, flush_failed, listed};
+
+use crate::OpenFault;
+use crate::file_names::file_named;
+use crate::record::{Note, Record};
+use disk_core::{Fault, FileId, ListFault};
+use std::alloc::{AllocError, Global};
+use std::collections::BTreeSet;
+use std::fs::{self, DirEntry, File, OpenOptions};
+use std::io;
+use std::os::unix::fs::{FileExt, MetadataExt};
+
+/// A file that is open under its name.
+#[derive(Drop)]
+pub(crate) struct OpenFile {
+    pub(crate) file: FileId,
+    handle: File,
+    /// Written or cut since it was last synced. The system tells of bytes that did not reach the disk at a
+    /// sync, and may forget it once the file is closed.
+    pub(crate) is_unsynced: bool,
+}
+
+/// A file that was absent when it was to be opened.
+#[derive(Drop)]
+pub(crate) struct Absent {
+    file: FileId,
+}
+
+/// What was found under a file's name.
+#[derive(Drop)]
+pub(crate) enum Found {
+    There(OpenFile),
+    Missing(Absent),
+}
+
+/// The folder itself, locked against a second opening, and what is known of the names in it.
+#[derive(Drop)]
+pub(crate) struct Names {
+    folder: File,
+    // A name came or went since the folder was last synced.
+    are_new: bool,
+    // A sync of the folder has failed.
+    are_lost: bool,
+}
+
+impl Names {
+    /// Locks a folder. `Busy` where another opening of it has the lock.
+    pub(crate) fn lock(folder: File) -> Result<Names, OpenFault> {
+        match folder.metadata() {
+            Ok(found) if found.is_dir() => {}
+            _ => return Err(OpenFault::Device),
+        }
+        match folder.try_lock() {
+            Ok(()) => Ok(Names {
+                folder,
+                are_new: true,
+                are_lost: false,
+            }),
+            Err(fs::TryLockError::WouldBlock) => Err(OpenFault::Busy),
+            Err(fs::TryLockError::Error(_)) => Err(OpenFault::Device),
+        }
+    }
+
+    // Syncs the folder where a name came or went. Once that has failed it fails for good.
+    fn sync(&mut self) -> io::Result<()> {
+        if self.are_lost {
+            return Err(io::ErrorKind::Other.into());
+        }
+        if self.are_new {
+            self.are_lost = true;
+            self.folder.sync_all()?;
+            self.are_lost = false;
+            self.are_new = false;
+        }
+        Ok(())
+    }
+
+    /// Makes a file that was absent, and opens it. The path is the folder's with the file's name behind it.
+    pub(crate) fn make(
+        &mut self,
+        rt: &HostRuntime,
+        file: FileId,
+        folder: &str,
+        path: &str,
+    ) -> io::Result<OpenFile>
+        requires { path.now ≡ folder.now ++ name_of file }
+        ensures { IfOk result (λ made. made.file ≡ file) }
+    {
+        self.are_new = true;
+        Ok(OpenFile {
+            file,
+            handle: File::create_new(rt, path)?,
+            is_unsynced: false,
+        })
+    }
+
+    /// Removes a file, if it is there. The path is the folder's with the file's name behind it.
+    pub(crate) fn remove(
+        &mut self,
+        rt: &HostRuntime,
+        file: FileId,
+        folder: &str,
+        path: &str,
+        notes: &mut Record,
+    ) -> Result<(), Fault>
+        requires { path.now ≡ folder.now ++ name_of file }
+        ensures { MatchResult result
+            (λ _. notes.new.events ≡ gone file ∷ notes.old.events)
+            (λ _. notes.new.events ≡ remove_failed file ∷ notes.old.events) }
+    {
+        self.are_new = true;
+        match fs::remove_file(rt, path) {
+            Err(error) if error.kind() != io::ErrorKind::NotFound => {
+                *notes = notes.then(&Note::RemoveFailed(file));
+                Err(Fault)
+            }
+            _ => {
+                *notes = notes.then(&Note::Removed(file));
+                Ok(())
+            }
+        }
+    }
+}
+
+/// Opens a file, if it is there. The path is the folder's with the file's name behind it. Whatever else
+/// has that name is refused, and a link is not followed.
+pub(crate) fn open_file(
+    rt: &HostRuntime,
+    file: FileId,
+    folder: &str,
+    path: &str,
+) -> io::Result<Found>
+    requires { path.now ≡ folder.now ++ name_of file }
+    ensures { IfOk result (IsFoundOf file) }
+{
+    let named = match fs::symlink_metadata(rt, path) {
+        Ok(named) => named,
+        Err(error) if error.kind() == io::ErrorKind::NotFound => {
+            return Ok(Found::Missing(Absent { file }));
+        }
+        Err(error) => return Err(error),
+    };
+    if !named.is_file() {
+        return Err(io::ErrorKind::Unsupported.into());
+    }
+    let handle = OpenOptions::new().read(true).write(true).open(rt, path)?;
+    // The name might have come to be a link's in between.
+    let found = handle.metadata()?;
+    if found.dev() != named.dev() || found.ino() != named.ino() {
+        return Err(io::ErrorKind::Unsupported.into());
+    }
+    Ok(Found::There(OpenFile {
+        file,
+        handle,
+        is_unsynced: false,
+    }))
+}
+
+impl OpenFile {
+    /// The file's length.
+    pub(crate) fn len(&self, notes: &mut Record) -> Result<u64, Fault>
+        ensures { MatchResult result
+            (λ n. notes.new.events ≡ measured self.now.file n ∷ notes.old.events)
+            (λ _. notes.new.events ≡ notes.old.events) }
+    {
+        let len = self.handle.metadata().map_err(|_| Fault)?.len();
+        *notes = notes.then(&Note::Measured(self.file, len));
+        Ok(len)
+    }
+
+    /// Reads once from an offset, and answers how many bytes came: none only at the end.
+    pub(crate) fn read(&self, notes: &mut Record, at: u64, into: &mut [u8]) -> Result<usize, Fault>
+        ensures within { IfOk result (λ n. n ≤ length into.old) }
+        ensures noted { MatchResult result
+            (λ n. notes.new.events ≡ gave self.now.file at n into.new ∷ notes.old.events)
+            (λ _. notes.new.events ≡ notes.old.events) }
+    {
+        let count = self.handle.read_at(into, at).map_err(|_| Fault)?;
+        *notes = notes.then(&Note::Gave(self.file, at, count, into));
+        Ok(count)
+    }
+
+    /// Writes all of the bytes at an offset, of a file that is marked as unsynced.
+    pub(crate) fn write(&self, notes: &mut Record, at: u64, bytes: &[u8]) -> Result<(), Fault>
+        requires marked { IsTrue self.now.is_unsynced }
+        ensures { MatchResult result
+            (λ _. notes.new.events ≡ wrote self.now.file at bytes.now ∷ notes.old.events)
+            (λ _. notes.new.events ≡ write_failed self.now.file at (length bytes.now) ∷ notes.old.events) }
+    {
+        if self.handle.write_all_at(bytes, at).is_err() {
+            *notes = notes.then(&Note::WriteFailed(self.file, at, bytes.len()));
+            return Err(Fault);
+        }
+        *notes = notes.then(&Note::Wrote(self.file, at, bytes));
+        Ok(())
+    }
+
+    /// Cuts the file to a length, where it is longer. It is marked as unsynced.
+    pub(crate) fn cut(&self, notes: &mut Record, len: u64) -> Result<(), Fault>
+        requires marked { IsTrue self.now.is_unsynced }
+        ensures { MatchResult result
+            (λ _. notes.new.events ≡ cut self.now.file len ∷ notes.old.events)
+            (λ _. notes.new.events ≡ cut_failed self.now.file len ∷ notes.old.events) }
+    {
+        if self.shorten(len).is_err() {
+            *notes = notes.then(&Note::CutFailed(self.file, len));
+            return Err(Fault);
+        }
+        *notes = notes.then(&Note::Cut(self.file, len));
+        Ok(())
+    }
+
+    fn shorten(&self, len: u64) -> io::Result<()> {
+        if self.handle.metadata()?.len() <= len {
+            return Ok(());
+        }
+        self.handle.set_len(len)
+    }
+
+    /// Syncs the file, and the folder where a name came or went.
+    pub(crate) fn sync(&self, notes: &mut Record, names: &mut Names) -> Result<(), Fault>
+        ensures { MatchResult result
+            (λ _. notes.new.events ≡ flushed self.now.file ∷ notes.old.events)
+            (λ _. notes.new.events ≡ flush_failed self.now.file ∷ notes.old.events) }
+    {
+        if self.handle.sync_data().is_err() || names.sync().is_err() {
+            *notes = notes.then(&Note::SyncFailed(self.file));
+            return Err(Fault);
+        }
+        *notes = notes.then(&Note::Synced(self.file));
+        Ok(())
+    }
+}
+
+impl Absent {
+    /// The length of an absent file.
+    pub(crate) fn len(&self, notes: &mut Record) -> u64
+        ensures { notes.new.events ≡ measured self.now.file result ∷ notes.old.events }
+    {
+        *notes = notes.then(&Note::Measured(self.file, 0));
+        0
+    }
+
+    /// Reads nothing of an absent file.
+    pub(crate) fn read(&self, notes: &mut Record, at: u64, into: &[u8]) -> usize
+        ensures within { result ≤ length into.now }
+        ensures noted { notes.new.events ≡ gave self.now.file at result into.now ∷ notes.old.events }
+    {
+        *notes = notes.then(&Note::Gave(self.file, at, 0, into));
+        0
+    }
+
+    /// Cuts nothing of an absent file.
+    pub(crate) fn cut(&self, notes: &mut Record, len: u64)
+        ensures { notes.new.events ≡ cut self.now.file len ∷ notes.old.events }
+    {
+        *notes = notes.then(&Note::Cut(self.file, len));
+    }
+
+    /// Syncs the folder where a name came or went, so that the file stays absent.
+    pub(crate) fn sync(&self, notes: &mut Record, names: &mut Names) -> Result<(), Fault>
+        ensures { MatchResult result
+            (λ _. notes.new.events ≡ flushed self.now.file ∷ notes.old.events)
+            (λ _. notes.new.events ≡ flush_failed self.now.file ∷ notes.old.events) }
+    {
+        if names.sync().is_err() {
+            *notes = notes.then(&Note::SyncFailed(self.file));
+            return Err(Fault);
+        }
+        *notes = notes.then(&Note::Synced(self.file));
+        Ok(())
+    }
+}
+
+/// The files of a folder, in order. Another name is passed over; what has a file's name must be a file.
+pub(crate) fn list_files(
+    rt: &HostRuntime,
+    alloc: Global,
+    folder: &str,
+    notes: &mut Record,
+) -> Result<Vec<FileId>, ListFault>
+    ensures in_order { IfOk result (λ files. IsStrictlySortedBy file_cmp files.items) }
+    ensures noted { MatchResult result
+        (λ files. notes.new.events ≡ listed files.items ∷ notes.old.events)
+        (λ _. notes.new.events ≡ notes.old.events) }
+{
+    let mut found = BTreeSet::new(alloc);
+    for entry in fs::read_dir(rt, folder).map_err(list_fault)? {
+        if let Some(file) = listed_file(alloc, entry)? {
+            if found.insert(file).is_err() {
+                return Err(ListFault::NoMemory);
+            }
+        }
+    }
+    let files = in_order(alloc, &found)?;
+    *notes = notes.then(&Note::Listed(&files));
+    Ok(files)
+}
+
+// The file of an entry of the folder, none for another name.
+fn listed_file(
+    alloc: Global,
+    entry: io::Result<DirEntry<HostRuntime>>,
+) -> Result<Option<FileId>, ListFault> {
+    let entry = match entry {
+        Ok(entry) => entry,
+        // A name that is no UTF-8 is no file's.
+        Err(error) if error.kind() == io::ErrorKind::InvalidFilename => return Ok(None),
+        Err(error) => return Err(list_fault(error)),
+    };
+    let named = file_named(alloc, entry.file_name()).map_err(|_| ListFault::NoMemory)?;
+    if named.is_none() {
+        return Ok(None);
+    }
+    match entry.file_type() {
+        Ok(kind) if kind.is_file() => Ok(named),
+        _ => Err(ListFault::Device),
+    }
+}
+
+fn list_fault(error: io::Error) -> ListFault {
+    if error.kind() == io::ErrorKind::OutOfMemory {
+        ListFault::NoMemory
+    } else {
+        ListFault::Device
+    }
+}
+
+fn in_order(alloc: Global, files: &BTreeSet<FileId>) -> Result<Vec<FileId>, ListFault>
+    ensures { IfOk result (λ files. IsStrictlySortedBy file_cmp files.items) }
+{
+    files
+        .iter()
+        .copied()
+        .collect(alloc)
+        .map_err(|_| ListFault::NoMemory)
+}
