@@ -40,7 +40,8 @@ use Rattle.control_core.proofs.DecidedLemmas.{decided_accepted, held, settling_a
 
 -- ---- what is opened
 
-opened_behind : (found : Option Registration) (behind : Result Opening Refusal) (next : ℤ) (o : Opening) → opening_in (opened_at found behind next) ≡ Some o → behind ≡ Ok o
+-- what is decided on the frames of a position is what is decided behind
+pub opened_behind : (found : Option Registration) (behind : Result Opening Refusal) (next : ℤ) (o : Opening) → opening_in (opened_at found behind next) ≡ Some o → behind ≡ Ok o
 opened_behind None (Ok x) next o e = let same : x ≡ o = cc in ap Ok same
 opened_behind None (Err refusal) next o e = absurd cc
 opened_behind (Some r) behind next o e = by (is_end next r) behind e
@@ -51,7 +52,8 @@ opened_behind (Some r) behind next o e = by (is_end next r) behind e
     by false (Ok x) e = let same : x ≡ o = cc in ap Ok same
     by false (Err refusal) e = absurd cc
 
-opened_front : (tests : Tests) (rs : List Refusal) (decision : OpeningDecision) (o : Opening) → opening_in (opening_decided (checked tests rs (Ok decision))) ≡ Some o → (passes tests rs ≡ true) × (opening_in decision ≡ Some o)
+-- a replay that is decided on has passed the checks in front
+pub opened_front : (tests : Tests) (rs : List Refusal) (decision : OpeningDecision) (o : Opening) → opening_in (opening_decided (checked tests rs (Ok decision))) ≡ Some o → (passes tests rs ≡ true) × (opening_in decision ≡ Some o)
 opened_front tests [] decision o e = (refl, e)
 opened_front tests (r ∷ rs) decision o e = by (tests r) e (opened_front tests rs decision o)
   where

@@ -1,5 +1,5 @@
 -- The calls that are no commands keep the desk orderly, and so does an opening.
-use Rattle.std.proofs.Common.{◌≡◌, ◌∙◌, sym, ap, subst, refl, inl, inr, ℕ, suc, ℤ, pos, negsuc, ◌+◌, ◌*◌, ◌^◌, ◌-ℤ◌, ◌+ℤ◌, ◌*ℤ◌, ◌≤◌, ◌≤ℤ◌, ◌&&◌, ◌||◌, not, Bool, true, false, cond, true≢false, FitsSigned, List, [], ◌∷◌, ◌++◌, Option, Some, None, Result, Ok, Err, int_le, unsigned_abs, arith}
+use Rattle.std.proofs.Common.{◌≡◌, ◌∙◌, sym, ap, subst, refl, inl, inr, ℕ, suc, ℤ, pos, negsuc, ◌+◌, ◌*◌, ◌^◌, ◌-ℤ◌, ◌+ℤ◌, ◌*ℤ◌, ◌≤◌, ◌≤ℤ◌, ◌||◌, not, Bool, true, true≢false, FitsSigned, List, [], ◌∷◌, ◌++◌, Option, Some, None, Result, Ok, int_le, unsigned_abs, arith}
 use Rattle.std.proofs.lemmas.Int.{ints, SFits-int_wrap}
 use Rattle.std.proofs.lemmas.Bool.Decides.{Decides-int_eq}
 use Rattle.std.proofs.Math.Nat.{mul-le-mul_left, mul_comm}
@@ -30,16 +30,16 @@ use Rattle.control_core.specs.declared.callers.OpenReplay.{OpenReplay}
 use Rattle.control_core.specs.declared.callers.RecorderSession.{RecorderSession}
 use Rattle.control_core.specs.declared.callers.Written.{Written}
 use Rattle.control_core.specs.declared.turns.Opening.{Opening}
-use Rattle.control_core.specs.declared.turns.OpeningDecision.{OpeningDecision}
-use Rattle.control_core.specs.declared.turns.OpeningDecision.TheVariants as opening
 use Rattle.control_core.specs.Changes.{after_close, after_open, after_poll, after_write, broken_desk, next_position, recorded_of, with_blocks, with_replay}
 use Rattle.control_core.specs.Control.{CallersState, moved_to, replay_number, session_number, with_written, written_to}
 use Rattle.control_core.specs.Desk.{DeskState, opened_desk}
 use Rattle.control_core.specs.Exact.{span_of}
 use Rattle.control_core.specs.Seats.{IsWriting, KeepsSeats}
-use Rattle.control_core.specs.Turns.{begins_at, continues, has_written, open_decision, open_tests, opened_at, opening_decided, opening_of, replay_in, session_in, write_decision, write_tests}
+use Rattle.control_core.specs.Turns.{begins_at, continues, has_written, open_decision, open_tests, opened_at, opening_in, opening_of, replay_in, session_in, write_decision, write_tests}
 use Rattle.control_core.proofs.AllowedLemmas.{before_position, passes_at}
-use Rattle.engine_core.specs.Orderly.{AreOrderly, IsOrderly, LetsOpen, LiesBehind, ReadsFromStart, WroteBehind, stream_end}
+use Rattle.control_core.proofs.CallLemmas.{opened_behind, opened_front}
+use Rattle.control_core.proofs.DecidedLemmas.{held}
+use Rattle.engine_core.specs.Orderly.{AreOrderly, IsOrderly, LiesBehind, ReadsFromStart, WroteBehind, stream_end}
 use Rattle.engine_core.proofs.LaidLemmas.{all_stopped_laid, entries_laid, le_true, none_laid}
 use Rattle.engine_core.proofs.OrderlyLemmas.{nobody}
 
@@ -97,15 +97,6 @@ wrote g c number s r w orderly found there lies = record {
   replays = orderly.replays;
 }
 
--- what is let through has passed each check
-passed : {A : Type 0} (tests : Tests) (rs : List Refusal) (answer made : A) → checked tests rs (Ok answer) ≡ Ok made → (passes tests rs ≡ true) × (answer ≡ made)
-passed tests [] answer made is = (refl, cc)
-passed tests (r ∷ rs) answer made is = by (tests r) is (passed tests rs answer made)
-  where
-    by : (b : Bool) → cond b (checked tests rs (Ok answer)) (Err r) ≡ Ok made → (checked tests rs (Ok answer) ≡ Ok made → (passes tests rs ≡ true) × (answer ≡ made)) → ((b && passes tests rs) ≡ true) × (answer ≡ made)
-    by true is later = later is
-    by false is later = absurd cc
-
 -- where a session's next block begins
 
 pub begins_behind : (d : DeskState) (s : RecorderSession) (r : Registration) (o : Option Written) (w : Written) → registration_in d.register s.recording ≡ Some r → s.written ≡ o → continues d (Some s) w ≡ true → w.first ≡ written_to o r.recorded
@@ -135,7 +126,7 @@ pub orderly_write : (d : DeskState) (number : ℤ) (b : Block) (fits : Bool) (re
     → (fits ≡ true → (s : RecorderSession) (r : Registration) → session_in d number ≡ Some s → registration_in d.register s.recording ≡ Some r → IsBlock (geometry_of r.descriptor) (publication_of r.descriptor) b)
     → write_decision d number (span_of b) fits ≡ Ok reply → IsOrderly (after_write number (span_of b) d)
 orderly_write d number b fits reply orderly seats block let_through =
-    let all : passes (write_tests d number (span_of b) fits) checks ≡ true = (passed (write_tests d number (span_of b) fits) checks (WrittenReply (end_position b)) reply let_through).0 in
+    let all : passes (write_tests d number (span_of b) fits) checks ≡ true = (held (write_tests d number (span_of b) fits) checks (WrittenReply (end_position b)) reply let_through).0 in
     by (session_in d number) refl (passes_at (write_tests d number (span_of b) fits) (Broken ∷ BadParameter ∷ UnknownRecording ∷ ActiveRecording ∷ NotActive ∷ []) (UnknownReplay ∷ BadPosition ∷ (block_checks ++ last_checks)) StaleSession all)
     (both (passes_at (write_tests d number (span_of b) fits) (first_checks ++ BadExtension ∷ []) last_checks BadBlock all))
     (passes_at (write_tests d number (span_of b) fits) (first_checks ++ block_checks) (ActiveReplay ∷ MaxRecordings ∷ MaxReplays ∷ HistoryFull ∷ []) NeedSettle all)
@@ -163,37 +154,15 @@ boundary_low (Some r) next is =
     let ends : (int_le r.descriptor.start_position next ≡ true) × (int_le next r.recorded ≡ true) = both parts.0 in
     le_true r.descriptor.start_position next ends.0
 
--- what is decided in front lets through what is decided behind
-in_front : (tests : Tests) (rs : List Refusal) (decision : OpeningDecision) (o : Opening) → LetsOpen (opening_decided (checked tests rs (Ok decision))) o → (passes tests rs ≡ true) × LetsOpen decision o
-in_front tests [] decision o lets = (refl, lets)
-in_front tests (r ∷ rs) decision o lets = by (tests r) lets (in_front tests rs decision o)
-  where
-    by : (b : Bool) → LetsOpen (opening_decided (cond b (checked tests rs (Ok decision)) (Err r))) o → (LetsOpen (opening_decided (checked tests rs (Ok decision))) o → (passes tests rs ≡ true) × LetsOpen decision o)
-        → ((b && passes tests rs) ≡ true) × LetsOpen decision o
-    by true lets later = later lets
-    by false (inl is) later = absurd cc
-    by false (inr (at, is)) later = absurd cc
-
-behind_is : (found : Option Registration) (behind : Result Opening Refusal) (next : ℤ) (o : Opening) → LetsOpen (opened_at found behind next) o → behind ≡ Ok o
-behind_is None behind next o (inl is) = absurd cc
-behind_is None behind next o (inr (at, is)) = cc
-behind_is (Some r) behind next o lets = by (is_end next r) lets
-  where
-    by : (b : Bool) → LetsOpen (cond b (opening.Decided behind) (opening.IfBoundary next behind)) o → behind ≡ Ok o
-    by true (inl is) = cc
-    by true (inr (at, is)) = absurd cc
-    by false (inl is) = absurd cc
-    by false (inr (at, is)) = cc
-
 -- a replay that may be opened
-pub orderly_open : (d : DeskState) (id position size : ℤ) (o : Opening) → IsOrderly d → LetsOpen (open_decision d id position size) o → IsOrderly (after_open o.recording o.next o.bound d)
-orderly_open d id position size o orderly lets =
+pub orderly_open : (d : DeskState) (id position size : ℤ) (o : Opening) → IsOrderly d → opening_in (open_decision d id position size) ≡ Some o → IsOrderly (after_open o.recording o.next o.bound d)
+orderly_open d id position size o orderly leads =
     let tests : Tests = open_tests d id position size true in
     let found : Option Registration = registration_in d.register id in
     let next : ℤ = begins_at position found in
     let behind : Result Opening Refusal = checked tests (block_checks ++ last_checks) (Ok (opening_of d id position size)) in
-    let first = in_front tests first_checks (opened_at found behind next) o lets in
-    let made = (passed tests (block_checks ++ last_checks) (opening_of d id position size) o (behind_is found behind next o first.1)).1 in
+    let first = opened_front tests first_checks (opened_at found behind next) o leads in
+    let made = (held tests (block_checks ++ last_checks) (opening_of d id position size) o (opened_behind found behind next o first.1)).1 in
     let low : IsSomeAnd found (λ known. known.descriptor.start_position ≤ℤ next) = boundary_low found next (passes_at tests before_position [] BadPosition first.0) in
     subst (λ (x : Opening). IsOrderly (after_open x.recording x.next x.bound d)) made (opened d.register d.callers id next (opening_of d id position size).bound orderly low)
 

@@ -1,15 +1,12 @@
 -- What the engine's desk keeps, so that what it knows of a recording may be asked of the files: docs/CONTROL.md, "Control
 -- state" and "Limits".
-use Rattle.std.specs.Prelude.{◌≡◌, ◌⊎◌, ◌≤ℤ◌, ◌*◌, ◌^◌, ℤ, pos, IfSome, IsSomeAnd, Ok, unsigned_abs}
+use Rattle.std.specs.Prelude.{◌≤ℤ◌, ◌*◌, ◌^◌, ℤ, pos, IfSome, IsSomeAnd, unsigned_abs}
 use Rattle.archive_model.specs.declared.registration.Registration.{Registration}
 use Rattle.archive_model.specs.Keyed.{Each, Rise}
 use Rattle.archive_model.specs.Register.{RegisterState, id_of, registration_in}
 use Rattle.control_core.specs.declared.callers.OpenReplay.{OpenReplay}
 use Rattle.control_core.specs.declared.callers.RecorderSession.{RecorderSession}
 use Rattle.control_core.specs.declared.callers.Written.{Written}
-use Rattle.control_core.specs.declared.turns.Opening.{Opening}
-use Rattle.control_core.specs.declared.turns.OpeningDecision.{OpeningDecision}
-use Rattle.control_core.specs.declared.turns.OpeningDecision.TheVariants as opening
 use Rattle.control_core.specs.Control.{CallersState}
 use Rattle.control_core.specs.Desk.{DeskState}
 use Rattle.engine_core.specs.Reading.{IsLaidOut}
@@ -51,7 +48,3 @@ pub record AreOrderly (g : RegisterState) (c : CallersState) : Type 0 where
 
 abbrev pub IsOrderly : DeskState → Type 0
 IsOrderly d = AreOrderly d.register d.callers
-
--- the decision lets this replay open, perhaps once a frame is found to begin at a position
-abbrev pub LetsOpen : OpeningDecision → Opening → Type 0
-LetsOpen decision o = (decision ≡ opening.Decided (Ok o)) ⊎ ((position : ℤ) × (decision ≡ opening.IfBoundary position (Ok o)))

@@ -22,9 +22,9 @@ ghost use Rattle.control_core.specs.Decisions.{Allows};
 ghost use Rattle.control_core.specs.Desk.{DeskState, opened_desk};
 ghost use Rattle.control_core.specs.Exact.{span_of};
 ghost use Rattle.control_core.specs.Seats.{KeepsSeats};
-ghost use Rattle.control_core.specs.Turns.{continues, open_decision, replay_in, session_in, write_decision};
+ghost use Rattle.control_core.specs.Turns.{continues, open_decision, opening_in, replay_in, session_in, write_decision};
 ghost use Rattle.engine_core.specs.Moves.{registered_keeps};
-ghost use Rattle.engine_core.specs.Orderly.{IsOrderly, LetsOpen, LiesBehind};
+ghost use Rattle.engine_core.specs.Orderly.{IsOrderly, LiesBehind};
 ghost use Rattle.engine_core.specs.Reading.{IsLaidOut};
 ghost use Rattle.engine_core.specs.Recovery.{layout_of};
 
@@ -58,7 +58,7 @@ pub(crate) fn a_session_keeps_the_desk_orderly()
 /// So does a replay that is let open, one that goes on, and one that closes.
 pub(crate) fn a_replay_keeps_the_desk_orderly()
     ensures opened { (d : DeskState) (id position size : ℤ) (o : Opening) → IsOrderly d →
-        LetsOpen (open_decision d id position size) o → IsOrderly (after_open o.recording o.next o.bound d) }
+        opening_in (open_decision d id position size) ≡ Some o → IsOrderly (after_open o.recording o.next o.bound d) }
     ensures moved { (d : DeskState) (number next : ℤ) (replay : OpenReplay) → IsOrderly d →
         replay_in d number ≡ Some replay → replay.next ≤ℤ next → IsOrderly (after_poll number next d) }
     ensures closed { (d : DeskState) (number : ℤ) → IsOrderly d → IsOrderly (after_close number d) }
