@@ -14,8 +14,6 @@ use Rattle.segment_store.specs.declared.keep.Keep.TheVariants as keeps
 use Rattle.segment_store.specs.declared.layout.Layout.{Layout}
 use Rattle.segment_store.specs.Layout.{file_of}
 use Rattle.segment_store.specs.Stored.{HoldsFrames}
-use Rattle.archive_model.specs.declared.command.Command.{Command}
-use Rattle.archive_model.specs.declared.command.Command.TheVariants.{Append}
 use Rattle.archive_model.specs.Keyed.{Each}
 use Rattle.archive_model.specs.State.{Recording, State, is_active, recorded_position, register_of}
 use Rattle.archive_model.specs.WellFormed.{IsWell}
@@ -23,11 +21,6 @@ use Rattle.catalogue_log.specs.declared.entry.Entry.{Entry}
 use Rattle.catalogue_log.specs.Fold.{admits, after_entry, counts}
 use Rattle.catalogue_log.specs.LogState.{LogState}
 use Rattle.engine_core.specs.Recovery.{IsDurable, IsEither, IsSound, RecoversTo, last_of, layout_of}
-
--- a command that records no frames
-abbrev pub IsRequested : Command → Type 0
-IsRequested (Append id blocks) = ⊥
-IsRequested _ = Unit {0}
 
 -- An entry may follow those of a state, and makes of all but the frames what another state has.
 pub record Enters (s u : State) (e : Entry) : Type 0 where

@@ -13,10 +13,9 @@ ghost use Rattle.archive_model.specs.Commands.{after, frames_of};
 ghost use Rattle.archive_model.specs.Keyed.{Each};
 ghost use Rattle.archive_model.specs.State.{Recording, State, recorded_position};
 ghost use Rattle.archive_model.specs.WellFormed.{IsWell};
-ghost use Rattle.catalogue_log.specs.EntryBytes.{Fits};
-ghost use Rattle.catalogue_log.specs.History.{entry_of};
+ghost use Rattle.catalogue_log.specs.History.{IsRequested, entry_of};
 ghost use Rattle.catalogue_log.specs.LogState.{LogState};
-ghost use Rattle.engine_core.specs.Moves.{Enters, IsRequested, Leads, Stands};
+ghost use Rattle.engine_core.specs.Moves.{Enters, Leads, Stands};
 ghost use Rattle.engine_core.specs.Recovery.{IsDurable, IsSound, Recovers, layout_of};
 
 /// Every image that a crash may leave of a sound archive recovers to its state.
@@ -37,14 +36,13 @@ pub fn frames_stay_durable_where_none_is_recorded()
         IsRequested c → Each (IsDurable files) b.state.recordings →
         Each (IsDurable files) (after b.state c).recordings }
     ensures leads { (files : Files) (b : BookState) (c : Command) → IsWell b.state → Accepts b c →
-        IsRequested c → Each (IsDurable files) b.state.recordings → Fits (entry_of b.state c) →
+        IsRequested c → Each (IsDurable files) b.state.recordings →
         Leads files b.state (after b.state c) (entry_of b.state c) }
 {}
 
 /// The entry of any accepted command enters the state after it.
-#[tactic(auto, using(crate::proofs::StayLemmas::enters))]
 pub fn an_accepted_command_enters_the_state_after_it()
-    ensures { (b : BookState) (c : Command) → IsWell b.state → Accepts b c → Fits (entry_of b.state c) →
+    ensures { (b : BookState) (c : Command) → IsWell b.state → Accepts b c →
         Enters b.state (after b.state c) (entry_of b.state c) }
 {}
 

@@ -6,30 +6,58 @@ ghost use Rattle.disk_core.specs.declared.file_id.FileId.{FileId};
 ghost use Rattle.disk_core.specs.declared.file_id.FileId.TheVariants.{Segment};
 ghost use Rattle.disk_core.specs.DiskImage.{durable, reads};
 ghost use Rattle.disk_core.specs.Life.{HasFailed};
-ghost use Rattle.archive_model.specs.State.{State, empty};
+ghost use Rattle.archive_model.specs.State.{State, empty, register_of};
+ghost use Rattle.archive_model.specs.Register.{no_recordings};
 ghost use Rattle.catalogue_log.specs.Catalogue.{RefusesCatalogue};
+ghost use Rattle.catalogue_log.specs.Fold.{AreAdmitted};
 ghost use Rattle.engine_core.specs.Opening.{IsMadeIn, ReadsAsBefore, RefusesNew, SyncsOnly};
 ghost use Rattle.engine_core.specs.Recovery.{Folds, IsSound, Recovers};
 
-use catalogue_log::{Entry, Log};
+use archive_model::Register;
+use catalogue_log::{Entry, Log, register_from};
 use disk_core::{Disk, FileId};
 use frame_core::Refusal;
 use std::alloc::Global;
 
-/// Syncs the files of an archive, and opens its catalogue: its log, and the open entries in order.
+/// What the files of an archive give but for frames.
+#[derive(Drop)]
+pub struct Parts {
+    /// The catalogue's log.
+    pub log: Log,
+    /// The register of the recordings.
+    pub register: Register,
+}
+
+/// Syncs the files of an archive, and reads its catalogue: the log, and the register that its entries make.
 ///
-/// Where the disk's files recover to a state, the archive is sound for it from then on, and the entries give it but for
-/// its frames; and then it refuses by `DeviceFault` and `NoMemory` alone. Else `NotCatalogue`, `NewerVersion` and
-/// `Damaged`, as `catalogue_log::open`. In every case each file reads as before. docs/STORAGE.md, "Opening". Costs a call
-/// of the disk for each file and for each 64 KiB of the catalogue, and the memory of the listing and of the entries.
-pub(crate) fn open_files<D: Disk>(alloc: Global, disk: &mut D) -> Result<(Log, Vec<Entry>), Refusal>
-    ensures sound { IfOk result (λ opened. IsTrue (D.life disk.new).obeys → (x : State) →
+/// Where the disk's files recover to a state, the archive is sound for it from then on, and the register is that state's;
+/// and then it refuses by `DeviceFault` and `NoMemory` alone. Else `NotCatalogue`, `NewerVersion` and `Damaged`, as
+/// `catalogue_log::open`. In every case each file reads as before. docs/STORAGE.md, "Opening". Costs a call of the disk
+/// for each file and for each 64 KiB of the catalogue, and the memory of the listing, the entries and the recordings.
+pub(crate) fn read_parts<D: Disk>(alloc: Global, disk: &mut D) -> Result<Parts, Refusal>
+    ensures sound { IfOk result (λ parts. IsTrue (D.life disk.new).obeys → (x : State) →
         Recovers (reads (D.life disk.old).now) x →
-        IsSound (D.life disk.new).now opened.0 x × Folds opened.1.items x) }
+        IsSound (D.life disk.new).now parts.log x × (parts.register.state ≡ register_of x)) }
     ensures refused { IfErr result (λ refusal. IsTrue (D.life disk.new).obeys →
         RefusesCatalogue (reads (D.life disk.old).now) refusal) }
     ensures whole { IfErr result (λ refusal. IsTrue (D.life disk.new).obeys → (x : State) →
         Recovers (reads (D.life disk.old).now) x → (refusal ≡ DeviceFault) ⊎ (refusal ≡ NoMemory)) }
+    ensures before { ReadsAsBefore (D.life disk.old) (D.life disk.new) }
+    ensures cause { IsErrOf result DeviceFault → HasFailed (D.life disk.old) (D.life disk.new) }
+{
+    let (log, entries) = open_files(alloc, disk)?;
+    let register = register_from(alloc, &entries)?;
+    Ok(Parts { log, register })
+}
+
+/// The log of the catalogue and its entries in order, once the files of the archive are synced.
+fn open_files<D: Disk>(alloc: Global, disk: &mut D) -> Result<(Log, Vec<Entry>), Refusal>
+    ensures sound { IfOk result (λ opened. IsTrue (D.life disk.new).obeys → (x : State) →
+        Recovers (reads (D.life disk.old).now) x →
+        IsSound (D.life disk.new).now opened.0 x × Folds opened.1.items x) }
+    ensures admitted { IfOk result (λ opened. AreAdmitted no_recordings opened.1.items) }
+    ensures refused { IfErr result (λ refusal. IsTrue (D.life disk.new).obeys →
+        RefusesCatalogue (reads (D.life disk.old).now) refusal) }
     ensures before { ReadsAsBefore (D.life disk.old) (D.life disk.new) }
     ensures cause { IsErrOf result DeviceFault → HasFailed (D.life disk.old) (D.life disk.new) }
 {

@@ -1,5 +1,4 @@
-use Rattle.std.proofs.lemmas.Result.{IfErr-weaker}
-use Rattle.engine_core.proofs.OpeningLemmas.{ok_both, open_sound, read_opened, same_refusal, whole_refused}
+use Rattle.engine_core.proofs.OpeningLemmas.{ok_both, open_sound, read_opened}
 use Rattle.engine_core.proofs.opening.open_files.Goals as goal
 
 pub returns-clause-before : goal.returns-clause-before
@@ -13,10 +12,3 @@ returns-clause-sound g c =
     open_sound (g.D.Disk.life c.args.disk.now) (g.D.Disk.life c.sync_segments.new.disk) (g.D.Disk.life c.open.new.disk) _ opened.1.items x
     (c.in_ok-sync_segments.ensures.synced (c.open.ensures.same.obeyed obeys)) c.sync_segments.ensures.only c.open.ensures.same (found obeys) (rests obeys) recovers)
     c.open.ensures.found c.open.ensures.at_rest
-
-pub returns-clause-whole : goal.returns-clause-whole
-returns-clause-whole g c =
-    IfErr-weaker c.open.result _ _
-    (λ refusal refuses obeys x recovers.
-    whole_refused _ x refusal recovers (same_refusal (g.D.Disk.life c.args.disk.now) (g.D.Disk.life c.sync_segments.new.disk) refusal c.sync_segments.ensures.only (refuses obeys)))
-    c.open.ensures.refused
