@@ -39,7 +39,7 @@ answered_none : (o : Result Reply Refusal) (c : Command) → command_in (answere
 answered_none (Ok reply) c e = cc e
 answered_none (Err refusal) c e = cc e
 
-passing : (tests : Tests) (rs : List Refusal) (made c : Command) → command_in (accepted (checked tests rs (Ok made))) ≡ Some c → (passes tests rs ≡ true) × (made ≡ c)
+pub passing : (tests : Tests) (rs : List Refusal) (made c : Command) → command_in (accepted (checked tests rs (Ok made))) ≡ Some c → (passes tests rs ≡ true) × (made ≡ c)
 passing tests [] made c e = (refl, cc e)
 passing tests (r ∷ rs) made c e = by (tests r) e (passing tests rs made c)
   where
@@ -51,7 +51,7 @@ passing tests (r ∷ rs) made c e = by (tests r) e (passing tests rs made c)
 allows_made : (d : DeskState) (made c : Command) → command_in (accepted (checked (command_tests d made) checks (Ok made))) ≡ Some c → Allows d c
 allows_made d made c e = let is = passing (command_tests d made) checks made c e in subst (Allows d) is.1 is.0
 
-passes_on : (tests : Tests) (rs more : List Refusal) → passes tests rs ≡ true → passes tests more ≡ true → passes tests (rs ++ more) ≡ true
+pub passes_on : (tests : Tests) (rs more : List Refusal) → passes tests rs ≡ true → passes tests more ≡ true → passes tests (rs ++ more) ≡ true
 passes_on tests [] more first second = second
 passes_on tests (r ∷ rs) more first second = by (tests r) first (λ rest. passes_on tests rs more rest second)
   where

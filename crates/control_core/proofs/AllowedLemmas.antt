@@ -47,7 +47,7 @@ pub passes_at : (tests : Tests) (front back : List Refusal) (r : Refusal) → pa
 passes_at tests [] back r all = (both (tests r) (passes tests back) all).0
 passes_at tests (x ∷ front) back r all = passes_at tests front back r (both (tests x) (passes tests (front ++ r ∷ back)) all).1
 
-has_entry : (d : DeskState) → has_room d ≡ true → d.counted < d.limit
+pub has_entry : (d : DeskState) → has_room d ≡ true → d.counted < d.limit
 has_entry d has = grind (arith, nat_tests)
 
 -- each command but a restart has room for its entry

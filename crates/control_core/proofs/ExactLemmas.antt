@@ -1,6 +1,7 @@
 -- What a call is answered exactly is one of the answers that the desk machine allows.
-use Rattle.std.proofs.Common.{◌≡◌, ◌⊎◌, inl, inr, ◌++◌, ℤ, Bool, true, false, cond, List, [], ◌∷◌, Option, Some, None, Result, Ok, Err, refl, ap, ◌∙◌, true≢false}
-use Rattle.std.specs.Prelude.{IsFalse, MatchBool, not, is_some}
+use Rattle.std.proofs.Common.{◌≡◌, ◌<◌, ◌⊎◌, inl, inr, ◌++◌, ◌&&◌, ℤ, pos, Bool, true, false, cond, List, [], ◌∷◌, Option, Some, None, Result, Ok, Err, refl, sym, ap, subst, ◌∙◌, true≢false, int_le, unsigned_abs, arith}
+use Rattle.std.specs.Prelude.{IsSomeAnd, IsTrue, MatchBool, is_none, is_some, not, option_map}
+use Rattle.std.proofs.lemmas.Int.{ints}
 use Rattle.frame_core.specs.declared.block.Block.{Block}
 use Rattle.frame_core.specs.declared.refusal.Refusal.{Refusal}
 use Rattle.frame_core.specs.declared.refusal.Refusal.TheVariants.{BadBlock, BadPosition, Broken, StaleSession}
@@ -8,9 +9,15 @@ use Rattle.archive_model.specs.declared.registration.Registration.{Registration}
 use Rattle.archive_model.specs.declared.reply.Reply.{Reply}
 use Rattle.archive_model.specs.declared.reply.Reply.TheVariants as replies
 use Rattle.archive_model.specs.Accepting.{begins_in}
-use Rattle.archive_model.specs.Checks.{Tests, block_checks, checked, checks, first_checks, last_checks}
-use Rattle.archive_model.specs.Register.{is_end, registration_in}
+use Rattle.archive_model.specs.Checks.{Tests, block_checks, checked, checks, first_checks, last_checks, passes}
+use Rattle.archive_model.specs.State.{Recording, id_of, registration_of}
+use Rattle.archive_model.specs.Replay.{is_boundary, polled}
+use Rattle.archive_model.specs.WellFormed.{IsKept}
+use Rattle.archive_model.proofs.WellLemmas.{both}
+use Rattle.archive_model.proofs.StateLemmas.{each_found, found_registration}
+use Rattle.archive_model.specs.Register.{RegisterState, is_end, registration_in}
 use Rattle.control_core.specs.declared.asked.Told.TheVariants as told
+use Rattle.control_core.specs.declared.callers.OpenReplay.{OpenReplay}
 use Rattle.control_core.specs.declared.callers.RecorderSession.{RecorderSession}
 use Rattle.control_core.specs.declared.callers.Written.{Written}
 use Rattle.control_core.specs.declared.decision.Decision.{Decision}
@@ -20,29 +27,41 @@ use Rattle.control_core.specs.declared.event.Event.TheVariants as events
 use Rattle.control_core.specs.declared.turns.Opening.{Opening}
 use Rattle.control_core.specs.declared.turns.OpeningDecision.{OpeningDecision}
 use Rattle.control_core.specs.declared.turns.OpeningDecision.TheVariants as opening
-use Rattle.control_core.specs.Control.{written_to}
+use Rattle.control_core.specs.Control.{replay_number, written_to}
 use Rattle.control_core.specs.Desk.{DeskState}
-use Rattle.control_core.specs.Changes.{after_close, after_open, after_write, bound_from, recorded_of, settled, settled_by, settled_position}
+use Rattle.control_core.specs.Changes.{after_close, after_open, after_poll, after_write, bound_from, recorded_of, settled, settled_by, settled_position}
 use Rattle.control_core.specs.Decisions.{decision_of}
-use Rattle.control_core.specs.Turns.{begins_at, close_tests, continues, open_tests, opened_at, opening_decided, opening_of, session_in, settle_tests, settling_by, settling_of, sweep_tests, verify_tests, write_tests}
-use Rattle.control_core.specs.Machine.{AtPlace, Breaks, Decided, Either, Ended, Faults, Outcome, Passing, Refuses, Step, UnlessBoundary, Unread}
-use Rattle.control_core.specs.Exact.{Archive, ArchiveEnds, DecisionEnds, Is, Leaves, OpeningEnds, SettlingEnds, SweepEnds, WriteEnds, asked_frames, asked_of, asked_opening, frames_of_one, gives_frames, plain, recording_at, settled_archive, span_of, told_of, with_desk, written}
+use Rattle.control_core.specs.Turns.{begins_at, close_tests, continues, is_done_at, open_tests, opened_at, opening_decided, opening_of, poll_tests, replay_in, replay_of, session_in, settle_tests, settling_by, settling_of, sweep_tests, verify_tests, write_tests}
+use Rattle.control_core.specs.Machine.{AtPlace, Breaks, Decided, Either, Ended, Faults, Gives, Outcome, Passing, Refuses, Step, UnlessBoundary, Unread, recording_of}
+use Rattle.control_core.specs.Exact.{Archive, ArchiveEnds, DecisionEnds, Is, Leaves, OpeningEnds, PolledEnds, PollingEnds, SettlingEnds, SweepEnds, WriteEnds, asked_frames, asked_of, asked_opening, frames_end, frames_of_one, from_position, goes_on, plain, plain_poll, recording_at, settled_archive, span_of, told_of, with_desk, written}
+use Rattle.control_core.specs.Consistent.{IsAtBoundary, IsConsistent}
+use Rattle.control_core.proofs.PollLemmas.{le_true, poll_moves}
 
--- this answer and this archive are this outcome and its desk
+-- this answer and this archive are this outcome and its desk, however the answer is told
+tells : (tell : Result Reply Refusal → Outcome) (answer : Result Reply Refusal) (x : Archive) (o : Result Reply Refusal) (b : Archive) → Is answer x o b → Ended (tell answer) x.desk (tell o) b.desk
+tells tell answer x o b h = (ap tell h.0, ap (λ (y : Archive). y.desk) h.1)
+
 told_so : (answer : Result Reply Refusal) (x : Archive) (o : Result Reply Refusal) (b : Archive) → Is answer x o b → Ended (plain answer) x.desk (plain o) b.desk
-told_so answer x o b h = (ap plain h.0, ap (λ (y : Archive). y.desk) h.1)
+told_so answer x o b h = tells plain answer x o b h
+
+module _ {X : Type 0} (a : Archive) (tell : Result Reply Refusal → Outcome) (refuses : (r : Refusal) → tell (Err r) ≡ Err r)
+    (F : Result X Refusal → Result Reply Refusal → Archive → Type 0) (refused : (r : Refusal) (o : Result Reply Refusal) (b : Archive) → F (Err r) o b → Is (Err r) a o b) where
+  -- the checks one after another
+  checking : (tests : Tests) (rs : List Refusal) (answer : Result X Refusal) (ends : Outcome → DeskState → Type 0) (o : Result Reply Refusal) (b : Archive)
+      → (passes tests rs ≡ true → F answer o b → ends (tell o) b.desk) → F (checked tests rs answer) o b → Passing a.desk tests rs ends (tell o) b.desk
+  checking tests [] answer ends o b done h = done refl h
+  checking tests (r ∷ rs) answer ends o b done h = by (tests r) refl h (checking tests rs answer ends o b)
+    where
+      by : (t : Bool) → tests r ≡ t → F (cond t (checked tests rs answer) (Err r)) o b
+          → ((passes tests rs ≡ true → F answer o b → ends (tell o) b.desk) → F (checked tests rs answer) o b → Passing a.desk tests rs ends (tell o) b.desk)
+          → MatchBool t (Passing a.desk tests rs ends (tell o) b.desk) (Refuses a.desk r (tell o) b.desk)
+      by true is h rest = rest (λ all. done (rw is all)) h
+      by false is h rest = let end = tells tell (Err r) a o b (refused r o b h) in (end.0 ∙ refuses r, end.1)
 
 module _ {X : Type 0} (a : Archive) (F : Result X Refusal → Result Reply Refusal → Archive → Type 0) (refused : (r : Refusal) (o : Result Reply Refusal) (b : Archive) → F (Err r) o b → Is (Err r) a o b) where
-  -- the checks one after another
   passing : (tests : Tests) (rs : List Refusal) (answer : Result X Refusal) (ends : Outcome → DeskState → Type 0) (o : Result Reply Refusal) (b : Archive)
       → (F answer o b → ends (plain o) b.desk) → F (checked tests rs answer) o b → Passing a.desk tests rs ends (plain o) b.desk
-  passing tests [] answer ends o b done h = done h
-  passing tests (r ∷ rs) answer ends o b done h = by (tests r) h (passing tests rs answer ends o b done)
-    where
-      by : (t : Bool) → F (cond t (checked tests rs answer) (Err r)) o b → (F (checked tests rs answer) o b → Passing a.desk tests rs ends (plain o) b.desk)
-          → MatchBool t (Passing a.desk tests rs ends (plain o) b.desk) (Refuses a.desk r (plain o) b.desk)
-      by true h rest = rest h
-      by false h rest = told_so (Err r) a o b (refused r o b h)
+  passing tests rs answer ends o b done h = checking a plain (λ r. refl) F refused tests rs answer ends o b (λ all. done) h
 
 -- ---- requests
 
@@ -171,12 +190,66 @@ exact_verify a id o b h =
     let verified_so : Outcome → DeskState → Type 0 = λ outcome new. ((frames : ℤ) × Ended (plain (Ok (replies.Verified frames))) a.desk outcome new) ⊎ Unread a.desk outcome new in
     passing a (Leaves a a) (λ r o b h. h) (verify_tests a.desk id) checks answer verified_so o b (λ done. inl (frames_of_one (recording_at a id), told_so answer a o b done)) h
 
-pub exact_is_allowed : (a : Archive) (event : Event) (o : Result Reply Refusal) (b : Archive) → IsFalse (gives_frames event) → ArchiveEnds a event o b → Step a.desk (asked_of event) (told_of a.desk event o) b.desk
-exact_is_allowed a (events.Ask request) o b other h = exact_decision a (decision_of a.desk request) o b h
-exact_is_allowed a (events.Write session block) o b other h = exact_write a session block o b h
-exact_is_allowed a (events.Settle session) o b other h = exact_settle a session o b h
-exact_is_allowed a (events.ReplayOpen id position size) o b other h = exact_open a id position size o b h
-exact_is_allowed a (events.ReplayPoll number most) o b other h = absurd (true≢false other)
-exact_is_allowed a (events.ReplayClose number) o b other h = exact_close a number o b h
-exact_is_allowed a events.Sweep o b other h = exact_sweep a o b h
-exact_is_allowed a (events.Verify id) o b other h = exact_verify a id o b h
+-- ---- polling
+
+is_done : (t : Bool) (next : ℤ) → is_none (cond t None (Some next)) ≡ t
+is_done true next = refl
+is_done false next = refl
+
+-- what a poll of a replay of a recording gives
+gives : (a : Archive) (number most : ℤ) (replay : OpenReplay) (r : Recording) (o : Result Reply Refusal) (b : Archive) → replay_in a.desk number ≡ Some replay → IsKept r → is_boundary replay.next r ≡ true → 0 < unsigned_abs most
+    → PolledEnds a replay most (Some r) o b → Gives a.desk (Some replay) (Some (registration_of r)) (plain_poll (from_position (replay_in a.desk number)) o) b.desk
+gives a number most replay r o b is kept boundary some h =
+    let frames = polled replay.next replay.bound (unsigned_abs most) r in
+    let next = frames_end replay.next frames in
+    let moved : Written = record { first = replay.next; last = next } in
+    let answer : Result Reply Refusal = Ok (replies.Polled frames (goes_on r replay next)) in
+    let end = tells (plain_poll (from_position (replay_in a.desk number))) answer (with_desk (after_poll replay.number next a.desk) a) o b h in
+    let done = is_done (is_done_at (registration_of r) replay.bound next) next in
+    let told_is : plain_poll (from_position (replay_in a.desk number)) answer ≡ Ok (told.Polled moved (is_done_at (registration_of r) replay.bound next)) =
+    ap (λ (found : Option OpenReplay). plain_poll (from_position found) answer) is ∙ ap (λ (t : Bool). Ok (told.Polled moved t)) done in
+    (moved, poll_moves r replay (unsigned_abs most) kept boundary some, (end.0 ∙ told_is, end.1))
+
+-- the recording of a replay, as the register has it
+gives_of : (a : Archive) (number most : ℤ) (replay : OpenReplay) (found : Option Recording) (o : Result Reply Refusal) (b : Archive) → IsConsistent a → replay_in a.desk number ≡ Some replay → recording_at a replay.recording ≡ found → 0 < unsigned_abs most
+    → PolledEnds a replay most found o b → Gives a.desk (Some replay) (option_map registration_of found) (plain_poll (from_position (replay_in a.desk number)) o) b.desk
+gives_of a number most replay None o b consistent is at some h = absurd h
+gives_of a number most replay (Some r) o b consistent is at some h =
+    let kept = each_found id_of IsKept replay.recording a.state.recordings r consistent.well.kept at in
+    let there = each_found replay_number (IsAtBoundary a.state) number a.desk.callers.replays replay consistent.boundaries is in
+    let boundary : is_boundary replay.next r ≡ true = subst (λ (x : Option Recording). IsSomeAnd x (λ y. IsTrue (is_boundary replay.next y))) at there in
+    gives a number most replay r o b is kept boundary some h
+
+polls : (a : Archive) (number most : ℤ) (found : Option OpenReplay) (o : Result Reply Refusal) (b : Archive) → IsConsistent a → replay_in a.desk number ≡ found → is_some found ≡ true → 0 < unsigned_abs most
+    → PollingEnds a most (replay_of found) o b → Gives a.desk found (recording_of a.desk found) (plain_poll (from_position (replay_in a.desk number)) o) b.desk
+polls a number most None o b consistent is there some h = absurd (true≢false (sym there))
+polls a number most (Some replay) o b consistent is there some h =
+    let known : registration_in a.desk.register replay.recording ≡ option_map registration_of (recording_at a replay.recording) =
+    ap (λ (g : RegisterState). registration_in g replay.recording) consistent.agrees ∙ found_registration replay.recording a.state.recordings in
+    subst (λ (x : Option Registration). Gives a.desk (Some replay) x (plain_poll (from_position (replay_in a.desk number)) o) b.desk) (sym known)
+    (gives_of a number most replay (recording_at a replay.recording) o b consistent is refl some h)
+
+at_least_one : (most : ℤ) → (int_le (pos 1) most && int_le most (pos 4096)) ≡ true → 0 < unsigned_abs most
+at_least_one most is = let least = both is in let low = le_true (pos 1) most least.0 in omega (arith, ints, low)
+
+exact_poll : (a : Archive) (number most : ℤ) (o : Result Reply Refusal) (b : Archive) → IsConsistent a → ArchiveEnds a (events.ReplayPoll number most) o b
+    → Step a.desk (asked_of (events.ReplayPoll number most)) (told_of a.desk (events.ReplayPoll number most) o) b.desk
+exact_poll a number most o b consistent h =
+    let found = replay_in a.desk number in
+    let tests = poll_tests a.desk number most in
+    let gives_so : Outcome → DeskState → Type 0 = Either (Unread a.desk) (Gives a.desk found (recording_of a.desk found)) in
+    checking a (plain_poll (from_position found)) (λ r. refl) (PollingEnds a most) (λ r o b h. h) tests checks (replay_of found) gives_so o b
+    (λ all done.
+    let parts : ((int_le (pos 1) most && int_le most (pos 4096)) ≡ true) × ((is_some found && true) ≡ true) = both all in
+    let there : (is_some found ≡ true) × (true ≡ true) = both parts.1 in
+    inr (polls a number most found o b consistent refl there.0 (at_least_one most parts.0) done)) h
+
+pub exact_is_allowed : (a : Archive) (event : Event) (o : Result Reply Refusal) (b : Archive) → IsConsistent a → ArchiveEnds a event o b → Step a.desk (asked_of event) (told_of a.desk event o) b.desk
+exact_is_allowed a (events.Ask request) o b consistent h = exact_decision a (decision_of a.desk request) o b h
+exact_is_allowed a (events.Write session block) o b consistent h = exact_write a session block o b h
+exact_is_allowed a (events.Settle session) o b consistent h = exact_settle a session o b h
+exact_is_allowed a (events.ReplayOpen id position size) o b consistent h = exact_open a id position size o b h
+exact_is_allowed a (events.ReplayPoll number most) o b consistent h = exact_poll a number most o b consistent h
+exact_is_allowed a (events.ReplayClose number) o b consistent h = exact_close a number o b h
+exact_is_allowed a events.Sweep o b consistent h = exact_sweep a o b h
+exact_is_allowed a (events.Verify id) o b consistent h = exact_verify a id o b h

@@ -11,4 +11,7 @@ mod FoundLemmas
 mod AllowedLemmas
 mod DeskLemmas
 mod AgreementLemmas
+mod DecidedLemmas
+mod CallLemmas
+mod PollLemmas
 mod ExactLemmas

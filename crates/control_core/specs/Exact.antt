@@ -1,6 +1,6 @@
 -- What each call of an archive is answered exactly, by its state with the frames, its desk and what its sessions wrote.
 -- docs/CONTROL.md, "Requests", "Recorder sessions" and "Replays".
-use Rattle.std.specs.Prelude.{◌≡◌, ◌⊎◌, ◌++◌, ◌+ℤ◌, ℤ, pos, Bool, true, false, IsTrue, IsSomeAnd, MatchBool, List, [], ◌∷◌, length, unsigned_abs, Option, Some, None, is_none, Result, Ok, Err, if◌then◌else◌}
+use Rattle.std.specs.Prelude.{◌≡◌, ◌⊎◌, ◌++◌, ◌+ℤ◌, ℤ, pos, Bool, true, false, IsTrue, IsSomeAnd, MatchBool, List, [], ◌∷◌, length, unsigned_abs, Option, Some, None, is_none, is_some, Result, Ok, Err, if◌then◌else◌}
 use Rattle.std.specs.Ordering.{int_eq}
 use Rattle.frame_core.specs.declared.block.Block.{Block}
 use Rattle.frame_core.specs.declared.refusal.Refusal.{Refusal}
@@ -14,6 +14,7 @@ use Rattle.archive_model.specs.declared.reply.Reply.{Reply}
 use Rattle.archive_model.specs.declared.reply.Reply.TheVariants as replies
 use Rattle.archive_model.specs.Keyed.{find}
 use Rattle.archive_model.specs.State.{Recording, State, geometry_of, id_of, publication_of, registration_of}
+use Rattle.archive_model.specs.Acceptance.{BookState}
 use Rattle.archive_model.specs.Accepting.{begins_in}
 use Rattle.archive_model.specs.Checks.{checked, checks}
 use Rattle.archive_model.specs.Commands.{after}
@@ -47,6 +48,10 @@ pub record Archive : Type 0 where
   pub blocks : ℤ → List Block
   pub doubt : Option State
 
+-- the plain book of the archive
+abbrev pub book_of : Archive → BookState
+book_of a = record { state = a.state; counted = a.desk.counted; limit = a.desk.limit }
+
 -- what a call may end with: its answer, and the archive then
 abbrev pub ArchiveEnd : Type 1
 ArchiveEnd = Result Reply Refusal → Archive → Type 0
@@ -75,9 +80,13 @@ asked_frames a (Refused refusal) = Refused refusal
 asked_frames a (Answered reply) = Answered reply
 asked_frames a (Accepted command) = Accepted command
 
--- the archive after an accepted command
+-- the blocks of the sessions that are open, by their numbers
+abbrev pub blocks_of_open : DeskState → (ℤ → List Block) → ℤ → List Block
+blocks_of_open d blocks session = if is_some (session_in d session) then blocks session else []
+
+-- the archive after an accepted command: what an ended session wrote is lost
 abbrev pub archive_after : Archive → Command → Archive
-archive_after a command = record a { state = after a.state command; desk = desk_after a.desk command }
+archive_after a command = record a { state = after a.state command; desk = desk_after a.desk command; blocks = blocks_of_open (desk_after a.desk command) a.blocks }
 
 abbrev pub DecisionEnds : Archive → Decision → ArchiveEnd
 DecisionEnds a (Refused refusal) = Is (Err refusal) a
@@ -225,8 +234,3 @@ plain_poll first (Err refusal) = Err refusal
 abbrev pub told_of : DeskState → Event → Result Reply Refusal → Outcome
 told_of d (events.ReplayPoll number most) = plain_poll (from_position (replay_in d number))
 told_of d _ = plain
-
--- a call that gives frames
-abbrev pub gives_frames : Event → Bool
-gives_frames (events.ReplayPoll number most) = true
-gives_frames _ = false

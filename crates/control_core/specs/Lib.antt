@@ -8,14 +8,14 @@ pub mod ReplyText
 pub mod RefusalText
 pub mod Control
 pub mod Desk
+pub mod Seats
 pub mod Changes
 pub mod Decisions
 pub mod Turns
 pub mod Machine
 pub mod Agreement
 pub mod Exact
+pub mod Consistent
 pub mod Rules
 pub mod Calls
 pub mod Answers
--- Representation: what the values of src/ keep.
-pub mod Seats

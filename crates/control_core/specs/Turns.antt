@@ -1,6 +1,6 @@
 -- What is decided on a call that is no request: writing and settling, replays, sweeping and verifying.
 -- docs/CONTROL.md, "Recorder sessions", "Replays" and "Refusals".
-use Rattle.std.specs.Prelude.{◌&&◌, ◌||◌, ◌++◌, not, ℤ, pos, negsuc, Bool, true, false, length, nat_lt, int_le, Option, Some, None, is_some, Result, Ok, Err, if◌then◌else◌}
+use Rattle.std.specs.Prelude.{◌≢◌, ◌<◌, ◌&&◌, ◌||◌, ◌++◌, not, ℤ, pos, negsuc, Bool, true, false, IsTrue, length, nat_lt, int_le, Option, Some, None, is_some, Result, Ok, Err, if◌then◌else◌}
 use Rattle.std.specs.Ordering.{int_eq}
 use Rattle.frame_core.specs.declared.refusal.Refusal.{Refusal}
 use Rattle.frame_core.specs.declared.refusal.Refusal.TheVariants.{BadBlock, BadParameter, BadPosition, Broken, HistoryFull, MaxReplays, NeedSettle, StaleSession, UnknownRecording, UnknownReplay}
@@ -107,6 +107,19 @@ open_decision d id position size =
     let behind = checked tests (block_checks ++ last_checks) (Ok (opening_of d id position size)) in
     let in_front : Result OpeningDecision Refusal = checked tests first_checks (Ok (opened_at (registration_in d.register id) behind (begins_at position (registration_in d.register id)))) in
     opening_decided in_front
+
+-- the replay that a decision leads to, if a frame begins where it asks
+abbrev pub opening_in : OpeningDecision → Option Opening
+opening_in (opening.Decided (Ok o)) = Some o
+opening_in (opening.Decided (Err refusal)) = None
+opening_in (opening.IfBoundary position (Ok o)) = Some o
+opening_in (opening.IfBoundary position (Err refusal)) = None
+
+-- a replay may be opened: fewer than 64 are open, there is a number for it, and its recording is there
+pub record MayOpen (d : DeskState) (o : Opening) : Type 0 where
+  pub few : length d.callers.replays < 64
+  pub number : d.callers.next_replay ≢ last_number
+  pub there : IsTrue (is_some (registration_in d.register o.recording))
 
 -- ---- polling and closing
 

@@ -1,11 +1,9 @@
 //! What a call that is no request makes of the desk. docs/CONTROL.md, "Control state".
 
-ghost use Rattle.std.specs.Prelude.{◌≡◌, ◌≢◌, ◌<◌, IsTrue, IfErr, OnOk, is_some, length};
+ghost use Rattle.std.specs.Prelude.{◌≡◌, ◌<◌, IfErr, OnOk};
 ghost use Rattle.frame_core.specs.declared.refusal.Refusal.TheVariants.{NoMemory};
-ghost use Rattle.archive_model.specs.Register.{registration_in};
-ghost use Rattle.control_core.specs.Control.{last_number};
 ghost use Rattle.control_core.specs.Changes.{after_close, after_open, after_poll, after_write, broken_desk, settled};
-ghost use Rattle.control_core.specs.Turns.{session_in};
+ghost use Rattle.control_core.specs.Turns.{MayOpen, session_in};
 
 use crate::callers::Written;
 use crate::desk::Desk;
@@ -45,9 +43,7 @@ impl Desk {
     /// A replay is open, and has the next number. Does not allocate.
     pub fn open_replay(&mut self, opening: &Opening)
         requires room { 0 < self.old.replays }
-        requires few { length self.old.state.callers.replays < 64 }
-        requires number { self.old.state.callers.next_replay ≢ last_number }
-        requires there { IsTrue (is_some (registration_in self.old.state.register opening.now.recording)) }
+        requires allowed { MayOpen self.old.state opening.now }
         ensures { self.new.state ≡ after_open opening.now.recording opening.now.next opening.now.bound self.old.state }
     {
         self.replays

@@ -1,6 +1,6 @@
 //! Laws of the definitions, each the contract of a function that does nothing.
 
-ghost use Rattle.std.specs.Prelude.{◌≡◌, ◌++◌, ◌↔◌, ℕ, List, Contains, Some, Ok, Result, IsFalse, true};
+ghost use Rattle.std.specs.Prelude.{◌≡◌, ◌++◌, ◌↔◌, ◌⊎◌, ℕ, ℤ, List, Contains, Some, Ok, Err, Result, IsFalse, true};
 ghost use Rattle.archive_model.specs.declared.command.Command.{Command};
 ghost use Rattle.archive_model.specs.State.{State, register_of};
 ghost use Rattle.archive_model.specs.Commands.{after, register_after};
@@ -17,7 +17,13 @@ ghost use Rattle.frame_core.specs.declared.refusal.Refusal.{Refusal};
 ghost use Rattle.archive_model.specs.declared.reply.Reply.{Reply};
 ghost use Rattle.control_core.specs.declared.event.Event.{Event};
 ghost use Rattle.control_core.specs.Machine.{Step};
-ghost use Rattle.control_core.specs.Exact.{Archive, ArchiveEnds, asked_of, gives_frames, told_of};
+ghost use Rattle.control_core.specs.Exact.{Archive, ArchiveEnds, asked_frames, asked_of, book_of, told_of};
+ghost use Rattle.control_core.specs.Consistent.{IsAcceptable, IsConsistent, MakesCommand, SettlesByAppend, is_append};
+ghost use Rattle.control_core.specs.Turns.{MayOpen, open_decision, opening_in, settle_decision};
+ghost use Rattle.control_core.specs.declared.turns.Opening.{Opening};
+ghost use Rattle.control_core.specs.declared.callers.Written.{Written};
+ghost use Rattle.control_core.specs.declared.decision.Decision.TheVariants.{Accepted};
+ghost use Rattle.control_core.specs.declared.turns.Settling.TheVariants.{Blocks};
 ghost use Rattle.control_core.specs.Table.{Row, rows, is_served};
 ghost use Rattle.control_core.specs.Lines.{line_of};
 ghost use Rattle.control_core.specs.LineText.{Values, AreFit, line_with, text_with, IsShortText, IsSpelling};
@@ -59,11 +65,47 @@ pub fn the_desk_follows_the_state()
         IsWell b.state → Accepts b c → Agrees (desk_after d c) (after b.state c) }
 {}
 
+/// A command that a request leads to once the frames are asked is accepted and allowed, and is no append:
+/// docs/CONTROL.md, "Requests".
+pub fn a_decided_command_is_accepted()
+    ensures { (a : Archive) (request : Request) (c : Command) → Agrees a.desk a.state →
+        asked_frames a (decision_of a.desk request) ≡ Accepted c → IsAcceptable a c × IsFalse (is_append c) }
+{}
+
+/// What is settled of a session's blocks is recorded by an accepted append, which makes of the desk what the settling
+/// does: docs/CONTROL.md, "Recorder sessions".
+#[tactic(auto, using(crate::proofs::DecidedLemmas::settling_accepted))]
+pub fn a_settling_is_an_accepted_append()
+    ensures { (a : Archive) (session id : ℤ) (w : Written) → IsConsistent a →
+        settle_decision a.desk session ≡ Ok (Blocks id w) → SettlesByAppend a session id }
+{}
+
+/// A replay that a decision leads to may be opened: docs/CONTROL.md, "Replays".
+pub fn what_is_opened_is_allowed()
+    ensures { (d : DeskState) (id position size : ℤ) (opening : Opening) →
+        opening_in (open_decision d id position size) ≡ Some opening → MayOpen d opening }
+{}
+
+/// A refused call leaves the archive as it was: docs/CONTROL.md, "Refusals".
+#[tactic(auto, using(crate::proofs::CallLemmas::refused_unchanged))]
+pub fn a_refused_call_changes_nothing()
+    ensures { (a : Archive) (event : Event) (refusal : Refusal) (new : Archive) →
+        ArchiveEnds a event (Err refusal) new → new ≡ a }
+{}
+
+/// A call of a consistent archive that is answered leaves what is recorded as it was, or makes exactly one accepted
+/// command: docs/CONTROL.md, "Requests".
+#[tactic(auto, using(crate::proofs::CallLemmas::at_most_one))]
+pub fn a_call_is_at_most_one_command()
+    ensures { (a : Archive) (event : Event) (reply : Reply) (new : Archive) → IsConsistent a →
+        ArchiveEnds a event (Ok reply) new → (book_of new ≡ book_of a) ⊎ MakesCommand a new }
+{}
+
 /// What a call is answered exactly, with the frames, is one of the answers that the desk machine allows, which knows none;
-/// of every call but a poll: docs/CONTROL.md, "Control state".
+/// of a consistent archive: docs/CONTROL.md, "Control state".
 #[tactic(auto, using(crate::proofs::ExactLemmas::exact_is_allowed))]
 pub fn an_exact_answer_is_allowed()
     ensures { (a : Archive) (event : Event) (outcome : Result Reply Refusal) (new : Archive) →
-        IsFalse (gives_frames event) → ArchiveEnds a event outcome new →
+        IsConsistent a → ArchiveEnds a event outcome new →
         Step a.desk (asked_of event) (told_of a.desk event outcome) new.desk }
 {}

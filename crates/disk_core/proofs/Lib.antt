@@ -1,5 +1,7 @@
 -- the one for callers
 pub mod CallerLemmas
+-- the one for those who write a disk
+pub mod DiskLemmas
 mod FileLemmas
 mod OverwriteLemmas
 mod DiskImageLemmas

@@ -7,3 +7,5 @@ pub mod SettleLemmas
 pub mod BlockLemmas
 pub mod SweepLemmas
 pub mod OpeningLemmas
+pub mod ReadLemmas
+pub mod CountLemmas

@@ -84,7 +84,7 @@ belong d limit (f ∷ fs) p contiguous stream within =
     )
 
 -- two lists of frames that are shown from one position to another are one
-one_chain : (image : DiskImage) (l : Layout) (g : Geometry) (limit : ℤ) (fs gs : List Frame) (from to : ℕ) → IsChain image l g limit from fs to → IsChain image l g limit from gs to → fs ≡ gs
+pub one_chain : (image : DiskImage) (l : Layout) (g : Geometry) (limit : ℤ) (fs gs : List Frame) (from to : ℕ) → IsChain image l g limit from fs to → IsChain image l g limit from gs to → fs ≡ gs
 one_chain image l g limit [] [] from to here there = refl
 one_chain image l g limit [] (h ∷ hs) from to here there =
     absurd (omega (arith, here, covers image l g limit from h there.0, rises image l g limit hs (from + aligned_length h) to there.1))
@@ -96,7 +96,7 @@ one_chain image l g limit (f ∷ fs) (h ∷ hs) from to here there =
     ap (λ (x : Frame). x ∷ fs) same ∙ ap (λ (xs : List Frame). h ∷ xs) rest
 
 -- a recording's frames are shown from its start to its recorded position
-shown : (image : DiskImage) (r : Recording) → IsKept r → HoldsRecording image r → IsChain image (layout_of r.descriptor) (geometry_of r.descriptor) (recorded_position r) (first_of r) r.frames (last_of r)
+pub shown : (image : DiskImage) (r : Recording) → IsKept r → HoldsRecording image r → IsChain image (layout_of r.descriptor) (geometry_of r.descriptor) (recorded_position r) (first_of r) r.frames (last_of r)
 shown image r kept holds =
     let start : pos (first_of r) ≡ r.descriptor.start_position = omega (arith, ints, kept.start) in
     let contiguous : AreContiguous (geometry_of r.descriptor) (pos (first_of r)) r.frames = subst (λ (z : ℤ). AreContiguous (geometry_of r.descriptor) z r.frames) (sym start) kept.contiguous in

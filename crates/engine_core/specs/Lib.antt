@@ -2,3 +2,4 @@
 pub mod Recovery
 pub mod Moves
 pub mod Opening
+pub mod Reading

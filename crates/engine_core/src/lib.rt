@@ -3,6 +3,7 @@
 
 pub mod laws;
 mod opening;
+mod reading;
 mod storage;
 
 pub use storage::Storage;

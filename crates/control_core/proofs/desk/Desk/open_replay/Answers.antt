@@ -9,6 +9,6 @@ pub invariant_of-self : goal.invariant_of-self
 invariant_of-self c =
     let register : c.self.inside.register.state ≡ c.args.self.now.state.register = ap (λ (v : DeskView). v.state.register) c.self.view_is in
     let replays : c.self.inside.replays.values ≡ c.args.self.now.state.callers.replays = ap (λ (v : DeskView). v.state.callers.replays) c.self.view_is in
-    let few : length c.self.inside.replays.values < 64 = rw replays c.requires.few in
-    let there : is_some (registration_in c.self.inside.register.state c.args.opening.now.recording) ≡ true = rw register c.requires.there in
+    let few : length c.self.inside.replays.values < 64 = rw replays c.requires.allowed.few in
+    let there : is_some (registration_in c.self.inside.register.state c.args.opening.now.recording) ≡ true = rw register c.requires.allowed.there in
     rw (c.open.ensures.values, c.open.ensures.next) (keeps_opened _ _ _ refl few there c.self.invariant)

@@ -1,0 +1,4 @@
+pub mod OpenFileLemmas
+pub mod ReplayLemmas
+pub mod ReadLemmas
+pub mod RecordWalks

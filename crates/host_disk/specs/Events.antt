@@ -1,0 +1,36 @@
+-- The calls of a folder with their answers: docs/STORAGE.md, "Folders".
+use Rattle.std.specs.Prelude.{ℕ, List}
+use Rattle.disk_core.specs.declared.file_id.FileId.{FileId}
+
+-- a file of a folder, with its bytes
+abbrev pub Held : Type 0
+Held = FileId × List ℕ
+
+-- a call of a folder with its answer
+pub data Event : Type 0 where
+  -- the folder was opened, and these were its files
+  opened : List Held → Event
+  -- a file had this length, 0 if it was absent
+  measured : FileId → ℕ → Event
+  -- a read is to come, into a buffer that holds these bytes
+  asked : List ℕ → Event
+  -- a read from an offset gave so many bytes, and the buffer then held these
+  gave : FileId → ℕ → ℕ → List ℕ → Event
+  -- these bytes were written at an offset
+  wrote : FileId → ℕ → List ℕ → Event
+  -- a write of so many bytes at an offset failed
+  write_failed : FileId → ℕ → ℕ → Event
+  -- a file was cut to a length
+  cut : FileId → ℕ → Event
+  -- a cut to a length failed
+  cut_failed : FileId → ℕ → Event
+  -- a file was removed
+  gone : FileId → Event
+  -- a remove failed
+  remove_failed : FileId → Event
+  -- a file and its name were synced
+  flushed : FileId → Event
+  -- a sync failed
+  flush_failed : FileId → Event
+  -- these files were there
+  listed : List FileId → Event

@@ -1,0 +1,19 @@
+-- What a disk over a real folder shows.
+use Rattle.std.specs.Prelude.{◌≡◌, true, [], List}
+use Rattle.disk_core.specs.DiskImage.{begun}
+use Rattle.disk_core.specs.Life.{Life}
+use Rattle.host_disk.specs.declared.folder_disk.FolderDisk.{FolderDisk}
+use Rattle.host_disk.specs.declared.host_folder.HostFolder.{HostFolder}
+use Rattle.host_disk.specs.contracts.host_folder.HostFolderFolder.TheImpl as folder
+use Rattle.host_disk.specs.Events.{Held}
+use Rattle.host_disk.specs.Replay.{image_of, life_at}
+use Rattle.host_disk.specs.HostFolder.{events_of}
+
+-- its life
+abbrev pub host_life : FolderDisk HostFolder folder.ghosts → Life
+host_life disk = life_at (events_of disk.folder) disk.faults
+
+-- it begins with some files, all of them durable
+abbrev pub IsBegun : FolderDisk HostFolder folder.ghosts → Type 0
+IsBegun disk =
+    (held : List Held) × (host_life disk ≡ record { obeys = true; past = []; now = begun (image_of held); faults = 0 })

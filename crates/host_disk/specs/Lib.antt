@@ -1,0 +1,12 @@
+-- the subject: the calls of a folder, what they make of its files, which files are lost
+pub mod Events
+pub mod Replay
+pub mod Lost
+pub mod FolderDisk
+pub mod HostDisk
+-- what only private functions say, representation, and the proof of a law
+pub mod Noted
+pub mod EventCodes
+pub mod OpenFiles
+pub mod HostFolder
+pub mod WellFormed

@@ -1,0 +1,30 @@
+//! A disk over a real folder.
+ghost use Rattle.std.specs.Prelude.{IfOk};
+
+use crate::{FolderDisk, HostFolder, OpenFault};
+use std::alloc::Global;
+
+/// A disk over a real folder.
+pub type HostDisk = FolderDisk<HostFolder>;
+
+impl FolderDisk<HostFolder> {
+    ghost use Rattle.host_disk.specs.HostDisk.{IsBegun};
+
+    /// Opens a folder as a disk, and locks it. What the folder holds is not said, but all of it counts as
+    /// durable: docs/STORAGE.md, "Folders", says why that is right once a new disk has synced. `Busy`
+    /// where another disk has it open, `NoMemory` where its table of open files finds none, `Device` where
+    /// the system refuses; nothing is made or changed then.
+    pub fn open(rt: HostRuntime, alloc: Global, path: &str) -> Result<HostDisk, OpenFault>
+        ensures begun { IfOk result (λ disk. IsBegun disk) }
+    {
+        Ok(FolderDisk::new(HostFolder::open(rt, alloc, path)?))
+    }
+}
+
+/// A disk may be moved to another thread: this takes any value that may.
+fn needs_send<T: Send + Drop>(_value: T) {}
+
+/// A disk may go to another thread.
+pub fn may_be_sent(disk: HostDisk) {
+    needs_send(disk)
+}

@@ -1,0 +1,130 @@
+//! The files that are held open, at most so many at once.
+ghost use Rattle.std.specs.Prelude.{◌≡◌, ◌≢◌, ◌<◌, ◌≤◌, ◌↔◌, ◌+◌, length, IsTrue, IsFalse, IfOk, IfSome, IfNone, Some, slice_get, slice_set, [], All, true, false};
+ghost use Rattle.std.specs.List.{Contains};
+
+use disk_core::FileId;
+use std::alloc::{AllocError, Global};
+use std::fs::File;
+
+/// How many files are held open at once: more than an archive writes between two syncs.
+const OPEN_FILES: usize = 128;
+
+/// A file that is held open.
+#[derive(Drop)]
+struct OpenFile {
+    file: FileId,
+    handle: File,
+    // Written or cut since it was last synced. The system tells of bytes that did not reach the disk at a
+    // sync, and may forget it once the file is closed.
+    is_unsynced: bool,
+}
+
+/// The files that are held open, each in its place.
+#[derive(Drop)]
+pub(crate) struct OpenFiles {
+    entries: Vec<OpenFile>,
+    ghost bounded: { length entries.items ≤ 128 },
+}
+
+impl OpenFiles {
+    ghost use Rattle.host_disk.specs.OpenFiles.{entries_of, held, unsynced, KeepsUnsynced, KeepsOthers};
+
+    /// No file, with room for as many as are held at once. `AllocError` where there is no memory for them.
+    pub(crate) fn new(alloc: Global) -> Result<OpenFiles, AllocError>
+        ensures { IfOk result (λ files. entries_of files ≡ []) }
+    {
+        let mut entries = Vec::new(alloc);
+        entries.reserve(OPEN_FILES)?;
+        Ok(OpenFiles { entries })
+    }
+
+    /// The place of a file, if it is held open.
+    pub(crate) fn place_of(&self, file: FileId) -> Option<usize>
+        ensures found { IfSome result (λ place. slice_get (held self.now) place ≡ Some file) }
+        ensures none { IfNone result (¬ Contains (held self.now) file) }
+    {
+        for i in 0..self.entries.len() {
+            if self.entries[i].file == file {
+                return Some(i);
+            }
+        }
+        None
+    }
+
+    /// Holds a file open, and closes another where so many are held. None where each of those is unsynced,
+    /// or where there is no memory.
+    pub(crate) fn hold(&mut self, file: FileId, handle: File) -> Option<usize>
+        ensures held { IfSome result (λ place. slice_get (held self.new) place ≡ Some file) }
+        ensures unsynced { KeepsUnsynced self.old self.new }
+    {
+        if !self.make_room() {
+            return None;
+        }
+        // It allocates nothing: the room was reserved.
+        self.entries
+            .push(OpenFile {
+                file,
+                handle,
+                is_unsynced: false,
+            })
+            .ok()?;
+        Some(self.entries.len() - 1)
+    }
+
+    // Closes a file where as many are held as may be, and answers whether there is room for one now. One
+    // with unsynced bytes is never closed.
+    fn make_room(&mut self) -> bool
+        ensures room { IsTrue result → length (entries_of self.new) < 128 }
+        ensures full { IsFalse result → All IsTrue (unsynced self.old) }
+        ensures unsynced { KeepsUnsynced self.old self.new }
+    {
+        if self.entries.len() < OPEN_FILES {
+            return true;
+        }
+        match self.synced_place() {
+            Some(place) => {
+                self.entries.remove(place);
+                true
+            }
+            None => false,
+        }
+    }
+
+    /// The file in a place.
+    pub(crate) fn handle(&self, place: usize) -> &File
+        requires { place < length (entries_of self.now) }
+    {
+        &self.entries[place].handle
+    }
+
+    /// Says of the file in a place whether it was written or cut since it was last synced.
+    pub(crate) fn mark(&mut self, place: usize, is_unsynced: bool)
+        requires { place < length (entries_of self.old) }
+        ensures same_files { held self.new ≡ held self.old }
+        ensures marked { unsynced self.new ≡ slice_set (unsynced self.old) place is_unsynced }
+    {
+        self.entries[place].is_unsynced = is_unsynced;
+    }
+
+    /// Closes a file, if it is held open. The others stay open.
+    pub(crate) fn close(&mut self, file: FileId)
+        ensures others { KeepsOthers file self.old self.new }
+    {
+        if let Some(place) = self.place_of(file) {
+            self.entries.remove(place);
+        }
+    }
+
+    // The first place whose file may be closed.
+    fn synced_place(&self) -> Option<usize>
+        ensures found { IfSome result (λ place. slice_get (unsynced self.now) place ≡ Some false) }
+        ensures none { IfNone result (All IsTrue (unsynced self.now)) }
+    {
+        for i in 0..self.entries.len() {
+            if !self.entries[i].is_unsynced {
+                return Some(i);
+            }
+        }
+        None
+    }
+}
