@@ -9,3 +9,4 @@ pub mod SweepLemmas
 pub mod OpeningLemmas
 pub mod ReadLemmas
 pub mod CountLemmas
+pub mod LaidLemmas
