@@ -27,7 +27,7 @@ use Rattle.archive_model.specs.Checks.{is_boundary_by, is_of}
 use Rattle.archive_model.specs.Histories.{new_book}
 use Rattle.archive_model.specs.WellFormed.{AreAccepted, IsKept, IsOfStream, IsWell}
 use Rattle.archive_model.proofs.HistoriesLemmas.{covered-append, contiguous_append, blocks_contiguous}
-use Rattle.archive_model.proofs.StreamLemmas.{aligned_behind, blocks_of_stream, each_append, each_left, frames_within, start_aligned, starts_within}
+use Rattle.archive_model.proofs.StreamLemmas.{aligned_behind, blocks_of_stream, each_append, each_left, start_aligned}
 use Rattle.archive_model.proofs.CutLemmas.{Leaves}
 use Rattle.archive_model.proofs.WellLemmas.{both, is_purge, purge_leaves, truncation_leaves}
 use Rattle.archive_model.proofs.RegisterLemmas.{each_map, each_push, rise_push}
@@ -139,13 +139,13 @@ purge r p kept base =
 le_true : (a b : ℤ) → int_le a b ≡ true → a ≤ℤ b
 le_true a b e = search rules
 
-layout_of : (f : StartFields) → is_layout f ≡ true → (is_term_length f.term_length ≡ true) × (is_term_length f.segment_length ≡ true) × (f.term_length ≤ℤ f.segment_length) × (is_mtu f.mtu ≡ true)
+layout_of : (f : StartFields) → is_layout f ≡ true → (is_term_length f.term_length ≡ true) × (is_term_length f.segment_length ≡ true) × (f.term_length ≤ℤ f.segment_length)
 unfolding is_layout
 layout_of f has =
     let first : ((is_term_length f.term_length && is_term_length f.segment_length) && int_le f.term_length f.segment_length ≡ true) × (is_mtu f.mtu ≡ true) = both has in
     let second : (is_term_length f.term_length && is_term_length f.segment_length ≡ true) × (int_le f.term_length f.segment_length ≡ true) = both first.0 in
     let third : (is_term_length f.term_length ≡ true) × (is_term_length f.segment_length ≡ true) = both second.0 in
-    (third.0, third.1, le_true f.term_length f.segment_length second.1, first.1)
+    (third.0, third.1, le_true f.term_length f.segment_length second.1)
 
 starts_low : (position term : ℤ) → is_start_position position term ≡ true → pos 0 ≤ℤ position
 unfolding is_start_position
@@ -161,11 +161,9 @@ kept_fresh id f range =
     record {
       start = starts_low f.start_position f.term_length third.1;
       aligned = start_aligned f.start_position f.term_length third.1;
-      in_stream = starts_within f.start_position f.term_length third.1;
       term = lengths.0;
       segment = lengths.1;
       no_less = lengths.2;
-      mtu = lengths.3;
       of_stream = tt;
       encodable = tt;
       contiguous = tt;
@@ -189,11 +187,9 @@ pub kept_appended : (r : Recording) (blocks : List Block) → IsKept r → Conti
 kept_appended r blocks kept next active = record {
   start = kept.start;
   aligned = kept.aligned;
-  in_stream = kept.in_stream;
   term = kept.term;
   segment = kept.segment;
   no_less = kept.no_less;
-  mtu = kept.mtu;
   of_stream = each_append (IsOfStream r.descriptor.stream_id) r.frames (frames_of blocks) kept.of_stream (blocks_of_stream (geometry_of r.descriptor) (publication_of r.descriptor) (recorded_position r) blocks next.1);
   encodable = encodable_append r.frames (frames_of blocks) kept.encodable (blocks_encodable (geometry_of r.descriptor) (publication_of r.descriptor) (recorded_position r) blocks next.1);
   contiguous =
@@ -206,11 +202,9 @@ pub kept_stopped : (timestamp : ℤ) (r : Recording) → IsKept r → IsKept (st
 kept_stopped timestamp r kept = record {
   start = kept.start;
   aligned = kept.aligned;
-  in_stream = kept.in_stream;
   term = kept.term;
   segment = kept.segment;
   no_less = kept.no_less;
-  mtu = kept.mtu;
   of_stream = kept.of_stream;
   encodable = kept.encodable;
   contiguous = kept.contiguous;
@@ -221,11 +215,9 @@ pub kept_extended : (session_id : ℤ) (r : Recording) → IsKept r → IsKept (
 kept_extended session_id r kept = record {
   start = kept.start;
   aligned = kept.aligned;
-  in_stream = kept.in_stream;
   term = kept.term;
   segment = kept.segment;
   no_less = kept.no_less;
-  mtu = kept.mtu;
   of_stream = kept.of_stream;
   encodable = kept.encodable;
   contiguous = kept.contiguous;
@@ -238,11 +230,9 @@ kept_truncated r p kept cut =
     record {
       start = kept.start;
       aligned = kept.aligned;
-      in_stream = kept.in_stream;
       term = kept.term;
       segment = kept.segment;
       no_less = kept.no_less;
-      mtu = kept.mtu;
       of_stream = each_left (IsOfStream r.descriptor.stream_id) (ends_by p) r.descriptor.start_position r.frames kept.of_stream;
       encodable = left.encodable;
       contiguous = left.contiguous;
@@ -261,13 +251,9 @@ kept_purged r p kept base =
     record {
       start = base_low p (registration_of r) base;
       aligned = aligned_behind p r.descriptor.start_position (purged p r).frames r.frames (base_low p (registration_of r) base) kept.aligned left.ends;
-      in_stream =
-          let within = frames_within (geometry_of r.descriptor) r.descriptor.start_position r.frames kept.in_stream kept.contiguous in
-          let ends = left.ends in omega (arith, ints, within, ends);
       term = kept.term;
       segment = kept.segment;
       no_less = kept.no_less;
-      mtu = kept.mtu;
       of_stream = each_left (IsOfStream r.descriptor.stream_id) (λ f. int_le p f.position) r.descriptor.start_position r.frames kept.of_stream;
       encodable = left.encodable;
       contiguous = left.contiguous;

@@ -1,8 +1,6 @@
 -- The frames of a recording are of its stream, and it starts at a multiple of 32.
-use Rattle.std.proofs.Common.{◌≡◌, ◌≢◌, ◌+◌, ◌*◌, ◌/◌, ◌%◌, ◌+ℤ◌, ◌-ℤ◌, ◌*ℤ◌, ◌≤ℤ◌, ◌≤◌, ◌<◌, ◌∙◌, subst, FitsSigned, ℕ, ℤ, pos, negsuc, Bool, true, false, cond, List, [], ◌∷◌, ◌++◌, Some, None, ◌&&◌, filter, refl, sym, ap, true≢false, arith, inl, inr}
-use Rattle.std.proofs.lemmas.Int.{ints, SFits-int_wrap}
-use Rattle.std.proofs.Math.Nat.{add-mul, mul-le-mul_right}
-use Rattle.std.specs.Int.{w32}
+use Rattle.std.proofs.Common.{◌≡◌, ◌≢◌, ◌+◌, ◌*◌, ◌/◌, ◌%◌, ◌+ℤ◌, ◌≤ℤ◌, ℕ, ℤ, pos, negsuc, Bool, true, false, cond, List, [], ◌∷◌, ◌++◌, Some, None, ◌&&◌, filter, refl, sym, ap, true≢false, arith, inl, inr}
+use Rattle.std.proofs.lemmas.Int.{ints}
 use Rattle.std.proofs.lemmas.Bool.Decides.{nat_tests, Decides-int_eq}
 use Rattle.std.specs.Prelude.{◌==◌, ◌^◌, nat_lt, unsigned_abs}
 use Rattle.std.specs.Ordering.{int_eq}
@@ -15,12 +13,10 @@ use Rattle.frame_core.specs.declared.block.Publication.{Publication}
 use Rattle.frame_core.specs.declared.geometry.Geometry.{Geometry}
 use Rattle.frame_core.specs.FrameEncoding.{IsAligned, aligned_length}
 use Rattle.frame_core.specs.Block.{AreBlockOf, block_ids, covered, end_position, has_ids, is_message, is_part, run_end}
-use Rattle.frame_core.specs.Position.{HasPosition, terms_since}
 use Rattle.archive_model.specs.declared.reply.PolledFrame.{PolledFrame}
 use Rattle.archive_model.specs.Acceptance.{AreBlocksFrom}
 use Rattle.archive_model.specs.Commands.{frames_of}
 use Rattle.archive_model.specs.Descriptor.{is_start_position}
-use Rattle.archive_model.specs.Histories.{AreContiguous}
 use Rattle.archive_model.specs.Keyed.{Each}
 use Rattle.archive_model.specs.Replay.{frames_in, placed}
 use Rattle.archive_model.specs.WellFormed.{IsOfStream}
@@ -112,40 +108,3 @@ aligned_behind (pos p) start left all low aligned same =
     let same : p ≡ 32 * (p / 32) = omega (arith, sum) in
     (p / 32, ap pos same)
 aligned_behind (negsuc p) start left all low aligned same = absurd (omega (arith, ints, low))
-
--- frames that begin in the stream, at most 2^31 terms from its beginning, end in it
-
-times_le : (a t : ℕ) → a + 1 ≤ 2 ^ 31 → a * t + t ≤ 2 ^ 31 * t
-times_le a t less = let more = mul-le-mul_right t less in let sum : (a + 1) * t ≡ a * t + 1 * t = add-mul a 1 t in omega (arith, more, sum)
-
-one_within : (g : Geometry) (z : ℤ) (f : Frame) → HasPosition g f.term_id f.term_offset z → (f.term_offset +ℤ pos (aligned_length f)) ≤ℤ g.term_length → (z +ℤ pos (aligned_length f)) ≤ℤ pos (2 ^ 31 * unsigned_abs g.term_length)
-one_within g z f at ends = by (terms_since g f.term_id) g.term_length f.term_offset refl refl refl
-  where
-    by : (since term offset : ℤ) → terms_since g f.term_id ≡ since → g.term_length ≡ term → f.term_offset ≡ offset → (z +ℤ pos (aligned_length f)) ≤ℤ pos (2 ^ 31 * unsigned_abs g.term_length)
-    by (pos a) (pos t) (pos o) since_is term_is offset_is =
-        let fits : FitsSigned w32 (terms_since g f.term_id) = SFits-int_wrap w32 (f.term_id -ℤ g.initial_term_id) in
-        let less : a + 1 ≤ 2 ^ 31 = omega (arith, ints, fits, since_is) in
-        let place : z ≡ pos a *ℤ pos t +ℤ pos o =
-        at.place ∙ ap (λ (x : ℤ). x *ℤ g.term_length +ℤ f.term_offset) since_is ∙ ap (λ (x : ℤ). pos a *ℤ x +ℤ f.term_offset) term_is ∙ ap (λ (x : ℤ). pos a *ℤ pos t +ℤ x) offset_is in
-        let end : z +ℤ pos (aligned_length f) ≡ pos (a * t + o + aligned_length f) = omega (arith, ints, place) in
-        let within : a * t + o + aligned_length f ≤ a * t + t = omega (arith, ints, ends, term_is, offset_is) in
-        let most : a * t + o + aligned_length f ≤ 2 ^ 31 * t = omega (arith, within, times_le a t less) in
-        subst (λ (n : ℕ). (z +ℤ pos (aligned_length f)) ≤ℤ pos (2 ^ 31 * n)) (sym (ap unsigned_abs term_is)) (subst (λ (e : ℤ). e ≤ℤ pos (2 ^ 31 * t)) (sym end) (omega (arith, ints, most)))
-    by (negsuc a) term offset since_is term_is offset_is = absurd (omega (arith, ints, at.since, since_is))
-    by (pos a) (negsuc t) offset since_is term_is offset_is = absurd (omega (arith, ints, at.high, at.low, term_is))
-    by (pos a) (pos t) (negsuc o) since_is term_is offset_is = absurd (omega (arith, ints, at.low, offset_is))
-
-pub frames_within : (g : Geometry) (z : ℤ) (fs : List Frame) → z ≤ℤ pos (2 ^ 31 * unsigned_abs g.term_length) → AreContiguous g z fs → (z +ℤ pos (covered fs)) ≤ℤ pos (2 ^ 31 * unsigned_abs g.term_length)
-frames_within g z [] low parts = omega (arith, ints, low)
-frames_within g z (f ∷ fs) low parts =
-    let rest = frames_within g (z +ℤ pos (aligned_length f)) fs (one_within g z f parts.0 parts.1) parts.2 in
-    let same : (z +ℤ pos (aligned_length f)) +ℤ pos (covered fs) ≡ z +ℤ pos (covered (f ∷ fs)) = omega (arith, ints) in
-    subst (λ (e : ℤ). e ≤ℤ pos (2 ^ 31 * unsigned_abs g.term_length)) same rest
-
-pub starts_within : (position term : ℤ) → is_start_position position term ≡ true → position ≤ℤ pos (2 ^ 31 * unsigned_abs term)
-unfolding is_start_position
-starts_within (pos p) term is =
-    let parts : ((p % 32 == 0) ≡ true) × (nat_lt p (2 ^ 31 * unsigned_abs term) ≡ true) = both is in
-    let less : p < 2 ^ 31 * unsigned_abs term = grind (arith, nat_tests) in
-    omega (arith, ints, less)
-starts_within (negsuc p) term is = absurd (true≢false (sym is))

@@ -7,8 +7,8 @@ pub mod ChangeLemmas
 mod ListingLemmas
 mod FragmentLemmas
 mod SeatLemmas
-mod FoundLemmas
-mod AllowedLemmas
+pub mod FoundLemmas
+pub mod AllowedLemmas
 mod DeskLemmas
 mod AgreementLemmas
 mod DecidedLemmas

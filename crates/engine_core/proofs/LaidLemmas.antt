@@ -1,46 +1,221 @@
--- Where the frames of the recordings of a well-formed state lie.
-use Rattle.std.proofs.Common.{refl, List, [], ◌∷◌, map, All, arith}
+-- Recordings stay laid, whatever commands and entries make of them.
+use Rattle.std.proofs.Common.{rules, ◌≡◌, ◌∙◌, sym, ap, refl, ℕ, ℤ, pos, negsuc, ◌*◌, ◌/◌, ◌%◌, ◌^◌, ◌-◌, ◌<◌, ◌≤◌, ◌≤ℤ◌, ◌<ℤ◌, ◌&&◌, Bool, true, false, cond, true≢false, List, [], ◌∷◌, Option, Some, int_le, int_lt, nat_lt, unsigned_abs, arith}
 use Rattle.std.proofs.lemmas.Int.{ints}
-use Rattle.std.proofs.lemmas.List.Elements.{All-cons}
-use Rattle.segment_store.specs.declared.keep.Keep.TheVariants.{Below}
+use Rattle.std.proofs.lemmas.Nat.{pow-add}
+use Rattle.std.proofs.lemmas.Bool.Decides.{nat_tests, Decides-int_eq}
+use Rattle.std.specs.Prelude.{◌==◌, not, IsTrue}
+use Rattle.std.specs.Ordering.{int_eq}
+use Rattle.frame_core.specs.Limits.{is_mtu, is_term_length}
+use Rattle.frame_core.specs.Segment.{segment_base}
+use Rattle.frame_core.proofs.LimitsLemmas.{exponent_le, is_power}
 use Rattle.segment_store.specs.Layout.{IsLayout}
-use Rattle.segment_store.specs.Stale.{IsKeep}
-use Rattle.archive_model.specs.Keyed.{Each}
-use Rattle.archive_model.specs.State.{Recording, State, register_of, registration_of}
-use Rattle.archive_model.specs.WellFormed.{IsKept, IsWell}
-use Rattle.engine_core.specs.Moves.{keep_of, keeps_of}
-use Rattle.engine_core.specs.Reading.{IsLaidOut}
+use Rattle.archive_model.specs.declared.command.StartFields.{StartFields}
+use Rattle.archive_model.specs.declared.registration.Change.{Change}
+use Rattle.archive_model.specs.declared.registration.Change.TheVariants as changes
+use Rattle.archive_model.specs.declared.registration.Registration.{Registration}
+use Rattle.archive_model.specs.Checks.{is_of}
+use Rattle.archive_model.specs.Descriptor.{is_channel, is_in_range, is_layout, is_negative, is_start_position}
+use Rattle.archive_model.specs.Register.{RegisterState, all_stopped, changed, changed_by, id_of, is_active, is_later_base, is_within, may_begin, may_record, no_recordings, registered, registration_in, restarted, with_one, with_out}
+use Rattle.archive_model.proofs.RegisterLemmas.{each_map, each_push, id_kept, rise_push}
+use Rattle.archive_model.proofs.StateLemmas.{each_change, each_without}
+use Rattle.archive_model.proofs.WellLemmas.{base_is_term, both}
+use Rattle.catalogue_log.specs.declared.entry.Entry.{Entry}
+use Rattle.catalogue_log.specs.declared.entry.Entry.TheVariants.{Start, Settle, Stop, Extend, Truncate, PurgeSegments, PurgeRecording, Restart}
+use Rattle.catalogue_log.specs.Fold.{AreAdmitted, admits, after_entries, after_entry, is_aligned, is_in_stream, is_stopped, may_settle, may_truncate}
+use Rattle.control_core.proofs.FoundLemmas.{rise_change, rise_map, rise_without}
+use Rattle.engine_core.specs.Orderly.{AreLaid, IsLaid, stream_end}
 use Rattle.engine_core.specs.Recovery.{layout_of}
 
--- the layout of a recording is in its limits
-kept_layout : (r : Recording) → IsKept r → IsLayout (layout_of r.descriptor)
-kept_layout r kept = record {
-  term = kept.term;
-  segment = kept.segment;
-  no_less = kept.no_less;
-  start = kept.aligned.0;
-  start_is = kept.aligned.1;
-  in_terms = let within = kept.in_stream in let is = kept.aligned.1 in omega (arith, ints, within, is);
+-- ---- one recording
+
+pub le_true : (a b : ℤ) → int_le a b ≡ true → a ≤ℤ b
+le_true a b is = search rules
+
+lt_true : (a b : ℤ) → int_lt a b ≡ true → a <ℤ b
+lt_true a b is = search rules
+
+-- a start position is a multiple of 32 in the stream
+start_place : (z term : ℤ) → is_start_position z term ≡ true → (n : ℕ) × (z ≡ pos (32 * n)) × (32 * n ≤ 2 ^ 31 * unsigned_abs term)
+unfolding is_start_position
+start_place (pos p) term is =
+    let parts : ((p % 32 == 0) ≡ true) × (nat_lt p (2 ^ 31 * unsigned_abs term) ≡ true) = both is in
+    let whole : p % 32 ≡ 0 = grind (arith, nat_tests) in
+    let less : p < 2 ^ 31 * unsigned_abs term = grind (arith, nat_tests) in
+    let same : p ≡ 32 * (p / 32) = omega (arith, whole) in
+    (p / 32, ap pos same, omega (arith, same, less))
+start_place (negsuc p) term is = absurd (true≢false (sym is))
+
+-- what a new recording's range says
+record HasRange (f : StartFields) : Type 0 where
+  term : is_term_length f.term_length ≡ true
+  segment : is_term_length f.segment_length ≡ true
+  no_less : f.term_length ≤ℤ f.segment_length
+  mtu : is_mtu f.mtu ≡ true
+  start : is_start_position f.start_position f.term_length ≡ true
+
+has_range : (f : StartFields) → is_in_range f ≡ true → HasRange f
+unfolding is_layout
+has_range f range =
+    let first : ((is_layout f && is_start_position f.start_position f.term_length) && not (is_negative f.timestamp) ≡ true) × (is_channel f.channel ≡ true) = both range in
+    let second : (is_layout f && is_start_position f.start_position f.term_length ≡ true) × (not (is_negative f.timestamp) ≡ true) = both first.0 in
+    let third : (is_layout f ≡ true) × (is_start_position f.start_position f.term_length ≡ true) = both second.0 in
+    let layout : ((is_term_length f.term_length && is_term_length f.segment_length) && int_le f.term_length f.segment_length ≡ true) × (is_mtu f.mtu ≡ true) = both third.0 in
+    let lengths : (is_term_length f.term_length && is_term_length f.segment_length ≡ true) × (int_le f.term_length f.segment_length ≡ true) = both layout.0 in
+    let each : (is_term_length f.term_length ≡ true) × (is_term_length f.segment_length ≡ true) = both lengths.0 in
+    record { term = each.0; segment = each.1; no_less = le_true f.term_length f.segment_length lengths.1; mtu = layout.1; start = third.1 }
+
+pub laid_begun : (id : ℤ) (f : StartFields) → is_in_range f ≡ true → IsLaid (registered id f)
+laid_begun id f range =
+    let has = has_range f range in
+    let place = start_place f.start_position f.term_length has.start in
+    record {
+      laid_out = record {
+        layout = record { term = has.term; segment = has.segment; no_less = has.no_less; start = place.0; start_is = place.1; in_terms = place.2 };
+        geometry = record { term = refl; mtu = has.mtu };
+      };
+      from_start = omega (arith, ints);
+      in_stream = omega (arith, ints, place.1, place.2);
+    }
+
+pub laid_stopped : (timestamp : ℤ) (r : Registration) → IsLaid r → IsLaid (changed_by (changes.Stop timestamp) r)
+laid_stopped timestamp r laid = record { laid_out = record { layout = laid.laid_out.layout; geometry = laid.laid_out.geometry }; from_start = laid.from_start; in_stream = laid.in_stream }
+
+pub laid_extended : (session_id : ℤ) (r : Registration) → IsLaid r → IsLaid (changed_by (changes.Extend session_id) r)
+laid_extended session_id r laid = record { laid_out = record { layout = laid.laid_out.layout; geometry = laid.laid_out.geometry }; from_start = laid.from_start; in_stream = laid.in_stream }
+
+-- recorded further, in its stream
+pub laid_settled : (position : ℤ) (r : Registration) → IsLaid r → r.recorded ≤ℤ position → position ≤ℤ stream_end r → IsLaid (changed_by (changes.Settle position) r)
+laid_settled position r laid further inside = record {
+  laid_out = record { layout = laid.laid_out.layout; geometry = laid.laid_out.geometry };
+  from_start = omega (arith, ints, laid.from_start, further);
+  in_stream = inside;
 }
 
-kept_laid_out : (r : Recording) → IsKept r → IsLaidOut (registration_of r)
-kept_laid_out r kept = record { layout = kept_layout r kept; geometry = record { term = refl; mtu = kept.mtu } }
+pub laid_truncated : (position : ℤ) (r : Registration) → IsLaid r → is_within position r ≡ true → IsLaid (changed_by (changes.Truncate position) r)
+laid_truncated position r laid within =
+    let ends : (int_le r.descriptor.start_position position ≡ true) × (int_le position r.recorded ≡ true) = both within in
+    let low : r.descriptor.start_position ≤ℤ position = le_true r.descriptor.start_position position ends.0 in
+    let high : position ≤ℤ r.recorded = le_true position r.recorded ends.1 in
+    record { laid_out = record { layout = laid.laid_out.layout; geometry = laid.laid_out.geometry }; from_start = low; in_stream = omega (arith, ints, high, laid.in_stream) }
 
-each_laid_out : (rs : List Recording) → Each IsKept rs → Each IsLaidOut (map registration_of rs)
-each_laid_out [] all = tt
-each_laid_out (r ∷ rs) all = (kept_laid_out r all.0, each_laid_out rs all.1)
+-- a base of a segment behind the start lies a whole number of terms into the stream
+record IsLater (r : Registration) (position : ℤ) : Type 0 where
+  at : ℕ
+  is : position ≡ pos at
+  behind : unsigned_abs r.descriptor.start_position < at
+  before : position ≤ℤ r.recorded
+  base : segment_base (unsigned_abs r.descriptor.start_position) (unsigned_abs r.descriptor.term_length) (unsigned_abs r.descriptor.segment_length) at ≡ at
 
-pub all_laid_out : (s : State) → IsWell s → Each IsLaidOut (register_of s).recordings
-all_laid_out s well = each_laid_out s.recordings well.kept
+is_later : (r : Registration) (position : ℤ) → is_later_base position r ≡ true → IsLater r position
+unfolding is_later_base
+is_later r (pos q) base =
+    let first : (nat_lt (unsigned_abs r.descriptor.start_position) q && int_le (pos q) r.recorded ≡ true) × (_ ≡ true) = both base in
+    let second : (nat_lt (unsigned_abs r.descriptor.start_position) q ≡ true) × (int_le (pos q) r.recorded ≡ true) = both first.0 in
+    let same : (segment_base (unsigned_abs r.descriptor.start_position) (unsigned_abs r.descriptor.term_length) (unsigned_abs r.descriptor.segment_length) q == q) ≡ true = first.1 in
+    record { at = q; is = refl; behind = grind (arith, nat_tests); before = le_true (pos q) r.recorded second.1; base = grind (arith, nat_tests) }
+is_later r (negsuc q) base = absurd (true≢false (sym base))
 
--- what a sweep is told of the state is as it has to be
-each_keep : (rs : List Recording) → Each IsKept rs → Each IsKeep (map keep_of rs)
-each_keep [] all = tt
-each_keep (r ∷ rs) all = ((kept_layout r all.0, omega (arith, ints)), each_keep rs all.1)
+-- a multiple of a term length is one of 32
+of_terms : (at k t a : ℕ) → 16 ≤ a → t ≡ 2 ^ a → at ≡ k * t → at ≡ 32 * (k * 2 ^ (a - 5))
+of_terms at k t a least is whole =
+    let more : 2 ^ a ≡ 2 ^ (a - 5) * 2 ^ 5 = ap (λ (n : ℕ). 2 ^ n) (omega (arith, least)) ∙ pow-add 2 (a - 5) 5 in
+    let steps : k * t ≡ k * (2 ^ (a - 5) * 2 ^ 5) = ap (λ (n : ℕ). k * n) (is ∙ more) in
+    omega (arith, whole, steps)
 
-each_all : {X : Type 0} (P : X → Type 0) (xs : List X) → Each P xs → All P xs
-each_all P [] all = λ i d within. absurd (omega (arith, within))
-each_all P (x ∷ xs) all = All-cons P x xs all.0 (each_all P xs all.1)
+-- the new start is in the stream, and the recorded position where it was
+pub laid_purged : (position : ℤ) (r : Registration) → IsLaid r → is_later_base position r ≡ true → IsLaid (changed_by (changes.PurgeSegments position) r)
+laid_purged position r laid base =
+    let later = is_later r position base in
+    let layout : IsLayout (layout_of r.descriptor) = laid.laid_out.layout in
+    let t = is_power r.descriptor.term_length layout.term in
+    let s = is_power r.descriptor.segment_length layout.segment in
+    let powers : 2 ^ t.0 ≤ 2 ^ s.0 = (let z : pos (2 ^ t.0) ≤ℤ pos (2 ^ s.0) = rw (← t.3, ← s.3) layout.no_less in omega (arith, ints)) in
+    let whole = base_is_term (unsigned_abs r.descriptor.start_position) later.at (unsigned_abs r.descriptor.term_length) (unsigned_abs r.descriptor.segment_length) t.0 s.0
+    (ap unsigned_abs t.3) (ap unsigned_abs s.3) (exponent_le t.0 s.0 powers) later.behind later.base in
+    let multiple : later.at ≡ 32 * (whole.0 * 2 ^ (t.0 - 5)) = of_terms later.at whole.0 (unsigned_abs r.descriptor.term_length) t.0 t.1 (ap unsigned_abs t.3) whole.1 in
+    let place : position ≡ pos (32 * (whole.0 * 2 ^ (t.0 - 5))) = later.is ∙ ap pos multiple in
+    let inside : pos (32 * (whole.0 * 2 ^ (t.0 - 5))) ≤ℤ stream_end r = omega (arith, ints, place, later.before, laid.in_stream) in
+    record {
+      laid_out = record {
+        layout = record { term = layout.term; segment = layout.segment; no_less = layout.no_less; start = whole.0 * 2 ^ (t.0 - 5); start_is = place; in_terms = omega (arith, ints, inside) };
+        geometry = record { term = refl; mtu = laid.laid_out.geometry.mtu };
+      };
+      from_start = later.before;
+      in_stream = laid.in_stream;
+    }
 
-pub all_keep : (s : State) → IsWell s → All IsKeep (keeps_of s)
-all_keep s well = All-cons IsKeep (Below s.next) (map keep_of s.recordings) tt (each_all IsKeep (map keep_of s.recordings) (each_keep s.recordings well.kept))
+laid_restarted : (r : Registration) (b : Bool) → IsLaid r → IsLaid (cond b (changed_by (changes.Stop (negsuc 0)) r) r)
+laid_restarted r true laid = laid_stopped (negsuc 0) r laid
+laid_restarted r false laid = laid
+
+restarted_id : (r : Registration) (b : Bool) → id_of (cond b (changed_by (changes.Stop (negsuc 0)) r) r) ≡ id_of r
+restarted_id r true = refl
+restarted_id r false = refl
+
+-- ---- the register
+
+pub none_laid : AreLaid no_recordings
+none_laid = record { rising = omega (arith, ints); laid = tt }
+
+pub one_more_laid : (g : RegisterState) (r : Registration) → AreLaid g → id_of r ≡ g.next → IsLaid r → AreLaid (with_one r g)
+one_more_laid g r are is laid = record { rising = rise_push id_of (pos 0) g.next g.recordings r are.rising is; laid = each_push IsLaid g.recordings r are.laid laid }
+
+pub changed_laid : (g : RegisterState) (id : ℤ) (c : Change) → AreLaid g → ((r : Registration) → registration_in g id ≡ Some r → IsLaid r → IsLaid (changed_by c r)) → AreLaid (changed id c g)
+changed_laid g id c are keeps = record {
+  rising = rise_change id_of id (pos 0) g.next (changed_by c) g.recordings (id_kept c) are.rising;
+  laid = each_change id_of IsLaid id (changed_by c) g.recordings are.laid keeps;
+}
+
+pub one_less_laid : (g : RegisterState) (id : ℤ) → AreLaid g → AreLaid (with_out id g)
+one_less_laid g id are = record { rising = rise_without id_of id (pos 0) g.next g.recordings are.rising; laid = each_without id_of IsLaid id g.recordings are.laid }
+
+pub all_stopped_laid : (g : RegisterState) → AreLaid g → AreLaid (all_stopped g)
+all_stopped_laid g are = record {
+  rising = rise_map id_of (pos 0) g.next restarted g.recordings (λ r. restarted_id r (is_active r)) are.rising;
+  laid = each_map IsLaid restarted g.recordings (λ r laid. laid_restarted r (is_active r) laid) are.laid;
+}
+
+-- ---- entries
+
+-- a test of what is found holds of the recording
+pub test_of : (o : Option Registration) (test : Registration → Bool) (r : Registration) → o ≡ Some r → is_of o test ≡ true → test r ≡ true
+test_of o test r found is = ap (λ (x : Option Registration). is_of x test) (sym found) ∙ is
+
+within_stream : (z term : ℤ) → is_in_stream z term ≡ true → z ≤ℤ pos (2 ^ 31 * unsigned_abs term)
+unfolding is_in_stream
+within_stream (pos p) term is = let low : p ≤ 2 ^ 31 * unsigned_abs term = grind (arith, nat_tests) in omega (arith, ints, low)
+within_stream (negsuc p) term is = absurd (true≢false (sym is))
+
+settled_further : (position : ℤ) (r : Registration) → may_settle position r ≡ true → IsLaid r → IsLaid (changed_by (changes.Settle position) r)
+settled_further position r may laid =
+    let first : ((is_active r && int_lt r.recorded position) && is_aligned position ≡ true) × (is_in_stream position r.descriptor.term_length ≡ true) = both may in
+    let second : (is_active r && int_lt r.recorded position ≡ true) × (is_aligned position ≡ true) = both first.0 in
+    let third : (is_active r ≡ true) × (int_lt r.recorded position ≡ true) = both second.0 in
+    let more : r.recorded <ℤ position = lt_true r.recorded position third.1 in
+    laid_settled position r laid (omega (arith, ints, more)) (within_stream position r.descriptor.term_length first.1)
+
+truncated_within : (position : ℤ) (r : Registration) → may_truncate position r ≡ true → IsLaid r → IsLaid (changed_by (changes.Truncate position) r)
+truncated_within position r may laid =
+    let first : (is_stopped r && is_within position r ≡ true) × (is_aligned position ≡ true) = both may in
+    let second : (is_stopped r ≡ true) × (is_within position r ≡ true) = both first.0 in
+    laid_truncated position r laid second.1
+
+-- an entry that may follow keeps recordings laid
+pub entry_laid : (g : RegisterState) (e : Entry) → IsTrue (admits g e) → AreLaid g → AreLaid (after_entry g e)
+entry_laid g (Start id f) may are =
+    let first : ((int_eq id g.next && is_in_range f) && may_begin g ≡ true) × (may_record g ≡ true) = both may in
+    let second : (int_eq id g.next && is_in_range f ≡ true) × (may_begin g ≡ true) = both first.0 in
+    let third : (int_eq id g.next ≡ true) × (is_in_range f ≡ true) = both second.0 in
+    one_more_laid g (registered id f) are ((Decides-int_eq id g.next).0 third.0) (laid_begun id f third.1)
+entry_laid g (Settle id position) may are = changed_laid g id (changes.Settle position) are (λ r found laid. settled_further position r (test_of (registration_in g id) (may_settle position) r found may) laid)
+entry_laid g (Stop id timestamp) may are = changed_laid g id (changes.Stop timestamp) are (λ r found laid. laid_stopped timestamp r laid)
+entry_laid g (Extend id session_id) may are = changed_laid g id (changes.Extend session_id) are (λ r found laid. laid_extended session_id r laid)
+entry_laid g (Truncate id position) may are = changed_laid g id (changes.Truncate position) are (λ r found laid. truncated_within position r (test_of (registration_in g id) (may_truncate position) r found may) laid)
+entry_laid g (PurgeSegments id position) may are =
+    changed_laid g id (changes.PurgeSegments position) are (λ r found laid. laid_purged position r laid (test_of (registration_in g id) (is_later_base position) r found may))
+entry_laid g (PurgeRecording id) may are = one_less_laid g id are
+entry_laid g Restart may are = all_stopped_laid g are
+
+pub entries_laid : (g : RegisterState) (es : List Entry) → AreAdmitted g es → AreLaid g → AreLaid (after_entries g es)
+entries_laid g [] admitted are = are
+entries_laid g (e ∷ es) admitted are = entries_laid (after_entry g e) es admitted.1 (entry_laid g e admitted.0.1 are)

@@ -9,4 +9,9 @@ pub mod SweepLemmas
 pub mod OpeningLemmas
 pub mod ReadLemmas
 pub mod CountLemmas
+pub mod ReplayStayLemmas
 pub mod LaidLemmas
+pub mod FoundLemmas
+pub mod OrderlyLemmas
+pub mod OrderlyCallLemmas
+pub mod OrderlyAskLemmas

@@ -75,7 +75,7 @@ edge_begun p at (f ∷ fs) (inr edge) = elim (edge_begun p (at + aligned_length 
 ]
 
 -- a position is a boundary by the start, the frames and the end
-abbrev bounds : ℤ → ℤ → List Frame → Bool
+abbrev pub bounds : ℤ → ℤ → List Frame → Bool
 bounds p start fs = int_eq p start || int_eq p (start +ℤ pos (covered fs)) || begins_at p (placed start fs)
 
 either : {a b : Bool} → a || b ≡ true → (a ≡ true) ⊎ (b ≡ true)
@@ -83,7 +83,7 @@ either {a = true} {b = b} h = inl refl
 either {a = false} {b = b} h = inr h
 
 -- boundaries are edges
-bounds_edge : (p start : ℤ) (fs : List Frame) → pos 0 ≤ℤ start → bounds p start fs ≡ true → (q : ℕ) × (p ≡ pos q) × IsEdge q (unsigned_abs start) fs
+pub bounds_edge : (p start : ℤ) (fs : List Frame) → pos 0 ≤ℤ start → bounds p start fs ≡ true → (q : ℕ) × (p ≡ pos q) × IsEdge q (unsigned_abs start) fs
 bounds_edge p (negsuc n) fs low is = absurd (omega (arith, ints))
 bounds_edge p (pos at) fs low is = elim (either is) [
   | inl ends ↦ elim (either ends) [
@@ -94,7 +94,7 @@ bounds_edge p (pos at) fs low is = elim (either is) [
 ]
 
 -- edges are boundaries
-edge_bounds : (p : ℕ) (start : ℤ) (fs : List Frame) → pos 0 ≤ℤ start → IsEdge p (unsigned_abs start) fs → bounds (pos p) start fs ≡ true
+pub edge_bounds : (p : ℕ) (start : ℤ) (fs : List Frame) → pos 0 ≤ℤ start → IsEdge p (unsigned_abs start) fs → bounds (pos p) start fs ≡ true
 edge_bounds p (negsuc n) fs low edge = absurd (omega (arith, ints))
 edge_bounds p (pos at) fs low edge = elim (edge_begun p at fs edge) [
   | inl begins ↦ or_right (int_eq (pos p) (pos at) || int_eq (pos p) (pos (at + covered fs))) _ begins

@@ -3,3 +3,5 @@ pub mod Recovery
 pub mod Moves
 pub mod Opening
 pub mod Reading
+-- Representation: what the values of src/ keep.
+pub mod Orderly

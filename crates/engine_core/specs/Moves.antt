@@ -15,7 +15,10 @@ use Rattle.segment_store.specs.declared.layout.Layout.{Layout}
 use Rattle.segment_store.specs.Layout.{file_of}
 use Rattle.segment_store.specs.Stale.{is_stale}
 use Rattle.segment_store.specs.Stored.{HoldsFrames}
+use Rattle.archive_model.specs.declared.registration.Registration.{Registration}
 use Rattle.archive_model.specs.Keyed.{Each}
+use Rattle.archive_model.specs.Register as register
+use Rattle.archive_model.specs.Register.{RegisterState}
 use Rattle.archive_model.specs.State.{Recording, State, is_active, recorded_position, register_of}
 use Rattle.archive_model.specs.WellFormed.{IsWell}
 use Rattle.catalogue_log.specs.declared.entry.Entry.{Entry}
@@ -83,6 +86,13 @@ keep_of r = keeps.Recording (layout_of r.descriptor) (recorded_position r) (is_a
 
 abbrev pub keeps_of : State → List Keep
 keeps_of s = keeps.Below s.next ∷ map keep_of s.recordings
+
+-- the same, by what the register has
+abbrev pub registered_keep : Registration → Keep
+registered_keep g = keeps.Recording (layout_of g.descriptor) g.recorded (register.is_active g)
+
+abbrev pub registered_keeps : RegisterState → List Keep
+registered_keeps g = keeps.Below g.next ∷ map registered_keep g.recordings
 
 -- no file has changed that is not stale
 pub record SparesKept (keeps : List Keep) (old new : Life) : Type 0 where

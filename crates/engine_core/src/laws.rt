@@ -1,24 +1,27 @@
 //! Laws of the definitions, each the contract of a function that does nothing.
 
-ghost use Rattle.std.specs.Prelude.{◌≡◌, ◌+◌, ◌∷◌, [], All, unsigned_abs};
+ghost use Rattle.std.specs.Prelude.{◌≡◌, ◌+◌, ◌∷◌, [], unsigned_abs};
 ghost use Rattle.disk_core.specs.DiskImage.{DiskImage, Files, MayLeave};
 ghost use Rattle.frame_core.specs.declared.block.Block.{Block};
 ghost use Rattle.frame_core.specs.Block.{covered};
 ghost use Rattle.segment_store.specs.Layout.{IsBlockIn, IsFromStart, IsLayout, file_of};
-ghost use Rattle.segment_store.specs.Stale.{IsKeep};
 ghost use Rattle.segment_store.specs.Stored.{HoldsFrames};
 ghost use Rattle.archive_model.specs.declared.command.Command.{Command};
 ghost use Rattle.archive_model.specs.Acceptance.{BookState};
 ghost use Rattle.archive_model.specs.Accepting.{Accepts};
 ghost use Rattle.archive_model.specs.Commands.{after, frames_of};
 ghost use Rattle.archive_model.specs.Keyed.{Each};
-ghost use Rattle.archive_model.specs.State.{Recording, State, recorded_position, register_of};
+ghost use Rattle.archive_model.specs.State.{Recording, State, recorded_position};
 ghost use Rattle.archive_model.specs.WellFormed.{IsWell};
 ghost use Rattle.catalogue_log.specs.History.{IsRequested, entry_of};
 ghost use Rattle.catalogue_log.specs.LogState.{LogState};
-ghost use Rattle.engine_core.specs.Moves.{Enters, Leads, Stands, keeps_of};
-ghost use Rattle.engine_core.specs.Reading.{IsLaidOut};
+ghost use Rattle.engine_core.specs.Moves.{Enters, Leads, Stands};
 ghost use Rattle.engine_core.specs.Recovery.{IsDurable, IsSound, Recovers, layout_of};
+ghost use Rattle.control_core.specs.Agreement.{Agrees};
+ghost use Rattle.control_core.specs.Changes.{desk_after};
+ghost use Rattle.control_core.specs.Decisions.{Allows};
+ghost use Rattle.control_core.specs.Desk.{DeskState};
+ghost use Rattle.engine_core.specs.Reading.{IsAtBoundary};
 
 /// Every image that a crash may leave of a sound archive recovers to its state.
 pub fn a_sound_archive_recovers()
@@ -60,9 +63,10 @@ pub fn a_block_lies_in_one_segment()
         (frames_of (block ∷ [])) }
 {}
 
-/// The recordings of a well-formed state have terms and segments in which their frames can be found, and what a sweep is
-/// told of them is as it has to be.
-pub fn well_formed_states_are_laid_out()
-    ensures recordings { (s : State) → IsWell s → Each IsLaidOut (register_of s).recordings }
-    ensures keeps { (s : State) → IsWell s → All IsKeep (keeps_of s) }
+/// While commands are accepted that the desk allows, the next position of each open replay stays a boundary of its
+/// recording.
+pub fn open_replays_stay_at_boundaries()
+    ensures { (d : DeskState) (b : BookState) (c : Command) → Agrees d b.state → IsWell b.state → Accepts b c → Allows d c →
+        Each (IsAtBoundary b.state) d.callers.replays →
+        Each (IsAtBoundary (after b.state c)) (desk_after d c).callers.replays }
 {}

@@ -3,6 +3,7 @@
 
 pub mod laws;
 mod opening;
+mod order;
 mod reading;
 mod storage;
 
