@@ -33,7 +33,7 @@ use Rattle.archive_model.specs.WellFormed.{IsKept, IsOfStream, IsWell}
 use Rattle.archive_model.proofs.StateLemmas.{each_found}
 use Rattle.catalogue_log.specs.LogState.{LogState}
 use Rattle.catalogue_log.proofs.AppendLemmas.{other_files}
-use Rattle.engine_core.specs.Moves.{Lie, Stays, keep_of, keeps_of}
+use Rattle.engine_core.specs.Moves.{Lie, SparesKept, Stays, keep_of, keeps_of}
 use Rattle.engine_core.specs.Recovery.{HoldsRecording, IsDurable, IsSound, RecoversTo, first_of, last_of, layout_of}
 use Rattle.engine_core.proofs.FrameLemmas.{bank_left, each_both, each_then, frames_left, frames_same, lie_then}
 use Rattle.engine_core.proofs.WriteLemmas.{natural}
@@ -157,9 +157,13 @@ recordings_fresh s well =
 other_than : (keeps : List Keep) (this file : FileId) → is_stale keeps this ≡ true → is_stale keeps file ≡ false → file ≢ this
 other_than keeps this file stale fresh same = true≢false (sym stale ∙ ap (is_stale keeps) (sym same) ∙ fresh)
 
-pub fresh_kept : (keeps : List Keep) (old new : Life) → IsQuiet old new ⊎ ((file : FileId) × SweepsAtMost keeps file old new) → (file : FileId) → is_stale keeps file ≡ false → new.now file ≡ old.now file
+fresh_kept : (keeps : List Keep) (old new : Life) → IsQuiet old new ⊎ ((file : FileId) × SweepsAtMost keeps file old new) → (file : FileId) → is_stale keeps file ≡ false → new.now file ≡ old.now file
 fresh_kept keeps old new (inl quiet) file fresh = ap (λ (files : Files). files file) quiet.now
 fresh_kept keeps old new (inr swept) file fresh = swept.1.touches.changes.others file (other_than keeps swept.0 file swept.1.stale fresh)
+
+pub spares_kept : (keeps : List Keep) (old new : Life) → IsQuiet old new ⊎ ((file : FileId) × SweepsAtMost keeps file old new) → SparesKept keeps old new
+spares_kept keeps old new (inl quiet) = record { same = fresh_kept keeps old new (inl quiet); obeyed = quiet.obeyed; faults = quiet.faults }
+spares_kept keeps old new (inr swept) = record { same = fresh_kept keeps old new (inr swept); obeyed = swept.1.touches.changes.obeyed; faults = swept.1.touches.changes.faults }
 
 -- an archive to whose kept files nothing happened stays with its state
 

@@ -1,5 +1,5 @@
 -- What an operation on the files of an archive did: docs/STORAGE.md, "Recovery".
-use Rattle.std.specs.Prelude.{◌≡◌, ◌≢◌, ◌+◌, ◌<◌, ◌≤◌, ℕ, IsTrue, List, [], ◌∷◌, map, Result, Ok, Err}
+use Rattle.std.specs.Prelude.{◌≡◌, ◌≢◌, ◌+◌, ◌<◌, ◌≤◌, ℕ, false, IsTrue, List, [], ◌∷◌, map, Result, Ok, Err}
 use Rattle.frame_core.specs.declared.refusal.Refusal.{Refusal}
 use Rattle.frame_core.specs.declared.refusal.Refusal.TheVariants.{DeviceFault, NoMemory}
 use Rattle.frame_core.specs.declared.frame.Frame.{Frame}
@@ -13,6 +13,7 @@ use Rattle.segment_store.specs.declared.keep.Keep.{Keep}
 use Rattle.segment_store.specs.declared.keep.Keep.TheVariants as keeps
 use Rattle.segment_store.specs.declared.layout.Layout.{Layout}
 use Rattle.segment_store.specs.Layout.{file_of}
+use Rattle.segment_store.specs.Stale.{is_stale}
 use Rattle.segment_store.specs.Stored.{HoldsFrames}
 use Rattle.archive_model.specs.declared.registration.Registration.{Registration}
 use Rattle.archive_model.specs.Keyed.{Each}
@@ -92,3 +93,9 @@ registered_keep g = keeps.Recording (layout_of g.descriptor) g.recorded (registe
 
 abbrev pub registered_keeps : RegisterState → List Keep
 registered_keeps g = keeps.Below g.next ∷ map registered_keep g.recordings
+
+-- no file has changed that is not stale
+pub record SparesKept (keeps : List Keep) (old new : Life) : Type 0 where
+  pub same : (file : FileId) → is_stale keeps file ≡ false → new.now file ≡ old.now file
+  pub obeyed : IsTrue new.obeys → IsTrue old.obeys
+  pub faults : old.faults ≤ new.faults
