@@ -17,5 +17,6 @@ mod PollLemmas
 mod BoundaryLemmas
 mod StayLemmas
 mod CommandLemmas
+mod WriteLemmas
 mod ConsistentLemmas
 mod ExactLemmas
