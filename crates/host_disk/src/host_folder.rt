@@ -176,16 +176,17 @@ impl Folder for HostFolder {
     }
 
     fn remove(&mut self, file: FileId) -> Result<(), Fault> {
-        self.open_files.close(file);
         if self.name(file).is_err() {
             self.record = self.record.then(&Note::RemoveFailed(file));
             return Err(Fault);
         }
+        self.open_files.close(file);
         self.names.remove(
             &self.rt,
             file,
             self.folder_path.as_str(),
             self.path.as_str(),
+            &self.open_files,
             &mut self.record,
         )
     }

@@ -95,9 +95,10 @@ impl OpenFiles {
 
     /// Closes a file, if it is held open. The others stay open.
     pub(crate) fn close(&mut self, file: FileId)
+        ensures gone { ¬ Contains (held self.new) file }
         ensures others { KeepsOthers file self.old self.new }
     {
-        if let Some(place) = self.place_of(file) {
+        while let Some(place) = self.place_of(file) {
             self.entries.remove(place);
         }
     }

@@ -5,6 +5,7 @@
 //! tests. Which file a call is of, under which path, which files stay open and what is asked after a
 //! failure is decided elsewhere, and proved.
 ghost use Rattle.std.specs.Prelude.{◌≡◌, ◌≤◌, ◌++◌, ◌∷◌, length, IfOk, MatchResult, IsTrue};
+ghost use Rattle.std.specs.List.{Contains};
 ghost use Rattle.std.specs.List.Sorted.{IsStrictlySortedBy};
 ghost use Rattle.disk_core.specs.FileNames.{file_cmp, name_of};
 ghost use Rattle.host_disk.specs.Places.{IsFoundOf};
@@ -12,6 +13,7 @@ ghost use Rattle.host_disk.specs.Events.{measured, gave, wrote, write_failed, cu
 
 use crate::OpenFault;
 use crate::file_names::file_named;
+use crate::open_files::OpenFiles;
 use crate::record::{Note, Record};
 use disk_core::{Fault, FileId, ListFault};
 use std::alloc::{AllocError, Global};
@@ -54,6 +56,8 @@ pub(crate) struct Names {
 }
 
 impl Names {
+    ghost use Rattle.host_disk.specs.OpenFiles.{held};
+
     /// Locks a folder. `Busy` where another opening of it has the lock.
     pub(crate) fn lock(folder: File) -> Result<Names, OpenFault> {
         match folder.metadata() {
@@ -104,16 +108,19 @@ impl Names {
         })
     }
 
-    /// Removes a file, if it is there. The path is the folder's with the file's name behind it.
+    /// Removes a file, if it is there, which is not held open: what is made under its name later is another
+    /// file. The path is the folder's with the file's name behind it.
     pub(crate) fn remove(
         &mut self,
         rt: &HostRuntime,
         file: FileId,
         folder: &str,
         path: &str,
+        open_files: &OpenFiles,
         notes: &mut Record,
     ) -> Result<(), Fault>
-        requires { path.now ≡ folder.now ++ name_of file }
+        requires named { path.now ≡ folder.now ++ name_of file }
+        requires closed { ¬ Contains (held open_files.now) file }
         ensures { MatchResult result
             (λ _. notes.new.events ≡ gone file ∷ notes.old.events)
             (λ _. notes.new.events ≡ remove_failed file ∷ notes.old.events) }

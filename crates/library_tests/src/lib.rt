@@ -13,6 +13,8 @@ mod desks;
 #[cfg(test)]
 mod disks;
 #[cfg(test)]
+mod folders;
+#[cfg(test)]
 mod frames;
 #[cfg(test)]
 mod images;
