@@ -21,3 +21,8 @@ pub mod WrittenLemmas
 pub mod MakeLemmas
 pub mod AskLemmas
 pub mod InsideLemmas
+pub mod WritingLemmas
+pub mod WriteCallLemmas
+pub mod ReplayLemmas
+pub mod NewLemmas
+pub mod RunLemmas

@@ -104,7 +104,7 @@ begins_behind d s r o w there has is =
     (Decides-int_eq w.first (next_position d s)).0 is ∙ ap (λ (x : Option Written). written_to x (recorded_of (registration_in d.register s.recording))) has
     ∙ ap (λ (x : Option Registration). written_to o (recorded_of x)) there
 
-nothing_written : (o : Option Written) → not (is_some o) ≡ true → o ≡ None
+pub nothing_written : (o : Option Written) → not (is_some o) ≡ true → o ≡ None
 nothing_written None is = refl
 nothing_written (Some w) is = absurd (true≢false (sym is))
 

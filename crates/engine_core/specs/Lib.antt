@@ -5,8 +5,11 @@ pub mod Calls
 pub mod Opened
 pub mod Opening
 pub mod Reading
+pub mod Engine
 -- what only private functions say
 pub mod Moves
 pub mod Making
+pub mod Writing
 -- Representation: what the values of src/ keep.
 pub mod Orderly
+pub mod OrderlyProps

@@ -1,6 +1,6 @@
 //! The files of an archive, opened or made anew: docs/STORAGE.md, "Opening" and "Recovery".
 
-ghost use Rattle.std.specs.Prelude.{◌≡◌, ◌⊎◌, ◌<◌, ◌↔◌, ℤ, IfErr, IfOk, IsErrOf, IsSome, IsTrue, OnOk, None};
+ghost use Rattle.std.specs.Prelude.{◌≡◌, ◌⊎◌, ◌<◌, ◌↔◌, ℕ, ℤ, IfErr, IfOk, IsErrOf, IsSome, IsTrue, OnOk, None};
 ghost use Rattle.frame_core.specs.declared.refusal.Refusal.TheVariants.{BadParameter, DeviceFault, NoMemory};
 ghost use Rattle.disk_core.specs.declared.file_id.FileId.{FileId};
 ghost use Rattle.disk_core.specs.declared.file_id.FileId.TheVariants.{Segment};
@@ -11,6 +11,8 @@ ghost use Rattle.archive_model.specs.Register.{no_recordings};
 ghost use Rattle.catalogue_log.specs.Catalogue.{RefusesCatalogue};
 ghost use Rattle.catalogue_log.specs.Fold.{AreAdmitted};
 ghost use Rattle.engine_core.specs.Opening.{IsMadeIn, ReadsAsBefore, RefusesNew, SyncsOnly};
+ghost use Rattle.control_core.specs.Desk.{opened_desk};
+ghost use Rattle.engine_core.specs.Orderly.{IsOrderly};
 ghost use Rattle.engine_core.specs.Recovery.{Folds, IsSound, Recovers};
 
 use archive_model::Register;
@@ -38,6 +40,9 @@ pub(crate) fn read_parts<D: Disk>(alloc: Global, disk: &mut D) -> Result<Parts, 
     ensures sound { IfOk result (λ parts. IsTrue (D.life disk.new).obeys → (x : State) →
         Recovers (reads (D.life disk.old).now) x →
         IsSound (D.life disk.new).now parts.log x × (parts.register.state ≡ register_of x)) }
+    // Whatever the disk does, a desk of the register is orderly.
+    ensures orderly { IfOk result (λ parts. (counted limit : ℕ) →
+        IsOrderly (opened_desk parts.register.state counted limit)) }
     ensures refused { IfErr result (λ refusal. IsTrue (D.life disk.new).obeys →
         RefusesCatalogue (reads (D.life disk.old).now) refusal) }
     ensures whole { IfErr result (λ refusal. IsTrue (D.life disk.new).obeys → (x : State) →
@@ -78,6 +83,7 @@ pub(crate) fn create<D: Disk>(
 ) -> Result<Log, Refusal>
     ensures sound { IfOk result (λ log. IsSound (D.life disk.new).now log empty) }
     ensures header { IfOk result (λ log. log.header ≡ record { history_limit = history_limit; epoch = 1 }) }
+    ensures counted { IfOk result (λ log. log.counted ≡ 0) }
     ensures made { OnOk result (IsMadeIn (D.life disk.old) (D.life disk.new) history_limit) }
     ensures segments { (recording base : ℤ) →
         (D.life disk.new).now (Segment recording base) ≡ (D.life disk.old).now (Segment recording base) }

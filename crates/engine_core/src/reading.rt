@@ -1,6 +1,6 @@
 //! What is read of a recording's frames. docs/CONTROL.md, "Replays"; docs/STORAGE.md, "Boundaries" and "Damaged frames".
 
-ghost use Rattle.std.specs.Prelude.{◌≡◌, ◌+ℤ◌, ◌<ℤ◌, ◌^◌, pos, false, length, IfOk, IfErr, IsErrOf, IsTrue, unsigned_abs};
+ghost use Rattle.std.specs.Prelude.{◌≡◌, ◌+ℤ◌, ◌<ℤ◌, ◌≤ℤ◌, ◌^◌, pos, false, length, IfOk, IfErr, IsErrOf, IsTrue, unsigned_abs};
 ghost use Rattle.frame_core.specs.declared.refusal.Refusal.TheVariants.{DeviceFault, NoMemory};
 ghost use Rattle.frame_core.specs.Block.{covered};
 ghost use Rattle.disk_core.specs.DiskImage.{reads};
@@ -18,7 +18,7 @@ ghost use Rattle.engine_core.specs.Recovery.{layout_of};
 use archive_model::{Descriptor, PolledFrame, Registration};
 use control_core::OpenReplay;
 use disk_core::Disk;
-use frame_core::{Frame, Geometry, Items, Refusal};
+use frame_core::{Frame, Items, Refusal};
 use replay_core::{Replay, Store};
 use segment_store::{Layout, is_boundary, read_frame};
 use std::alloc::{AllocError, Global};
@@ -45,17 +45,6 @@ pub(crate) fn layout_of(descriptor: &Descriptor) -> Layout
     }
 }
 
-/// The terms of a recording's stream.
-pub(crate) fn geometry_of(descriptor: &Descriptor) -> Geometry
-    ensures { result ≡ geometry_of descriptor.now }
-{
-    Geometry {
-        initial_term_id: descriptor.initial_term_id,
-        term_length: descriptor.term_length,
-        mtu: descriptor.mtu,
-    }
-}
-
 /// Whether a frame of the recording begins at a position that is neither its start nor its recorded position.
 ///
 /// `Damaged` where the frames break off before the position; `DeviceFault`. The disk stays as it is. Costs a step for each
@@ -79,7 +68,7 @@ pub(crate) fn begins_at<D: Disk>(
     is_boundary(
         disk,
         &layout_of(descriptor),
-        &geometry_of(descriptor),
+        &descriptor.geometry(),
         registration.recorded,
         position,
     )
@@ -103,6 +92,7 @@ pub(crate) fn poll<D: Disk>(
         IsTrue (is_boundary replay.now.next r) →
         IfOk result (λ given. given.frames ≡ polled replay.now.next replay.now.bound (unsigned_abs most) r) }
     ensures next { IfOk result (λ given. given.next ≡ frames_end replay.now.next given.frames) }
+    ensures forward { IfOk result (λ given. replay.now.next ≤ℤ given.next) }
     ensures boundary { (r : Recording) → IsRead (D.life disk.old) (D.life disk.new) registration.now r →
         IsTrue (is_boundary replay.now.next r) → IfOk result (λ given. IsTrue (is_boundary given.next r)) }
     ensures outside { (r : Recording) → IsRead (D.life disk.old) (D.life disk.new) registration.now r →
@@ -121,7 +111,7 @@ pub(crate) fn poll<D: Disk>(
     let mut store = Store {
         disk,
         layout: layout_of(&registration.descriptor),
-        geometry: geometry_of(&registration.descriptor),
+        geometry: registration.descriptor.geometry(),
     };
     let asked = most.unsigned_abs() as usize;
     let frames = reader.poll(alloc, &mut store, registration.recorded, asked)?;
@@ -174,7 +164,7 @@ pub(crate) fn count_frames<D: Disk>(
     ensures cause { IsErrOf result DeviceFault → HasFailed (D.life disk.old) (D.life disk.new) }
 {
     let layout = layout_of(&registration.descriptor);
-    let geometry = geometry_of(&registration.descriptor);
+    let geometry = registration.descriptor.geometry();
     let recorded = registration.recorded;
     let mut at = layout.start_position;
     let mut count = 0;

@@ -42,6 +42,10 @@ returns-clause-next g c =
     let same : to_z w64 (of_z w64 c.poll.new.self.next) ≡ next +ℤ pos (covered frames) = search rules in
     same ∙ sym (placed_end next frames) ∙ ap (frames_end next) (sym given)
 
+pub returns-clause-forward : goal.returns-clause-forward
+returns-clause-forward g c =
+    let back : to_z w64 (of_z w64 c.poll.new.self.next) ≡ c.poll.new.self.next = search rules in omega (arith, ints, back, c.in_ok-frames.ensures.onwards)
+
 pub returns-clause-boundary : goal.returns-clause-boundary
 returns-clause-boundary g c r read at =
     let d = c.args.registration.now.descriptor in

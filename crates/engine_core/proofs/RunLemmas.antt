@@ -1,0 +1,89 @@
+-- Calls one after another.
+use Rattle.std.proofs.Common.{◌≡◌, ◌∙◌, ◌++◌, ◌+◌, ◌<◌, inl, inr, sym, ap, subst, refl, ℕ, zero, suc, List, [], ◌∷◌, length, take, get_or, arith}
+use Rattle.std.specs.Prelude.{Result, Ok, Err}
+use Rattle.frame_core.specs.declared.refusal.Refusal.{Refusal}
+use Rattle.frame_core.specs.declared.refusal.Refusal.TheVariants.{DeviceFault, NoMemory}
+use Rattle.disk_core.specs.DiskImage.{DiskImage, MayLeave}
+use Rattle.disk_core.specs.Life.{Life}
+use Rattle.disk_core.proofs.CallerLemmas.{goes_on_part, started, weaker}
+use Rattle.archive_model.specs.declared.reply.Reply.{Reply}
+use Rattle.archive_model.specs.State.{State}
+use Rattle.catalogue_log.specs.LogState.{LogState}
+use Rattle.control_core.specs.declared.event.Event.{Event}
+use Rattle.control_core.specs.Desk.{DeskState}
+use Rattle.control_core.specs.Exact.{Archive, CallEnds}
+use Rattle.engine_core.specs.Calls.{Call, Ended, Ran, Run, Stood, calls_of}
+use Rattle.engine_core.specs.Consistent.{IsConsistent, MayStand, MayStandIn}
+use Rattle.engine_core.specs.Recovery.{RecoversTo}
+use Rattle.engine_core.proofs.EndedLemmas.{recovers_as}
+
+-- of a fault nothing more is asked
+pub call_weaker : (a : Archive) (event : Event) (F : Type 0) (outcome : Result Reply Refusal) (b : Archive) → CallEnds a event F outcome b → CallEnds a event (Unit {0}) outcome b
+call_weaker a event F (Ok reply) b ends = ends
+call_weaker a event F (Err NoMemory) b ends = ends
+call_weaker a event F (Err DeviceFault) b ends = elim ends [ | inl exact ↦ inl exact | inr out ↦ inr (tt, out.1) ]
+call_weaker a event F (Err refusal) b ends = ends
+
+-- ---- no call yet
+
+stood_first : (a : Archive) (calls : List Call) (x : State) → MayStand a x → Stood a calls x
+stood_first a calls x stands = record { front = []; back = calls; split = refl; mid = a; run = refl; stands = stands }
+
+pub ran_none : (life : Life) (log : LogState) (desk : DeskState) (a : Archive) → IsConsistent life log desk a → Ran life life log desk a []
+ran_none life log desk a was = record {
+  after = a;
+  run = refl;
+  consistent = was;
+  any_moment = started life (RecoversTo (Stood a [])) (λ image left. recovers_as (MayStand a) (Stood a []) image (stood_first a []) (was.images image left));
+}
+
+-- ---- one call more
+
+run_more : (a b c : Archive) (calls : List Call) (call : Call) → Run a calls b → CallEnds b call.0 (Unit {0}) call.1 c → Run a (calls ++ call ∷ []) c
+run_more a b c [] call run ends = (c, subst (λ (x : Archive). CallEnds x call.0 (Unit {0}) call.1 c) run ends, refl)
+run_more a b c (first ∷ calls) call run ends = (run.0, run.1, run_more run.0 b c calls call run.2 ends)
+
+append_more : {X : Type 0} (xs ys zs : List X) → (xs ++ ys) ++ zs ≡ xs ++ (ys ++ zs)
+append_more [] ys zs = refl
+append_more (x ∷ xs) ys zs = ap (λ (l : List _). x ∷ l) (append_more xs ys zs)
+
+append_none : {X : Type 0} (xs : List X) → xs ≡ xs ++ []
+append_none [] = refl
+append_none (x ∷ xs) = ap (λ (l : List _). x ∷ l) (append_none xs)
+
+stood_more : (a : Archive) (calls more : List Call) (x : State) → Stood a calls x → Stood a (calls ++ more) x
+stood_more a calls more x stood = record {
+  front = stood.front;
+  back = stood.back ++ more;
+  split = ap (λ (l : List Call). l ++ more) stood.split ∙ append_more stood.front stood.back more;
+  mid = stood.mid;
+  run = stood.run;
+  stands = stood.stands;
+}
+
+-- a state that stood after all of them
+stood_last : (a b : Archive) (calls : List Call) (x : State) → Run a calls b → MayStand b x → Stood a calls x
+stood_last a b calls x run stands = record { front = calls; back = []; split = append_none calls; mid = b; run = run; stands = stands }
+
+pub ran_more : (old mid new : Life) (log new_log : LogState) (desk new_desk : DeskState) (a : Archive) (calls : List Call) (event : Event) (outcome : Result Reply Refusal) → Ran old mid log desk a calls
+    → ((b : Archive) → IsConsistent mid log desk b → Ended mid new new_log new_desk b (λ c. CallEnds b event (Unit {0}) outcome c)) → Ran old new new_log new_desk a (calls ++ (event, outcome) ∷ [])
+ran_more old mid new log new_log desk new_desk a calls event outcome ran step = record {
+  after = ended.after;
+  run = run;
+  consistent = ended.consistent;
+  any_moment = goes_on_part old mid new (RecoversTo (Stood a more)) (RecoversTo (MayStandIn ran.after ended.after))
+      (weaker old mid (RecoversTo (Stood a more)) (RecoversTo (Stood a calls)) ran.any_moment (λ image. recovers_as (Stood a calls) (Stood a more) image (λ x. stood_more a calls ((event, outcome) ∷ []) x)))
+      ended.any_moment (λ image. recovers_as (MayStandIn ran.after ended.after) (Stood a more) image stands);
+}
+  where
+    ended : Ended mid new new_log new_desk ran.after (λ c. CallEnds ran.after event (Unit {0}) outcome c)
+    ended = step ran.after ran.consistent
+
+    more : List Call
+    more = calls ++ (event, outcome) ∷ []
+
+    run : Run a more ended.after
+    run = run_more a ran.after ended.after calls (event, outcome) ran.run ended.ends
+
+    stands : (x : State) → MayStandIn ran.after ended.after x → Stood a more x
+    stands x is = elim is [ | inl before ↦ stood_more a calls ((event, outcome) ∷ []) x (stood_last a ran.after calls x ran.run before) | inr after ↦ stood_last a ended.after more x run after ]
