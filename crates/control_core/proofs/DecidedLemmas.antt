@@ -229,7 +229,7 @@ pub record IsSettled (d : DeskState) (number id : ℤ) (w : Written) : Type 0 wh
   pub written : session.written ≡ Some w
   pub recording : session.recording ≡ id
 
-settling_session : (d : DeskState) (number id : ℤ) (w : Written) (found : Option RecorderSession) → session_in d number ≡ found → settling_of d found ≡ settling.Blocks id w → IsSettled d number id w
+pub settling_session : (d : DeskState) (number id : ℤ) (w : Written) (found : Option RecorderSession) → session_in d number ≡ found → settling_of d found ≡ settling.Blocks id w → IsSettled d number id w
 settling_session d number id w None is e = absurd cc
 settling_session d number id w (Some s) is e = by s.written refl e
   where

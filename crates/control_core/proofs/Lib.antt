@@ -17,6 +17,6 @@ pub mod PollLemmas
 mod BoundaryLemmas
 mod StayLemmas
 mod CommandLemmas
-mod WriteLemmas
+pub mod WriteLemmas
 mod ConsistentLemmas
 pub mod ExactLemmas

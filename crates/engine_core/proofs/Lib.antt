@@ -23,6 +23,8 @@ pub mod AskLemmas
 pub mod InsideLemmas
 pub mod WritingLemmas
 pub mod WriteCallLemmas
+pub mod SettlingLemmas
+pub mod SettleCallLemmas
 pub mod ReplayLemmas
 pub mod NewLemmas
 pub mod RunLemmas

@@ -1,5 +1,5 @@
 -- How a command is made.
-use Rattle.std.proofs.Common.{◌≡◌, ◌∙◌, ◌+◌, ◌<◌, sym, ap, subst, refl, ℕ, false, true≢false, IsTrue, Option, Some, None, inl, ℤ, arith, cond}
+use Rattle.std.proofs.Common.{◌≡◌, ◌∙◌, ◌+◌, ◌<◌, sym, ap, subst, refl, ℕ, false, true≢false, IsTrue, Option, Some, None, inl, arith, cond}
 use Rattle.std.specs.Prelude.{Result, Ok, Err, is_some}
 use Rattle.frame_core.specs.declared.refusal.Refusal.{Refusal}
 use Rattle.frame_core.specs.declared.refusal.Refusal.TheVariants.{DeviceFault, NoMemory}
@@ -27,9 +27,9 @@ use Rattle.control_core.specs.Seats.{KeepsSeats}
 use Rattle.control_core.proofs.AgreementLemmas.{agrees}
 use Rattle.control_core.proofs.AllowedLemmas.{room_of}
 use Rattle.engine_core.specs.Calls.{CommitEnds, Ended}
-use Rattle.engine_core.specs.Consistent.{Counts, IsConsistent}
+use Rattle.engine_core.specs.Consistent.{AreWritten, Counts, IsConsistent}
 use Rattle.engine_core.specs.Making.{after_failure}
-use Rattle.engine_core.specs.Moves.{HasRoom, Leads, Moves}
+use Rattle.engine_core.specs.Moves.{HasRoom, KeepsSegments, Leads, Moves}
 use Rattle.engine_core.specs.Recovery.{IsEither, IsSound, RecoversTo}
 use Rattle.engine_core.proofs.EndedLemmas.{IsReady, done, failed, recovers_as, untouched}
 use Rattle.engine_core.proofs.StayLemmas.{leads}
@@ -118,8 +118,13 @@ has_written a (commands.PurgeSegments id position) made = tt
 has_written a (commands.PurgeRecording id) made = tt
 has_written a commands.Restart made = tt
 
-segments_same : (old new : Life) → ChangesBank old new → (id base : ℤ) → reads new.now (Segment id base) ≡ reads old.now (Segment id base)
-segments_same old new changes id base = ap (λ (f : FileState). f.reads) (changes.others (Segment id base) (λ is. absurd cc))
+-- no more than the bank of the catalogue has changed
+pub bank_keeps : (old new : Life) → ChangesBank old new → KeepsSegments old new
+bank_keeps old new changes = record { same = λ file other. ap (λ (f : FileState). f.reads) (changes.others file other); obeyed = changes.obeyed; faults = changes.faults }
+
+-- what sessions wrote is read as before
+pub written_stays : (old new : Life) (a : Archive) → KeepsSegments old new → AreWritten (reads old.now) a.state a.desk.callers a.blocks → AreWritten (reads new.now) a.state a.desk.callers a.blocks
+written_stays old new a keeps = hold_on (reads old.now) (reads new.now) a.state a.desk.callers a.blocks (λ id base. keeps.same (Segment id base) (λ is. absurd cc))
 
 -- what holds as a command is to be made
 pub record MayMake (life : Life) (log : LogState) (desk : DeskState) (a : Archive) (c : Command) : Type 0 where
@@ -142,7 +147,7 @@ made_ready old new log new_log desk new_desk a c may changes header counted is =
       agrees = agrees a.desk (book_of a) c may.was.agrees (has_written a c may.is_made) may.was.well may.accepts;
       works = desk_works a c may.is_made ∙ may.works;
       doubt = none;
-      written = made_written (reads new.now) a c may.seats may.was.agrees may.was.well may.accepts may.is_made (hold_on (reads old.now) (reads new.now) a.state a.desk.callers a.blocks (segments_same old new changes) may.was.written);
+      written = made_written (reads new.now) a c may.seats may.was.agrees may.was.well may.accepts may.is_made (written_stays old new a (bank_keeps old new changes) may.was.written);
       reading = λ obeys. replays_stay a.desk (book_of a) c may.was.agrees may.was.well may.accepts may.allows (may.was.reading (changes.obeyed obeys));
     }
 
@@ -151,18 +156,6 @@ pub made_done : (old new : Life) (log new_log : LogState) (desk new_desk : DeskS
     → Ended old new new_log new_desk a (CommitEnds a reply (archive_after a c) faulted (Ok reply))
 made_done old new log new_log desk new_desk a c reply faulted may changes header counted is moves =
     done old new new_log new_desk a (archive_after a c) (CommitEnds a reply (archive_after a c) faulted (Ok reply)) moves.any_moment moves.rests (made_ready old new log new_log desk new_desk a c may changes header counted is) (refl, refl)
-
--- the archive as it was, where no more than the bank of the catalogue changed
-as_before : (old new : Life) (log new_log : LogState) (desk new_desk : DeskState) (a : Archive) → IsConsistent old log desk a → a.doubt ≡ None → a.desk.is_broken ≡ false → new_log ≡ log → new_desk ≡ desk → ChangesBank old new → IsReady new new_log new_desk a
-as_before old new log new_log desk new_desk a was none works same_log same changes = record {
-  history = subst (λ (l : LogState). Counts l new_desk) (sym same_log) (subst (Counts log) (sym same) (was.history none));
-  desk_is = same ∙ was.desk_is;
-  agrees = was.agrees;
-  works = works;
-  doubt = none;
-  written = hold_on (reads old.now) (reads new.now) a.state a.desk.callers a.blocks (segments_same old new changes) was.written;
-  reading = λ obeys. was.reading (changes.obeyed obeys);
-}
 
 -- what the commit of its entry did
 pub entered : (result : Result (Unit {0}) Refusal) (old new : Life) (log new_log : LogState) (desk : DeskState) (a : Archive) (c : Command) (e : Entry) → MayMake old log desk a c → e ≡ entry_of a.state c
@@ -175,19 +168,38 @@ entered result old new log new_log desk a c e may is moves =
 pub entry_counted : (log new_log : LogState) (a : Archive) (c : Command) (e : Entry) → e ≡ entry_of a.state c → new_log.counted ≡ log.counted + (cond (counts e) 1 0) → new_log.counted ≡ log.counted + (cond (counts (entry_of a.state c)) 1 0)
 entry_counted log new_log a c e is counted = subst (λ (x : Entry). new_log.counted ≡ log.counted + (cond (counts x) 1 0)) is counted
 
--- it was refused
-pub made_failed : (old new : Life) (log new_log : LogState) (desk new_desk : DeskState) (a : Archive) (c : Command) (reply : Reply) (refusal : Refusal) (faulted : Type 0) → MayMake old log desk a c → ChangesBank old new
-    → (refusal ≡ NoMemory → new_log ≡ log) → (refusal ≡ DeviceFault → faulted) → new_desk ≡ after_failure refusal desk → Moves old new new_log a.state (after a.state c) (Err refusal)
-    → Ended old new new_log new_desk a (CommitEnds a reply (archive_after a c) faulted (Err refusal))
-made_failed old new log new_log desk new_desk a c reply NoMemory faulted may changes memory cause is moves =
-    let none = no_doubt old log desk a may.was may.works in
-    let any = weaker old new (RecoversTo (IsEither a.state a.state)) (RecoversTo (λ x. x ≡ a.state)) moves.rests.1 (λ image. recovers_as (λ x. x ≡ a.state) (IsEither a.state a.state) image (λ s same. inl same)) in
-    done old new new_log new_desk a a (CommitEnds a reply (archive_after a c) faulted (Err NoMemory)) any moves.rests.0 (as_before old new log new_log desk new_desk a may.was none may.works (memory refl) is changes) refl
-made_failed old new log new_log desk new_desk a c reply DeviceFault faulted may changes memory cause is moves =
-    failed old new new_log new_desk a (after a.state c) (CommitEnds a reply (archive_after a c) faulted (Err DeviceFault)) may.was.well may.was.agrees moves.any_moment moves.frames
-    (is ∙ ap (λ (d : DeskState). after_failure DeviceFault d) may.was.desk_is)
-    (hold_on (reads old.now) (reads new.now) a.state a.desk.callers a.blocks (segments_same old new changes) may.was.written) (λ obeys. may.was.reading (changes.obeyed obeys)) (cause refl, refl)
-made_failed old new log new_log desk new_desk a c reply refusal faulted may changes memory cause is moves = absurd moves.rests
+-- ---- an entry was refused
+
+module _ (old new : Life) (log new_log : LogState) (desk new_desk : DeskState) (a : Archive) (was : IsConsistent old log desk a) (works : a.desk.is_broken ≡ false) (keeps : KeepsSegments old new) where
+  -- the archive is as it was
+  as_before : new_log ≡ log → new_desk ≡ desk → IsReady new new_log new_desk a
+  as_before same_log same =
+      let none = no_doubt old log desk a was works in
+      record {
+        history = subst (λ (l : LogState). Counts l new_desk) (sym same_log) (subst (Counts log) (sym same) (was.history none));
+        desk_is = same ∙ was.desk_is;
+        agrees = was.agrees;
+        works = works;
+        doubt = none;
+        written = written_stays old new a keeps was.written;
+        reading = λ obeys. was.reading (keeps.obeyed obeys);
+      }
+
+  refused : (b : Archive) (reply : Reply) (faulted : Type 0) (refusal : Refusal) → (refusal ≡ NoMemory → new_log ≡ log) → (refusal ≡ DeviceFault → faulted) → new_desk ≡ after_failure refusal desk
+      → Moves old new new_log a.state b.state (Err refusal) → Ended old new new_log new_desk a (CommitEnds a reply b faulted (Err refusal))
+  refused b reply faulted NoMemory memory cause is moves =
+      let any = weaker old new (RecoversTo (IsEither a.state a.state)) (RecoversTo (λ x. x ≡ a.state)) moves.rests.1 (λ image. recovers_as (λ x. x ≡ a.state) (IsEither a.state a.state) image (λ s same. inl same)) in
+      done old new new_log new_desk a a (CommitEnds a reply b faulted (Err NoMemory)) any moves.rests.0 (as_before (memory refl) is) refl
+  refused b reply faulted DeviceFault memory cause is moves =
+      failed old new new_log new_desk a b.state (CommitEnds a reply b faulted (Err DeviceFault)) was.well was.agrees moves.any_moment moves.frames
+      (is ∙ ap (λ (d : DeskState). after_failure DeviceFault d) was.desk_is) (written_stays old new a keeps was.written) (λ obeys. was.reading (keeps.obeyed obeys)) (cause refl, refl)
+  refused b reply faulted refusal memory cause is moves = absurd moves.rests
+
+  -- as the caller is told it
+  pub commit_failed : (b : Archive) (reply : Reply) (faulted : Type 0) (refusal told : Refusal) → told ≡ refusal → (refusal ≡ NoMemory → new_log ≡ log) → (refusal ≡ DeviceFault → faulted) → new_desk ≡ after_failure refusal desk
+      → Moves old new new_log a.state b.state (Err refusal) → Ended old new new_log new_desk a (CommitEnds a reply b faulted (Err told))
+  commit_failed b reply faulted refusal told same memory cause is moves =
+      subst (λ (r : Refusal). Ended old new new_log new_desk a (CommitEnds a reply b faulted (Err r))) (sym same) (refused b reply faulted refusal memory cause is moves)
 
 -- there was no memory, and nothing has changed
 pub unmade : (life : Life) (log : LogState) (desk new_desk : DeskState) (a : Archive) (reply : Reply) (b : Archive) (faulted : Type 0) (outcome : Result Reply Refusal) → IsConsistent life log desk a → new_desk ≡ desk → outcome ≡ Err NoMemory

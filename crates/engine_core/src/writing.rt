@@ -1,10 +1,13 @@
 //! What recorder sessions write. docs/CONTROL.md, "Recorder sessions"; docs/STORAGE.md, "Segments".
 
-ghost use Rattle.std.specs.Prelude.{◌≡◌, IsTrue, MatchOption};
+ghost use Rattle.std.specs.Prelude.{◌≡◌, IsTrue, MatchOption, Ok};
 ghost use Rattle.disk_core.specs.Life.{HasFailed};
+ghost use Rattle.archive_model.specs.declared.reply.Reply.TheVariants as replies;
 ghost use Rattle.control_core.specs.declared.event.Event.TheVariants as events;
-ghost use Rattle.control_core.specs.Exact.{Archive};
-ghost use Rattle.engine_core.specs.Calls.{Ended, EndsAs};
+ghost use Rattle.control_core.specs.declared.turns.Settling.TheVariants.{Blocks};
+ghost use Rattle.control_core.specs.Exact.{Archive, settled_archive};
+ghost use Rattle.control_core.specs.Turns.{settle_decision};
+ghost use Rattle.engine_core.specs.Calls.{CommitEnds, Ended, EndsAs};
 ghost use Rattle.engine_core.specs.Consistent.{IsConsistent};
 ghost use Rattle.engine_core.specs.Orderly.{IsOrderly};
 ghost use Rattle.engine_core.specs.Writing.{HasNoTarget, IsTarget};
@@ -12,7 +15,8 @@ ghost use Rattle.engine_core.specs.Writing.{HasNoTarget, IsTarget};
 use crate::parts::{Parts, failed};
 use crate::reading::layout_of;
 use archive_model::Reply;
-use control_core::{Desk, Written, decide_write};
+use catalogue_log::Entry;
+use control_core::{Desk, Settling, Written, decide_settle, decide_write};
 use disk_core::Disk;
 use frame_core::{Block, Refusal, block_end};
 use segment_store::Layout;
@@ -56,6 +60,65 @@ impl<D: Disk> Parts<D> {
             Ok(()) => {
                 self.desk.note_written(session, &span);
                 Ok(reply)
+            }
+            Err(refusal) => Err(failed(&mut self.desk, refusal)),
+        }
+    }
+
+    /// Records what a recorder session wrote as one entry of the history, by five calls of the disk, and answers up to
+    /// where its recording is recorded then, in bytes of the stream: a crash from then on leaves it recorded. Where the
+    /// session wrote nothing the disk is not asked.
+    ///
+    /// The refusals of docs/CONTROL.md, "Refusals"; `NoMemory`, which leaves what was written to be settled; `DeviceFault`
+    /// where the disk fails, with the archive broken. Costs a lookup at each session and recording.
+    pub fn settle(&mut self, session: &i64) -> Result<Reply, Refusal>
+        requires orderly { IsOrderly self.old.desk.state }
+        ensures orderly { IsOrderly self.new.desk.state }
+        ensures obeyed { IsTrue (D.life self.new.storage.disk).obeys → IsTrue (D.life self.old.storage.disk).obeys }
+        ensures settled { (a : Archive) →
+            IsConsistent (D.life self.old.storage.disk) self.old.storage.log self.old.desk.state a →
+            Ended (D.life self.old.storage.disk) (D.life self.new.storage.disk) self.new.storage.log self.new.desk.state a
+            (EndsAs (D.life self.old.storage.disk) (D.life self.new.storage.disk) (events.Settle session.now) a result) }
+    {
+        match decide_settle(&self.desk, session)? {
+            Settling::Nothing { position } => Ok(Reply::Settled { position }),
+            Settling::Blocks { recording, written } => {
+                self.settle_blocks(session, &recording, &written)
+            }
+        }
+    }
+
+    /// Records what a session wrote of a recording, once it is decided; then the desk follows. `NoMemory`; `DeviceFault`
+    /// where the disk fails: the archive is then broken.
+    fn settle_blocks(
+        &mut self,
+        session: &i64,
+        recording: &i64,
+        written: &Written,
+    ) -> Result<Reply, Refusal>
+        requires orderly { IsOrderly self.old.desk.state }
+        requires decided { settle_decision self.old.desk.state session.now ≡ Ok (Blocks recording.now written.now) }
+        ensures orderly { IsOrderly self.new.desk.state }
+        ensures obeyed { IsTrue (D.life self.new.storage.disk).obeys → IsTrue (D.life self.old.storage.disk).obeys }
+        ensures settled { (a : Archive) →
+            IsConsistent (D.life self.old.storage.disk) self.old.storage.log self.old.desk.state a →
+            Ended (D.life self.old.storage.disk) (D.life self.new.storage.disk) self.new.storage.log self.new.desk.state a
+            (CommitEnds a (replies.Settled written.now.last) (settled_archive a session.now recording.now)
+            (HasFailed (D.life self.old.storage.disk) (D.life self.new.storage.disk)) result) }
+    {
+        let Some(known) = self.desk.recording(recording) else {
+            return Err(Refusal::UnknownRecording);
+        };
+        let layout = layout_of(&known.descriptor);
+        let position = written.last;
+        let entry = Entry::Settle {
+            recording: *recording,
+            position,
+        };
+        match self.storage.settle(&layout, written.first, &entry) {
+            Ok(()) => {
+                self.desk.settle(session);
+                Ok(Reply::Settled { position })
             }
             Err(refusal) => Err(failed(&mut self.desk, refusal)),
         }

@@ -1,14 +1,12 @@
-use Rattle.std.proofs.Common.{◌≡◌, sym, subst, ap, ◌∙◌, Ok, Err}
-use Rattle.archive_model.specs.Commands.{after}
+use Rattle.std.proofs.Common.{sym, subst, ap, Ok, Err}
 use Rattle.control_core.specs.Decisions.{Allows}
+use Rattle.control_core.specs.Exact.{archive_after}
 use Rattle.control_core.specs.Seats.{KeepsSeats}
 use Rattle.engine_core.specs.Orderly.{IsOrderly}
 use Rattle.engine_core.proofs.OrderlyLemmas.{orderly_after}
 use Rattle.engine_core.proofs.FailingLemmas.{orderly_failure}
 use Rattle.disk_core.specs.Life.{HasFailed}
-use Rattle.engine_core.specs.Making.{after_failure}
-use Rattle.engine_core.specs.Moves.{Moves}
-use Rattle.engine_core.proofs.MakeLemmas.{MayMake, entered, entry_counted, made_done, made_failed}
+use Rattle.engine_core.proofs.MakeLemmas.{MayMake, bank_keeps, commit_failed, entered, entry_counted, made_done}
 use Rattle.engine_core.proofs.parts.Parts.enter.Goals as goal
 
 pub returns-in-Ok-clause-orderly : goal.returns-in-Ok-clause-orderly
@@ -37,9 +35,6 @@ returns-in-Err-clause-entered g c a was works accepts is =
     let new_log = c.commit.new.self.log in
     let desk = c.args.self.now.desk.state in
     let may : MayMake old log desk a c.args.command = record { was = was; works = works; seats = subst (λ d. KeepsSeats d.register d.callers) was.desk_is c.requires.seats; allows = subst (λ d. Allows d c.args.command) was.desk_is c.requires.allowed; accepts = accepts; is_made = c.requires.requested } in
-    let same = c.failed.ensures.same in
-    made_failed old new log new_log desk c.failed.new.desk.state a c.args.command c.args.reply c.failed.result (HasFailed old new) may c.in-Err.ensures.changes
-    (λ e. c.in-Err.ensures.memory (ap Err (sym same ∙ e))) (λ e. c.in-Err.ensures.cause (ap Err (sym same ∙ e)))
-    (subst (λ r. c.failed.new.desk.state ≡ after_failure r desk) (sym same) c.failed.ensures.state)
-    (subst (λ r. Moves old new new_log a.state (after a.state c.args.command) (Err r)) (sym same)
-    (entered (Err c.in-Err.refusal) old new log new_log desk a c.args.command c.args.entry.now may is c.in-Err.ensures.moves))
+    commit_failed old new log new_log desk c.failed.new.desk.state a was works (bank_keeps old new c.in-Err.ensures.changes) (archive_after a c.args.command) c.args.reply (HasFailed old new) c.in-Err.refusal c.failed.result
+    c.failed.ensures.same (λ e. c.in-Err.ensures.memory (ap Err e)) (λ e. c.in-Err.ensures.cause (ap Err e)) c.failed.ensures.state
+    (entered (Err c.in-Err.refusal) old new log new_log desk a c.args.command c.args.entry.now may is c.in-Err.ensures.moves)
