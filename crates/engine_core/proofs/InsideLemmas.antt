@@ -36,7 +36,7 @@ registered_of a id r agrees found = ap (λ (g : RegisterState). registration_in 
 pub laid_found : (d : DeskState) (id : ℤ) (g : Registration) → IsOrderly d → Some g ≡ registration_in d.register id → IsLaid g
 laid_found d id g orderly found = each_found register.id_of IsLaid id d.register.recordings g orderly.register.laid (sym found)
 
-one_known : (g h : Registration) → Some g ≡ Some h → g ≡ h
+pub one_known : (g h : Registration) → Some g ≡ Some h → g ≡ h
 one_known g h is = cc
 
 -- a recording of a consistent archive is read as it is recorded

@@ -26,5 +26,7 @@ pub mod WriteCallLemmas
 pub mod SettlingLemmas
 pub mod SettleCallLemmas
 pub mod ReplayLemmas
+pub mod ReplayOpenLemmas
+pub mod SweepCallLemmas
 pub mod NewLemmas
 pub mod RunLemmas

@@ -10,6 +10,7 @@ pub mod Engine
 pub mod Moves
 pub mod Making
 pub mod Writing
+pub mod Replaying
 -- Representation: what the values of src/ keep.
 pub mod Orderly
 pub mod OrderlyProps
