@@ -151,8 +151,9 @@ decided_in a id (opening.IfBoundary position x) o e = by (begins_in (recording_a
     by true (Err refusal) e = absurd cc
     by false y e = absurd cc
 
-opened : (a : Archive) (id position size : ℤ) (o : Opening) → IsConsistent a → asked_opening a id (open_decision a.desk id position size) ≡ Ok o → IsConsistent (with_desk (after_open o.recording o.next o.bound a.desk) a)
-opened a id position size o consistent e =
+pub opened_at_boundary : (a : Archive) (id position size : ℤ) (o : Opening) → Agrees a.desk a.state → asked_opening a id (open_decision a.desk id position size) ≡ Ok o
+    → IsAtBoundary a.state (record { number = a.desk.callers.next_replay; recording = o.recording; next = o.next; bound = o.bound })
+opened_at_boundary a id position size o agreed e =
     let d = a.desk in
     let tests = open_tests d id position size true in
     let found = registration_in d.register id in
@@ -161,8 +162,7 @@ opened a id position size o consistent e =
     let front = asked_front a id tests first_checks (opened_at found behind next) o e in
     let place = asked_at a id next found behind o front.1 in
     let made = held tests (block_checks ++ last_checks) (opening_of d id position size) o place.1 in
-    let may = opening_allowed d id position size o (decided_in a id (open_decision d id position size) o e) in
-    let known : found ≡ option_map registration_of (recording_at a id) = ap (λ (g : RegisterState). registration_in g id) consistent.agrees ∙ found_registration id a.state.recordings in
+    let known : found ≡ option_map registration_of (recording_at a id) = ap (λ (g : RegisterState). registration_in g id) agreed ∙ found_registration id a.state.recordings in
     let in_range : Bool = int_le (negsuc 0) position && int_le (negsuc 0) size in
     let inside : Bool = is_of found (is_boundary_by true next) in
     let range : (in_range ≡ true) × ((is_some found && (inside && true)) ≡ true) = both front.0 in
@@ -170,10 +170,15 @@ opened a id position size o consistent e =
     let boundary : IsAtBoundary a.state (record { number = d.callers.next_replay; recording = id; next = next; bound = (opening_of d id position size).bound }) =
     at_found a.state id next (opening_of d id position size).bound d.callers.next_replay (recording_at a id) refl
     (subst (IsEndOr (begins_in (recording_at a id) next) next) known place.0) (subst (λ (x : Option Registration). is_some x ≡ true) known there.0) in
+    subst (λ (x : Opening). IsAtBoundary a.state (record { number = d.callers.next_replay; recording = x.recording; next = x.next; bound = x.bound })) made.1 boundary
+
+opened : (a : Archive) (id position size : ℤ) (o : Opening) → IsConsistent a → asked_opening a id (open_decision a.desk id position size) ≡ Ok o → IsConsistent (with_desk (after_open o.recording o.next o.bound a.desk) a)
+opened a id position size o consistent e =
+    let d = a.desk in
+    let may = opening_allowed d id position size o (decided_in a id (open_decision d id position size) o e) in
     let new : OpenReplay = record { number = d.callers.next_replay; recording = o.recording; next = o.next; bound = o.bound } in
-    let at : IsAtBoundary a.state new = subst (λ (x : Opening). IsAtBoundary a.state (record { number = d.callers.next_replay; recording = x.recording; next = x.next; bound = x.bound })) made.1 boundary in
     with_replays a (after_open o.recording o.next o.bound d) consistent refl refl (keeps_opened d.register d.callers new refl may.few may.there consistent.seats)
-    (each_push (IsAtBoundary a.state) d.callers.replays new consistent.boundaries at)
+    (each_push (IsAtBoundary a.state) d.callers.replays new consistent.boundaries (opened_at_boundary a id position size o consistent.agrees e))
 
 -- ---- settling
 

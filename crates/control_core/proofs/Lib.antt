@@ -18,5 +18,5 @@ mod BoundaryLemmas
 mod StayLemmas
 mod CommandLemmas
 pub mod WriteLemmas
-mod ConsistentLemmas
+pub mod ConsistentLemmas
 pub mod ExactLemmas

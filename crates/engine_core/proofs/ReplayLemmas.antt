@@ -2,7 +2,7 @@
 use Rattle.std.proofs.Common.{◌≡◌, ◌∙◌, inl, inr, sym, ap, subst, refl, cond, ℤ, Bool, true, false, IsTrue, List, [], ◌∷◌, Option, None, Some, arith}
 use Rattle.std.specs.Prelude.{IsSomeAnd, Result, Ok, Err, unsigned_abs}
 use Rattle.frame_core.specs.declared.refusal.Refusal.{Refusal}
-use Rattle.frame_core.specs.declared.refusal.Refusal.TheVariants.{DeviceFault}
+use Rattle.frame_core.specs.declared.refusal.Refusal.TheVariants.{DeviceFault, NoMemory}
 use Rattle.disk_core.specs.Life.{IsQuiet, Life}
 use Rattle.archive_model.specs.declared.reply.Reply.{Reply}
 use Rattle.archive_model.specs.declared.reply.PolledFrame.{PolledFrame}
@@ -25,6 +25,7 @@ use Rattle.control_core.specs.Turns.{poll_decision, poll_tests, replay_in, repla
 use Rattle.engine_core.specs.Calls.{Ended}
 use Rattle.engine_core.specs.Consistent.{IsConsistent}
 use Rattle.engine_core.specs.Reading.{IsAtBoundary, IsOutside}
+use Rattle.engine_core.proofs.CommitLemmas.{memory_is_no_fault}
 use Rattle.engine_core.proofs.EndedLemmas.{quiet_consistent, quiet_moments}
 
 -- ---- a desk with other replays
@@ -95,6 +96,10 @@ checked_ok {X = X} {Y = Y} tests (r ∷ rs) x z y is = by (tests r) is (checked_
 pub outside_read : (a : Archive) (event : Event) (faulted : Type 0) (outcome : Result Reply Refusal) (refusal : Refusal) → outcome ≡ Err refusal → IsOutside refusal → (refusal ≡ DeviceFault → faulted) → CallEnds a event faulted outcome a
 outside_read a event faulted outcome refusal is outside cause = subst (λ (o : Result Reply Refusal). CallEnds a event faulted o a) (sym is)
     (elim outside [ inl fault ↦ subst (λ (r : Refusal). CallEnds a event faulted (Err r) a) (sym fault) (inr (cause fault, inl refl)) | inr memory ↦ subst (λ (r : Refusal). CallEnds a event faulted (Err r) a) (sym memory) (inr refl) ])
+
+-- a call for which memory was refused
+pub unkept : (a : Archive) (event : Event) (faulted : Type 0) (outcome : Result Reply Refusal) (refusal : Refusal) → outcome ≡ Err refusal → refusal ≡ NoMemory → CallEnds a event faulted outcome a
+unkept a event faulted outcome refusal is memory = outside_read a event faulted outcome refusal is (inr memory) (λ fault. absurd (memory_is_no_fault refusal memory fault))
 
 -- ---- a poll
 

@@ -1,9 +1,8 @@
 -- How a replay is opened.
-use Rattle.std.proofs.Common.{◌≡◌, ◌∙◌, ◌⊎◌, inl, inr, sym, ap, subst, refl, cond, ℤ, Bool, true, false, true≢false, ◌&&◌, ◌||◌, IsTrue, List, [], ◌∷◌, ◌++◌, Option, None, Some}
-use Rattle.std.specs.Prelude.{IfOk, IsSomeAnd, Result, Ok, Err, int_le, is_some, negsuc}
-use Rattle.std.specs.Ordering.{int_eq}
+use Rattle.std.proofs.Common.{◌≡◌, ◌∙◌, inl, inr, sym, ap, subst, refl, cond, ℤ, Bool, true, false, true≢false, ◌&&◌, IsTrue, List, [], ◌∷◌, ◌++◌, Option, None, Some}
+use Rattle.std.specs.Prelude.{IfOk, Result, Ok, Err, int_le, is_some, negsuc}
 use Rattle.frame_core.specs.declared.refusal.Refusal.{Refusal}
-use Rattle.frame_core.specs.declared.refusal.Refusal.TheVariants.{BadPosition, DeviceFault, NoMemory}
+use Rattle.frame_core.specs.declared.refusal.Refusal.TheVariants.{BadPosition, DeviceFault}
 use Rattle.disk_core.specs.DiskImage.{MayLeave, reads}
 use Rattle.disk_core.specs.Life.{Life}
 use Rattle.archive_model.specs.declared.registration.Registration.{Registration}
@@ -12,20 +11,18 @@ use Rattle.archive_model.specs.declared.reply.Reply.TheVariants as replies
 use Rattle.archive_model.specs.Accepting.{begins_in}
 use Rattle.archive_model.specs.Checks.{Tests, block_checks, checked, first_checks, is_boundary_by, is_of, last_checks, passes}
 use Rattle.archive_model.specs.Register.{is_end, registration_in}
-use Rattle.archive_model.specs.Replay.{begins_frame, is_boundary}
-use Rattle.archive_model.specs.State.{Recording, recorded_position, registration_of}
+use Rattle.archive_model.specs.Replay.{begins_frame}
+use Rattle.archive_model.specs.State.{Recording}
 use Rattle.archive_model.proofs.WellLemmas.{both}
 use Rattle.catalogue_log.specs.LogState.{LogState}
 use Rattle.control_core.specs.declared.event.Event.TheVariants as events
 use Rattle.control_core.specs.declared.turns.Opening.{Opening}
 use Rattle.control_core.specs.declared.turns.OpeningDecision.{OpeningDecision}
 use Rattle.control_core.specs.declared.turns.OpeningDecision.TheVariants as opening
-use Rattle.control_core.specs.Agreement.{Agrees}
 use Rattle.control_core.specs.Changes.{after_open}
 use Rattle.control_core.specs.Desk.{DeskState}
 use Rattle.control_core.specs.Exact.{Archive, CallEnds, OpeningEnds, asked_opening, recording_at, with_desk}
 use Rattle.control_core.specs.Turns.{begins_at, open_decision, open_tests, opened_at, opening_decided, opening_in, opening_of}
-use Rattle.control_core.proofs.DecidedLemmas.{held}
 use Rattle.engine_core.specs.Consistent.{IsConsistent}
 use Rattle.engine_core.specs.Reading.{IsRead}
 use Rattle.engine_core.specs.Replaying.{IsDecided}
@@ -112,75 +109,6 @@ asked_read old new log desk a id position size place at decided known told stays
 pub asked_alone : (a : Archive) (desk : DeskState) (id position size : ℤ) (decided : Result Opening Refusal) → desk ≡ a.desk → opening.Decided decided ≡ open_decision desk id position size → asked_opening a id (open_decision a.desk id position size) ≡ decided
 asked_alone a desk id position size decided same is = ap (λ (d : DeskState). asked_opening a id (open_decision d id position size)) (sym same) ∙ ap (asked_opening a id) (sym is)
 
-module _ (a : Archive) (id : ℤ) where
-  asked_front : (tests : Tests) (rs : List Refusal) (decision : OpeningDecision) (o : Opening) → asked_opening a id (opening_decided (checked tests rs (Ok decision))) ≡ Ok o → (passes tests rs ≡ true) × (asked_opening a id decision ≡ Ok o)
-  asked_front tests [] decision o e = (refl, e)
-  asked_front tests (r ∷ rs) decision o e = by (tests r) e (asked_front tests rs decision o)
-    where
-      by : (b : Bool) → asked_opening a id (opening_decided (cond b (checked tests rs (Ok decision)) (Err r))) ≡ Ok o
-          → (asked_opening a id (opening_decided (checked tests rs (Ok decision))) ≡ Ok o → (passes tests rs ≡ true) × (asked_opening a id decision ≡ Ok o))
-          → ((b && passes tests rs) ≡ true) × (asked_opening a id decision ≡ Ok o)
-      by true e rest = rest e
-      by false e rest = absurd cc
-
-  -- a position of the recording is one of its ends, or a frame begins there
-  abbrev Lies : Registration → ℤ → Type 0
-  Lies known next = (is_end next known ≡ true) ⊎ (begins_in (recording_at a id) next ≡ true)
-
-  asked_at : (found : Option Registration) (known : Registration) (behind : Result Opening Refusal) (next : ℤ) (o : Opening) → found ≡ Some known → asked_opening a id (opened_at found behind next) ≡ Ok o → Lies known next × (behind ≡ Ok o)
-  asked_at None known behind next o there e = absurd cc
-  asked_at (Some r) known behind next o there e = let one : r ≡ known = cc in subst (λ (x : Registration). Lies x next × (behind ≡ Ok o)) one (by (is_end next r) refl e)
-    where
-      of : (t : Bool) → begins_in (recording_at a id) next ≡ t → cond t behind (Err BadPosition) ≡ Ok o → Lies r next × (behind ≡ Ok o)
-      of true is e = (inr is, e)
-      of false is e = absurd cc
-
-      by : (b : Bool) → is_end next r ≡ b → asked_opening a id (cond b (opening.Decided behind) (opening.IfBoundary next behind)) ≡ Ok o → Lies r next × (behind ≡ Ok o)
-      by true is e = (inl is, e)
-      by false is e = of (begins_in (recording_at a id) next) refl e
-
-or_ends : (x y z : Bool) → (x || y) ≡ true → (x || y || z) ≡ true
-or_ends true y z is = refl
-or_ends false true z is = refl
-or_ends false false z is = absurd (true≢false (sym is))
-
-or_last : (x y z : Bool) → z ≡ true → (x || y || z) ≡ true
-or_last true y z is = refl
-or_last false true z is = refl
-or_last false false z is = is
-
--- so it is a boundary
-lies_boundary : (a : Archive) (id next : ℤ) (r : Recording) → recording_at a id ≡ Some r → Lies a id (registration_of r) next → is_boundary next r ≡ true
-lies_boundary a id next r found lies =
-    let start : Bool = int_eq next r.descriptor.start_position in
-    let end : Bool = int_eq next (recorded_position r) in
-    elim lies [
-      | inl ends ↦ or_ends start end (begins_frame next r) ends
-      | inr begins ↦ or_last start end (begins_frame next r) (ap (λ (o : Option Recording). begins_in o next) (sym found) ∙ begins)
-    ]
-
-some_of : (o : Option Registration) → is_some o ≡ true → (r : Registration) × (o ≡ Some r)
-some_of None is = absurd (true≢false (sym is))
-some_of (Some r) is = (r, refl)
-
--- a replay that is opened is at a boundary of its recording
-pub opened_boundary : (a : Archive) (id position size : ℤ) (o : Opening) → Agrees a.desk a.state → asked_opening a id (open_decision a.desk id position size) ≡ Ok o → IsSomeAnd (recording_at a o.recording) (λ r. IsTrue (is_boundary o.next r))
-opened_boundary a id position size o agrees e =
-    let tests : Tests = open_tests a.desk id position size true in
-    let found : Option Registration = registration_in a.desk.register id in
-    let next : ℤ = begins_at position found in
-    let made : Opening = opening_of a.desk id position size in
-    let behind : Result Opening Refusal = checked tests (block_checks ++ last_checks) (Ok made) in
-    let front = asked_front a id tests first_checks (opened_at found behind next) o e in
-    let there = some_of found (there_of a.desk id position size front.0) in
-    let at = asked_at a id found there.0 behind next o there.1 front.1 in
-    let same : made ≡ o = (held tests (block_checks ++ last_checks) made o at.1).1 in
-    let known = known_recording a id there.0 agrees there.1 in
-    let r : Recording = known.recording in
-    let boundary : is_boundary next r ≡ true = lies_boundary a id next r known.found (subst (λ (x : Registration). Lies a id x next) known.is at.0) in
-    let here : IsSomeAnd (recording_at a id) (λ r. IsTrue (is_boundary next r)) = subst (λ (x : Option Recording). IsSomeAnd x (λ r. IsTrue (is_boundary next r))) (sym known.found) boundary in
-    subst (λ (x : Opening). IsSomeAnd (recording_at a x.recording) (λ r. IsTrue (is_boundary x.next r))) same here
-
 -- ---- how it ends
 
 -- where no fault came, it is what is decided
@@ -198,10 +126,6 @@ module _ (a : Archive) (id position size : ℤ) (faulted : Type 0) where
     | inl same ↦ inl (subst (λ (d : Result Opening Refusal). OpeningEnds a d (Err refusal) a) same (refl, refl))
     | inr fault ↦ let failed : DeviceFault ≡ refusal = (let e = fault.0 in cc) in subst (λ (x : Refusal). CallEnds a (events.ReplayOpen id position size) faulted (Err x) a) failed (inr (fault.1, inl refl))
   ])
-
-  -- there is no memory for it
-  pub opening_unkept : (outcome : Result Reply Refusal) (refusal : Refusal) → outcome ≡ Err refusal → refusal ≡ NoMemory → CallEnds a (events.ReplayOpen id position size) faulted outcome a
-  opening_unkept outcome refusal is memory = subst (λ (x : Result Reply Refusal). CallEnds a (events.ReplayOpen id position size) faulted x a) (sym (is ∙ ap Err memory)) (inr refl)
 
   pub opening_ends : (o : Opening) (number : ℤ) → asked_opening a id (open_decision a.desk id position size) ≡ Ok o → number ≡ a.desk.callers.next_replay
       → CallEnds a (events.ReplayOpen id position size) faulted (Ok (replies.ReplayOpened number)) (with_desk (after_open o.recording o.next o.bound a.desk) a)

@@ -1,10 +1,9 @@
 -- How a sweep of an archive ends.
-use Rattle.std.proofs.Common.{◌≡◌, ◌∙◌, inl, inr, sym, ap, subst, refl, ℕ, ℤ, pos, ◌+◌, ◌≤◌, Bool, true, false, List, [], ◌∷◌, Option, Some, None, arith}
+use Rattle.std.proofs.Common.{◌≡◌, ◌∙◌, inl, sym, ap, subst, refl, ℕ, ℤ, pos, ◌+◌, ◌≤◌, Bool, true, false, List, [], ◌∷◌, Option, Some, None, arith}
 use Rattle.std.proofs.lemmas.Int.{ints}
 use Rattle.std.specs.Prelude.{Result, Ok, Err}
 use Rattle.frame_core.specs.declared.frame.Frame.{Frame}
 use Rattle.frame_core.specs.declared.refusal.Refusal.{Refusal}
-use Rattle.frame_core.specs.declared.refusal.Refusal.TheVariants.{NoMemory}
 use Rattle.frame_core.specs.Block.{covered}
 use Rattle.frame_core.specs.FrameEncoding.{aligned_length, stored}
 use Rattle.disk_core.specs.DiskImage.{DiskImage, FileState, bytes_of, reads}
@@ -138,9 +137,6 @@ sweep_ended old new log new_log desk a keeps x Ends was seats decided registered
 pub sweep_refused : (a : Archive) (desk : DeskState) (faulted : Type 0) (outcome : Result Reply Refusal) (refusal : Refusal) → desk ≡ a.desk → outcome ≡ Err refusal → Err refusal ≡ sweep_decision desk → CallEnds a events.Sweep faulted outcome a
 sweep_refused a desk faulted outcome refusal same is decided =
     subst (λ (x : Result Reply Refusal). CallEnds a events.Sweep faulted x a) (sym is) (inl (subst (λ (d : Result (Unit {0}) Refusal). SweepEnds a d (Err refusal) a) (decided ∙ ap sweep_decision same) (refl, refl)))
-
-pub sweep_unkept : (a : Archive) (faulted : Type 0) (outcome : Result Reply Refusal) (refusal : Refusal) → outcome ≡ Err refusal → refusal ≡ NoMemory → CallEnds a events.Sweep faulted outcome a
-sweep_unkept a faulted outcome refusal is memory = subst (λ (x : Result Reply Refusal). CallEnds a events.Sweep faulted x a) (sym (is ∙ ap Err memory)) (inr refl)
 
 pub sweep_told : (a : Archive) (desk : DeskState) (faulted : Type 0) (removed : Bool) (x : Unit {0}) → desk ≡ a.desk → Ok x ≡ sweep_decision desk → CallEnds a events.Sweep faulted (Ok (replies.Swept removed)) a
 sweep_told a desk faulted removed x same decided = subst (λ (d : Result (Unit {0}) Refusal). SweepEnds a d (Ok (replies.Swept removed)) a) (decided ∙ ap sweep_decision same) (removed, (refl, refl))

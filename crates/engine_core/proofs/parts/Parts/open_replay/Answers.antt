@@ -7,13 +7,14 @@ use Rattle.control_core.specs.Changes.{after_open}
 use Rattle.control_core.specs.Exact.{asked_opening}
 use Rattle.control_core.specs.Turns.{MayOpen, open_decision}
 use Rattle.control_core.proofs.CallLemmas.{opening_allowed}
+use Rattle.control_core.proofs.ConsistentLemmas.{opened_at_boundary}
 use Rattle.engine_core.specs.Calls.{Ended, EndsAs}
 use Rattle.engine_core.specs.Orderly.{IsOrderly}
 use Rattle.engine_core.specs.Reading.{IsAtBoundary}
 use Rattle.engine_core.proofs.EndedLemmas.{still}
-use Rattle.engine_core.proofs.ReplayOpenLemmas.{is_opened, opened_boundary, opening_ends, opening_refused, opening_unkept}
+use Rattle.engine_core.proofs.ReplayOpenLemmas.{is_opened, opening_ends, opening_refused}
 use Rattle.engine_core.proofs.OrderlyCallLemmas.{orderly_open}
-use Rattle.engine_core.proofs.ReplayLemmas.{replayed}
+use Rattle.engine_core.proofs.ReplayLemmas.{replayed, unkept}
 use Rattle.engine_core.proofs.parts.Parts.open_replay.Goals as goal
 
 pub returns-in_err-opening-clause-opened : goal.returns-in_err-opening-clause-opened
@@ -38,12 +39,13 @@ returns-in_err-reserve_replay-clause-opened g c a was =
     let log = c.args.self.now.storage.log in
     let desk = c.args.self.now.desk.state in
     let outcome = c.from_residual-in_err-reserve_replay.result in
-    let ends = EndsAs old new (events.ReplayOpen c.args.recording.now c.args.position.now c.args.length.now) a outcome in
+    let event = events.ReplayOpen c.args.recording.now c.args.position.now c.args.length.now in
+    let ends = EndsAs old new event a outcome in
     let refusal = c.in_err-reserve_replay.field-0.0 in
     let is : outcome ≡ Err refusal = search rules in
     subst (λ d. Ended old new log d a ends) (sym c.reserve_replay.ensures.state)
     (still old new log desk a ends c.decided_opening.ensures.quiet was
-    (λ reads. opening_unkept a c.args.recording.now c.args.position.now c.args.length.now (HasFailed old new) outcome refusal is c.in_err-reserve_replay.ensures.err))
+    (λ reads. unkept a event (HasFailed old new) outcome refusal is c.in_err-reserve_replay.ensures.err))
 
 pub open_replay-requires-clause-allowed : goal.open_replay-requires-clause-allowed
 open_replay-requires-clause-allowed g c =
@@ -75,6 +77,6 @@ returns-clause-opened g c a was =
     let number = to_z w64 (of_z w64 c.next_replay-replay.result) in
     let same : number ≡ c.next_replay-replay.result = search rules in
     replayed old new log desk c.open_replay.new.self.state a replays (next +ℤ pos 1) _ quiet was
-    (λ obeys. each_push (IsAtBoundary a.state) a.desk.callers.replays (record { number = next; recording = o.recording; next = o.next; bound = o.bound }) (was.reading (quiet.obeyed obeys)) (opened_boundary a id position size o was.agrees (decided obeys)))
+    (λ obeys. each_push (IsAtBoundary a.state) a.desk.callers.replays (record { number = next; recording = o.recording; next = o.next; bound = o.bound }) (was.reading (quiet.obeyed obeys)) (opened_at_boundary a id position size o was.agrees (decided obeys)))
     (c.open_replay.ensures ∙ ap (after_open o.recording o.next o.bound) state)
     (λ reads. opening_ends a id position size (HasFailed old new) o number (decided (reads refl)) (same ∙ c.next_replay-replay.ensures ∙ ap (λ d. d.callers.next_replay) state))

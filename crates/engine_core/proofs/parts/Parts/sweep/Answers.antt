@@ -7,8 +7,8 @@ use Rattle.engine_core.specs.Calls.{EndsAs}
 use Rattle.engine_core.specs.Moves.{registered_keeps}
 use Rattle.engine_core.proofs.EndedLemmas.{untouched}
 use Rattle.engine_core.proofs.OrderlyAskLemmas.{keeps_are}
-use Rattle.engine_core.proofs.ReplayLemmas.{outside_read}
-use Rattle.engine_core.proofs.SweepCallLemmas.{one_swept, sweep_ended, sweep_refused, sweep_told, sweep_unkept}
+use Rattle.engine_core.proofs.ReplayLemmas.{outside_read, unkept}
+use Rattle.engine_core.proofs.SweepCallLemmas.{one_swept, sweep_ended, sweep_refused, sweep_told}
 use Rattle.engine_core.proofs.parts.Parts.sweep.Goals as goal
 
 pub returns-in_err-decide_sweep-clause-swept : goal.returns-in_err-decide_sweep-clause-swept
@@ -24,7 +24,7 @@ returns-in_err-keeps-clause-swept g c a was =
     let life = g.D.Disk.life c.args.self.now.storage.disk in
     let refusal = c.in_err-keeps.field-0.0 in
     let is : c.from_residual-in_err-keeps.result ≡ Err refusal = search rules in
-    untouched life c.args.self.now.storage.log c.args.self.now.desk.state a _ was (λ reads. sweep_unkept a (HasFailed life life) c.from_residual-in_err-keeps.result refusal is c.in_err-keeps.ensures.err)
+    untouched life c.args.self.now.storage.log c.args.self.now.desk.state a _ was (λ reads. unkept a events.Sweep (HasFailed life life) c.from_residual-in_err-keeps.result refusal is c.in_err-keeps.ensures.err)
 
 pub sweep-requires : goal.sweep-requires
 sweep-requires g c =
