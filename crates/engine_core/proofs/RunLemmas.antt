@@ -1,10 +1,12 @@
 -- Calls one after another.
-use Rattle.std.proofs.Common.{◌≡◌, ◌∙◌, ◌++◌, ◌+◌, ◌<◌, inl, inr, sym, ap, subst, refl, ℕ, zero, suc, List, [], ◌∷◌, length, take, get_or, arith}
+use Rattle.std.proofs.Common.{◌≡◌, ◌∙◌, ◌++◌, ◌+◌, ◌<◌, ◌≤◌, inl, inr, sym, ap, subst, refl, ℕ, zero, suc, List, [], ◌∷◌, length, take, get_or, add-one, IsTrue, arith}
+use Rattle.std.proofs.lemmas.List.{length-append, length-take-le, take_all}
+use Rattle.std.proofs.Math.Seq.{take-suc}
 use Rattle.std.specs.Prelude.{Result, Ok, Err}
 use Rattle.frame_core.specs.declared.refusal.Refusal.{Refusal}
 use Rattle.frame_core.specs.declared.refusal.Refusal.TheVariants.{DeviceFault, NoMemory}
 use Rattle.disk_core.specs.DiskImage.{DiskImage, MayLeave}
-use Rattle.disk_core.specs.Life.{Life}
+use Rattle.disk_core.specs.Life.{HasFailed, Life}
 use Rattle.disk_core.proofs.CallerLemmas.{goes_on_part, started, weaker}
 use Rattle.archive_model.specs.declared.reply.Reply.{Reply}
 use Rattle.archive_model.specs.State.{State}
@@ -12,9 +14,10 @@ use Rattle.catalogue_log.specs.LogState.{LogState}
 use Rattle.control_core.specs.declared.event.Event.{Event}
 use Rattle.control_core.specs.Desk.{DeskState}
 use Rattle.control_core.specs.Exact.{Archive, CallEnds}
-use Rattle.engine_core.specs.Calls.{Call, Ended, Ran, Run, Stood, calls_of}
+use Rattle.engine_core.specs.Calls.{Call, Ended, EndsAs, Ran, Run, Stood, calls_of, is_cut}
 use Rattle.engine_core.specs.Consistent.{IsConsistent, MayStand, MayStandIn}
 use Rattle.engine_core.specs.Recovery.{RecoversTo}
+use Rattle.engine_core.proofs.AskLemmas.{ended_as}
 use Rattle.engine_core.proofs.EndedLemmas.{recovers_as}
 
 -- of a fault nothing more is asked
@@ -87,3 +90,49 @@ ran_more old mid new log new_log desk new_desk a calls event outcome ran step = 
 
     stands : (x : State) → MayStandIn ran.after ended.after x → Stood a more x
     stands x is = elim is [ | inl before ↦ stood_more a calls ((event, outcome) ∷ []) x (stood_last a ran.after calls x ran.run before) | inr after ↦ stood_last a ended.after more x run after ]
+
+-- ---- events with their answers
+
+calls_both : (events : List Event) (outcomes : List (Result Reply Refusal)) (event : Event) (outcome : Result Reply Refusal) → length outcomes ≡ length events
+    → calls_of (events ++ event ∷ []) (outcomes ++ outcome ∷ []) ≡ calls_of events outcomes ++ (event, outcome) ∷ []
+calls_both [] [] event outcome same = refl
+calls_both [] (o ∷ outcomes) event outcome same = absurd (omega (arith, same))
+calls_both (e ∷ events) [] event outcome same = absurd (omega (arith, same))
+calls_both (e ∷ events) (o ∷ outcomes) event outcome same = ap (λ (calls : List Call). (e, o) ∷ calls) (calls_both events outcomes event outcome (omega (arith, same)))
+
+-- one event more, answered
+calls_push : (events : List Event) (outcomes : List (Result Reply Refusal)) (i : ℕ) (event : Event) (outcome : Result Reply Refusal) → i < length events → event ≡ get_or events i event → length outcomes ≡ i
+    → calls_of (take (i + 1) events) (outcomes ++ outcome ∷ []) ≡ calls_of (take i events) outcomes ++ (event, outcome) ∷ []
+calls_push events outcomes i event outcome within is answered =
+    let more : take (i + 1) events ≡ take i events ++ event ∷ [] = rw (add-one, take-suc events i event within) (ap (λ (e : Event). take i events ++ e ∷ []) (sym is)) in
+    let same : length outcomes ≡ length (take i events) = answered ∙ sym (length-take-le i events (omega (arith, within))) in
+    ap (λ (es : List Event). calls_of es (outcomes ++ outcome ∷ [])) more ∙ calls_both (take i events) outcomes event outcome same
+
+-- the first so many events are answered, whatever the archive is
+pub record HasRun (old new : Life) (old_log log : LogState) (old_desk desk : DeskState) (events : List Event) (i : ℕ) (outcomes : List (Result Reply Refusal)) : Type 0 where
+  pub obeyed : IsTrue new.obeys → IsTrue old.obeys
+  pub answered : length outcomes ≡ i
+  pub ran : (a : Archive) → IsConsistent old old_log old_desk a → IsTrue new.obeys → Ran old new log desk a (calls_of (take i events) outcomes)
+
+pub none_run : (life : Life) (log : LogState) (desk : DeskState) (events : List Event) → HasRun life life log log desk desk events 0 []
+none_run life log desk events = record { obeyed = λ obeys. obeys; answered = refl; ran = λ a was obeys. ran_none life log desk a was }
+
+pub next_run : (old mid new : Life) (old_log log new_log : LogState) (old_desk desk new_desk : DeskState) (events : List Event) (i : ℕ) (event : Event) (outcomes : List (Result Reply Refusal)) (outcome : Result Reply Refusal) → i < length events
+    → event ≡ get_or events i event → HasRun old mid old_log log old_desk desk events i outcomes → (IsTrue new.obeys → IsTrue mid.obeys)
+    → ((b : Archive) → IsConsistent mid log desk b → (IsTrue (is_cut event) → IsTrue new.obeys) → Ended mid new new_log new_desk b (EndsAs mid new event b outcome))
+    → HasRun old new old_log new_log old_desk new_desk events (i + 1) (outcomes ++ outcome ∷ [])
+next_run old mid new old_log log new_log old_desk desk new_desk events i event outcomes outcome within is so_far obeyed step = record {
+  obeyed = λ obeys. so_far.obeyed (obeyed obeys);
+  answered = length-append outcomes (outcome ∷ []) ∙ ap (λ n. n + 1) so_far.answered;
+  ran = λ a was obeys.
+      subst (λ (calls : List Call). Ran old new new_log new_desk a calls) (sym (calls_push events outcomes i event outcome within is so_far.answered))
+      (ran_more old mid new log new_log desk new_desk a (calls_of (take i events) outcomes) event outcome (so_far.ran a was (obeyed obeys))
+      (λ b there. ended_as mid new new_log new_desk b (EndsAs mid new event b outcome) (λ c. CallEnds b event (Unit {0}) outcome c)
+      (λ c ends. call_weaker b event (HasFailed mid new) outcome c (ends (λ reads. obeys))) (step b there (λ cut. obeys))));
+}
+
+-- all are
+pub all_run : (old new : Life) (old_log log : LogState) (old_desk desk : DeskState) (events : List Event) (i : ℕ) (outcomes : List (Result Reply Refusal)) → HasRun old new old_log log old_desk desk events i outcomes → length events ≤ i
+    → (a : Archive) → IsConsistent old old_log old_desk a → IsTrue new.obeys → Ran old new log desk a (calls_of events outcomes)
+all_run old new old_log log old_desk desk events i outcomes so_far past a was obeys =
+    subst (λ (es : List Event). Ran old new log desk a (calls_of es outcomes)) (take_all i events past) (so_far.ran a was obeys)

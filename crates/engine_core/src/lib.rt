@@ -9,6 +9,7 @@ mod order;
 mod parts;
 mod reading;
 mod replaying;
+mod stepping;
 mod storage;
 mod writing;
 

@@ -1,0 +1,90 @@
+//! Events answered one after another. docs/CONTROL.md, "Requests"; docs/STORAGE.md, "Recovery".
+
+ghost use Rattle.std.specs.Prelude.{◌≡◌, IfErr, IfOk, IsTrue, length};
+ghost use Rattle.frame_core.specs.declared.refusal.Refusal.TheVariants.{NoMemory};
+ghost use Rattle.control_core.specs.Exact.{Archive};
+ghost use Rattle.engine_core.specs.Calls.{Ended, EndsAs, Ran, calls_of, is_cut};
+ghost use Rattle.engine_core.specs.Consistent.{IsConsistent};
+ghost use Rattle.engine_core.specs.Orderly.{IsOrderly};
+
+use crate::Engine;
+use crate::parts::Parts;
+use archive_model::Reply;
+use control_core::Event;
+use disk_core::Disk;
+use frame_core::Refusal;
+use std::alloc::Global;
+
+impl<D: Disk> Engine<D> {
+    /// Answers an event: by its reply, or by the first refusal whose test does not hold. A crash at any moment of it leaves
+    /// the state before it or the one after it; once it is answered the one after it alone, refused the one before it.
+    ///
+    /// The refusals of docs/CONTROL.md, "Refusals"; `DeviceFault`, after a write with the archive broken: reading goes on
+    /// over the state before it, and a crash leaves one of the two; `NoMemory`, which changes nothing. Costs what the
+    /// event costs: docs/ARCHITECTURE.md, "The engine".
+    pub fn step(&mut self, alloc: Global, event: &Event) -> Result<Reply, Refusal>
+        ensures obeyed { IsTrue (D.life self.new.parts.storage.disk).obeys → IsTrue (D.life self.old.parts.storage.disk).obeys }
+        ensures stepped { (a : Archive) →
+            IsConsistent (D.life self.old.parts.storage.disk) self.old.parts.storage.log self.old.parts.desk.state a →
+            (IsTrue (is_cut event.now) → IsTrue (D.life self.new.parts.storage.disk).obeys) →
+            Ended (D.life self.old.parts.storage.disk) (D.life self.new.parts.storage.disk) self.new.parts.storage.log
+            self.new.parts.desk.state a
+            (EndsAs (D.life self.old.parts.storage.disk) (D.life self.new.parts.storage.disk) event.now a result) }
+    {
+        self.parts.step(alloc, event)
+    }
+
+    /// Answers events, one after another. A crash at any moment of it leaves a state that stood after the first of them.
+    ///
+    /// `NoMemory` where there is none for the list of answers: then no event was answered. Costs what the events cost.
+    pub fn drive(
+        &mut self,
+        alloc: Global,
+        events: &[Event],
+    ) -> Result<Vec<Result<Reply, Refusal>>, Refusal>
+        ensures obeyed { IsTrue (D.life self.new.parts.storage.disk).obeys → IsTrue (D.life self.old.parts.storage.disk).obeys }
+        ensures each { IfOk result (λ outcomes. length outcomes.items ≡ length events.now) }
+        ensures ran { IfOk result (λ outcomes. (a : Archive) →
+            IsConsistent (D.life self.old.parts.storage.disk) self.old.parts.storage.log self.old.parts.desk.state a →
+            IsTrue (D.life self.new.parts.storage.disk).obeys →
+            Ran (D.life self.old.parts.storage.disk) (D.life self.new.parts.storage.disk) self.new.parts.storage.log
+            self.new.parts.desk.state a (calls_of events.now outcomes.items)) }
+        ensures refused { IfErr result (λ refusal. (refusal ≡ NoMemory) × (self.new ≡ self.old)) }
+    {
+        let mut outcomes = Vec::with_capacity(alloc, events.len())?;
+        for event in events {
+            let outcome = self.step(alloc, event);
+            outcomes.push_reserved(outcome);
+        }
+        Ok(outcomes)
+    }
+}
+
+impl<D: Disk> Parts<D> {
+    /// Answers an event, as `Engine::step` does.
+    fn step(&mut self, alloc: Global, event: &Event) -> Result<Reply, Refusal>
+        requires orderly { IsOrderly self.old.desk.state }
+        ensures orderly { IsOrderly self.new.desk.state }
+        ensures obeyed { IsTrue (D.life self.new.storage.disk).obeys → IsTrue (D.life self.old.storage.disk).obeys }
+        ensures stepped { (a : Archive) →
+            IsConsistent (D.life self.old.storage.disk) self.old.storage.log self.old.desk.state a →
+            (IsTrue (is_cut event.now) → IsTrue (D.life self.new.storage.disk).obeys) →
+            Ended (D.life self.old.storage.disk) (D.life self.new.storage.disk) self.new.storage.log self.new.desk.state a
+            (EndsAs (D.life self.old.storage.disk) (D.life self.new.storage.disk) event.now a result) }
+    {
+        match event {
+            Event::Ask(request) => self.ask(alloc, request),
+            Event::Write { session, block } => self.write(session, block),
+            Event::Settle { session } => self.settle(session),
+            Event::ReplayOpen {
+                recording,
+                position,
+                length,
+            } => self.open_replay(recording, position, length),
+            Event::ReplayPoll { replay, max } => self.poll(alloc, replay, max),
+            Event::ReplayClose { replay } => self.close(replay),
+            Event::Sweep => self.sweep(alloc),
+            Event::Verify { recording } => self.verify(alloc, recording),
+        }
+    }
+}
