@@ -30,3 +30,4 @@ pub mod ReplayOpenLemmas
 pub mod SweepCallLemmas
 pub mod NewLemmas
 pub mod RunLemmas
+pub mod ReopenedLemmas

@@ -1,7 +1,8 @@
 //! Laws of the definitions, each the contract of a function that does nothing.
 
-ghost use Rattle.std.specs.Prelude.{◌≡◌, ◌+◌, ◌∷◌, [], unsigned_abs};
-ghost use Rattle.disk_core.specs.DiskImage.{DiskImage, Files, MayLeave};
+ghost use Rattle.std.specs.Prelude.{◌≡◌, ◌+◌, ◌∷◌, List, [], unsigned_abs};
+ghost use Rattle.disk_core.specs.DiskImage.{DiskImage, Files, MayLeave, begun};
+ghost use Rattle.disk_core.specs.Life.{Life, MayHaveLeft, moment};
 ghost use Rattle.frame_core.specs.declared.block.Block.{Block};
 ghost use Rattle.frame_core.specs.Block.{covered};
 ghost use Rattle.segment_store.specs.Layout.{IsBlockIn, IsFromStart, IsLayout, file_of};
@@ -15,12 +16,16 @@ ghost use Rattle.archive_model.specs.State.{Recording, State, recorded_position}
 ghost use Rattle.archive_model.specs.WellFormed.{IsWell};
 ghost use Rattle.catalogue_log.specs.History.{IsRequested, entry_of};
 ghost use Rattle.catalogue_log.specs.LogState.{LogState};
+ghost use Rattle.engine_core.specs.Calls.{Call, Ran, Stood};
+ghost use Rattle.engine_core.specs.Consistent.{IsConsistent, MayStand};
 ghost use Rattle.engine_core.specs.Moves.{Enters, Leads, Stands};
+ghost use Rattle.engine_core.specs.Opened.{LeavesEither};
 ghost use Rattle.engine_core.specs.Recovery.{IsDurable, IsSound, Recovers, layout_of};
 ghost use Rattle.control_core.specs.Agreement.{Agrees};
 ghost use Rattle.control_core.specs.Changes.{desk_after};
 ghost use Rattle.control_core.specs.Decisions.{Allows};
 ghost use Rattle.control_core.specs.Desk.{DeskState};
+ghost use Rattle.control_core.specs.Exact.{Archive};
 ghost use Rattle.engine_core.specs.Reading.{IsAtBoundary};
 
 /// Every image that a crash may leave of a sound archive recovers to its state.
@@ -69,4 +74,16 @@ pub fn open_replays_stay_at_boundaries()
     ensures { (d : DeskState) (b : BookState) (c : Command) → Agrees d b.state → IsWell b.state → Accepts b c → Allows d c →
         Each (IsAtBoundary b.state) d.callers.replays →
         Each (IsAtBoundary (after b.state c)) (desk_after d c).callers.replays }
+{}
+
+/// A crash leaves a disk that an archive can be opened from: at any moment of calls a state that stood after the first of
+/// them, or was in doubt then; behind them the state after all of them, or the one in doubt. `Engine::open` gives its
+/// restart.
+pub fn a_crash_leaves_an_archive_to_open()
+    ensures meanwhile { (old new left : Life) (log : LogState) (desk : DeskState) (a : Archive) (calls : List Call) (image : DiskImage) →
+        Ran old new log desk a calls → MayHaveLeft new (moment old) image → left.now ≡ begun image →
+        (s : State) × Stood a calls s × LeavesEither left s s }
+    ensures now { (life left : Life) (log : LogState) (desk : DeskState) (a : Archive) (image : DiskImage) →
+        IsConsistent life log desk a → MayLeave life.now image → left.now ≡ begun image →
+        (s : State) × MayStand a s × LeavesEither left s s }
 {}
