@@ -28,6 +28,7 @@ pub mod SettleCallLemmas
 pub mod ReplayLemmas
 pub mod ReplayOpenLemmas
 pub mod SweepCallLemmas
+pub mod ReopenLemmas
 pub mod NewLemmas
 pub mod RunLemmas
-pub mod ReopenedLemmas
+pub mod LeftLemmas

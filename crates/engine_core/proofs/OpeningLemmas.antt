@@ -32,7 +32,7 @@ use Rattle.catalogue_log.specs.declared.entry.Entry.{Entry}
 use Rattle.catalogue_log.specs.Bank.{IsBank}
 use Rattle.catalogue_log.specs.Catalogue.{IsCatalogue, KeepsReads, RefusesBank, RefusesCatalogue, bank_in_use}
 use Rattle.catalogue_log.specs.Fold.{after_entries}
-use Rattle.catalogue_log.specs.LogState.{IsAtRest, LogState}
+use Rattle.catalogue_log.specs.LogState.{IsAtRest, IsLogOf, LogState}
 use Rattle.catalogue_log.proofs.OneLemmas.{bank_is_newer, bank_is_none, not_damaged, one_bank}
 use Rattle.engine_core.specs.Opening.{IsMadeIn, ReadsAsBefore, RefusesNew, SyncsOnly}
 use Rattle.engine_core.specs.Recovery.{Folds, HoldsRecording, IsDurable, IsSound, Recovers, first_of, last_of, layout_of}
@@ -205,6 +205,12 @@ read_opened old mid new only kept moments = record {
   obeyed = λ obeys. only.obeyed (kept.obeyed obeys);
   faults = omega (arith, only.faults, kept.faults);
 }
+
+-- the log is that of the bank as it read before
+pub log_read : (old new : Life) (log : LogState) (entries : List Entry) → ReadsAsBefore old new → IsAtRest new.now log entries → IsLogOf (bank_in_use (reads old.now)) log entries
+log_read old new log entries before rests =
+    let same : rests.bank ≡ bank_in_use (reads old.now) = sym (ap (λ (state : FileState). bytes_of state.reads) rests.on_disk) ∙ ap bytes_of (before.same BankA) in
+    subst (λ (bank : List ℕ). IsLogOf bank log entries) same rests.is_log
 
 -- two facts of a value, where there is one
 pub ok_both : {X E : Type 0} (result : Result X E) (P Q R : X → Type 0) → ((x : X) → P x → Q x → R x) → IfOk result P → IfOk result Q → IfOk result R

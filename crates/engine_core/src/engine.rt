@@ -1,14 +1,26 @@
 //! An archive on one thread, made anew or opened. docs/ARCHITECTURE.md, "The engine"; docs/STORAGE.md, "Opening".
 
-ghost use Rattle.std.specs.Prelude.{◌≡◌, IfErr, IfOk, IsTrue};
+ghost use Rattle.std.specs.Prelude.{◌≡◌, ◌⊎◌, ◌<◌, ◌^◌, ℕ, IfErr, IfOk, IsFalse, IsTrue, List, MatchResult, count_by};
+ghost use Rattle.frame_core.specs.declared.refusal.Refusal.TheVariants.{DeviceFault, NoMemory};
+ghost use Rattle.disk_core.specs.DiskImage.{reads};
+ghost use Rattle.disk_core.specs.Life.{HasFailed, LeavesOnly};
+ghost use Rattle.archive_model.specs.declared.command.Command.TheVariants.{Restart};
+ghost use Rattle.archive_model.specs.Commands.{after};
+ghost use Rattle.archive_model.specs.State.{State};
+ghost use Rattle.catalogue_log.specs.declared.bank.BankHeader.{BankHeader};
+ghost use Rattle.catalogue_log.specs.declared.entry.Entry.{Entry};
+ghost use Rattle.catalogue_log.specs.Catalogue.{IsCatalogue, RefusesCatalogue};
+ghost use Rattle.catalogue_log.specs.Fold.{counts};
 ghost use Rattle.control_core.specs.declared.event.Event.TheVariants as events;
-ghost use Rattle.control_core.specs.Exact.{Archive};
+ghost use Rattle.control_core.specs.Exact.{Archive, opened_archive};
 ghost use Rattle.engine_core.specs.Calls.{Ended, EndsAs, is_cut};
 ghost use Rattle.engine_core.specs.Consistent.{IsConsistent};
 ghost use Rattle.engine_core.specs.Engine.{new_archive};
 ghost use Rattle.engine_core.specs.Orderly.{IsOrderly};
 ghost use Rattle.engine_core.specs.OrderlyProps.{IsOrderly-prop};
+ghost use Rattle.engine_core.specs.Opened.{IsNotOpened, IsOpened, LeavesEither};
 ghost use Rattle.engine_core.specs.Opening.{IsMadeIn, RefusesNew};
+ghost use Rattle.engine_core.specs.Recovery.{IsEither, RecoversTo};
 
 use crate::parts::Parts;
 use crate::{Storage, opening};
@@ -67,6 +79,42 @@ impl<D: Disk> Engine<D> {
         }
     }
 
+    /// The archive of a disk, as after a crash: syncs its files, reads its catalogue, and then stops each recording that
+    /// was active. Nobody calls yet.
+    ///
+    /// Where each image that a crash now may leave recovers to one of two states, as every call of an archive leaves it,
+    /// the archive is the restart of the one that the disk reads as; and it is refused by `DeviceFault` and `NoMemory`
+    /// alone. Over any other disk `NotCatalogue`, `NewerVersion` and `Damaged`, as `catalogue_log::open`. `NoMemory` also
+    /// where 2^32 entries of the catalogue count or more. The disk comes back; an opening may be tried again.
+    /// docs/STORAGE.md, "Opening" and "Recovery". Costs a call of the disk for each file and for each 64 KiB of the
+    /// catalogue, four more where a recording was active, and the memory of the listing, the entries and the recordings.
+    pub fn open(alloc: Global, disk: D) -> Result<Engine<D>, OpenRefusal<D>>
+        ensures opened { IfOk result (λ engine. (s u : State) → LeavesEither (D.life disk) s u →
+            IsTrue (D.life engine.parts.storage.disk).obeys →
+            IsOpened (D.life disk) (D.life engine.parts.storage.disk) engine.parts.storage.log engine.parts.desk.state s u) }
+        ensures refused { IfErr result (λ refused. (s u : State) → LeavesEither (D.life disk) s u →
+            IsTrue (D.life refused.disk).obeys → IsNotOpened (D.life disk) (D.life refused.disk) s u
+            × ((refused.refusal ≡ DeviceFault) ⊎ (refused.refusal ≡ NoMemory))) }
+        // Also of a disk that no archive has left.
+        ensures other { IfErr result (λ refused. IsTrue (D.life refused.disk).obeys →
+            RefusesCatalogue (reads (D.life disk).now) refused.refusal) }
+        // A catalogue with more is refused: a desk counts no further.
+        ensures few { IfOk result (λ engine. IsTrue (D.life engine.parts.storage.disk).obeys →
+            (header : BankHeader) (entries : List Entry) → IsCatalogue (reads (D.life disk).now) header entries →
+            count_by counts entries < 2 ^ 32) }
+        ensures cause { IfErr result (λ refused. refused.refusal ≡ DeviceFault →
+            HasFailed (D.life disk) (D.life refused.disk)) }
+    {
+        let mut disk = disk;
+        match opening::read_desk(alloc, &mut disk) {
+            Ok((log, desk)) => start(Parts {
+                storage: Storage { disk, log },
+                desk,
+            }),
+            Err(refusal) => Err(OpenRefusal { refusal, disk }),
+        }
+    }
+
     /// Answers a request: by what the desk decides, and where that is a command, by adding its entry to the catalogue, which
     /// takes four calls of the disk. Where a truncation lies strictly inside a recording, frames are read first.
     ///
@@ -80,5 +128,36 @@ impl<D: Disk> Engine<D> {
             (EndsAs (D.life self.old.parts.storage.disk) (D.life self.new.parts.storage.disk) (events.Ask request.now) a result) }
     {
         self.parts.ask(alloc, request)
+    }
+}
+
+/// The engine of an archive whose files were read, once each active recording has stopped; else why it did not, and the
+/// disk. `NoMemory`; `DeviceFault` where a write fails.
+fn start<D: Disk>(parts: Parts<D>) -> Result<Engine<D>, OpenRefusal<D>>
+    requires orderly { IsOrderly parts.desk.state }
+    ensures started { IfOk result (λ engine. (x : State) (counted limit : ℕ) →
+        IsConsistent (D.life parts.storage.disk) parts.storage.log parts.desk.state (opened_archive x counted limit) →
+        IsConsistent (D.life engine.parts.storage.disk) engine.parts.storage.log engine.parts.desk.state
+        (opened_archive (after x Restart) counted limit)
+        × LeavesOnly (D.life parts.storage.disk) (D.life engine.parts.storage.disk) (RecoversTo (IsEither x (after x Restart)))) }
+    ensures refused { IfErr result (λ refused. (x : State) (counted limit : ℕ) →
+        IsConsistent (D.life parts.storage.disk) parts.storage.log parts.desk.state (opened_archive x counted limit) →
+        LeavesOnly (D.life parts.storage.disk) (D.life refused.disk) (RecoversTo (IsEither x (after x Restart)))) }
+    // Whatever the archive is, where its log works.
+    ensures outside { IfErr result (λ refused. IsFalse parts.storage.log.is_broken →
+        (refused.refusal ≡ DeviceFault) ⊎ (refused.refusal ≡ NoMemory)) }
+    ensures cause { IfErr result (λ refused. refused.refusal ≡ DeviceFault →
+        HasFailed (D.life parts.storage.disk) (D.life refused.disk)) }
+    ensures obeyed { MatchResult result
+        (λ engine. IsTrue (D.life engine.parts.storage.disk).obeys → IsTrue (D.life parts.storage.disk).obeys)
+        (λ refused. IsTrue (D.life refused.disk).obeys → IsTrue (D.life parts.storage.disk).obeys) }
+{
+    let mut parts = parts;
+    match parts.restart() {
+        Ok(_) => Ok(Engine { parts }),
+        Err(refusal) => Err(OpenRefusal {
+            refusal,
+            disk: parts.storage.disk,
+        }),
     }
 }

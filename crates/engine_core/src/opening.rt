@@ -1,6 +1,6 @@
 //! The files of an archive, opened or made anew: docs/STORAGE.md, "Opening" and "Recovery".
 
-ghost use Rattle.std.specs.Prelude.{◌≡◌, ◌⊎◌, ◌<◌, ◌↔◌, ℕ, ℤ, IfErr, IfOk, IsErrOf, IsSome, IsTrue, OnOk, None};
+ghost use Rattle.std.specs.Prelude.{◌≡◌, ◌⊎◌, ◌<◌, ◌≤◌, ◌^◌, ◌↔◌, ℕ, ℤ, IfErr, IfNone, IfOk, IfSome, IsErrOf, IsSome, IsTrue, List, OnOk, None};
 ghost use Rattle.frame_core.specs.declared.refusal.Refusal.TheVariants.{BadParameter, DeviceFault, NoMemory};
 ghost use Rattle.disk_core.specs.declared.file_id.FileId.{FileId};
 ghost use Rattle.disk_core.specs.declared.file_id.FileId.TheVariants.{Segment};
@@ -8,8 +8,10 @@ ghost use Rattle.disk_core.specs.DiskImage.{durable, reads};
 ghost use Rattle.disk_core.specs.Life.{HasFailed};
 ghost use Rattle.archive_model.specs.State.{State, empty, register_of};
 ghost use Rattle.archive_model.specs.Register.{no_recordings};
-ghost use Rattle.catalogue_log.specs.Catalogue.{RefusesCatalogue};
+ghost use Rattle.catalogue_log.specs.declared.entry.Entry.{Entry};
+ghost use Rattle.catalogue_log.specs.Catalogue.{RefusesCatalogue, bank_in_use};
 ghost use Rattle.catalogue_log.specs.Fold.{AreAdmitted};
+ghost use Rattle.catalogue_log.specs.LogState.{IsLogOf};
 ghost use Rattle.engine_core.specs.Opening.{IsMadeIn, ReadsAsBefore, RefusesNew, SyncsOnly};
 ghost use Rattle.control_core.specs.Desk.{opened_desk};
 ghost use Rattle.engine_core.specs.Orderly.{IsOrderly};
@@ -17,17 +19,53 @@ ghost use Rattle.engine_core.specs.Recovery.{Folds, IsSound, Recovers};
 
 use archive_model::Register;
 use catalogue_log::{Entry, Log, register_from};
+use control_core::Desk;
 use disk_core::{Disk, FileId};
 use frame_core::Refusal;
 use std::alloc::Global;
 
-/// What the files of an archive give but for frames.
+/// What the files of an archive give but for frames: the catalogue's log, and the register of the recordings.
 #[derive(Drop)]
-pub struct Parts {
-    /// The catalogue's log.
-    pub log: Log,
-    /// The register of the recordings.
-    pub register: Register,
+struct Parts {
+    log: Log,
+    register: Register,
+}
+
+/// Syncs the files of an archive and reads its catalogue: the log, and the desk, at which nobody calls yet.
+///
+/// Where the disk's files recover to a state, the archive is sound for it from then on, and the desk has that state's
+/// recordings; and then it refuses by `DeviceFault` and `NoMemory` alone. Else `NotCatalogue`, `NewerVersion` and
+/// `Damaged`, as `catalogue_log::open`. `NoMemory` also where 2^32 entries count or more, which no desk takes. In every
+/// case each file reads as before. docs/STORAGE.md, "Opening". Costs what `read_parts` costs.
+pub(crate) fn read_desk<D: Disk>(alloc: Global, disk: &mut D) -> Result<(Log, Desk), Refusal>
+    ensures sound { IfOk result (λ opened. IsTrue (D.life disk.new).obeys → (x : State) →
+        Recovers (reads (D.life disk.old).now) x → IsSound (D.life disk.new).now opened.0 x
+        × (opened.1.state ≡ opened_desk (register_of x) opened.0.counted opened.0.header.history_limit)) }
+    ensures orderly { IfOk result (λ opened. IsOrderly opened.1.state) }
+    // Of any catalogue, whatever the disk's files recover to.
+    ensures log { IfOk result (λ opened. IsTrue (D.life disk.new).obeys →
+        (entries : List Entry) × IsLogOf (bank_in_use (reads (D.life disk.old).now)) opened.0 entries) }
+    ensures few { IfOk result (λ opened. opened.0.counted < 2 ^ 32) }
+    ensures refused { IfErr result (λ refusal. IsTrue (D.life disk.new).obeys →
+        RefusesCatalogue (reads (D.life disk.old).now) refusal) }
+    ensures whole { IfErr result (λ refusal. IsTrue (D.life disk.new).obeys → (x : State) →
+        Recovers (reads (D.life disk.old).now) x → (refusal ≡ DeviceFault) ⊎ (refusal ≡ NoMemory)) }
+    ensures before { ReadsAsBefore (D.life disk.old) (D.life disk.new) }
+    ensures cause { IsErrOf result DeviceFault → HasFailed (D.life disk.old) (D.life disk.new) }
+{
+    let parts = read_parts(alloc, disk)?;
+    let counted = counted_by(&parts.log).ok_or(Refusal::NoMemory)?;
+    let limit = parts.log.limit();
+    let desk = Desk::opened(alloc, parts.register, counted, limit);
+    Ok((parts.log, desk))
+}
+
+/// How many entries of a log count, unless these are 2^32 or more.
+fn counted_by(log: &Log) -> Option<u32>
+    ensures some { IfSome result (λ counted. counted ≡ log.now.counted) }
+    ensures none { IfNone result (2 ^ 32 ≤ log.now.counted) }
+{
+    u32::try_from(log.counted()).ok()
 }
 
 /// Syncs the files of an archive, and reads its catalogue: the log, and the register that its entries make.
@@ -36,13 +74,15 @@ pub struct Parts {
 /// and then it refuses by `DeviceFault` and `NoMemory` alone. Else `NotCatalogue`, `NewerVersion` and `Damaged`, as
 /// `catalogue_log::open`. In every case each file reads as before. docs/STORAGE.md, "Opening". Costs a call of the disk
 /// for each file and for each 64 KiB of the catalogue, and the memory of the listing, the entries and the recordings.
-pub(crate) fn read_parts<D: Disk>(alloc: Global, disk: &mut D) -> Result<Parts, Refusal>
+fn read_parts<D: Disk>(alloc: Global, disk: &mut D) -> Result<Parts, Refusal>
     ensures sound { IfOk result (λ parts. IsTrue (D.life disk.new).obeys → (x : State) →
         Recovers (reads (D.life disk.old).now) x →
         IsSound (D.life disk.new).now parts.log x × (parts.register.state ≡ register_of x)) }
     // Whatever the disk does, a desk of the register is orderly.
     ensures orderly { IfOk result (λ parts. (counted limit : ℕ) →
         IsOrderly (opened_desk parts.register.state counted limit)) }
+    ensures log { IfOk result (λ parts. IsTrue (D.life disk.new).obeys →
+        (entries : List Entry) × IsLogOf (bank_in_use (reads (D.life disk.old).now)) parts.log entries) }
     ensures refused { IfErr result (λ refusal. IsTrue (D.life disk.new).obeys →
         RefusesCatalogue (reads (D.life disk.old).now) refusal) }
     ensures whole { IfErr result (λ refusal. IsTrue (D.life disk.new).obeys → (x : State) →
@@ -61,6 +101,8 @@ fn open_files<D: Disk>(alloc: Global, disk: &mut D) -> Result<(Log, Vec<Entry>),
         Recovers (reads (D.life disk.old).now) x →
         IsSound (D.life disk.new).now opened.0 x × Folds opened.1.items x) }
     ensures admitted { IfOk result (λ opened. AreAdmitted no_recordings opened.1.items) }
+    ensures log { IfOk result (λ opened. IsTrue (D.life disk.new).obeys →
+        IsLogOf (bank_in_use (reads (D.life disk.old).now)) opened.0 opened.1.items) }
     ensures refused { IfErr result (λ refusal. IsTrue (D.life disk.new).obeys →
         RefusesCatalogue (reads (D.life disk.old).now) refusal) }
     ensures before { ReadsAsBefore (D.life disk.old) (D.life disk.new) }

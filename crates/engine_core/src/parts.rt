@@ -1,17 +1,22 @@
 //! The parts of an archive: its files and its desk. docs/ARCHITECTURE.md, "The engine".
 
-ghost use Rattle.std.specs.Prelude.{◌≡◌, true, false, IfOk, IsFalse, IsTrue, Some};
-ghost use Rattle.frame_core.specs.declared.refusal.Refusal.TheVariants.{DeviceFault};
+ghost use Rattle.std.specs.Prelude.{◌≡◌, ◌⊎◌, ℕ, true, false, IfErr, IfOk, IsErrOf, IsFalse, IsTrue, Some};
+ghost use Rattle.std.specs.List.{list_any};
+ghost use Rattle.frame_core.specs.declared.refusal.Refusal.TheVariants.{DeviceFault, NoMemory};
 ghost use Rattle.disk_core.specs.Life.{HasFailed};
+ghost use Rattle.archive_model.specs.declared.command.Command.TheVariants.{Restart};
 ghost use Rattle.archive_model.specs.Accepting.{Accepts};
-ghost use Rattle.archive_model.specs.Register.{is_end};
+ghost use Rattle.archive_model.specs.Commands.{after};
+ghost use Rattle.archive_model.specs.Register.{is_active, is_end};
 ghost use Rattle.archive_model.specs.Replay.{begins_frame};
-ghost use Rattle.archive_model.specs.State.{Recording, registration_of};
+ghost use Rattle.archive_model.specs.State.{Recording, State, register_of, registration_of};
+ghost use Rattle.catalogue_log.specs.Fold.{counts};
 ghost use Rattle.catalogue_log.specs.History.{IsRequested, entry_of};
 ghost use Rattle.control_core.specs.Changes.{reply_after};
 ghost use Rattle.control_core.specs.Decisions.{Allows};
 ghost use Rattle.control_core.specs.declared.event.Event.TheVariants as events;
-ghost use Rattle.control_core.specs.Exact.{Archive, archive_after, book_of, recording_at};
+ghost use Rattle.control_core.specs.Desk.{opened_desk};
+ghost use Rattle.control_core.specs.Exact.{Archive, archive_after, book_of, opened_archive, recording_at};
 ghost use Rattle.control_core.specs.Seats.{HasRoomFor, KeepsSeats};
 ghost use Rattle.engine_core.specs.Calls.{CommitEnds, Ended, EndsAs, is_cut};
 ghost use Rattle.engine_core.specs.Consistent.{IsConsistent};
@@ -117,6 +122,35 @@ impl<D: Disk> Parts<D> {
         self.enter(&entry, reply, command)
     }
 
+    /// Stops each active recording of an archive that is opened, by four calls of the disk, and answers how many there
+    /// were. Where none is active nothing is done.
+    ///
+    /// `NoMemory`; `DeviceFault` where a write fails: the archive is then broken. docs/STORAGE.md, "Opening". Costs a
+    /// lookup at each recording.
+    pub fn restart(&mut self) -> Result<Reply, Refusal>
+        requires orderly { IsOrderly self.old.desk.state }
+        ensures orderly { IsOrderly self.new.desk.state }
+        ensures obeyed { IsTrue (D.life self.new.storage.disk).obeys → IsTrue (D.life self.old.storage.disk).obeys }
+        ensures restarted { (s : State) (counted limit : ℕ) →
+            IsConsistent (D.life self.old.storage.disk) self.old.storage.log self.old.desk.state (opened_archive s counted limit) →
+            Ended (D.life self.old.storage.disk) (D.life self.new.storage.disk) self.new.storage.log self.new.desk.state
+            (opened_archive s counted limit)
+            (CommitEnds (opened_archive s counted limit) (reply_after (opened_desk (register_of s) counted limit) Restart)
+            (opened_archive (after s Restart) counted limit)
+            (HasFailed (D.life self.old.storage.disk) (D.life self.new.storage.disk)) result) }
+        // Whatever the archive is, where its log works.
+        ensures refused { IfErr result (λ refusal. IsFalse self.old.storage.log.is_broken →
+            (refusal ≡ DeviceFault) ⊎ (refusal ≡ NoMemory)) }
+        ensures cause { IsErrOf result DeviceFault →
+            HasFailed (D.life self.old.storage.disk) (D.life self.new.storage.disk) }
+    {
+        let reply = self.desk.reply(&Command::Restart);
+        if !has_active(&self.desk) {
+            return Ok(reply);
+        }
+        self.enter(&Entry::Restart, reply, Command::Restart)
+    }
+
     /// Adds the entry of a command that is accepted, and for which the desk has room; then the desk follows. Answers the
     /// reply. `NoMemory`; `DeviceFault` where a write fails: the archive is then broken.
     fn enter(&mut self, entry: &Entry, reply: Reply, command: Command) -> Result<Reply, Refusal>
@@ -133,6 +167,11 @@ impl<D: Disk> Parts<D> {
             Ended (D.life self.old.storage.disk) (D.life self.new.storage.disk) self.new.storage.log self.new.desk.state a
             (CommitEnds a reply (archive_after a command)
             (HasFailed (D.life self.old.storage.disk) (D.life self.new.storage.disk)) result) }
+        // Whatever the archive is: a log that works takes an entry that doesn't count.
+        ensures uncounted { IfErr result (λ refusal. IsFalse self.old.storage.log.is_broken → IsFalse (counts entry.now) →
+            (refusal ≡ DeviceFault) ⊎ (refusal ≡ NoMemory)) }
+        ensures cause { IsErrOf result DeviceFault →
+            HasFailed (D.life self.old.storage.disk) (D.life self.new.storage.disk) }
     {
         match self.storage.commit(entry) {
             Ok(()) => {
@@ -153,4 +192,11 @@ pub fn failed(desk: &mut Desk, refusal: Refusal) -> Refusal
         desk.break_down();
     }
     refusal
+}
+
+/// Whether a recording is active. Costs a lookup at each recording.
+fn has_active(desk: &Desk) -> bool
+    ensures { result ≡ list_any is_active desk.now.state.register.recordings }
+{
+    desk.recordings().iter().any(|known| known.is_active())
 }

@@ -1,4 +1,4 @@
-use Rattle.std.proofs.Common.{sym, subst, ap, Ok, Err}
+use Rattle.std.proofs.Common.{◌≡◌, ◌⊎◌, sym, subst, ap, Ok, Err}
 use Rattle.control_core.specs.Decisions.{Allows}
 use Rattle.control_core.specs.Exact.{archive_after}
 use Rattle.control_core.specs.Seats.{KeepsSeats}
@@ -6,6 +6,7 @@ use Rattle.engine_core.specs.Orderly.{IsOrderly}
 use Rattle.engine_core.proofs.OrderlyLemmas.{orderly_after}
 use Rattle.engine_core.proofs.FailingLemmas.{orderly_failure}
 use Rattle.disk_core.specs.Life.{HasFailed}
+use Rattle.frame_core.specs.declared.refusal.Refusal.TheVariants.{DeviceFault, NoMemory}
 use Rattle.engine_core.proofs.MakeLemmas.{MayMake, bank_keeps, commit_failed, entered, entry_counted, made_done}
 use Rattle.engine_core.proofs.parts.Parts.enter.Goals as goal
 
@@ -38,3 +39,11 @@ returns-in-Err-clause-entered g c a was works accepts is =
     commit_failed old new log new_log desk c.failed.new.desk.state a was works (bank_keeps old new c.in-Err.ensures.changes) (archive_after a c.args.command) c.args.reply (HasFailed old new) c.in-Err.refusal c.failed.result
     c.failed.ensures.same (λ e. c.in-Err.ensures.memory (ap Err e)) (λ e. c.in-Err.ensures.cause (ap Err e)) c.failed.ensures.state
     (entered (Err c.in-Err.refusal) old new log new_log desk a c.args.command c.args.entry.now may is c.in-Err.ensures.moves)
+
+pub returns-in-Err-clause-uncounted : goal.returns-in-Err-clause-uncounted
+returns-in-Err-clause-uncounted g c works uncounted = subst (λ r. (r ≡ DeviceFault) ⊎ (r ≡ NoMemory)) (sym c.failed.ensures.same) (c.in-Err.ensures.uncounted works uncounted)
+
+pub returns-in-Err-clause-cause : goal.returns-in-Err-clause-cause
+returns-in-Err-clause-cause g c is =
+    let same : c.in-Err.refusal ≡ DeviceFault = cc in
+    c.in-Err.ensures.cause (ap Err same)

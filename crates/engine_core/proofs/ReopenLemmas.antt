@@ -1,0 +1,200 @@
+-- How an archive is opened: what its files give, and the restart of its recordings.
+use Rattle.std.proofs.Common.{◌≡◌, ◌∙◌, ◌<◌, ◌^◌, ◌||◌, inl, inr, sym, ap, subst, refl, ℕ, negsuc, Bool, true, false, cond, true≢false, List, [], ◌∷◌, Option, None, Some, map, arith}
+use Rattle.std.specs.Prelude.{IfErr, IfOk, MatchResult, Result, Ok, Err, count_by}
+use Rattle.std.specs.List.{list_any}
+use Rattle.frame_core.specs.declared.refusal.Refusal.{Refusal}
+use Rattle.frame_core.specs.declared.refusal.Refusal.TheVariants.{DeviceFault, NoMemory}
+use Rattle.disk_core.specs.declared.file_id.FileId.TheVariants.{BankA}
+use Rattle.disk_core.specs.DiskImage.{MayLeave, bytes_of, reads}
+use Rattle.disk_core.specs.Life.{HasFailed, Life, LeavesOnly}
+use Rattle.disk_core.proofs.CallerLemmas.{goes_on_part, now_leaves, weaker}
+use Rattle.archive_model.specs.declared.command.Command.TheVariants.{Restart}
+use Rattle.archive_model.specs.declared.reply.Reply.{Reply}
+use Rattle.archive_model.specs.Acceptance.{BookState}
+use Rattle.archive_model.specs.Accepting.{Accepts}
+use Rattle.archive_model.specs.Commands.{after, restarted, stopped}
+use Rattle.archive_model.specs.Register as register
+use Rattle.archive_model.specs.Register.{RegisterState}
+use Rattle.archive_model.specs.State.{Recording, State, is_active, register_of, registration_of}
+use Rattle.archive_model.specs.WellFormed.{IsWell}
+use Rattle.archive_model.proofs.StateLemmas.{register_follows}
+use Rattle.catalogue_log.specs.declared.bank.BankHeader.{BankHeader}
+use Rattle.catalogue_log.specs.declared.entry.Entry.{Entry}
+use Rattle.catalogue_log.specs.Bank.{IsBank}
+use Rattle.catalogue_log.specs.Fold.{counts}
+use Rattle.catalogue_log.specs.LogState.{IsLogOf, LogState}
+use Rattle.catalogue_log.proofs.AppendLemmas.{rest_left}
+use Rattle.catalogue_log.proofs.OneLemmas.{one_bank}
+use Rattle.control_core.specs.Desk.{DeskState, opened_desk}
+use Rattle.control_core.specs.Exact.{Archive, archive_after, broken, opened_archive}
+use Rattle.engine_core.specs.Calls.{CommitEnds, Ended}
+use Rattle.engine_core.specs.Consistent.{IsConsistent, MayStandIn}
+use Rattle.engine_core.specs.Opened.{IsNear, IsNotOpened, IsOpened, LeavesEither}
+use Rattle.engine_core.specs.Opening.{ReadsAsBefore}
+use Rattle.engine_core.specs.Recovery.{IsEither, IsSound, RecoversTo}
+use Rattle.engine_core.proofs.EndedLemmas.{recovers_as, sound_consistent}
+
+-- clauses of one result, together
+
+pub ok_two : {X E : Type 0} (result : Result X E) (O P R : X → Type 0) (Q : E → Type 0) → ((x : X) → O x → P x → R x) → MatchResult result O Q → IfOk result P → IfOk result R
+ok_two (Ok x) O P R Q follows here there = follows x here there
+ok_two (Err e) O P R Q follows here there = tt
+
+pub err_two : {X E : Type 0} (result : Result X E) (O P R : E → Type 0) (Q : X → Type 0) → ((e : E) → O e → P e → R e) → MatchResult result Q O → IfErr result P → IfErr result R
+err_two (Ok x) O P R Q follows here there = tt
+err_two (Err e) O P R Q follows here there = follows e here there
+
+pub err_three : {X E : Type 0} (result : Result X E) (O P S R : E → Type 0) (Q : X → Type 0) → ((e : E) → O e → P e → S e → R e) → MatchResult result Q O → IfErr result P → IfErr result S → IfErr result R
+err_three (Ok x) O P S R Q follows here there then = tt
+err_three (Err e) O P S R Q follows here there then = follows e here there then
+
+-- ---- an archive at which nobody calls yet
+
+pub opened_consistent : (life : Life) (log : LogState) (desk : DeskState) (x : State) (counted limit : ℕ) → IsSound life.now log x → log.counted ≡ counted → log.header.history_limit ≡ limit → desk ≡ opened_desk (register_of x) counted limit
+    → IsConsistent life log desk (opened_archive x counted limit)
+opened_consistent life log desk x counted limit sound has most is =
+    subst (λ (d : DeskState). IsConsistent life log d (opened_archive x counted limit)) (sym is)
+    (sound_consistent life log (opened_desk (register_of x) counted limit) (opened_archive x counted limit) sound (record {
+      history = record { counted = has; limit = most };
+      desk_is = refl;
+      agrees = refl;
+      works = refl;
+      doubt = refl;
+      written = record { each = tt; none = λ number above. refl };
+      reading = λ obeys. tt;
+    }))
+
+-- ---- the restart
+
+none_restarts : (rs : List Recording) → list_any register.is_active (map registration_of rs) ≡ false → map restarted rs ≡ rs
+none_restarts [] none = refl
+none_restarts (r ∷ rs) none = by (is_active r) none (none_restarts rs)
+  where
+    by : (b : Bool) → (b || list_any register.is_active (map registration_of rs)) ≡ false → (list_any register.is_active (map registration_of rs) ≡ false → map restarted rs ≡ rs)
+        → (cond b (stopped (negsuc 0) r) r) ∷ map restarted rs ≡ r ∷ rs
+    by true none later = absurd (true≢false none)
+    by false none later = ap (λ (xs : List Recording). r ∷ xs) (later none)
+
+-- where none is active it changes nothing
+same_after : (s : State) → list_any register.is_active (register_of s).recordings ≡ false → after s Restart ≡ s
+same_after s none = ap (λ (rs : List Recording). record { recordings = rs; next = s.next }) (none_restarts s.recordings none)
+
+pub none_active : (life : Life) (log : LogState) (desk : DeskState) (s : State) (counted limit : ℕ) → IsConsistent life log desk (opened_archive s counted limit) → list_any register.is_active desk.register.recordings ≡ false
+    → opened_archive s counted limit ≡ opened_archive (after s Restart) counted limit
+none_active life log desk s counted limit was none =
+    let known : list_any register.is_active (register_of s).recordings ≡ false = subst (λ (d : DeskState). list_any register.is_active d.register.recordings ≡ false) was.desk_is none in
+    ap (λ (x : State). opened_archive x counted limit) (sym (same_after s known))
+
+accepts_restart : (b : BookState) → Accepts b Restart
+accepts_restart b = (true, refl, refl)
+
+pub restart_of : (s : State) (counted limit : ℕ) → IsWell s → archive_after (opened_archive s counted limit) Restart ≡ opened_archive (after s Restart) counted limit
+restart_of s counted limit well =
+    let b : BookState = record { state = s; counted = counted; limit = limit } in
+    ap (λ (g : RegisterState). record { state = after s Restart; desk = opened_desk g counted limit; blocks = λ session. []; doubt = None }) (sym (register_follows b Restart well (accepts_restart b)))
+
+-- what stands in an archive at which nobody called, or in its restart
+stands_either : (x y : State) (counted limit : ℕ) (s : State) → MayStandIn (opened_archive x counted limit) (opened_archive y counted limit) s → IsEither x y s
+stands_either x y counted limit s (inl (inl is)) = inl is
+stands_either x y counted limit s (inl (inr doubt)) = let none : None ≡ Some s = doubt in absurd cc
+stands_either x y counted limit s (inr (inl is)) = inr is
+stands_either x y counted limit s (inr (inr doubt)) = let none : None ≡ Some s = doubt in absurd cc
+
+-- or where its restart is in doubt
+stands_broken : (x y : State) (counted limit : ℕ) (s : State) → MayStandIn (opened_archive x counted limit) (broken y (opened_archive x counted limit)) s → IsEither x y s
+stands_broken x y counted limit s (inl (inl is)) = inl is
+stands_broken x y counted limit s (inl (inr doubt)) = let none : None ≡ Some s = doubt in absurd cc
+stands_broken x y counted limit s (inr (inl is)) = inl is
+stands_broken x y counted limit s (inr (inr doubt)) = let some : Some y ≡ Some s = doubt in let same : s ≡ y = cc in inr same
+
+-- how a restart ends
+abbrev Restarts : State → ℕ → ℕ → Reply → Type 0 → Result Reply Refusal → Archive → Type 0
+Restarts x counted limit reply faulted outcome = CommitEnds (opened_archive x counted limit) reply (opened_archive (after x Restart) counted limit) faulted outcome
+
+moments_of : (old new : Life) (x y : State) (a b c : Archive) → c ≡ b → ((s : State) → MayStandIn a b s → IsEither x y s) → LeavesOnly old new (RecoversTo (MayStandIn a c)) → LeavesOnly old new (RecoversTo (IsEither x y))
+moments_of old new x y a b c is stands any =
+    let any_of : LeavesOnly old new (RecoversTo (MayStandIn a b)) = subst (λ (z : Archive). LeavesOnly old new (RecoversTo (MayStandIn a z))) is any in
+    weaker old new (RecoversTo (IsEither x y)) (RecoversTo (MayStandIn a b)) any_of (λ image. recovers_as (MayStandIn a b) (IsEither x y) image stands)
+
+pub restart_done : (old new : Life) (log : LogState) (desk : DeskState) (x : State) (counted limit : ℕ) (reply told : Reply) (faulted : Type 0)
+    → Ended old new log desk (opened_archive x counted limit) (Restarts x counted limit reply faulted (Ok told))
+    → IsConsistent new log desk (opened_archive (after x Restart) counted limit) × LeavesOnly old new (RecoversTo (IsEither x (after x Restart)))
+restart_done old new log desk x counted limit reply told faulted ended = (
+  subst (λ (b : Archive). IsConsistent new log desk b) ended.ends.1 ended.consistent,
+  moments_of old new x (after x Restart) (opened_archive x counted limit) (opened_archive (after x Restart) counted limit) ended.after ended.ends.1 (stands_either x (after x Restart) counted limit) ended.any_moment,
+)
+
+pub restart_refused : (refusal : Refusal) (old new : Life) (log : LogState) (desk : DeskState) (x : State) (counted limit : ℕ) (reply : Reply) (faulted : Type 0)
+    → Ended old new log desk (opened_archive x counted limit) (Restarts x counted limit reply faulted (Err refusal)) → LeavesOnly old new (RecoversTo (IsEither x (after x Restart)))
+restart_refused NoMemory old new log desk x counted limit reply faulted ended =
+    moments_of old new x (after x Restart) (opened_archive x counted limit) (opened_archive x counted limit) ended.after ended.ends
+    (λ s stands. elim (stands_either x x counted limit s stands) [ inl is ↦ inl is | inr is ↦ inl is ]) ended.any_moment
+restart_refused DeviceFault old new log desk x counted limit reply faulted ended =
+    moments_of old new x (after x Restart) (opened_archive x counted limit) (broken (after x Restart) (opened_archive x counted limit)) ended.after ended.ends.1 (stands_broken x (after x Restart) counted limit) ended.any_moment
+restart_refused refusal old new log desk x counted limit reply faulted ended = absurd ended.ends
+
+-- ---- the opening
+
+-- a state that the disk reads as, of those that a crash may leave
+pub reads_as : (life : Life) (s u : State) → MayLeave life.now (reads life.now) → LeavesEither life s u → RecoversTo (IsEither s u) (reads life.now)
+reads_as life s u may leaves = leaves (reads life.now) may
+
+near : (s u x y : State) → IsEither s u x → IsEither x (after x Restart) y → IsNear s u y
+near s u x y is (inl same) = inl (subst (IsEither s u) (sym same) is)
+near s u x y is (inr same) = inr (x, is, same)
+
+-- while the files are read a crash leaves what it might have left before
+read_moments : (old mid : Life) (s u : State) → LeavesEither old s u → ReadsAsBefore old mid → LeavesOnly old mid (RecoversTo (IsNear s u))
+read_moments old mid s u leaves before =
+    weaker old mid (RecoversTo (IsNear s u)) (MayLeave old.now) before.any_moment (λ image left. recovers_as (IsEither s u) (IsNear s u) image (λ y is. inl is) (leaves image left))
+
+all_moments : (old mid new : Life) (s u x : State) → LeavesEither old s u → ReadsAsBefore old mid → IsEither s u x → LeavesOnly mid new (RecoversTo (IsEither x (after x Restart))) → LeavesOnly old new (RecoversTo (IsNear s u))
+all_moments old mid new s u x leaves before is moments =
+    goes_on_part old mid new (RecoversTo (IsNear s u)) (RecoversTo (IsEither x (after x Restart))) (read_moments old mid s u leaves before) moments
+    (λ image. recovers_as (IsEither x (after x Restart)) (IsNear s u) image (λ y. near s u x y is))
+
+pub open_done : (old mid new : Life) (read log : LogState) (desk : DeskState) (s u : State) → LeavesEither old s u → ReadsAsBefore old mid → MayLeave mid.now (reads mid.now)
+    → (to : RecoversTo (IsEither s u) (reads old.now)) → IsSound mid.now read to.state
+    → IsConsistent new log desk (opened_archive (after to.state Restart) read.counted read.header.history_limit) × LeavesOnly mid new (RecoversTo (IsEither to.state (after to.state Restart))) → IsOpened old new log desk s u
+open_done old mid new read log desk s u leaves before may to sound restarted = record {
+  read = to.state;
+  is = to.is;
+  recovers = to.recovers;
+  archive = opened_archive (after to.state Restart) read.counted read.header.history_limit;
+  fresh = record {
+    header = read.header;
+    entries = sound.entries;
+    catalogue = subst (λ (bank : Option (List ℕ)). IsBank (bytes_of bank) read.header sound.entries) (before.same BankA) (rest_left mid.now read sound.entries (reads mid.now) sound.rests may);
+    state = refl;
+    desk = ap (λ (n : ℕ). opened_desk (register_of (after to.state Restart)) n read.header.history_limit) sound.rests.is_log.counted;
+    blocks = λ number. refl;
+    doubt = refl;
+  };
+  consistent = restarted.0;
+  any_moment = all_moments old mid new s u to.state leaves before to.is restarted.1;
+}
+
+-- it was refused as the files were read
+pub read_refused : (old mid : Life) (s u : State) → LeavesEither old s u → ReadsAsBefore old mid → IsNotOpened old mid s u
+read_refused old mid s u leaves before = record {
+  now = inl (λ image left. leaves image (now_leaves old mid (MayLeave old.now) before.any_moment image left));
+  any_moment = read_moments old mid s u leaves before;
+}
+
+-- or as the recordings were to stop
+pub stop_refused : (old mid new : Life) (s u : State) → LeavesEither old s u → ReadsAsBefore old mid → (to : RecoversTo (IsEither s u) (reads old.now)) → LeavesOnly mid new (RecoversTo (IsEither to.state (after to.state Restart))) → IsNotOpened old new s u
+stop_refused old mid new s u leaves before to moments = record {
+  now = inr (to.state, to.is, λ image left. now_leaves mid new (RecoversTo (IsEither to.state (after to.state Restart))) moments image left);
+  any_moment = all_moments old mid new s u to.state leaves before to.is moments;
+}
+
+-- the bank whose log was read has fewer than 2^32 entries that count
+pub few_entries : (bank : List ℕ) (log : LogState) (entries : List Entry) → IsLogOf bank log entries → log.counted < 2 ^ 32 → (h : BankHeader) (es : List Entry) → IsBank bank h es → count_by counts es < 2 ^ 32
+few_entries bank log entries is few h es other =
+    let read : IsBank bank log.header entries = record { rest = is.rest; holds = is.holds; closed = is.closed } in
+    let same : log.counted ≡ count_by counts es = is.counted ∙ ap (count_by counts) (one_bank bank log.header h entries es read other).1 in
+    subst (λ (n : ℕ). n < 2 ^ 32) same few
+
+-- the fault came after the files were read
+pub failed_later : (old mid new : Life) → ReadsAsBefore old mid → HasFailed mid new → HasFailed old new
+failed_later old mid new before failed = let faults = before.faults in omega (arith, failed, faults)

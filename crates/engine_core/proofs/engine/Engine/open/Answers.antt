@@ -1,0 +1,63 @@
+use Rattle.std.proofs.Common.{refl}
+use Rattle.std.proofs.lemmas.Result.{IfErr-weaker}
+use Rattle.disk_core.specs.DiskImage.{reads}
+use Rattle.catalogue_log.specs.Catalogue.{bank_in_use}
+use Rattle.engine_core.proofs.OpeningLemmas.{fault_refuses}
+use Rattle.engine_core.proofs.ReopenLemmas.{err_three, err_two, failed_later, few_entries, ok_two, open_done, opened_consistent, read_refused, reads_as, stop_refused}
+use Rattle.engine_core.proofs.engine.Engine.open.Goals as goal
+
+pub returns-in-Ok-clause-opened : goal.returns-in-Ok-clause-opened
+returns-in-Ok-clause-opened g c =
+    let old = g.D.Disk.life c.args.disk in
+    let mid = g.D.Disk.life c.read_desk.new.disk in
+    let log = c.in-Ok.log in
+    ok_two c.start.result _ _ _ _
+    (λ engine obeyed started s u leaves obeys.
+    let to = reads_as old s u (g.met.D.Disk.reads_may_stay c.args.disk) leaves in
+    let sound = c.in-Ok.ensures.sound (obeyed obeys) to.state to.recovers in
+    let was = opened_consistent mid log c.in-Ok.desk.state to.state log.counted log.header.history_limit sound.0 refl refl sound.1 in
+    open_done old mid (g.D.Disk.life engine.parts.storage.disk) log engine.parts.storage.log engine.parts.desk.state s u leaves c.read_desk.ensures.before (g.met.D.Disk.reads_may_stay c.read_desk.new.disk) to sound.0
+    (started to.state log.counted log.header.history_limit was))
+    c.start.ensures.obeyed c.start.ensures.started
+
+pub returns-in-Ok-clause-refused : goal.returns-in-Ok-clause-refused
+returns-in-Ok-clause-refused g c =
+    let old = g.D.Disk.life c.args.disk in
+    let mid = g.D.Disk.life c.read_desk.new.disk in
+    let log = c.in-Ok.log in
+    err_three c.start.result _ _ _ _ _
+    (λ refused obeyed moments outside s u leaves obeys.
+    let to = reads_as old s u (g.met.D.Disk.reads_may_stay c.args.disk) leaves in
+    let sound = c.in-Ok.ensures.sound (obeyed obeys) to.state to.recovers in
+    let was = opened_consistent mid log c.in-Ok.desk.state to.state log.counted log.header.history_limit sound.0 refl refl sound.1 in (
+      stop_refused old mid (g.D.Disk.life refused.disk) s u leaves c.read_desk.ensures.before to (moments to.state log.counted log.header.history_limit was),
+      outside (c.in-Ok.ensures.log (obeyed obeys)).1.works,
+    ))
+    c.start.ensures.obeyed c.start.ensures.refused c.start.ensures.outside
+
+pub returns-in-Ok-clause-other : goal.returns-in-Ok-clause-other
+returns-in-Ok-clause-other g c =
+    let old = g.D.Disk.life c.args.disk in
+    err_two c.start.result _ _ _ _
+    (λ refused obeyed outside obeys. fault_refuses (reads old.now) refused.refusal (outside (c.in-Ok.ensures.log (obeyed obeys)).1.works))
+    c.start.ensures.obeyed c.start.ensures.outside
+
+pub returns-in-Ok-clause-few : goal.returns-in-Ok-clause-few
+returns-in-Ok-clause-few g c =
+    let old = g.D.Disk.life c.args.disk in
+    ok_two c.start.result _ _ _ _
+    (λ engine obeyed started obeys.
+    let read = c.in-Ok.ensures.log (obeyed obeys) in
+    few_entries (bank_in_use (reads old.now)) c.in-Ok.log read.0 read.1 c.in-Ok.ensures.few)
+    c.start.ensures.obeyed c.start.ensures.started
+
+pub returns-in-Ok-clause-cause : goal.returns-in-Ok-clause-cause
+returns-in-Ok-clause-cause g c =
+    IfErr-weaker c.start.result _ _ (λ refused failed is. failed_later (g.D.Disk.life c.args.disk) (g.D.Disk.life c.read_desk.new.disk) (g.D.Disk.life refused.disk) c.read_desk.ensures.before (failed is)) c.start.ensures.cause
+
+pub returns-in-Err-clause-refused : goal.returns-in-Err-clause-refused
+returns-in-Err-clause-refused g c s u leaves obeys =
+    let old = g.D.Disk.life c.args.disk in
+    let mid = g.D.Disk.life c.read_desk.new.disk in
+    let to = reads_as old s u (g.met.D.Disk.reads_may_stay c.args.disk) leaves in
+    (read_refused old mid s u leaves c.read_desk.ensures.before, c.in-Err.ensures.whole obeys to.state to.recovers)
