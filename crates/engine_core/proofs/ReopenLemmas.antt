@@ -1,11 +1,13 @@
 -- How an archive is opened: what its files give, and the restart of its recordings.
-use Rattle.std.proofs.Common.{◌≡◌, ◌∙◌, ◌<◌, ◌^◌, ◌||◌, inl, inr, sym, ap, subst, refl, ℕ, negsuc, Bool, true, false, cond, true≢false, List, [], ◌∷◌, Option, None, Some, map, arith}
-use Rattle.std.specs.Prelude.{IfErr, IfOk, MatchResult, Result, Ok, Err, count_by}
+use Rattle.std.proofs.Common.{◌≡◌, ◌≢◌, ◌∙◌, ◌<◌, ◌^◌, ◌||◌, inl, inr, sym, ap, subst, refl, ℕ, negsuc, Bool, true, false, cond, true≢false, List, [], ◌∷◌, Option, None, Some, map, arith}
+use Rattle.std.specs.Prelude.{IfErr, IfOk, MatchResult, Result, Ok, Err}
 use Rattle.std.specs.List.{list_any}
+use Rattle.std.proofs.lemmas.List.{map-id}
 use Rattle.frame_core.specs.declared.refusal.Refusal.{Refusal}
 use Rattle.frame_core.specs.declared.refusal.Refusal.TheVariants.{DeviceFault, NoMemory}
+use Rattle.disk_core.specs.declared.file_id.FileId.{FileId}
 use Rattle.disk_core.specs.declared.file_id.FileId.TheVariants.{BankA}
-use Rattle.disk_core.specs.DiskImage.{MayLeave, bytes_of, reads}
+use Rattle.disk_core.specs.DiskImage.{DiskImage, FileState, MayLeave, bytes_of, reads}
 use Rattle.disk_core.specs.Life.{HasFailed, Life, LeavesOnly}
 use Rattle.disk_core.proofs.CallerLemmas.{goes_on_part, now_leaves, weaker}
 use Rattle.archive_model.specs.declared.command.Command.TheVariants.{Restart}
@@ -14,22 +16,23 @@ use Rattle.archive_model.specs.Acceptance.{BookState}
 use Rattle.archive_model.specs.Accepting.{Accepts}
 use Rattle.archive_model.specs.Commands.{after, restarted, stopped}
 use Rattle.archive_model.specs.Register as register
-use Rattle.archive_model.specs.Register.{RegisterState}
-use Rattle.archive_model.specs.State.{Recording, State, is_active, register_of, registration_of}
+use Rattle.archive_model.specs.declared.registration.Change.TheVariants as changes
+use Rattle.archive_model.specs.declared.registration.Registration.{Registration}
+use Rattle.archive_model.specs.Register.{RegisterState, all_stopped, no_recordings}
+use Rattle.archive_model.specs.State.{Recording, State, register_of, registration_of}
 use Rattle.archive_model.specs.WellFormed.{IsWell}
 use Rattle.archive_model.proofs.StateLemmas.{register_follows}
-use Rattle.catalogue_log.specs.declared.bank.BankHeader.{BankHeader}
 use Rattle.catalogue_log.specs.declared.entry.Entry.{Entry}
 use Rattle.catalogue_log.specs.Bank.{IsBank}
-use Rattle.catalogue_log.specs.Fold.{counts}
+use Rattle.catalogue_log.specs.Catalogue.{ChangesBank, bank_in_use}
+use Rattle.catalogue_log.specs.Fold.{after_entries}
 use Rattle.catalogue_log.specs.LogState.{IsLogOf, LogState}
 use Rattle.catalogue_log.proofs.AppendLemmas.{rest_left}
-use Rattle.catalogue_log.proofs.OneLemmas.{one_bank}
 use Rattle.control_core.specs.Desk.{DeskState, opened_desk}
 use Rattle.control_core.specs.Exact.{Archive, archive_after, broken, opened_archive}
 use Rattle.engine_core.specs.Calls.{CommitEnds, Ended}
 use Rattle.engine_core.specs.Consistent.{IsConsistent, MayStandIn}
-use Rattle.engine_core.specs.Opened.{IsNear, IsNotOpened, IsOpened, LeavesEither}
+use Rattle.engine_core.specs.Opened.{IsDeskOf, IsNear, IsNotOpened, IsOpened, LeavesEither}
 use Rattle.engine_core.specs.Opening.{ReadsAsBefore}
 use Rattle.engine_core.specs.Recovery.{IsEither, IsSound, RecoversTo}
 use Rattle.engine_core.proofs.EndedLemmas.{recovers_as, sound_consistent}
@@ -47,6 +50,10 @@ err_two (Err e) O P R Q follows here there = follows e here there
 pub err_three : {X E : Type 0} (result : Result X E) (O P S R : E → Type 0) (Q : X → Type 0) → ((e : E) → O e → P e → S e → R e) → MatchResult result Q O → IfErr result P → IfErr result S → IfErr result R
 err_three (Ok x) O P S R Q follows here there then = tt
 err_three (Err e) O P S R Q follows here there then = follows e here there then
+
+pub either_then : {X E : Type 0} (result : Result X E) (P R : X → Type 0) (Q S : E → Type 0) → ((x : X) → P x → R x) → ((e : E) → Q e → S e) → MatchResult result P Q → MatchResult result R S
+either_then (Ok x) P R Q S here there is = here x is
+either_then (Err e) P R Q S here there is = there e is
 
 -- ---- an archive at which nobody calls yet
 
@@ -66,18 +73,26 @@ opened_consistent life log desk x counted limit sound has most is =
 
 -- ---- the restart
 
-none_restarts : (rs : List Recording) → list_any register.is_active (map registration_of rs) ≡ false → map restarted rs ≡ rs
-none_restarts [] none = refl
-none_restarts (r ∷ rs) none = by (is_active r) none (none_restarts rs)
+-- what changes only elements of which something holds changes none where it holds of none
+unchanged : {X Y : Type 0} (of : X → Y) (test : Y → Bool) (change : X → X) (xs : List X) → ((x : X) → test (of x) ≡ false → change x ≡ x) → list_any test (map of xs) ≡ false → map change xs ≡ xs
+unchanged of test change [] same none = refl
+unchanged of test change (x ∷ xs) same none = by (test (of x)) refl none (unchanged of test change xs same)
   where
-    by : (b : Bool) → (b || list_any register.is_active (map registration_of rs)) ≡ false → (list_any register.is_active (map registration_of rs) ≡ false → map restarted rs ≡ rs)
-        → (cond b (stopped (negsuc 0) r) r) ∷ map restarted rs ≡ r ∷ rs
-    by true none later = absurd (true≢false none)
-    by false none later = ap (λ (xs : List Recording). r ∷ xs) (later none)
+    by : (b : Bool) → test (of x) ≡ b → (b || list_any test (map of xs)) ≡ false → (list_any test (map of xs) ≡ false → map change xs ≡ xs) → change x ∷ map change xs ≡ x ∷ xs
+    by true is none later = absurd (true≢false none)
+    by false is none later = ap (λ y. y ∷ map change xs) (same x is) ∙ ap (λ ys. x ∷ ys) (later none)
 
 -- where none is active it changes nothing
 same_after : (s : State) → list_any register.is_active (register_of s).recordings ≡ false → after s Restart ≡ s
-same_after s none = ap (λ (rs : List Recording). record { recordings = rs; next = s.next }) (none_restarts s.recordings none)
+same_after s none =
+    let same : map restarted s.recordings ≡ s.recordings = unchanged registration_of register.is_active restarted s.recordings (λ r is. ap (λ b. cond b (stopped (negsuc 0) r) r) is) none in
+    ap (λ (rs : List Recording). record { recordings = rs; next = s.next }) same
+
+pub none_stop : (g : RegisterState) → list_any register.is_active g.recordings ≡ false → all_stopped g ≡ g
+none_stop g none =
+    let every : list_any register.is_active (map (λ r. r) g.recordings) ≡ false = subst (λ rs. list_any register.is_active rs ≡ false) (sym (map-id g.recordings)) none in
+    let same : map register.restarted g.recordings ≡ g.recordings = unchanged (λ r. r) register.is_active register.restarted g.recordings (λ r is. ap (λ b. cond b (register.changed_by (changes.Stop (negsuc 0)) r) r) is) every in
+    ap (λ (rs : List Registration). record { recordings = rs; next = g.next }) same
 
 pub none_active : (life : Life) (log : LogState) (desk : DeskState) (s : State) (counted limit : ℕ) → IsConsistent life log desk (opened_archive s counted limit) → list_any register.is_active desk.register.recordings ≡ false
     → opened_archive s counted limit ≡ opened_archive (after s Restart) counted limit
@@ -188,12 +203,27 @@ stop_refused old mid new s u leaves before to moments = record {
   any_moment = all_moments old mid new s u to.state leaves before to.is moments;
 }
 
--- the bank whose log was read has fewer than 2^32 entries that count
-pub few_entries : (bank : List ℕ) (log : LogState) (entries : List Entry) → IsLogOf bank log entries → log.counted < 2 ^ 32 → (h : BankHeader) (es : List Entry) → IsBank bank h es → count_by counts es < 2 ^ 32
-few_entries bank log entries is few h es other =
-    let read : IsBank bank log.header entries = record { rest = is.rest; holds = is.holds; closed = is.closed } in
-    let same : log.counted ≡ count_by counts es = is.counted ∙ ap (count_by counts) (one_bank bank log.header h entries es read other).1 in
-    subst (λ (n : ℕ). n < 2 ^ 32) same few
+-- what a restart changes is the bank alone
+pub reads_otherwise : (old mid new : Life) → ReadsAsBefore old mid → ChangesBank mid new → (file : FileId) → file ≢ BankA → reads new.now file ≡ reads old.now file
+reads_otherwise old mid new before changes file other = ap (λ (state : FileState). state.reads) (changes.others file other) ∙ before.same file
+
+pub changes_nothing : (life : Life) → ChangesBank life life
+changes_nothing life = record { others = λ file other. refl; faults = omega arith; obeyed = λ obeys. obeys }
+
+-- the desk of the bank whose log was read
+pub desk_read : (image : DiskImage) (log : LogState) (entries : List Entry) (desk : DeskState) → IsLogOf (bank_in_use image) log entries → log.counted < 2 ^ 32
+    → desk ≡ opened_desk (all_stopped (after_entries no_recordings entries)) log.counted log.header.history_limit → IsDeskOf image desk
+desk_read image log entries desk read few is = record {
+  header = log.header;
+  entries = entries;
+  catalogue = record { rest = read.rest; holds = read.holds; closed = read.closed };
+  few = subst (λ (n : ℕ). n < 2 ^ 32) read.counted few;
+  is = is ∙ ap (λ (n : ℕ). opened_desk (all_stopped (after_entries no_recordings entries)) n log.header.history_limit) read.counted;
+}
+
+pub same_desk : (g h : RegisterState) (counted more limit most : ℕ) → g ≡ h → counted ≡ more → limit ≡ most → opened_desk g counted limit ≡ opened_desk h more most
+same_desk g h counted more limit most one two three =
+    ap (λ (r : RegisterState). opened_desk r counted limit) one ∙ ap (λ (n : ℕ). opened_desk h n limit) two ∙ ap (λ (n : ℕ). opened_desk h more n) three
 
 -- the fault came after the files were read
 pub failed_later : (old mid new : Life) → ReadsAsBefore old mid → HasFailed mid new → HasFailed old new

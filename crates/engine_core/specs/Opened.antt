@@ -1,14 +1,15 @@
 -- Opening an archive after a crash: docs/STORAGE.md, "Recovery".
-use Rattle.std.specs.Prelude.{◌≡◌, ◌⊎◌, ℤ, List, [], None, count_by}
+use Rattle.std.specs.Prelude.{◌≡◌, ◌⊎◌, ◌<◌, ◌^◌, ℤ, List, [], None, count_by}
 use Rattle.disk_core.specs.DiskImage.{DiskImage, MayLeave, reads}
 use Rattle.disk_core.specs.Life.{Life, LeavesOnly}
 use Rattle.archive_model.specs.State.{State, register_of}
 use Rattle.archive_model.specs.declared.command.Command.TheVariants.{Restart}
 use Rattle.archive_model.specs.Commands.{after}
+use Rattle.archive_model.specs.Register.{all_stopped, no_recordings}
 use Rattle.catalogue_log.specs.declared.bank.BankHeader.{BankHeader}
 use Rattle.catalogue_log.specs.declared.entry.Entry.{Entry}
 use Rattle.catalogue_log.specs.Catalogue.{IsCatalogue}
-use Rattle.catalogue_log.specs.Fold.{counts}
+use Rattle.catalogue_log.specs.Fold.{after_entries, counts}
 use Rattle.catalogue_log.specs.LogState.{LogState}
 use Rattle.control_core.specs.Desk.{DeskState, opened_desk}
 use Rattle.control_core.specs.Exact.{Archive}
@@ -48,3 +49,11 @@ pub record IsOpened (old new : Life) (log : LogState) (desk : DeskState) (s u : 
 pub record IsNotOpened (old new : Life) (s u : State) : Type 0 where
   pub now : LeavesEither new s u ⊎ ((x : State) × IsEither s u x × LeavesEither new x (after x Restart))
   pub any_moment : LeavesOnly old new (RecoversTo (IsNear s u))
+
+-- The desk is that of the image's catalogue and a restart, whatever the segment files hold. Fewer than 2^32 entries count.
+pub record IsDeskOf (image : DiskImage) (desk : DeskState) : Type 0 where
+  pub header : BankHeader
+  pub entries : List Entry
+  pub catalogue : IsCatalogue image header entries
+  pub few : count_by counts entries < 2 ^ 32
+  pub is : desk ≡ opened_desk (all_stopped (after_entries no_recordings entries)) (count_by counts entries) header.history_limit

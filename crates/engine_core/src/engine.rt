@@ -1,25 +1,26 @@
 //! An archive on one thread, made anew or opened. docs/ARCHITECTURE.md, "The engine"; docs/STORAGE.md, "Opening".
 
-ghost use Rattle.std.specs.Prelude.{◌≡◌, ◌⊎◌, ◌<◌, ◌^◌, ℕ, IfErr, IfOk, IsFalse, IsTrue, List, MatchResult, count_by};
+ghost use Rattle.std.specs.Prelude.{◌≡◌, ◌≢◌, ◌⊎◌, ℕ, IfErr, IfOk, IsFalse, IsTrue, MatchResult};
 ghost use Rattle.frame_core.specs.declared.refusal.Refusal.TheVariants.{DeviceFault, NoMemory};
+ghost use Rattle.disk_core.specs.declared.file_id.FileId.{FileId};
+ghost use Rattle.disk_core.specs.declared.file_id.FileId.TheVariants.{BankA};
 ghost use Rattle.disk_core.specs.DiskImage.{reads};
 ghost use Rattle.disk_core.specs.Life.{HasFailed, LeavesOnly};
 ghost use Rattle.archive_model.specs.declared.command.Command.TheVariants.{Restart};
 ghost use Rattle.archive_model.specs.Commands.{after};
+ghost use Rattle.archive_model.specs.Register.{RegisterState, all_stopped};
 ghost use Rattle.archive_model.specs.State.{State};
-ghost use Rattle.catalogue_log.specs.declared.bank.BankHeader.{BankHeader};
-ghost use Rattle.catalogue_log.specs.declared.entry.Entry.{Entry};
-ghost use Rattle.catalogue_log.specs.Catalogue.{IsCatalogue, RefusesCatalogue};
-ghost use Rattle.catalogue_log.specs.Fold.{counts};
+ghost use Rattle.catalogue_log.specs.Catalogue.{ChangesBank, RefusesCatalogue};
 ghost use Rattle.control_core.specs.declared.event.Event.TheVariants as events;
+ghost use Rattle.control_core.specs.Desk.{opened_desk};
 ghost use Rattle.control_core.specs.Exact.{Archive, opened_archive};
 ghost use Rattle.engine_core.specs.Calls.{Ended, EndsAs, is_cut};
 ghost use Rattle.engine_core.specs.Consistent.{IsConsistent};
 ghost use Rattle.engine_core.specs.Engine.{new_archive};
 ghost use Rattle.engine_core.specs.Orderly.{IsOrderly};
 ghost use Rattle.engine_core.specs.OrderlyProps.{IsOrderly-prop};
-ghost use Rattle.engine_core.specs.Opened.{IsNotOpened, IsOpened, LeavesEither};
-ghost use Rattle.engine_core.specs.Opening.{IsMadeIn, RefusesNew};
+ghost use Rattle.engine_core.specs.Opened.{IsDeskOf, IsNotOpened, IsOpened, LeavesEither};
+ghost use Rattle.engine_core.specs.Opening.{IsMadeIn, ReadsAsBefore, RefusesNew};
 ghost use Rattle.engine_core.specs.Recovery.{IsEither, RecoversTo};
 
 use crate::parts::Parts;
@@ -84,10 +85,11 @@ impl<D: Disk> Engine<D> {
     ///
     /// Where each image that a crash now may leave recovers to one of two states, as every call of an archive leaves it,
     /// the archive is the restart of the one that the disk reads as; and it is refused by `DeviceFault` and `NoMemory`
-    /// alone. Over any other disk `NotCatalogue`, `NewerVersion` and `Damaged`, as `catalogue_log::open`. `NoMemory` also
-    /// where 2^32 entries of the catalogue count or more. The disk comes back; an opening may be tried again.
-    /// docs/STORAGE.md, "Opening" and "Recovery". Costs a call of the disk for each file and for each 64 KiB of the
-    /// catalogue, four more where a recording was active, and the memory of the listing, the entries and the recordings.
+    /// alone. Over any other disk the desk is that of its catalogue and a restart; or `NotCatalogue`, `NewerVersion` and
+    /// `Damaged`, as `catalogue_log::open`, and then each file reads as before. `NoMemory` also where 2^32 entries of the
+    /// catalogue count or more, which no desk counts. The disk comes back; an opening may be tried again. docs/STORAGE.md,
+    /// "Opening" and "Recovery". Costs a call of the disk for each file and for each 64 KiB of the catalogue, four more
+    /// where a recording was active, and the memory of the listing, the entries and the recordings.
     pub fn open(alloc: Global, disk: D) -> Result<Engine<D>, OpenRefusal<D>>
         ensures opened { IfOk result (λ engine. (s u : State) → LeavesEither (D.life disk) s u →
             IsTrue (D.life engine.parts.storage.disk).obeys →
@@ -98,12 +100,20 @@ impl<D: Disk> Engine<D> {
         // Also of a disk that no archive has left.
         ensures other { IfErr result (λ refused. IsTrue (D.life refused.disk).obeys →
             RefusesCatalogue (reads (D.life disk).now) refused.refusal) }
-        // A catalogue with more is refused: a desk counts no further.
-        ensures few { IfOk result (λ engine. IsTrue (D.life engine.parts.storage.disk).obeys →
-            (header : BankHeader) (entries : List Entry) → IsCatalogue (reads (D.life disk).now) header entries →
-            count_by counts entries < 2 ^ 32) }
+        // No archive is opened without a catalogue, nor where 2^32 of its entries count or more.
+        ensures desk { IfOk result (λ engine. IsTrue (D.life engine.parts.storage.disk).obeys →
+            IsDeskOf (reads (D.life disk).now) engine.parts.desk.state) }
         ensures cause { IfErr result (λ refused. refused.refusal ≡ DeviceFault →
             HasFailed (D.life disk) (D.life refused.disk)) }
+        // Only the bank in use may read otherwise, and where the catalogue is refused no file does.
+        ensures others { MatchResult result
+            (λ engine. (file : FileId) → file ≢ BankA →
+            reads (D.life engine.parts.storage.disk).now file ≡ reads (D.life disk).now file)
+            (λ refused. (file : FileId) → file ≢ BankA →
+            reads (D.life refused.disk).now file ≡ reads (D.life disk).now file) }
+        ensures kept { IfErr result (λ refused. IsTrue (D.life refused.disk).obeys →
+            (refused.refusal ≡ DeviceFault) ⊎ ((refused.refusal ≡ NoMemory)
+            ⊎ ReadsAsBefore (D.life disk) (D.life refused.disk))) }
     {
         let mut disk = disk;
         match opening::read_desk(alloc, &mut disk) {
@@ -143,14 +153,17 @@ fn start<D: Disk>(parts: Parts<D>) -> Result<Engine<D>, OpenRefusal<D>>
     ensures refused { IfErr result (λ refused. (x : State) (counted limit : ℕ) →
         IsConsistent (D.life parts.storage.disk) parts.storage.log parts.desk.state (opened_archive x counted limit) →
         LeavesOnly (D.life parts.storage.disk) (D.life refused.disk) (RecoversTo (IsEither x (after x Restart)))) }
+    ensures desk { IfOk result (λ engine. (g : RegisterState) (counted limit : ℕ) →
+        parts.desk.state ≡ opened_desk g counted limit →
+        engine.parts.desk.state ≡ opened_desk (all_stopped g) counted limit) }
     // Whatever the archive is, where its log works.
     ensures outside { IfErr result (λ refused. IsFalse parts.storage.log.is_broken →
         (refused.refusal ≡ DeviceFault) ⊎ (refused.refusal ≡ NoMemory)) }
     ensures cause { IfErr result (λ refused. refused.refusal ≡ DeviceFault →
         HasFailed (D.life parts.storage.disk) (D.life refused.disk)) }
-    ensures obeyed { MatchResult result
-        (λ engine. IsTrue (D.life engine.parts.storage.disk).obeys → IsTrue (D.life parts.storage.disk).obeys)
-        (λ refused. IsTrue (D.life refused.disk).obeys → IsTrue (D.life parts.storage.disk).obeys) }
+    ensures changes { MatchResult result
+        (λ engine. ChangesBank (D.life parts.storage.disk) (D.life engine.parts.storage.disk))
+        (λ refused. ChangesBank (D.life parts.storage.disk) (D.life refused.disk)) }
 {
     let mut parts = parts;
     match parts.restart() {

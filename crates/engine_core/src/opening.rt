@@ -10,7 +10,7 @@ ghost use Rattle.archive_model.specs.State.{State, empty, register_of};
 ghost use Rattle.archive_model.specs.Register.{no_recordings};
 ghost use Rattle.catalogue_log.specs.declared.entry.Entry.{Entry};
 ghost use Rattle.catalogue_log.specs.Catalogue.{RefusesCatalogue, bank_in_use};
-ghost use Rattle.catalogue_log.specs.Fold.{AreAdmitted};
+ghost use Rattle.catalogue_log.specs.Fold.{AreAdmitted, after_entries};
 ghost use Rattle.catalogue_log.specs.LogState.{IsLogOf};
 ghost use Rattle.engine_core.specs.Opening.{IsMadeIn, ReadsAsBefore, RefusesNew, SyncsOnly};
 ghost use Rattle.control_core.specs.Desk.{opened_desk};
@@ -42,9 +42,10 @@ pub(crate) fn read_desk<D: Disk>(alloc: Global, disk: &mut D) -> Result<(Log, De
         Recovers (reads (D.life disk.old).now) x → IsSound (D.life disk.new).now opened.0 x
         × (opened.1.state ≡ opened_desk (register_of x) opened.0.counted opened.0.header.history_limit)) }
     ensures orderly { IfOk result (λ opened. IsOrderly opened.1.state) }
-    // Of any catalogue, whatever the disk's files recover to.
+    // Of any catalogue, whatever the segment files hold.
     ensures log { IfOk result (λ opened. IsTrue (D.life disk.new).obeys →
-        (entries : List Entry) × IsLogOf (bank_in_use (reads (D.life disk.old).now)) opened.0 entries) }
+        (entries : List Entry) × IsLogOf (bank_in_use (reads (D.life disk.old).now)) opened.0 entries
+        × (opened.1.state ≡ opened_desk (after_entries no_recordings entries) opened.0.counted opened.0.header.history_limit)) }
     ensures few { IfOk result (λ opened. opened.0.counted < 2 ^ 32) }
     ensures refused { IfErr result (λ refusal. IsTrue (D.life disk.new).obeys →
         RefusesCatalogue (reads (D.life disk.old).now) refusal) }
@@ -82,7 +83,8 @@ fn read_parts<D: Disk>(alloc: Global, disk: &mut D) -> Result<Parts, Refusal>
     ensures orderly { IfOk result (λ parts. (counted limit : ℕ) →
         IsOrderly (opened_desk parts.register.state counted limit)) }
     ensures log { IfOk result (λ parts. IsTrue (D.life disk.new).obeys →
-        (entries : List Entry) × IsLogOf (bank_in_use (reads (D.life disk.old).now)) parts.log entries) }
+        (entries : List Entry) × IsLogOf (bank_in_use (reads (D.life disk.old).now)) parts.log entries
+        × (parts.register.state ≡ after_entries no_recordings entries)) }
     ensures refused { IfErr result (λ refusal. IsTrue (D.life disk.new).obeys →
         RefusesCatalogue (reads (D.life disk.old).now) refusal) }
     ensures whole { IfErr result (λ refusal. IsTrue (D.life disk.new).obeys → (x : State) →

@@ -1,18 +1,19 @@
 //! The parts of an archive: its files and its desk. docs/ARCHITECTURE.md, "The engine".
 
-ghost use Rattle.std.specs.Prelude.{◌≡◌, ◌⊎◌, ℕ, true, false, IfErr, IfOk, IsErrOf, IsFalse, IsTrue, Some};
+ghost use Rattle.std.specs.Prelude.{◌≡◌, ◌⊎◌, ℕ, true, false, IfErr, IfOk, IsErrOf, IsFalse, IsTrue, OnOk, Some};
 ghost use Rattle.std.specs.List.{list_any};
 ghost use Rattle.frame_core.specs.declared.refusal.Refusal.TheVariants.{DeviceFault, NoMemory};
 ghost use Rattle.disk_core.specs.Life.{HasFailed};
 ghost use Rattle.archive_model.specs.declared.command.Command.TheVariants.{Restart};
 ghost use Rattle.archive_model.specs.Accepting.{Accepts};
 ghost use Rattle.archive_model.specs.Commands.{after};
-ghost use Rattle.archive_model.specs.Register.{is_active, is_end};
+ghost use Rattle.archive_model.specs.Register.{RegisterState, all_stopped, is_active, is_end};
 ghost use Rattle.archive_model.specs.Replay.{begins_frame};
 ghost use Rattle.archive_model.specs.State.{Recording, State, register_of, registration_of};
+ghost use Rattle.catalogue_log.specs.Catalogue.{ChangesBank};
 ghost use Rattle.catalogue_log.specs.Fold.{counts};
 ghost use Rattle.catalogue_log.specs.History.{IsRequested, entry_of};
-ghost use Rattle.control_core.specs.Changes.{reply_after};
+ghost use Rattle.control_core.specs.Changes.{desk_after, reply_after};
 ghost use Rattle.control_core.specs.Decisions.{Allows};
 ghost use Rattle.control_core.specs.declared.event.Event.TheVariants as events;
 ghost use Rattle.control_core.specs.Desk.{opened_desk};
@@ -130,7 +131,7 @@ impl<D: Disk> Parts<D> {
     pub fn restart(&mut self) -> Result<Reply, Refusal>
         requires orderly { IsOrderly self.old.desk.state }
         ensures orderly { IsOrderly self.new.desk.state }
-        ensures obeyed { IsTrue (D.life self.new.storage.disk).obeys → IsTrue (D.life self.old.storage.disk).obeys }
+        ensures changes { ChangesBank (D.life self.old.storage.disk) (D.life self.new.storage.disk) }
         ensures restarted { (s : State) (counted limit : ℕ) →
             IsConsistent (D.life self.old.storage.disk) self.old.storage.log self.old.desk.state (opened_archive s counted limit) →
             Ended (D.life self.old.storage.disk) (D.life self.new.storage.disk) self.new.storage.log self.new.desk.state
@@ -138,6 +139,9 @@ impl<D: Disk> Parts<D> {
             (CommitEnds (opened_archive s counted limit) (reply_after (opened_desk (register_of s) counted limit) Restart)
             (opened_archive (after s Restart) counted limit)
             (HasFailed (D.life self.old.storage.disk) (D.life self.new.storage.disk)) result) }
+        ensures desk { OnOk result ((g : RegisterState) (counted limit : ℕ) →
+            self.old.desk.state ≡ opened_desk g counted limit →
+            self.new.desk.state ≡ opened_desk (all_stopped g) counted limit) }
         // Whatever the archive is, where its log works.
         ensures refused { IfErr result (λ refusal. IsFalse self.old.storage.log.is_broken →
             (refusal ≡ DeviceFault) ⊎ (refusal ≡ NoMemory)) }
@@ -161,6 +165,8 @@ impl<D: Disk> Parts<D> {
         requires allowed { Allows self.old.desk.state command }
         ensures orderly { IsOrderly self.new.desk.state }
         ensures obeyed { IsTrue (D.life self.new.storage.disk).obeys → IsTrue (D.life self.old.storage.disk).obeys }
+        ensures changes { ChangesBank (D.life self.old.storage.disk) (D.life self.new.storage.disk) }
+        ensures desk { OnOk result (self.new.desk.state ≡ desk_after self.old.desk.state command) }
         ensures entered { (a : Archive) →
             IsConsistent (D.life self.old.storage.disk) self.old.storage.log self.old.desk.state a →
             IsFalse a.desk.is_broken → Accepts (book_of a) command → entry.now ≡ entry_of a.state command →

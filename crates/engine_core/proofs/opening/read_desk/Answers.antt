@@ -1,8 +1,10 @@
-use Rattle.std.proofs.Common.{rules, ◌≡◌, ◌∙◌, ap, subst, sym}
+use Rattle.std.proofs.Common.{rules, ◌≡◌, ◌∙◌, subst, sym}
 use Rattle.std.specs.Prelude.{Err, IfSome, Some}
 use Rattle.archive_model.specs.State.{register_of}
-use Rattle.control_core.specs.Desk.{opened_desk}
+use Rattle.archive_model.specs.Register.{no_recordings}
+use Rattle.catalogue_log.specs.Fold.{after_entries}
 use Rattle.engine_core.specs.Orderly.{IsOrderly}
+use Rattle.engine_core.proofs.ReopenLemmas.{same_desk}
 use Rattle.engine_core.proofs.opening.read_desk.Goals as goal
 
 pub returns-in_err-parts-clause-whole : goal.returns-in_err-parts-clause-whole
@@ -12,13 +14,22 @@ returns-in_err-parts-clause-whole g c =
 
 pub returns-clause-sound : goal.returns-clause-sound
 returns-clause-sound g c obeys x recovers =
-    let found = c.in_ok-parts.ensures.sound obeys x recovers in
+    let log = c.in_ok-parts.parts.log in
     let counted = c.in_ok-counted.counted in
-    let limit = c.limit-limit.result in
-    let is : counted ≡ c.in_ok-parts.parts.log.counted = subst (λ o. IfSome o (λ n. n ≡ c.in_ok-parts.parts.log.counted)) {y = Some counted} c.in_ok-counted.ensures.ok_part c.counted_by.ensures.some in (
-      found.0,
-      c.opened-desk.ensures ∙ ap (λ r. opened_desk r counted limit) found.1 ∙ ap (λ n. opened_desk (register_of x) n limit) is
-          ∙ ap (λ n. opened_desk (register_of x) c.in_ok-parts.parts.log.counted n) c.limit-limit.ensures,
+    let is : counted ≡ log.counted = subst (λ o. IfSome o (λ n. n ≡ log.counted)) {y = Some counted} c.in_ok-counted.ensures.ok_part c.counted_by.ensures.some in
+    let found = c.in_ok-parts.ensures.sound obeys x recovers in
+    (found.0, c.opened-desk.ensures ∙ same_desk c.in_ok-parts.parts.register.state (register_of x) counted log.counted c.limit-limit.result log.header.history_limit found.1 is c.limit-limit.ensures)
+
+pub returns-clause-log : goal.returns-clause-log
+returns-clause-log g c obeys =
+    let log = c.in_ok-parts.parts.log in
+    let counted = c.in_ok-counted.counted in
+    let is : counted ≡ log.counted = subst (λ o. IfSome o (λ n. n ≡ log.counted)) {y = Some counted} c.in_ok-counted.ensures.ok_part c.counted_by.ensures.some in
+    let read = c.in_ok-parts.ensures.log obeys in (
+      read.0,
+      read.1,
+      c.opened-desk.ensures
+          ∙ same_desk c.in_ok-parts.parts.register.state (after_entries no_recordings read.0) counted log.counted c.limit-limit.result log.header.history_limit read.2 is c.limit-limit.ensures,
     )
 
 pub returns-clause-orderly : goal.returns-clause-orderly

@@ -18,3 +18,8 @@ pub returns-clause-orderly : goal.returns-clause-orderly
 returns-clause-orderly g c counted limit =
     let is : c.in_ok-register.register.state ≡ after_entries no_recordings c.in_ok-log.entries.items = search rules in
     subst (λ r. IsOrderly (opened_desk r counted limit)) (sym is) (orderly_opened c.in_ok-log.entries.items counted limit c.in_ok-log.ensures.admitted)
+
+pub returns-clause-log : goal.returns-clause-log
+returns-clause-log g c obeys =
+    let is : c.in_ok-register.register.state ≡ after_entries no_recordings c.in_ok-log.entries.items = search rules in
+    (c.in_ok-log.entries.items, c.in_ok-log.ensures.log obeys, is)

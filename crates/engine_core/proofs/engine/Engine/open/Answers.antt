@@ -1,9 +1,10 @@
-use Rattle.std.proofs.Common.{refl}
+use Rattle.std.proofs.Common.{refl, inl, inr}
 use Rattle.std.proofs.lemmas.Result.{IfErr-weaker}
 use Rattle.disk_core.specs.DiskImage.{reads}
-use Rattle.catalogue_log.specs.Catalogue.{bank_in_use}
+use Rattle.archive_model.specs.Register.{no_recordings}
+use Rattle.catalogue_log.specs.Fold.{after_entries}
 use Rattle.engine_core.proofs.OpeningLemmas.{fault_refuses}
-use Rattle.engine_core.proofs.ReopenLemmas.{err_three, err_two, failed_later, few_entries, ok_two, open_done, opened_consistent, read_refused, reads_as, stop_refused}
+use Rattle.engine_core.proofs.ReopenLemmas.{desk_read, either_then, err_three, err_two, failed_later, ok_two, open_done, opened_consistent, read_refused, reads_as, reads_otherwise, stop_refused}
 use Rattle.engine_core.proofs.engine.Engine.open.Goals as goal
 
 pub returns-in-Ok-clause-opened : goal.returns-in-Ok-clause-opened
@@ -12,13 +13,13 @@ returns-in-Ok-clause-opened g c =
     let mid = g.D.Disk.life c.read_desk.new.disk in
     let log = c.in-Ok.log in
     ok_two c.start.result _ _ _ _
-    (λ engine obeyed started s u leaves obeys.
+    (λ engine changes started s u leaves obeys.
     let to = reads_as old s u (g.met.D.Disk.reads_may_stay c.args.disk) leaves in
-    let sound = c.in-Ok.ensures.sound (obeyed obeys) to.state to.recovers in
+    let sound = c.in-Ok.ensures.sound (changes.obeyed obeys) to.state to.recovers in
     let was = opened_consistent mid log c.in-Ok.desk.state to.state log.counted log.header.history_limit sound.0 refl refl sound.1 in
     open_done old mid (g.D.Disk.life engine.parts.storage.disk) log engine.parts.storage.log engine.parts.desk.state s u leaves c.read_desk.ensures.before (g.met.D.Disk.reads_may_stay c.read_desk.new.disk) to sound.0
     (started to.state log.counted log.header.history_limit was))
-    c.start.ensures.obeyed c.start.ensures.started
+    c.start.ensures.changes c.start.ensures.started
 
 pub returns-in-Ok-clause-refused : goal.returns-in-Ok-clause-refused
 returns-in-Ok-clause-refused g c =
@@ -26,30 +27,30 @@ returns-in-Ok-clause-refused g c =
     let mid = g.D.Disk.life c.read_desk.new.disk in
     let log = c.in-Ok.log in
     err_three c.start.result _ _ _ _ _
-    (λ refused obeyed moments outside s u leaves obeys.
+    (λ refused changes moments outside s u leaves obeys.
     let to = reads_as old s u (g.met.D.Disk.reads_may_stay c.args.disk) leaves in
-    let sound = c.in-Ok.ensures.sound (obeyed obeys) to.state to.recovers in
+    let sound = c.in-Ok.ensures.sound (changes.obeyed obeys) to.state to.recovers in
     let was = opened_consistent mid log c.in-Ok.desk.state to.state log.counted log.header.history_limit sound.0 refl refl sound.1 in (
       stop_refused old mid (g.D.Disk.life refused.disk) s u leaves c.read_desk.ensures.before to (moments to.state log.counted log.header.history_limit was),
-      outside (c.in-Ok.ensures.log (obeyed obeys)).1.works,
+      outside (c.in-Ok.ensures.log (changes.obeyed obeys)).1.works,
     ))
-    c.start.ensures.obeyed c.start.ensures.refused c.start.ensures.outside
+    c.start.ensures.changes c.start.ensures.refused c.start.ensures.outside
 
 pub returns-in-Ok-clause-other : goal.returns-in-Ok-clause-other
 returns-in-Ok-clause-other g c =
     let old = g.D.Disk.life c.args.disk in
     err_two c.start.result _ _ _ _
-    (λ refused obeyed outside obeys. fault_refuses (reads old.now) refused.refusal (outside (c.in-Ok.ensures.log (obeyed obeys)).1.works))
-    c.start.ensures.obeyed c.start.ensures.outside
+    (λ refused changes outside obeys. fault_refuses (reads old.now) refused.refusal (outside (c.in-Ok.ensures.log (changes.obeyed obeys)).1.works))
+    c.start.ensures.changes c.start.ensures.outside
 
-pub returns-in-Ok-clause-few : goal.returns-in-Ok-clause-few
-returns-in-Ok-clause-few g c =
-    let old = g.D.Disk.life c.args.disk in
+pub returns-in-Ok-clause-desk : goal.returns-in-Ok-clause-desk
+returns-in-Ok-clause-desk g c =
+    let log = c.in-Ok.log in
     ok_two c.start.result _ _ _ _
-    (λ engine obeyed started obeys.
-    let read = c.in-Ok.ensures.log (obeyed obeys) in
-    few_entries (bank_in_use (reads old.now)) c.in-Ok.log read.0 read.1 c.in-Ok.ensures.few)
-    c.start.ensures.obeyed c.start.ensures.started
+    (λ engine changes stopped obeys.
+    let read = c.in-Ok.ensures.log (changes.obeyed obeys) in
+    desk_read (reads (g.D.Disk.life c.args.disk).now) log read.0 engine.parts.desk.state read.1 c.in-Ok.ensures.few (stopped (after_entries no_recordings read.0) log.counted log.header.history_limit read.2))
+    c.start.ensures.changes c.start.ensures.desk
 
 pub returns-in-Ok-clause-cause : goal.returns-in-Ok-clause-cause
 returns-in-Ok-clause-cause g c =
@@ -61,3 +62,18 @@ returns-in-Err-clause-refused g c s u leaves obeys =
     let mid = g.D.Disk.life c.read_desk.new.disk in
     let to = reads_as old s u (g.met.D.Disk.reads_may_stay c.args.disk) leaves in
     (read_refused old mid s u leaves c.read_desk.ensures.before, c.in-Err.ensures.whole obeys to.state to.recovers)
+
+pub returns-in-Ok-clause-others : goal.returns-in-Ok-clause-others
+returns-in-Ok-clause-others g c =
+    let old = g.D.Disk.life c.args.disk in
+    let mid = g.D.Disk.life c.read_desk.new.disk in
+    either_then c.start.result _ _ _ _
+    (λ engine. reads_otherwise old mid (g.D.Disk.life engine.parts.storage.disk) c.read_desk.ensures.before)
+    (λ refused. reads_otherwise old mid (g.D.Disk.life refused.disk) c.read_desk.ensures.before)
+    c.start.ensures.changes
+
+pub returns-in-Ok-clause-kept : goal.returns-in-Ok-clause-kept
+returns-in-Ok-clause-kept g c =
+    err_two c.start.result _ _ _ _
+    (λ refused changes outside obeys. elim (outside (c.in-Ok.ensures.log (changes.obeyed obeys)).1.works) [ inl fault ↦ inl fault | inr memory ↦ inr (inl memory) ])
+    c.start.ensures.changes c.start.ensures.outside
