@@ -11,8 +11,7 @@ use Rattle.control_core.specs.Exact.{Archive}
 use Rattle.engine_core.specs.Calls.{Call, Ran, Stood}
 use Rattle.engine_core.specs.Consistent.{IsConsistent, MayStand}
 use Rattle.engine_core.specs.Opened.{LeavesEither}
-use Rattle.engine_core.specs.Recovery.{IsEither, Recovers, RecoversTo}
-use Rattle.engine_core.proofs.EndedLemmas.{recovers_as}
+use Rattle.engine_core.specs.Recovery.{Recovers, RecoversTo}
 
 -- a disk begun from an image leaves that image alone, and so what it recovers to
 leaves_one : (left : Life) (image : DiskImage) (P : State → Type 0) → left.now ≡ begun image → RecoversTo P image → (s : State) × P s × LeavesEither left s s

@@ -1,11 +1,10 @@
 -- Calls one after another.
-use Rattle.std.proofs.Common.{◌≡◌, ◌∙◌, ◌++◌, ◌+◌, ◌<◌, ◌≤◌, inl, inr, sym, ap, subst, refl, ℕ, zero, suc, List, [], ◌∷◌, length, take, get_or, add-one, IsTrue, arith}
+use Rattle.std.proofs.Common.{◌≡◌, ◌∙◌, ◌++◌, ◌+◌, ◌<◌, ◌≤◌, inl, inr, sym, ap, subst, refl, ℕ, List, [], ◌∷◌, length, take, get_or, add-one, IsTrue, arith}
 use Rattle.std.proofs.lemmas.List.{length-append, length-take-le, take_all}
 use Rattle.std.proofs.Math.Seq.{take-suc}
 use Rattle.std.specs.Prelude.{Result, Ok, Err}
 use Rattle.frame_core.specs.declared.refusal.Refusal.{Refusal}
 use Rattle.frame_core.specs.declared.refusal.Refusal.TheVariants.{DeviceFault, NoMemory}
-use Rattle.disk_core.specs.DiskImage.{DiskImage, MayLeave}
 use Rattle.disk_core.specs.Life.{HasFailed, Life}
 use Rattle.disk_core.proofs.CallerLemmas.{goes_on_part, started, weaker}
 use Rattle.archive_model.specs.declared.reply.Reply.{Reply}
@@ -24,7 +23,7 @@ use Rattle.engine_core.proofs.EndedLemmas.{recovers_as}
 pub call_weaker : (a : Archive) (event : Event) (F : Type 0) (outcome : Result Reply Refusal) (b : Archive) → CallEnds a event F outcome b → CallEnds a event (Unit {0}) outcome b
 call_weaker a event F (Ok reply) b ends = ends
 call_weaker a event F (Err NoMemory) b ends = ends
-call_weaker a event F (Err DeviceFault) b ends = elim ends [ | inl exact ↦ inl exact | inr out ↦ inr (tt, out.1) ]
+call_weaker a event F (Err DeviceFault) b ends = elim ends [ inl exact ↦ inl exact | inr out ↦ inr (tt, out.1) ]
 call_weaker a event F (Err refusal) b ends = ends
 
 -- ---- no call yet
@@ -89,7 +88,7 @@ ran_more old mid new log new_log desk new_desk a calls event outcome ran step = 
     run = run_more a ran.after ended.after calls (event, outcome) ran.run ended.ends
 
     stands : (x : State) → MayStandIn ran.after ended.after x → Stood a more x
-    stands x is = elim is [ | inl before ↦ stood_more a calls ((event, outcome) ∷ []) x (stood_last a ran.after calls x ran.run before) | inr after ↦ stood_last a ended.after more x run after ]
+    stands x is = elim is [ inl before ↦ stood_more a calls ((event, outcome) ∷ []) x (stood_last a ran.after calls x ran.run before) | inr after ↦ stood_last a ended.after more x run after ]
 
 -- ---- events with their answers
 

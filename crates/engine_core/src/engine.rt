@@ -11,10 +11,8 @@ ghost use Rattle.archive_model.specs.Commands.{after};
 ghost use Rattle.archive_model.specs.Register.{RegisterState, all_stopped};
 ghost use Rattle.archive_model.specs.State.{State};
 ghost use Rattle.catalogue_log.specs.Catalogue.{ChangesBank, RefusesCatalogue};
-ghost use Rattle.control_core.specs.declared.event.Event.TheVariants as events;
 ghost use Rattle.control_core.specs.Desk.{opened_desk};
-ghost use Rattle.control_core.specs.Exact.{Archive, opened_archive};
-ghost use Rattle.engine_core.specs.Calls.{Ended, EndsAs, is_cut};
+ghost use Rattle.control_core.specs.Exact.{opened_archive};
 ghost use Rattle.engine_core.specs.Consistent.{IsConsistent};
 ghost use Rattle.engine_core.specs.Engine.{new_archive};
 ghost use Rattle.engine_core.specs.Orderly.{IsOrderly};
@@ -25,8 +23,7 @@ ghost use Rattle.engine_core.specs.Recovery.{IsEither, RecoversTo};
 
 use crate::parts::Parts;
 use crate::{Storage, opening};
-use archive_model::Reply;
-use control_core::{Desk, Request};
+use control_core::Desk;
 use disk_core::Disk;
 use frame_core::Refusal;
 use std::alloc::Global;
@@ -123,21 +120,6 @@ impl<D: Disk> Engine<D> {
             }),
             Err(refusal) => Err(OpenRefusal { refusal, disk }),
         }
-    }
-
-    /// Answers a request: by what the desk decides, and where that is a command, by adding its entry to the catalogue, which
-    /// takes four calls of the disk. Where a truncation lies strictly inside a recording, frames are read first.
-    ///
-    /// The refusals of docs/CONTROL.md, "Refusals"; `DeviceFault`, after a write with the archive broken; `NoMemory`. Costs
-    /// a lookup at each recording, session and replay at most.
-    pub fn ask(&mut self, alloc: Global, request: &Request) -> Result<Reply, Refusal>
-        ensures obeyed { IsTrue (D.life self.new.parts.storage.disk).obeys → IsTrue (D.life self.old.parts.storage.disk).obeys }
-        ensures asked { (a : Archive) → IsConsistent (D.life self.old.parts.storage.disk) self.old.parts.storage.log self.old.parts.desk.state a →
-            (IsTrue (is_cut (events.Ask request.now)) → IsTrue (D.life self.new.parts.storage.disk).obeys) →
-            Ended (D.life self.old.parts.storage.disk) (D.life self.new.parts.storage.disk) self.new.parts.storage.log self.new.parts.desk.state a
-            (EndsAs (D.life self.old.parts.storage.disk) (D.life self.new.parts.storage.disk) (events.Ask request.now) a result) }
-    {
-        self.parts.ask(alloc, request)
     }
 }
 

@@ -7,8 +7,7 @@ loop-event-init g c =
     let life = g.D.Disk.life c.args.self.now.parts.storage.disk in
     let log = c.args.self.now.parts.storage.log in
     let desk = c.args.self.now.parts.desk.state in
-    let none = c.in_ok-outcomes.ensures in
-    (
+    let none = c.in_ok-outcomes.ensures in (
       subst (λ outcomes. HasRun life life log log desk desk c.args.events.now 0 outcomes) (sym none.items) (none_run life log desk c.args.events.now),
       none.len,
       none.capacity,
@@ -22,14 +21,13 @@ loop-event-preserved g c =
     let old = g.D.Disk.life c.args.self.now.parts.storage.disk in
     let mid = g.D.Disk.life c.loop-event.self.parts.storage.disk in
     let new = g.D.Disk.life c.step-outcome.new.self.parts.storage.disk in
-    let pushed = c.push_reserved.ensures in
-    (
+    let pushed = c.push_reserved.ensures in (
       subst
-      (λ outcomes. HasRun old new c.args.self.now.parts.storage.log c.step-outcome.new.self.parts.storage.log c.args.self.now.parts.desk.state c.step-outcome.new.self.parts.desk.state c.args.events.now (c.loop-event.event-index + 1) outcomes)
-      (sym pushed.items)
-      (next_run old mid new c.args.self.now.parts.storage.log c.loop-event.self.parts.storage.log c.step-outcome.new.self.parts.storage.log c.args.self.now.parts.desk.state c.loop-event.self.parts.desk.state
-      c.step-outcome.new.self.parts.desk.state c.args.events.now c.loop-event.event-index c.event-item.result c.loop-event.outcomes.items c.step-outcome.result c.loop-event-test.true c.event-item.is c.loop-event.invariant.0
-      c.step-outcome.ensures.obeyed c.step-outcome.ensures.stepped),
+          (λ outcomes. HasRun old new c.args.self.now.parts.storage.log c.step-outcome.new.self.parts.storage.log c.args.self.now.parts.desk.state c.step-outcome.new.self.parts.desk.state c.args.events.now (c.loop-event.event-index + 1) outcomes)
+          (sym pushed.items)
+          (next_run old mid new c.args.self.now.parts.storage.log c.loop-event.self.parts.storage.log c.step-outcome.new.self.parts.storage.log c.args.self.now.parts.desk.state c.loop-event.self.parts.desk.state
+          c.step-outcome.new.self.parts.desk.state c.args.events.now c.loop-event.event-index c.event-item.result c.loop-event.outcomes.items c.step-outcome.result c.loop-event-test.true c.event-item.is c.loop-event.invariant.0
+          c.step-outcome.ensures.obeyed c.step-outcome.ensures.stepped),
       omega (arith, pushed.len, c.loop-event.invariant.1),
       omega (arith, pushed.capacity, c.loop-event.invariant.2),
     )
