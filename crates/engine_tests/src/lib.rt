@@ -1,0 +1,15 @@
+//! Tests of the archive on one thread: scenarios over stops, crashes and openings.
+#![tactic(auto)]
+
+#[cfg(test)]
+mod acts;
+#[cfg(test)]
+mod crashes;
+#[cfg(test)]
+mod merging;
+#[cfg(test)]
+mod random;
+#[cfg(test)]
+mod reference;
+#[cfg(test)]
+mod scenarios;
