@@ -1,15 +1,11 @@
-//! Tests of the libraries: what no clause says. They stand apart from the crates that they test, so that no library is
-//! proved a second time for its tests.
+//! Tests of the libraries that know no control line: what no clause says. They stand apart from the crates that they test,
+//! so that no library is proved a second time for its tests.
 #![tactic(auto)]
 
 #[cfg(test)]
 mod archives;
 #[cfg(test)]
 mod catalogues;
-#[cfg(test)]
-mod desk_calls;
-#[cfg(test)]
-mod desks;
 #[cfg(test)]
 mod disks;
 #[cfg(test)]
@@ -19,13 +15,9 @@ mod frames;
 #[cfg(test)]
 mod images;
 #[cfg(test)]
-mod lines;
-#[cfg(test)]
 mod merges;
 #[cfg(test)]
 mod replays;
-#[cfg(test)]
-mod requests;
 #[cfg(test)]
 mod segments;
 #[cfg(test)]

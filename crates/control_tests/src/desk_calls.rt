@@ -1,27 +1,20 @@
 //! What a desk decides on the calls that are no requests, what is looked for, and the limits: docs/CONTROL.md, by example.
 
 use crate::desks::{make, told};
+use crate::requests::start;
 use archive_model::{Channel, Reply};
 use control_core::{
-    Decision, Desk, Event, FindFields, Line, OpeningDecision, Request, Written, decide,
-    decide_close, decide_open, decide_poll, decide_settle, decide_sweep, decide_verify,
-    decide_write, laws, parse_line,
+    Decision, Desk, FindFields, OpeningDecision, Request, Written, decide, decide_close,
+    decide_open, decide_poll, decide_settle, decide_sweep, decide_verify, decide_write, laws,
 };
 use frame_core::Refusal;
 use std::alloc::Global;
 use std::test::*;
 
-fn start_request(alloc: Global) -> Result<Request, Refusal> {
-    match parse_line(alloc, b"start 1001 7 42 65536 1408 131072 0 1000 c")? {
-        Line::Event(Event::Ask(request)) => Ok(request),
-        _ => Err(Refusal::BadLine),
-    }
-}
-
 // An archive of so many active recordings.
 fn recording(alloc: Global, count: u8, limit: u32) -> Result<Desk, Refusal> {
     let mut desk = Desk::new(alloc, limit);
-    let request = start_request(alloc)?;
+    let request = start(alloc)?;
     for _ in 0..count {
         make(alloc, &mut desk, &request)?;
     }
@@ -175,7 +168,7 @@ fn at_most_64_replays_are_open(rt: HostRuntime) -> Result<(), Fail> {
 #[test]
 fn at_most_64_recordings_are_active(rt: HostRuntime) -> Result<(), Fail> {
     let desk = recording(rt.alloc(), 64, 64)?;
-    let request = start_request(rt.alloc())?;
+    let request = start(rt.alloc())?;
     let refused = told(&decide(rt.alloc(), &desk, &request));
     assert!(rt; refused == 7);
     Ok(())

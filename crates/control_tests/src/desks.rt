@@ -1,7 +1,8 @@
 //! What a desk refuses, and in which order: docs/CONTROL.md, "Refusals", by example.
 
+use crate::requests::start;
 use archive_model::ExtendFields;
-use control_core::{Decision, Desk, Event, Line, Request, decide, laws, parse_line};
+use control_core::{Decision, Desk, Request, decide, laws};
 use frame_core::Refusal;
 use std::alloc::Global;
 use std::test::*;
@@ -50,18 +51,11 @@ pub(crate) fn make(alloc: Global, desk: &mut Desk, request: &Request) -> Result<
     Ok(())
 }
 
-fn start(alloc: Global, desk: &mut Desk) -> Result<(), Refusal> {
-    match parse_line(alloc, b"start 1001 7 42 65536 1408 131072 0 1000 c")? {
-        Line::Event(Event::Ask(request)) => make(alloc, desk, &request),
-        _ => Err(Refusal::BadLine),
-    }
-}
-
 // Recording 0 is active, recording 1 is stopped where it began; three entries count.
 fn two_recordings(alloc: Global, limit: u32) -> Result<Desk, Refusal> {
     let mut desk = Desk::new(alloc, limit);
-    start(alloc, &mut desk)?;
-    start(alloc, &mut desk)?;
+    make(alloc, &mut desk, &start(alloc)?)?;
+    make(alloc, &mut desk, &start(alloc)?)?;
     make(alloc, &mut desk, &asked(0, 1, 5))?;
     Ok(desk)
 }

@@ -1,7 +1,7 @@
 -- What was decided is allowed.
 use Rattle.std.proofs.Common.{◌≡◌, Some, sym, ap}
 use Rattle.control_core.specs.Decisions.{command_in, decision_of}
-use Rattle.library_tests.proofs.desks.make.Goals as goal
+use Rattle.control_tests.proofs.desks.make.Goals as goal
 
 pub accept-requires-clause-allowed : goal.accept-requires-clause-allowed
 accept-requires-clause-allowed c =

@@ -6,7 +6,8 @@ use frame_core::Refusal;
 use std::alloc::Global;
 use std::test::*;
 
-fn start(alloc: Global) -> Result<Request, Refusal> {
+// The request of one line.
+pub(crate) fn start(alloc: Global) -> Result<Request, Refusal> {
     match parse_line(alloc, b"start 1001 7 42 65536 1408 131072 0 1000 c")? {
         Line::Event(Event::Ask(request)) => Ok(request),
         _ => Err(Refusal::BadLine),
