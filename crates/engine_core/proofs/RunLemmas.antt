@@ -110,18 +110,20 @@ calls_push events outcomes i event outcome within is answered =
 -- the first so many events are answered, whatever the archive is
 pub record HasRun (old new : Life) (old_log log : LogState) (old_desk desk : DeskState) (events : List Event) (i : ℕ) (outcomes : List (Result Reply Refusal)) : Type 0 where
   pub obeyed : IsTrue new.obeys → IsTrue old.obeys
+  pub faults : old.faults ≤ new.faults
   pub answered : length outcomes ≡ i
   pub ran : (a : Archive) → IsConsistent old old_log old_desk a → IsTrue new.obeys → Ran old new log desk a (calls_of (take i events) outcomes)
 
 pub none_run : (life : Life) (log : LogState) (desk : DeskState) (events : List Event) → HasRun life life log log desk desk events 0 []
-none_run life log desk events = record { obeyed = λ obeys. obeys; answered = refl; ran = λ a was obeys. ran_none life log desk a was }
+none_run life log desk events = record { obeyed = λ obeys. obeys; faults = omega arith; answered = refl; ran = λ a was obeys. ran_none life log desk a was }
 
 pub next_run : (old mid new : Life) (old_log log new_log : LogState) (old_desk desk new_desk : DeskState) (events : List Event) (i : ℕ) (event : Event) (outcomes : List (Result Reply Refusal)) (outcome : Result Reply Refusal) → i < length events
-    → event ≡ get_or events i event → HasRun old mid old_log log old_desk desk events i outcomes → (IsTrue new.obeys → IsTrue mid.obeys)
+    → event ≡ get_or events i event → HasRun old mid old_log log old_desk desk events i outcomes → (IsTrue new.obeys → IsTrue mid.obeys) → mid.faults ≤ new.faults
     → ((b : Archive) → IsConsistent mid log desk b → (IsTrue (is_cut event) → IsTrue new.obeys) → Ended mid new new_log new_desk b (EndsAs mid new event b outcome))
     → HasRun old new old_log new_log old_desk new_desk events (i + 1) (outcomes ++ outcome ∷ [])
-next_run old mid new old_log log new_log old_desk desk new_desk events i event outcomes outcome within is so_far obeyed step = record {
+next_run old mid new old_log log new_log old_desk desk new_desk events i event outcomes outcome within is so_far obeyed faults step = record {
   obeyed = λ obeys. so_far.obeyed (obeyed obeys);
+  faults = omega (arith, so_far.faults, faults);
   answered = length-append outcomes (outcome ∷ []) ∙ ap (λ n. n + 1) so_far.answered;
   ran = λ a was obeys.
       subst (λ (calls : List Call). Ran old new new_log new_desk a calls) (sym (calls_push events outcomes i event outcome within is so_far.answered))

@@ -1,6 +1,6 @@
 //! What is asked of an archive's frames and files as a whole. docs/STORAGE.md, "Damaged frames" and "Stale files".
 
-ghost use Rattle.std.specs.Prelude.{◌≡◌, ◌∷◌, map, Bool, IfErr, IfOk, IsTrue, Ok};
+ghost use Rattle.std.specs.Prelude.{◌≡◌, ◌≤◌, ◌∷◌, map, Bool, IfErr, IfOk, IsTrue, Ok};
 ghost use Rattle.frame_core.specs.declared.refusal.Refusal.TheVariants.{NoMemory};
 ghost use Rattle.segment_store.specs.declared.keep.Keep.TheVariants.{Below};
 ghost use Rattle.segment_store.specs.Stale.{HasSwept};
@@ -30,6 +30,7 @@ impl<D: Disk> Parts<D> {
         requires orderly { IsOrderly self.old.desk.state }
         ensures orderly { IsOrderly self.new.desk.state }
         ensures obeyed { IsTrue (D.life self.new.storage.disk).obeys → IsTrue (D.life self.old.storage.disk).obeys }
+        ensures faults { (D.life self.old.storage.disk).faults ≤ (D.life self.new.storage.disk).faults }
         ensures verified { (a : Archive) →
             IsConsistent (D.life self.old.storage.disk) self.old.storage.log self.old.desk.state a →
             Ended (D.life self.old.storage.disk) (D.life self.new.storage.disk) self.new.storage.log self.new.desk.state a
@@ -52,6 +53,7 @@ impl<D: Disk> Parts<D> {
         requires orderly { IsOrderly self.old.desk.state }
         ensures orderly { IsOrderly self.new.desk.state }
         ensures obeyed { IsTrue (D.life self.new.storage.disk).obeys → IsTrue (D.life self.old.storage.disk).obeys }
+        ensures faults { (D.life self.old.storage.disk).faults ≤ (D.life self.new.storage.disk).faults }
         ensures swept { (a : Archive) →
             IsConsistent (D.life self.old.storage.disk) self.old.storage.log self.old.desk.state a →
             Ended (D.life self.old.storage.disk) (D.life self.new.storage.disk) self.new.storage.log self.new.desk.state a

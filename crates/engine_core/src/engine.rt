@@ -1,6 +1,6 @@
 //! An archive on one thread, made anew or opened. docs/ARCHITECTURE.md, "The engine"; docs/STORAGE.md, "Opening".
 
-ghost use Rattle.std.specs.Prelude.{◌≡◌, ◌≢◌, ◌⊎◌, ℕ, IfErr, IfOk, IsFalse, IsTrue, MatchResult};
+ghost use Rattle.std.specs.Prelude.{◌≡◌, ◌≢◌, ◌⊎◌, ◌≤◌, ℕ, IfErr, IfOk, IsFalse, IsTrue, MatchResult};
 ghost use Rattle.frame_core.specs.declared.refusal.Refusal.TheVariants.{DeviceFault, NoMemory};
 ghost use Rattle.disk_core.specs.declared.file_id.FileId.{FileId};
 ghost use Rattle.disk_core.specs.declared.file_id.FileId.TheVariants.{BankA};
@@ -64,6 +64,9 @@ impl<D: Disk> Engine<D> {
             IsConsistent (D.life engine.parts.storage.disk) engine.parts.storage.log engine.parts.desk.state (new_archive history_limit)) }
         ensures refused { IfErr result (λ refused.
             RefusesNew (D.life disk) (D.life refused.disk) history_limit refused.refusal) }
+        ensures faults { MatchResult result
+            (λ engine. (D.life disk).faults ≤ (D.life engine.parts.storage.disk).faults)
+            (λ refused. (D.life disk).faults ≤ (D.life refused.disk).faults) }
     {
         let mut disk = disk;
         match opening::create(alloc, &mut disk, history_limit) {
@@ -102,6 +105,9 @@ impl<D: Disk> Engine<D> {
             IsDeskOf (reads (D.life disk).now) engine.parts.desk.state) }
         ensures cause { IfErr result (λ refused. refused.refusal ≡ DeviceFault →
             HasFailed (D.life disk) (D.life refused.disk)) }
+        ensures faults { MatchResult result
+            (λ engine. (D.life disk).faults ≤ (D.life engine.parts.storage.disk).faults)
+            (λ refused. (D.life disk).faults ≤ (D.life refused.disk).faults) }
         // Only the bank in use may read otherwise, and where the catalogue is refused no file does.
         ensures others { MatchResult result
             (λ engine. (file : FileId) → file ≢ BankA →

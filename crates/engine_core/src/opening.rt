@@ -132,6 +132,7 @@ pub(crate) fn create<D: Disk>(
     ensures segments { (recording base : ℤ) →
         (D.life disk.new).now (Segment recording base) ≡ (D.life disk.old).now (Segment recording base) }
     ensures refused { IfErr result (RefusesNew (D.life disk.old) (D.life disk.new) history_limit) }
+    ensures faults { (D.life disk.old).faults ≤ (D.life disk.new).faults }
 {
     let files = disk.list()?;
     if !files.is_empty() {

@@ -1,6 +1,6 @@
 //! The parts of an archive: its files and its desk. docs/ARCHITECTURE.md, "The engine".
 
-ghost use Rattle.std.specs.Prelude.{◌≡◌, ◌⊎◌, ℕ, true, false, IfErr, IfOk, IsErrOf, IsFalse, IsTrue, OnOk, Some};
+ghost use Rattle.std.specs.Prelude.{◌≡◌, ◌⊎◌, ◌≤◌, ℕ, true, false, IfErr, IfOk, IsErrOf, IsFalse, IsTrue, OnOk, Some};
 ghost use Rattle.std.specs.List.{list_any};
 ghost use Rattle.frame_core.specs.declared.refusal.Refusal.TheVariants.{DeviceFault, NoMemory};
 ghost use Rattle.disk_core.specs.Life.{HasFailed};
@@ -52,6 +52,7 @@ impl<D: Disk> Parts<D> {
         requires orderly { IsOrderly self.old.desk.state }
         ensures orderly { IsOrderly self.new.desk.state }
         ensures obeyed { IsTrue (D.life self.new.storage.disk).obeys → IsTrue (D.life self.old.storage.disk).obeys }
+        ensures faults { (D.life self.old.storage.disk).faults ≤ (D.life self.new.storage.disk).faults }
         ensures asked { (a : Archive) →
             IsConsistent (D.life self.old.storage.disk) self.old.storage.log self.old.desk.state a →
             (IsTrue (is_cut (events.Ask request.now)) → IsTrue (D.life self.new.storage.disk).obeys) →
@@ -83,6 +84,7 @@ impl<D: Disk> Parts<D> {
         requires requested { IfOk decided (λ command. IsRequested command × Allows self.old.desk.state command) }
         ensures orderly { IsOrderly self.new.desk.state }
         ensures obeyed { IsTrue (D.life self.new.storage.disk).obeys → IsTrue (D.life self.old.storage.disk).obeys }
+        ensures faults { (D.life self.old.storage.disk).faults ≤ (D.life self.new.storage.disk).faults }
         ensures made { (a : Archive) (r : Recording) →
             IsConsistent (D.life self.old.storage.disk) self.old.storage.log self.old.desk.state a →
             recording_at a recording.now ≡ Some r → is_end position (registration_of r) ≡ false →
@@ -110,6 +112,7 @@ impl<D: Disk> Parts<D> {
         requires allowed { Allows self.old.desk.state command }
         ensures orderly { IsOrderly self.new.desk.state }
         ensures obeyed { IsTrue (D.life self.new.storage.disk).obeys → IsTrue (D.life self.old.storage.disk).obeys }
+        ensures faults { (D.life self.old.storage.disk).faults ≤ (D.life self.new.storage.disk).faults }
         ensures made { (a : Archive) →
             IsConsistent (D.life self.old.storage.disk) self.old.storage.log self.old.desk.state a →
             IsFalse a.desk.is_broken → Accepts (book_of a) command →

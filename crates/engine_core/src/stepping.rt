@@ -1,6 +1,6 @@
 //! Events answered one after another. docs/CONTROL.md, "Requests"; docs/STORAGE.md, "Recovery".
 
-ghost use Rattle.std.specs.Prelude.{◌≡◌, IfErr, IfOk, IsTrue, length};
+ghost use Rattle.std.specs.Prelude.{◌≡◌, ◌≤◌, IfErr, IfOk, IsTrue, length};
 ghost use Rattle.frame_core.specs.declared.refusal.Refusal.TheVariants.{NoMemory};
 ghost use Rattle.control_core.specs.Exact.{Archive};
 ghost use Rattle.engine_core.specs.Calls.{Ended, EndsAs, Ran, calls_of, is_cut};
@@ -24,6 +24,7 @@ impl<D: Disk> Engine<D> {
     /// event costs: docs/ARCHITECTURE.md, "The engine".
     pub fn step(&mut self, alloc: Global, event: &Event) -> Result<Reply, Refusal>
         ensures obeyed { IsTrue (D.life self.new.parts.storage.disk).obeys → IsTrue (D.life self.old.parts.storage.disk).obeys }
+        ensures faults { (D.life self.old.parts.storage.disk).faults ≤ (D.life self.new.parts.storage.disk).faults }
         ensures stepped { (a : Archive) →
             IsConsistent (D.life self.old.parts.storage.disk) self.old.parts.storage.log self.old.parts.desk.state a →
             (IsTrue (is_cut event.now) → IsTrue (D.life self.new.parts.storage.disk).obeys) →
@@ -43,6 +44,7 @@ impl<D: Disk> Engine<D> {
         events: &[Event],
     ) -> Result<Vec<Result<Reply, Refusal>>, Refusal>
         ensures obeyed { IsTrue (D.life self.new.parts.storage.disk).obeys → IsTrue (D.life self.old.parts.storage.disk).obeys }
+        ensures faults { (D.life self.old.parts.storage.disk).faults ≤ (D.life self.new.parts.storage.disk).faults }
         ensures each { IfOk result (λ outcomes. length outcomes.items ≡ length events.now) }
         ensures ran { IfOk result (λ outcomes. (a : Archive) →
             IsConsistent (D.life self.old.parts.storage.disk) self.old.parts.storage.log self.old.parts.desk.state a →
@@ -66,6 +68,7 @@ impl<D: Disk> Parts<D> {
         requires orderly { IsOrderly self.old.desk.state }
         ensures orderly { IsOrderly self.new.desk.state }
         ensures obeyed { IsTrue (D.life self.new.storage.disk).obeys → IsTrue (D.life self.old.storage.disk).obeys }
+        ensures faults { (D.life self.old.storage.disk).faults ≤ (D.life self.new.storage.disk).faults }
         ensures stepped { (a : Archive) →
             IsConsistent (D.life self.old.storage.disk) self.old.storage.log self.old.desk.state a →
             (IsTrue (is_cut event.now) → IsTrue (D.life self.new.storage.disk).obeys) →
