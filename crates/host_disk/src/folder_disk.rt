@@ -1,9 +1,9 @@
 //! A disk over a folder, of which nothing is kept in memory.
-ghost use Rattle.std.specs.Prelude.{◌≡◌, ◌≤◌, ◌+◌, ◌-◌, ◌^◌, [], ◌∷◌, List, min, refl, true, IsTrue, IfOk};
+ghost use Rattle.std.specs.Prelude.{◌≡◌, ◌≤◌, ◌+◌, ◌-◌, ◌^◌, [], ◌∷◌, List, min, refl, true, false, IsTrue, IfOk, OnErr, OnOk};
 ghost use Rattle.disk_core.specs.Memory.{well_stays};
 ghost use Rattle.host_disk.specs.Events.{Held, opened};
 ghost use Rattle.host_disk.specs.Replay.{replay, life_at};
-ghost use Rattle.host_disk.specs.Lost.{lost_after, is_careful};
+ghost use Rattle.host_disk.specs.Lost.{covers, lost_after, is_careful, with_lost};
 ghost use Rattle.host_disk.specs.WellFormed.{all_well};
 
 use crate::{Folder, Lost};
@@ -24,6 +24,31 @@ fn one_more(n: u64) -> u64
     ensures { result ≡ min (n + 1) (2 ^ 64 - 1) }
 {
     n.saturating_add(1)
+}
+
+/// Refuses a call of a file that counts as lost, and counts that as a fault.
+fn refuse_lost(faults: &mut u64, lost: &Lost, file: FileId) -> Result<(), Fault>
+    ensures kept { OnOk result (covers lost.now file ≡ false) }
+    ensures lost { OnErr result (covers lost.now file ≡ true) }
+    ensures more { faults.old ≤ faults.new }
+    ensures steady { OnOk result (faults.new ≡ faults.old) }
+    ensures counted { OnErr result (faults.new ≡ min (faults.old + 1) (2 ^ 64 - 1)) }
+{
+    if lost.covers(file) {
+        *faults = one_more(*faults);
+        return Err(Fault);
+    }
+    Ok(())
+}
+
+/// Counts a call of a file that has failed, and takes the file as lost.
+fn note_failure(faults: &mut u64, lost: &mut Lost, file: FileId)
+    ensures more { faults.old ≤ faults.new }
+    ensures counted { faults.new ≡ min (faults.old + 1) (2 ^ 64 - 1) }
+    ensures lost { lost.new ≡ with_lost file lost.old }
+{
+    *faults = one_more(*faults);
+    *lost = lost.with(file);
 }
 
 impl<F: Folder> FolderDisk<F> {
@@ -55,10 +80,7 @@ impl<F: Folder> Disk for FolderDisk<F> {
         well_stays ((replay events).now file) ((replay events).now file).reads refl (all_well events file) };
 
     fn len(&mut self, file: FileId) -> Result<u64, Fault> {
-        if self.lost.covers(file) {
-            self.faults = one_more(self.faults);
-            return Err(Fault);
-        }
+        refuse_lost(&mut self.faults, &self.lost, file)?;
         let answer = self.folder.len(file);
         if answer.is_err() {
             self.faults = one_more(self.faults);
@@ -67,10 +89,7 @@ impl<F: Folder> Disk for FolderDisk<F> {
     }
 
     fn read_at(&mut self, file: FileId, at: u64, into: &mut [u8]) -> Result<usize, Fault> {
-        if self.lost.covers(file) {
-            self.faults = one_more(self.faults);
-            return Err(Fault);
-        }
+        refuse_lost(&mut self.faults, &self.lost, file)?;
         let mut done = 0;
         while done < into.len() {
             let Some(from) = at.checked_add(done as u64) else {
@@ -93,53 +112,37 @@ impl<F: Folder> Disk for FolderDisk<F> {
         if bytes.is_empty() {
             return Ok(());
         }
-        if self.lost.covers(file) {
-            self.faults = one_more(self.faults);
-            return Err(Fault);
-        }
+        refuse_lost(&mut self.faults, &self.lost, file)?;
         let answer = self.folder.write(file, at, bytes);
         if answer.is_err() {
-            self.faults = one_more(self.faults);
-            self.lost = self.lost.with(file);
+            note_failure(&mut self.faults, &mut self.lost, file);
         }
         answer
     }
 
     fn cut(&mut self, file: FileId, len: u64) -> Result<(), Fault> {
-        if self.lost.covers(file) {
-            self.faults = one_more(self.faults);
-            return Err(Fault);
-        }
+        refuse_lost(&mut self.faults, &self.lost, file)?;
         let answer = self.folder.cut(file, len);
         if answer.is_err() {
-            self.faults = one_more(self.faults);
-            self.lost = self.lost.with(file);
+            note_failure(&mut self.faults, &mut self.lost, file);
         }
         answer
     }
 
     fn remove(&mut self, file: FileId) -> Result<(), Fault> {
-        if self.lost.covers(file) {
-            self.faults = one_more(self.faults);
-            return Err(Fault);
-        }
+        refuse_lost(&mut self.faults, &self.lost, file)?;
         let answer = self.folder.remove(file);
         if answer.is_err() {
-            self.faults = one_more(self.faults);
-            self.lost = self.lost.with(file);
+            note_failure(&mut self.faults, &mut self.lost, file);
         }
         answer
     }
 
     fn sync(&mut self, file: FileId) -> Result<(), Fault> {
-        if self.lost.covers(file) {
-            self.faults = one_more(self.faults);
-            return Err(Fault);
-        }
+        refuse_lost(&mut self.faults, &self.lost, file)?;
         let answer = self.folder.sync(file);
         if answer.is_err() {
-            self.faults = one_more(self.faults);
-            self.lost = self.lost.with(file);
+            note_failure(&mut self.faults, &mut self.lost, file);
         }
         answer
     }
