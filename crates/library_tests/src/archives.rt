@@ -2,8 +2,8 @@
 
 use crate::vectors::{HELLO_AT_0, HELLO_AT_64, HELLO_AT_128, HELLO_IN_NEXT_TERM, PAD_AT_TERM_END};
 use archive_model::{
-    Book, Change, Channel, Command, ExtendFields, Recording, Register, Registration, Reply,
-    StartFields,
+    Book, Change, Channel, Command, Descriptor, ExtendFields, PolledFrame, Recording, Register,
+    Registration, Reply, StartFields,
 };
 use frame_core::limits::LAST_NUMBER;
 use frame_core::{Geometry, Items, Refusal, block_of};
@@ -48,53 +48,86 @@ fn append(alloc: Global, vectors: &[&[u8]]) -> Result<Command, Refusal> {
     })
 }
 
-// A book with one recording of `hello` at 0, 64 and 128.
+// The commands of one recording of `hello` at 0, 64 and 128.
+fn commands(alloc: Global) -> Result<[Command; 2], Refusal> {
+    let blocks = append(alloc, &[HELLO_AT_0, HELLO_AT_64, HELLO_AT_128])?;
+    Ok([start(alloc, 0)?, blocks])
+}
+
+// A book with that recording.
 fn three_hellos(alloc: Global) -> Result<Book, Fail> {
     let mut book = Book::new(alloc, 3);
-    book.apply(&start(alloc, 0)?)?;
-    book.apply(&append(alloc, &[HELLO_AT_0, HELLO_AT_64, HELLO_AT_128])?)?;
+    for command in &commands(alloc)? {
+        book.apply(command)?;
+    }
     Ok(book)
+}
+
+fn has_fields(descriptor: &Descriptor) -> bool {
+    descriptor.geometry().mtu == 1_408 && descriptor.publication().session_id == 7
+}
+
+// The copy of an active recording's descriptor has what `start` gave it.
+fn is_copied(alloc: Global, recording: &Recording) -> Result<bool, Refusal> {
+    let copy = recording.descriptor().copy(alloc)?;
+    Ok(copy.stop_position == -1 && copy.channel.as_str() == "c" && has_fields(&copy))
+}
+
+fn polled_count(alloc: Global, recording: &Recording) -> Result<usize, Refusal> {
+    Ok(recording.poll(alloc, &64, &129, 10)?.len())
+}
+
+fn replayed_count(alloc: Global, book: &Book) -> Result<usize, Refusal> {
+    Ok(book.replay(alloc, &0, &0, &LAST_NUMBER)?.len())
+}
+
+fn is_stopped(answer: &Result<Reply, Refusal>) -> bool {
+    matches!(answer, Ok(Reply::Stopped { position: 192 }))
 }
 
 #[test]
 fn first_recording_and_replay(rt: HostRuntime) -> Result<(), Fail> {
-    let alloc = rt.alloc();
-    let mut book = three_hellos(alloc)?;
+    let mut book = three_hellos(rt.alloc())?;
     let recording = book.recording(&0).ok_or("no recording")?;
-    let copy = recording.descriptor().copy(alloc)?;
-    assert_eq!(rt; (copy.stop_position, copy.channel.as_str()), (-1, "c"));
-    assert_eq!(rt;
-        (copy.geometry().mtu, copy.publication().session_id),
-        (1_408, 7)
-    );
+    assert!(rt; is_copied(rt.alloc(), recording)?);
     assert!(rt; recording.is_active() && recording.is_boundary(&64));
-    assert_eq!(rt; recording.poll(alloc, &64, &129, 10)?.len(), 2);
-    assert_eq!(rt; book.replay(alloc, &0, &0, &LAST_NUMBER)?.len(), 3);
-    let stopped = book.apply(&Command::Stop {
-        recording: 0,
-        timestamp: 2_000,
-    });
-    assert!(rt; matches!(&stopped, Ok(Reply::Stopped { position: 192 })));
-    assert!(rt; !book.has_room());
-    assert_eq!(rt; (book.recordings().len(), book.next_recording()), (1, 1));
+    assert!(rt; polled_count(rt.alloc(), recording)? == 2);
+    assert!(rt; replayed_count(rt.alloc(), &book)? == 3);
+    assert!(rt; is_stopped(&book.apply(&stop(0, 2_000))));
+    assert!(rt; !book.has_room() && book.recordings().len() == 1 && book.next_recording() == 1);
     Ok(())
+}
+
+// The position up to which all is settled, or -1 for another answer.
+fn settled(answer: &Result<Reply, Refusal>) -> i64 {
+    match answer {
+        Ok(Reply::Settled { position }) => *position,
+        _ => -1,
+    }
+}
+
+fn are_at(polled: &[PolledFrame], first: i64, second: i64) -> bool {
+    matches!(polled, [one, two] if one.position == first && two.position == second)
+}
+
+// Two frames are polled, the last of a term and the first of the next.
+fn is_polled(alloc: Global, book: &Book) -> Result<bool, Fail> {
+    let recording = book.recording(&0).ok_or("no recording")?;
+    let polled = recording.poll(alloc, &65_472, &LAST_NUMBER, 10)?;
+    Ok(are_at(polled.as_slice(), 65_472, 65_536))
 }
 
 #[test]
 fn pad_at_a_terms_end(rt: HostRuntime) -> Result<(), Fail> {
-    let alloc = rt.alloc();
-    let mut book = Book::new(alloc, 3);
-    book.apply(&start(alloc, 65_472)?)?;
-    let first = book.apply(&append(alloc, &[PAD_AT_TERM_END])?);
-    assert!(rt; matches!(&first, Ok(Reply::Settled { position: 65_536 })));
-    let second = book.apply(&append(alloc, &[HELLO_IN_NEXT_TERM])?);
-    assert!(rt; matches!(&second, Ok(Reply::Settled { position: 65_600 })));
-    let recording = book.recording(&0).ok_or("no recording")?;
-    let polled = recording.poll(alloc, &65_472, &LAST_NUMBER, 10)?;
-    let [at_end, behind] = polled.as_slice() else {
-        return Err("two frames")?;
-    };
-    assert_eq!(rt; (at_end.position, behind.position), (65_472, 65_536));
+    let mut book = Book::new(rt.alloc(), 3);
+    for (command, end) in [
+        (start(rt.alloc(), 65_472)?, -1),
+        (append(rt.alloc(), &[PAD_AT_TERM_END])?, 65_536),
+        (append(rt.alloc(), &[HELLO_IN_NEXT_TERM])?, 65_600),
+    ] {
+        assert!(rt; settled(&book.apply(&command)) == end);
+    }
+    assert!(rt; is_polled(rt.alloc(), &book)?);
     Ok(())
 }
 
@@ -196,38 +229,41 @@ fn a_recording_goes_on_where_it_was_cut(rt: HostRuntime) -> Result<(), Fail> {
 }
 
 // The commands of `three_hellos`, made anew where a request for memory is refused.
-fn commands(alloc: Global) -> Result<[Command; 2], Refusal> {
-    let blocks = append(alloc, &[HELLO_AT_0, HELLO_AT_64, HELLO_AT_128])?;
-    Ok([start(alloc, 0)?, blocks])
+fn made_commands(alloc: Global) -> Result<[Command; 2], Refusal> {
+    match commands(alloc) {
+        Err(_) => commands(alloc),
+        made => made,
+    }
+}
+
+// Makes a call, and makes it again where it was refused, which has changed nothing.
+fn apply(rt: &impl Abort, book: &mut Book, command: &Command) -> Result<(), Refusal> {
+    let next = book.next_recording();
+    if let Err(refusal) = book.apply(command) {
+        assert!(rt; refusal == Refusal::NoMemory && book.next_recording() == next);
+        book.apply(command)?;
+    }
+    Ok(())
+}
+
+fn replayed_again(alloc: Global, book: &Book) -> Result<usize, Refusal> {
+    match replayed_count(alloc, book) {
+        Err(Refusal::NoMemory) => replayed_count(alloc, book),
+        count => count,
+    }
 }
 
 // A refused request for memory is told as NoMemory and changes nothing, and the call may be made again:
 // bench/refused_test_memory.py runs this test for each of its requests for memory, which it refuses.
 #[test]
 fn refused_memory_changes_nothing(rt: HostRuntime) -> Result<(), Fail> {
-    let alloc = rt.alloc();
-    let commands = match commands(alloc) {
-        Ok(commands) => commands,
-        Err(_) => commands(alloc)?,
-    };
-    let mut book = Book::new(alloc, 2);
-    for command in &commands {
-        let next = book.next_recording();
-        if let Err(refusal) = book.apply(command) {
-            assert_eq!(rt; refusal, Refusal::NoMemory);
-            assert_eq!(rt; book.next_recording(), next);
-            book.apply(command)?;
-        }
+    let mut book = Book::new(rt.alloc(), 2);
+    for command in &made_commands(rt.alloc())? {
+        apply(&rt, &mut book, command)?;
     }
-    assert_eq!(rt;
-        book.recording(&0).map(Recording::recorded_position),
-        Some(192)
-    );
-    let replayed = match book.replay(alloc, &0, &0, &LAST_NUMBER) {
-        Err(Refusal::NoMemory) => book.replay(alloc, &0, &0, &LAST_NUMBER)?,
-        replayed => replayed?,
-    };
-    assert_eq!(rt; replayed.len(), 3);
+    let recording = book.recording(&0).ok_or("no recording")?;
+    assert!(rt; recording.recorded_position() == 192);
+    assert!(rt; replayed_again(rt.alloc(), &book)? == 3);
     Ok(())
 }
 
