@@ -99,8 +99,8 @@ fn line_end(shown: &[u8]) -> Option<usize>
     shown.iter().position(|b| *b == b'\n')
 }
 
-// Looks at the input once, and counts the look; where as many as may be were made, nothing is looked at. A look that a
-// signal interrupts takes nothing.
+/// Looks at the input once, and counts the look; where as many as may be were made, nothing is looked at. A look that a
+/// signal interrupts takes nothing.
 fn take_part<R: BufRead>(
     reader: &mut R,
     reads: &mut u64,

@@ -64,7 +64,7 @@ impl OpenReplay {
         self.next = *next;
     }
 
-    // Whether it is of a recording and goes on below a position.
+    /// Whether it is of a recording and goes on below a position.
     #[tactic(auto, unfolding(crate::specs::Desk::is_replay_before))]
     pub(crate) fn is_before(&self, recording: &i64, position: &i64) -> bool
         ensures { result ≡ is_replay_before recording.now position.now self.now }

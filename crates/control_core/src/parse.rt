@@ -15,7 +15,7 @@ use frame_core::Refusal;
 use frame_core::limits::MAX_LINE_LENGTH;
 use std::alloc::Global;
 
-// Lines to a merge, and the last one.
+/// Lines to a merge, and the last one.
 fn merge_line(alloc: Global, word: &str, words: &mut Words) -> Result<Line, Refusal>
     ensures { Gives (λ line. (line, words.new)) result (read_by merge_rows word.now words.old) }
 {
@@ -34,7 +34,7 @@ fn merge_line(alloc: Global, word: &str, words: &mut Words) -> Result<Line, Refu
     })
 }
 
-// Lines on replays and on the archive as a whole, before those.
+/// Lines on replays and on the archive as a whole, before those.
 fn archive_line(alloc: Global, word: &str, words: &mut Words) -> Result<Line, Refusal>
     ensures { Gives (λ line. (line, words.new)) result
         (read_by (archive_rows ++ merge_rows) word.now words.old) }
@@ -62,7 +62,7 @@ fn archive_line(alloc: Global, word: &str, words: &mut Words) -> Result<Line, Re
     })
 }
 
-// Requests that change nothing, before those.
+/// Requests that change nothing, before those.
 fn asking_line(alloc: Global, word: &str, words: &mut Words) -> Result<Line, Refusal>
     ensures { Gives (λ line. (line, words.new)) result
         (read_by (asking_rows ++ (archive_rows ++ merge_rows)) word.now words.old) }
@@ -85,7 +85,7 @@ fn asking_line(alloc: Global, word: &str, words: &mut Words) -> Result<Line, Ref
     })))
 }
 
-// Requests that change the catalogue and open no recorder session, before those.
+/// Requests that change the catalogue and open no recorder session, before those.
 fn catalogue_line(alloc: Global, word: &str, words: &mut Words) -> Result<Line, Refusal>
     ensures { Gives (λ line. (line, words.new)) result
         (read_by (catalogue_rows ++ (asking_rows ++ (archive_rows ++ merge_rows))) word.now words.old) }
@@ -142,7 +142,7 @@ fn extend_line(words: &mut Words) -> Result<Line, Refusal>
     }))))
 }
 
-// Lines that open a recorder session or write by one, before those.
+/// Lines that open a recorder session or write by one, before those.
 fn recorder_line(alloc: Global, word: &str, words: &mut Words) -> Result<Line, Refusal>
     ensures { Gives (λ line. (line, words.new)) result (read_by rows word.now words.old) }
 {
@@ -164,7 +164,7 @@ fn recorder_line(alloc: Global, word: &str, words: &mut Words) -> Result<Line, R
     })
 }
 
-// Whether a line of this first word has an answer today.
+/// Whether a line of this first word has an answer today.
 fn is_served(word: &str) -> bool
     ensures { result ≡ is_served word.now }
 {

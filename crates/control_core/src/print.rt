@@ -52,7 +52,7 @@ fn recordings_text(alloc: Global, descriptors: &[Descriptor]) -> Result<String, 
     Ok(out)
 }
 
-// The digits of the frame's encoding.
+/// The digits of the frame's encoding.
 fn digits(alloc: Global, f: &Frame) -> Result<String, AllocError>
     ensures { IfOk result (λ text. string_bytes text ≡ encode_lower (encoded f.now)) }
 {

@@ -124,7 +124,7 @@ pub fn decide_open(desk: &Desk, recording: &i64, position: &i64, length: &i64) -
     opened_at(known, decided, &next)
 }
 
-// What is decided at a position, by what comes behind its test.
+/// What is decided at a position, by what comes behind its test.
 fn opened_at(
     known: &Registration,
     decided: Result<Opening, Refusal>,

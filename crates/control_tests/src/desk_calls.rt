@@ -11,7 +11,7 @@ use frame_core::Refusal;
 use std::alloc::Global;
 use std::test::*;
 
-// An archive of so many active recordings.
+/// An archive of so many active recordings.
 fn recording(alloc: Global, count: u8, limit: u32) -> Result<Desk, Refusal> {
     let mut desk = Desk::new(alloc, limit);
     let request = start(alloc)?;
@@ -21,7 +21,7 @@ fn recording(alloc: Global, count: u8, limit: u32) -> Result<Desk, Refusal> {
     Ok(desk)
 }
 
-// Opens a replay of a recording from its start.
+/// Opens a replay of a recording from its start.
 fn open(desk: &mut Desk, recording: i64) -> Result<(), Refusal> {
     laws::what_is_opened_is_allowed();
     let OpeningDecision::Decided(decided) = decide_open(desk, &recording, &-1, &-1) else {
@@ -47,7 +47,7 @@ fn opened(decision: &OpeningDecision) -> u8 {
     }
 }
 
-// The refusal of a call by its kind, or 0. Replay 0 and session 0 are of recording 0, which is active and empty.
+/// The refusal of a call by its kind, or 0. Replay 0 and session 0 are of recording 0, which is active and empty.
 fn called(desk: &Desk, kind: u8, number: i64, other: i64) -> u8 {
     match kind {
         0 => number_of(&decide_settle(desk, &number)),
@@ -132,7 +132,7 @@ fn stopped(alloc: Global) -> Result<Desk, Refusal> {
     Ok(desk)
 }
 
-// The history is full, too.
+/// The history is full, too.
 #[test]
 fn a_replay_keeps_its_recording(rt: HostRuntime) -> Result<(), Fail> {
     let desk = stopped(rt.alloc())?;
@@ -164,7 +164,7 @@ fn at_most_64_replays_are_open(rt: HostRuntime) -> Result<(), Fail> {
     Ok(())
 }
 
-// The history is full, too.
+/// The history is full, too.
 #[test]
 fn at_most_64_recordings_are_active(rt: HostRuntime) -> Result<(), Fail> {
     let desk = recording(rt.alloc(), 64, 64)?;
@@ -174,7 +174,7 @@ fn at_most_64_recordings_are_active(rt: HostRuntime) -> Result<(), Fail> {
     Ok(())
 }
 
-// The id that is found, or the refusal's number below -1.
+/// The id that is found, or the refusal's number below -1.
 fn found(decision: &Decision) -> i64 {
     match decision {
         Decision::Answered(Reply::Found { recording }) => *recording,

@@ -7,7 +7,7 @@ use frame_core::Refusal;
 use std::alloc::Global;
 use std::test::*;
 
-// A request by its kind and two numbers.
+/// A request by its kind and two numbers.
 fn asked(kind: u8, recording: i64, number: i64) -> Request {
     match kind {
         0 => Request::Stop {
@@ -40,7 +40,7 @@ fn asked(kind: u8, recording: i64, number: i64) -> Request {
     }
 }
 
-// Makes an accepted request.
+/// Makes an accepted request.
 pub(crate) fn make(alloc: Global, desk: &mut Desk, request: &Request) -> Result<(), Refusal> {
     laws::what_is_decided_is_allowed();
     let Decision::Accepted(command) = decide(alloc, desk, request) else {
@@ -51,7 +51,7 @@ pub(crate) fn make(alloc: Global, desk: &mut Desk, request: &Request) -> Result<
     Ok(())
 }
 
-// Recording 0 is active, recording 1 is stopped where it began; three entries count.
+/// Recording 0 is active, recording 1 is stopped where it began; three entries count.
 fn two_recordings(alloc: Global, limit: u32) -> Result<Desk, Refusal> {
     let mut desk = Desk::new(alloc, limit);
     make(alloc, &mut desk, &start(alloc)?)?;
@@ -60,7 +60,7 @@ fn two_recordings(alloc: Global, limit: u32) -> Result<Desk, Refusal> {
     Ok(desk)
 }
 
-// 0: there is room; 1: there is none; 2: none, and a write failed.
+/// 0: there is room; 1: there is none; 2: none, and a write failed.
 fn desk_of(alloc: Global, state: u8) -> Result<Desk, Refusal> {
     let limit = if state == 0 { 4 } else { 3 };
     let mut desk = two_recordings(alloc, limit)?;

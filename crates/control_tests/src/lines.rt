@@ -184,7 +184,7 @@ fn descriptor_lines(rt: HostRuntime) -> Result<(), Fail> {
     Ok(())
 }
 
-// `hello` and a pad of 64 bytes, each where it lies.
+/// `hello` and a pad of 64 bytes, each where it lies.
 fn two_frames(alloc: Global) -> Result<Items<PolledFrame>, Fail> {
     let mut frames = Items::new(alloc);
     for (position, kind, length, term_offset, payload) in [
@@ -264,8 +264,8 @@ fn refusal_lines(rt: HostRuntime) -> Result<(), Fail> {
     Ok(())
 }
 
-// A refused request for memory is told as NoMemory, and the call may be made again: bench/refused_test_memory.py runs
-// this test for each of its requests for memory, which it refuses.
+/// A refused request for memory is told as NoMemory, and the call may be made again: bench/refused_test_memory.py runs
+/// this test for each of its requests for memory, which it refuses.
 #[test]
 fn refused_memory_is_told(rt: HostRuntime) -> Result<(), Fail> {
     let alloc = rt.alloc();

@@ -6,7 +6,7 @@ use frame_core::Refusal;
 use std::alloc::Global;
 use std::test::*;
 
-// The request of one line.
+/// The request of one line.
 pub(crate) fn start(alloc: Global) -> Result<Request, Refusal> {
     match parse_line(alloc, b"start 1001 7 42 65536 1408 131072 0 1000 c")? {
         Line::Event(Event::Ask(request)) => Ok(request),
@@ -49,7 +49,7 @@ fn is_unknown(decision: &Decision) -> bool {
     matches!(decision, Decision::Refused(Refusal::UnknownRecording))
 }
 
-// No entry may be made.
+/// No entry may be made.
 #[test]
 fn a_full_history_refuses_a_start(rt: HostRuntime) -> Result<(), Fail> {
     let request = start(rt.alloc())?;
@@ -65,7 +65,7 @@ fn no_recording_is_purged(rt: HostRuntime) {
     assert!(rt; is_unknown(&decision));
 }
 
-// Asked for again, where a request for memory was refused.
+/// Asked for again, where a request for memory was refused.
 fn decided(alloc: Global, desk: &Desk, request: &Request) -> Decision {
     match decide(alloc, desk, request) {
         Decision::Refused(Refusal::NoMemory) => decide(alloc, desk, request),
@@ -80,7 +80,7 @@ fn started(alloc: Global) -> Result<Request, Refusal> {
     }
 }
 
-// A refused request for memory is told as NoMemory, and the decision may be asked for again.
+/// A refused request for memory is told as NoMemory, and the decision may be asked for again.
 #[test]
 fn refused_memory_at_a_decision(rt: HostRuntime) -> Result<(), Fail> {
     let request = started(rt.alloc())?;

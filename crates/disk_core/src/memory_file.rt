@@ -126,7 +126,7 @@ impl MemoryFile {
     }
 }
 
-// Reads from an offset into a buffer, and answers how many bytes.
+/// Reads from an offset into a buffer, and answers how many bytes.
 fn read_bytes(bytes: &[u8], at: u64, into: &mut [u8]) -> usize
     ensures { IsRead bytes.now at into.old into.new result }
 {
@@ -171,7 +171,7 @@ pub(crate) fn write_file(
     }
 }
 
-// Writes some bytes over others, behind zeros where there is a gap.
+/// Writes some bytes over others, behind zeros where there is a gap.
 fn overwrite(file: &mut Vec<u8>, at: u64, bytes: &[u8]) -> Result<(), AllocError>
     requires some { 0 < length bytes.now }
     ensures done { OnOk result (file.new.items ≡ overwritten at bytes.now file.old.items) }
@@ -184,7 +184,7 @@ fn overwrite(file: &mut Vec<u8>, at: u64, bytes: &[u8]) -> Result<(), AllocError
     Ok(())
 }
 
-// Fills a file up with zeros to a length, if it is shorter.
+/// Fills a file up with zeros to a length, if it is shorter.
 fn stretch(file: &mut Vec<u8>, len: usize) -> Result<(), AllocError>
     ensures done { OnOk result
         (file.new.items ≡ file.old.items ++ replicate (len - length file.old.items) 0) }
@@ -196,7 +196,7 @@ fn stretch(file: &mut Vec<u8>, len: usize) -> Result<(), AllocError>
     Ok(())
 }
 
-// Writes bytes over as many others.
+/// Writes bytes over as many others.
 fn replace(file: &mut [u8], at: usize, bytes: &[u8])
     requires fits { at + length bytes.now ≤ length file.old }
     ensures { file.new ≡ take at file.old ++ bytes.now ++ drop (at + length bytes.now) file.old }
@@ -204,7 +204,7 @@ fn replace(file: &mut [u8], at: usize, bytes: &[u8])
     file[at..at + bytes.len()].copy_from_slice(bytes);
 }
 
-// Writes a byte over each offset in one of the ranges.
+/// Writes a byte over each offset in one of the ranges.
 fn fill_ranges(ranges: &[(u64, u64)], bytes: &mut [u8], byte: u8)
     ensures { AreFilled ranges.now byte bytes.old bytes.new }
 {
@@ -213,7 +213,7 @@ fn fill_ranges(ranges: &[(u64, u64)], bytes: &mut [u8], byte: u8)
     }
 }
 
-// Writes a byte over each offset from this one on, up to so many.
+/// Writes a byte over each offset from this one on, up to so many.
 fn fill_range(bytes: &mut [u8], at: u64, count: u64, byte: u8)
     ensures inside { (offset : ℕ) → at ≤ offset → offset < at + count → offset < length bytes.old →
         get_or bytes.new offset 0 ≡ byte }

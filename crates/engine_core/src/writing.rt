@@ -128,7 +128,7 @@ impl<D: Disk> Parts<D> {
     }
 }
 
-// None where the number is no session's, or the block isn't one of the terms, session and stream of its recording.
+/// None where the number is no session's, or the block isn't one of the terms, session and stream of its recording.
 fn target_of(desk: &Desk, session: &i64, block: &Block) -> Option<Target>
     ensures { MatchOption result (HasNoTarget desk.now.state session.now block.now)
         (λ target. IsTarget desk.now.state session.now block.now target.layout target.end) }

@@ -11,7 +11,7 @@ use std::alloc::{AllocError, Global};
 pub const TERM: i64 = 65_536;
 
 /// A call. Where no recording is named it is the first one, and so with replays.
-#[derive(Clone, Copy, Debug)]
+#[derive(Clone, Copy)]
 pub enum Act {
     /// A recording from this position on, with segments of one term.
     Start(i64),
@@ -77,7 +77,7 @@ fn lesser(number: i64) -> i32 {
     i32::try_from(number).unwrap_or(0)
 }
 
-// A frame without a payload at a position.
+/// A frame without a payload at a position.
 fn frame(alloc: Global, kind: FrameKind, position: i64, length: i64) -> Frame {
     Frame {
         kind,

@@ -10,7 +10,7 @@ use std::alloc::Global;
 use std::process::Abort;
 use std::test::Fail;
 
-// Where the first recording stopped.
+/// Where the first recording stopped.
 fn stop_position(alloc: Global, engine: &mut Engine<MemoryDisk>) -> Result<i64, Refusal> {
     let event = Event::Ask(Request::Positions { recording: 0 });
     match engine.step(alloc, &event)? {
@@ -19,8 +19,8 @@ fn stop_position(alloc: Global, engine: &mut Engine<MemoryDisk>) -> Result<i64, 
     }
 }
 
-// The archive that a crash leaves behind a settle in which the disk stops after so many changes, and what the settle
-// answers: where its recording stopped.
+/// The archive that a crash leaves behind a settle in which the disk stops after so many changes, and what the settle
+/// answers: where its recording stopped.
 fn stopped_after(alloc: Global, changes: u64, choice: u8) -> Result<(i64, i64), Fail> {
     let mut disk = MemoryDisk::new(alloc);
     disk.stop_after(changes.wrapping_add(11));
@@ -53,7 +53,7 @@ fn stop_at_each_device_call_of_a_settle(rt: HostRuntime) -> Result<(), Fail> {
     Ok(())
 }
 
-// Behind a fault the archive takes nothing more, and goes on with what it read; another opening makes it good.
+/// Behind a fault the archive takes nothing more, and goes on with what it read; another opening makes it good.
 #[test]
 fn a_fault_breaks_the_archive(rt: HostRuntime) -> Result<(), Fail> {
     let alloc = rt.alloc();
@@ -70,7 +70,7 @@ fn a_fault_breaks_the_archive(rt: HostRuntime) -> Result<(), Fail> {
     Ok(())
 }
 
-// How many changes of the disk an opening makes, of an archive whose recording is active or has stopped.
+/// How many changes of the disk an opening makes, of an archive whose recording is active or has stopped.
 fn changes_of_opening(alloc: Global, has_stopped: bool) -> Result<u64, Refusal> {
     let mut engine = made(alloc, MemoryDisk::new(alloc), 3)?;
     answer(alloc, &mut engine, Act::Start(0))?;
@@ -84,7 +84,7 @@ fn changes_of_opening(alloc: Global, has_stopped: bool) -> Result<u64, Refusal> 
     Ok(disk.changes().wrapping_sub(before))
 }
 
-// Two banks and a segment file are synced; a restart is committed only where a recording was active.
+/// Two banks and a segment file are synced; a restart is committed only where a recording was active.
 #[test]
 fn an_opening_restarts_active_recordings_alone(rt: HostRuntime) -> Result<(), Fail> {
     assert!(rt; changes_of_opening(rt.alloc(), true)? == 3);

@@ -30,7 +30,7 @@ const SETUP: Setup = Setup {
     ttl: 0,
 };
 
-// An archive that has recorded `hello` at 0 and 64, and replays it.
+/// An archive that has recorded `hello` at 0 and 64, and replays it.
 fn recorded(alloc: Global) -> Result<Engine<MemoryDisk>, Refusal> {
     let mut engine = made(alloc, MemoryDisk::new(alloc), 16)?;
     for act in [
@@ -46,7 +46,7 @@ fn recorded(alloc: Global) -> Result<Engine<MemoryDisk>, Refusal> {
     Ok(engine)
 }
 
-// The frames that the replay gives.
+/// The frames that the replay gives.
 fn replayed(alloc: Global, engine: &mut Engine<MemoryDisk>) -> Result<Vec<Frame>, Refusal> {
     let Reply::Polled { frames, .. } = answer(alloc, engine, Act::Poll(0, 10))? else {
         return Err(Refusal::BadLine);
@@ -58,7 +58,7 @@ fn replayed(alloc: Global, engine: &mut Engine<MemoryDisk>) -> Result<Vec<Frame>
     Ok(given)
 }
 
-// `hello` at a position as a datagram.
+/// `hello` at a position as a datagram.
 fn datagram(alloc: Global, position: i64) -> Result<Vec<u8>, Refusal> {
     let mut bytes = Vec::new(alloc);
     for frame in block(alloc, position, false)?.frames.as_slice() {
@@ -68,7 +68,7 @@ fn datagram(alloc: Global, position: i64) -> Result<Vec<u8>, Refusal> {
     Ok(bytes)
 }
 
-// The live frames at 64 and 128.
+/// The live frames at 64 and 128.
 fn live(alloc: Global) -> Result<Vec<Frame>, Refusal> {
     let mut image = Image::from_setup(alloc, &SETUP)?;
     for position in [64, 128] {
@@ -80,7 +80,7 @@ fn live(alloc: Global) -> Result<Vec<Frame>, Refusal> {
     }
 }
 
-// Where the frames of the output begin in their term.
+/// Where the frames of the output begin in their term.
 fn output(alloc: Global, merge: &mut Merge) -> Result<Vec<i32>, Refusal> {
     let mut offsets = Vec::new(alloc);
     for _ in 0..10 {

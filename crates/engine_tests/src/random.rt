@@ -18,7 +18,7 @@ struct Dice {
 }
 
 impl Dice {
-    // A number below another.
+    /// A number below another.
     fn below(&mut self, count: u32) -> i64 {
         self.thrown = self
             .thrown
@@ -28,7 +28,7 @@ impl Dice {
     }
 }
 
-// One of the last two sessions.
+/// One of the last two sessions.
 fn session_by_chance(dice: &mut Dice, story: &Story) -> (i64, Session) {
     let count = i64::try_from(story.sessions.len()).unwrap_or(0);
     let number = count
@@ -41,7 +41,7 @@ fn session_by_chance(dice: &mut Dice, story: &Story) -> (i64, Session) {
     (number, story.session(number).unwrap_or(nobody))
 }
 
-// The next call.
+/// The next call.
 fn act_by_chance(dice: &mut Dice, story: &Story) -> Act {
     let (number, session) = session_by_chance(dice, story);
     let recording = session.recording;
@@ -84,7 +84,7 @@ impl Run {
         })
     }
 
-    // Makes a call.
+    /// Makes a call.
     fn make(&mut self, alloc: Global, act: Act) -> Result<(), Refusal> {
         match answer(alloc, &mut self.engine, act) {
             Ok(_) => self.story.note(alloc, act),
@@ -111,8 +111,8 @@ fn played(alloc: Global, changes: u64) -> Result<Run, Refusal> {
     Ok(run)
 }
 
-// What became of a run whose disk stopped after so many changes: how many commands were accepted, whether it stopped, and
-// whether each of three crashes left what it may.
+/// What became of a run whose disk stopped after so many changes: how many commands were accepted, whether it stopped, and
+/// whether each of three crashes left what it may.
 fn survived(alloc: Global, changes: u64) -> Result<(usize, bool, bool), Refusal> {
     let Run {
         story,

@@ -10,7 +10,7 @@ use frame_core::{Items, Refusal};
 use std::alloc::Global;
 
 /// A recorder session: its recording, and where the block begins that it wrote and did not settle, and whether it is a pad.
-#[derive(Clone, Copy, Debug)]
+#[derive(Clone, Copy)]
 pub struct Session {
     /// The recording.
     pub recording: i64,
@@ -67,7 +67,7 @@ impl Story {
         })
     }
 
-    // The settled block of a session.
+    /// The settled block of a session.
     fn append(&self, alloc: Global, number: i64) -> Result<Option<Command>, Refusal> {
         let Some(session) = self.session(number) else {
             return Ok(None);
@@ -141,7 +141,7 @@ pub fn text_after(
     text_of_book(alloc, &book)
 }
 
-// The descriptors, and behind them the frames of each recording.
+/// The descriptors, and behind them the frames of each recording.
 fn text_of_book(alloc: Global, book: &Book) -> Result<Vec<u8>, Refusal> {
     let mut descriptors = Items::new(alloc);
     for recording in book.recordings() {

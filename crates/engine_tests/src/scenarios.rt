@@ -11,7 +11,7 @@ use std::test::Fail;
 
 type Row = (Act, &'static str, i64);
 
-// Plays rows on a new archive with room for 16 entries.
+/// Plays rows on a new archive with room for 16 entries.
 fn plays(rt: &impl Abort, alloc: Global, rows: &[Row]) -> Result<Engine<MemoryDisk>, Fail> {
     let mut engine = made(alloc, MemoryDisk::new(alloc), 16)?;
     assert!(rt; played(alloc, &mut engine, rows)? == rows.len());
@@ -29,7 +29,7 @@ const THREE_HELLOS: [Row; 7] = [
     (Act::Settle(0), "settled", 192),
 ];
 
-// Where the frames of a poll lie.
+/// Where the frames of a poll lie.
 fn lie_at(reply: &Reply, positions: &[i64]) -> bool {
     let Reply::Polled { frames, .. } = reply else {
         return false;
@@ -134,7 +134,7 @@ fn purge_of_segments_and_sweeps(rt: HostRuntime) -> Result<(), Fail> {
     Ok(())
 }
 
-// The first byte of the recording's first file is 0, and synced.
+/// The first byte of the recording's first file is 0, and synced.
 fn damaged(alloc: Global, engine: Engine<MemoryDisk>) -> Result<Engine<MemoryDisk>, Fail> {
     let mut disk = engine.into_disk();
     let file = FileId::Segment {
@@ -173,7 +173,7 @@ fn damaged_frame(rt: HostRuntime) -> Result<(), Fail> {
     Ok(())
 }
 
-// A history of three entries takes no fourth, but the restart of an opening.
+/// A history of three entries takes no fourth, but the restart of an opening.
 #[test]
 fn full_history(rt: HostRuntime) -> Result<(), Fail> {
     let mut engine = made(rt.alloc(), MemoryDisk::new(rt.alloc()), 3)?;
@@ -188,7 +188,7 @@ fn full_history(rt: HostRuntime) -> Result<(), Fail> {
     Ok(())
 }
 
-// How many calls of the disk a new archive makes for the first acts, behind those of its creation.
+/// How many calls of the disk a new archive makes for the first acts, behind those of its creation.
 fn calls_for(alloc: Global, rows: &[Row], most: usize) -> Result<u64, Refusal> {
     let mut engine = made(alloc, MemoryDisk::new(alloc), 16)?;
     for row in rows.iter().take(most) {

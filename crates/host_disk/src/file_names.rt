@@ -17,7 +17,7 @@ pub(crate) fn file_named(alloc: Global, name: &str) -> Result<Option<FileId>, Al
     Ok(is_its_name.then_some(file))
 }
 
-// The file whose name may be this one.
+/// The file whose name may be this one.
 fn file_like(name: &str) -> Option<FileId> {
     match name {
         "catalogue-a.bank" => Some(FileId::BankA),

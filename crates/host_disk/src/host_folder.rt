@@ -65,7 +65,7 @@ impl HostFolder {
         })
     }
 
-    // Lets `path` name a file.
+    /// Lets `path` name a file.
     fn name(&mut self, file: FileId) -> io::Result<()>
         ensures same { events_of self.new ≡ events_of self.old }
         ensures named { OnOk result (IsPathOf self.new file) }
@@ -77,7 +77,7 @@ impl HostFolder {
         Ok(())
     }
 
-    // Where a file is, which is opened if it is there.
+    /// Where a file is, which is opened if it is there.
     fn find(&mut self, file: FileId) -> io::Result<Place>
         ensures same { events_of self.new ≡ events_of self.old }
         ensures place { IfOk result (IsPlaceOf self.new file) }
@@ -97,7 +97,7 @@ impl HostFolder {
         }
     }
 
-    // The place of a file, which is made where it is absent.
+    /// The place of a file, which is made where it is absent.
     fn find_or_make(&mut self, file: FileId) -> io::Result<usize>
         ensures same { events_of self.new ≡ events_of self.old }
         ensures place { IfOk result (λ place. IsHeldAt self.new file place) }
@@ -115,7 +115,7 @@ impl HostFolder {
         self.hold(made)
     }
 
-    // Holds an opened file.
+    /// Holds an opened file.
     fn hold(&mut self, opened: OpenFile) -> io::Result<usize>
         ensures same { events_of self.new ≡ events_of self.old }
         ensures place { IfOk result (λ place. IsHeldAt self.new opened.file place) }

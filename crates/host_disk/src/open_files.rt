@@ -55,8 +55,8 @@ impl OpenFiles {
         Some(self.entries.len() - 1)
     }
 
-    // Closes a file where as many are held as may be, and answers whether there is room for one now. One
-    // with unsynced bytes is never closed.
+    /// Closes a file where as many are held as may be, and answers whether there is room for one now. One
+    /// with unsynced bytes is never closed.
     fn make_room(&mut self) -> bool
         ensures room { IsTrue result → length (entries_of self.new) < 128 }
         ensures full { IsFalse result → All IsTrue (unsynced self.old) }
@@ -103,7 +103,7 @@ impl OpenFiles {
         }
     }
 
-    // The first place whose file may be closed.
+    /// The first place whose file may be closed.
     fn synced_place(&self) -> Option<usize>
         ensures found { IfSome result (λ place. slice_get (unsynced self.now) place ≡ Some false) }
         ensures none { IfNone result (All IsTrue (unsynced self.now)) }

@@ -75,7 +75,7 @@ impl Names {
         }
     }
 
-    // Syncs the folder where a name came or went. Once that has failed it fails for good.
+    /// Syncs the folder where a name came or went. Once that has failed it fails for good.
     fn sync(&mut self) -> io::Result<()> {
         if self.are_lost {
             return Err(io::ErrorKind::Other.into());
@@ -314,7 +314,7 @@ pub(crate) fn list_files(
     Ok(files)
 }
 
-// The file of an entry of the folder, none for another name.
+/// The file of an entry of the folder, none for another name.
 fn listed_file(
     alloc: Global,
     entry: io::Result<DirEntry<HostRuntime>>,

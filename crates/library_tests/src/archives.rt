@@ -17,7 +17,7 @@ const TERMS: Geometry = Geometry {
     mtu: 1_408,
 };
 
-// The fields of the line `start 1001 7 42 65536 1408 131072 0 1000 c`, from another start position.
+/// The fields of the line `start 1001 7 42 65536 1408 131072 0 1000 c`, from another start position.
 fn fields(alloc: Global, start_position: i64) -> Result<StartFields, Refusal> {
     Ok(StartFields {
         stream_id: 1001,
@@ -36,7 +36,7 @@ fn start(alloc: Global, start_position: i64) -> Result<Command, Refusal> {
     Ok(Command::Start(fields(alloc, start_position)?))
 }
 
-// Blocks of the first recording, each of a vector's frames.
+/// Blocks of the first recording, each of a vector's frames.
 fn append(alloc: Global, vectors: &[&[u8]]) -> Result<Command, Refusal> {
     let mut blocks = Items::new(alloc);
     for bytes in vectors {
@@ -48,13 +48,13 @@ fn append(alloc: Global, vectors: &[&[u8]]) -> Result<Command, Refusal> {
     })
 }
 
-// The commands of one recording of `hello` at 0, 64 and 128.
+/// The commands of one recording of `hello` at 0, 64 and 128.
 fn commands(alloc: Global) -> Result<[Command; 2], Refusal> {
     let blocks = append(alloc, &[HELLO_AT_0, HELLO_AT_64, HELLO_AT_128])?;
     Ok([start(alloc, 0)?, blocks])
 }
 
-// A book with that recording.
+/// A book with that recording.
 fn three_hellos(alloc: Global) -> Result<Book, Fail> {
     let mut book = Book::new(alloc, 3);
     for command in &commands(alloc)? {
@@ -67,7 +67,7 @@ fn has_fields(descriptor: &Descriptor) -> bool {
     descriptor.geometry().mtu == 1_408 && descriptor.publication().session_id == 7
 }
 
-// The copy of an active recording's descriptor has what `start` gave it.
+/// The copy of an active recording's descriptor has what `start` gave it.
 fn is_copied(alloc: Global, recording: &Recording) -> Result<bool, Refusal> {
     let copy = recording.descriptor().copy(alloc)?;
     Ok(copy.stop_position == -1 && copy.channel.as_str() == "c" && has_fields(&copy))
@@ -98,7 +98,7 @@ fn first_recording_and_replay(rt: HostRuntime) -> Result<(), Fail> {
     Ok(())
 }
 
-// The position up to which all is settled, or -1 for another answer.
+/// The position up to which all is settled, or -1 for another answer.
 fn settled(answer: &Result<Reply, Refusal>) -> i64 {
     match answer {
         Ok(Reply::Settled { position }) => *position,
@@ -110,7 +110,7 @@ fn are_at(polled: &[PolledFrame], first: i64, second: i64) -> bool {
     matches!(polled, [one, two] if one.position == first && two.position == second)
 }
 
-// Two frames are polled, the last of a term and the first of the next.
+/// Two frames are polled, the last of a term and the first of the next.
 fn is_polled(alloc: Global, book: &Book) -> Result<bool, Fail> {
     let recording = book.recording(&0).ok_or("no recording")?;
     let polled = recording.poll(alloc, &65_472, &LAST_NUMBER, 10)?;
@@ -131,7 +131,7 @@ fn pad_at_a_terms_end(rt: HostRuntime) -> Result<(), Fail> {
     Ok(())
 }
 
-// How an answer is told: a reply by its number, a refusal by itself.
+/// How an answer is told: a reply by its number, a refusal by itself.
 fn told(answer: Result<Reply, Refusal>) -> Result<i64, Refusal> {
     match answer? {
         Reply::Started { recording, .. } => Ok(recording),
@@ -177,7 +177,7 @@ fn extend(recording: i64, mtu: i32, join_position: i64) -> Command {
     })
 }
 
-// Extension after a truncation, and each refusal that comes on the way, two of them due at once where they can be.
+/// Extension after a truncation, and each refusal that comes on the way, two of them due at once where they can be.
 #[test]
 fn a_recording_is_cut_and_goes_on(rt: HostRuntime) -> Result<(), Fail> {
     let mut book = three_hellos(rt.alloc())?;
@@ -205,7 +205,7 @@ fn a_recording_is_cut_and_goes_on(rt: HostRuntime) -> Result<(), Fail> {
     Ok(())
 }
 
-// A recording that goes on where it was cut, and then is gone.
+/// A recording that goes on where it was cut, and then is gone.
 #[test]
 fn a_recording_goes_on_where_it_was_cut(rt: HostRuntime) -> Result<(), Fail> {
     let mut book = Book::new(rt.alloc(), 8);
@@ -228,7 +228,7 @@ fn a_recording_goes_on_where_it_was_cut(rt: HostRuntime) -> Result<(), Fail> {
     Ok(())
 }
 
-// The commands of `three_hellos`, made anew where a request for memory is refused.
+/// The commands of `three_hellos`, made anew where a request for memory is refused.
 fn made_commands(alloc: Global) -> Result<[Command; 2], Refusal> {
     match commands(alloc) {
         Err(_) => commands(alloc),
@@ -236,7 +236,7 @@ fn made_commands(alloc: Global) -> Result<[Command; 2], Refusal> {
     }
 }
 
-// Makes a call, and makes it again where it was refused, which has changed nothing.
+/// Makes a call, and makes it again where it was refused, which has changed nothing.
 fn apply(rt: &impl Abort, book: &mut Book, command: &Command) -> Result<(), Refusal> {
     let next = book.next_recording();
     if let Err(refusal) = book.apply(command) {
@@ -253,8 +253,8 @@ fn replayed_again(alloc: Global, book: &Book) -> Result<usize, Refusal> {
     }
 }
 
-// A refused request for memory is told as NoMemory and changes nothing, and the call may be made again:
-// bench/refused_test_memory.py runs this test for each of its requests for memory, which it refuses.
+/// A refused request for memory is told as NoMemory and changes nothing, and the call may be made again:
+/// bench/refused_test_memory.py runs this test for each of its requests for memory, which it refuses.
 #[test]
 fn refused_memory_changes_nothing(rt: HostRuntime) -> Result<(), Fail> {
     let mut book = Book::new(rt.alloc(), 2);
@@ -267,8 +267,8 @@ fn refused_memory_changes_nothing(rt: HostRuntime) -> Result<(), Fail> {
     Ok(())
 }
 
-// A poll copies the frames that it gives and no other: bench/refused_test_memory.py counts its requests for memory,
-// a list and the bytes of each frame given.
+/// A poll copies the frames that it gives and no other: bench/refused_test_memory.py counts its requests for memory,
+/// a list and the bytes of each frame given.
 #[test]
 fn counted_memory_of_a_late_poll(rt: HostRuntime) -> Result<(), Fail> {
     let alloc = rt.alloc();
@@ -280,7 +280,7 @@ fn counted_memory_of_a_late_poll(rt: HostRuntime) -> Result<(), Fail> {
     Ok(())
 }
 
-// A register with one recording, which this change was made of.
+/// A register with one recording, which this change was made of.
 fn registered(rt: &impl Abort, alloc: Global, change: &Change) -> Result<Register, Fail> {
     let mut register = Register::new(alloc);
     let begun = Registration::begun(alloc, &register.next_recording(), &fields(alloc, 0)?)?;

@@ -20,7 +20,7 @@ const BANK: [u8; 108] = [
     0x00, 0x00, 0x00, 0x40, 0x00, 0x00, 0x00, 0x00, 0x00, 0x00, 0x00, 0x00,
 ];
 
-// What the bank's recording is.
+/// What the bank's recording is.
 fn fields(alloc: Global) -> Result<StartFields, AllocError> {
     Ok(StartFields {
         stream_id: 1_001,
@@ -35,7 +35,7 @@ fn fields(alloc: Global) -> Result<StartFields, AllocError> {
     })
 }
 
-// The start of the bank's recording.
+/// The start of the bank's recording.
 fn start(alloc: Global) -> Result<Entry, AllocError> {
     Ok(Entry::Start {
         recording: 0,
@@ -53,7 +53,7 @@ const STOP: Entry = Entry::Stop {
     timestamp: 2_000,
 };
 
-// A catalogue with three entries, or with as many as the disk lets it have.
+/// A catalogue with three entries, or with as many as the disk lets it have.
 fn story(alloc: Global, disk: &mut MemoryDisk) -> Result<(), Refusal> {
     let mut log = create(alloc, disk, 3)?;
     log.append(disk, &start(alloc)?)?;
@@ -61,7 +61,7 @@ fn story(alloc: Global, disk: &mut MemoryDisk) -> Result<(), Refusal> {
     log.append(disk, &STOP)
 }
 
-// What opening answers: its name, and how many entries there are or at which offset the bank is damaged.
+/// What opening answers: its name, and how many entries there are or at which offset the bank is damaged.
 fn answer(alloc: Global, disk: &mut MemoryDisk) -> (&'static str, i64) {
     match open(alloc, disk) {
         Ok((_, entries)) => ("entries", i64::try_from(entries.len()).unwrap_or(-1)),
@@ -72,7 +72,7 @@ fn answer(alloc: Global, disk: &mut MemoryDisk) -> (&'static str, i64) {
     }
 }
 
-// What a file holds, up to 200 bytes.
+/// What a file holds, up to 200 bytes.
 fn bytes_of(alloc: Global, disk: &mut MemoryDisk, file: FileId) -> Result<Vec<u8>, Fail> {
     let mut bytes = vec![in alloc; 9; 200]?;
     let count = disk.read_at(file, 0, bytes.as_mut_slice())?;
@@ -80,7 +80,7 @@ fn bytes_of(alloc: Global, disk: &mut MemoryDisk, file: FileId) -> Result<Vec<u8
     Ok(bytes)
 }
 
-// The bank after its start and its settle.
+/// The bank after its start and its settle.
 fn bank(alloc: Global, disk: &mut MemoryDisk) -> Result<Log, Fail> {
     let mut log = create(alloc, disk, 3)?;
     log.append(disk, &start(alloc)?)?;
@@ -153,7 +153,7 @@ fn a_limit_out_of_range_is_refused(rt: HostRuntime) {
     }
 }
 
-// What opening the bank answers where its file is cut to a length.
+/// What opening the bank answers where its file is cut to a length.
 fn cut_bank(alloc: Global, length: u64) -> Result<(&'static str, i64), Fail> {
     let mut disk = MemoryDisk::new(alloc);
     disk.write_at(FileId::BankA, 0, &BANK)?;
@@ -178,7 +178,7 @@ fn a_bank_is_cut_at_each_length(rt: HostRuntime) -> Result<(), Fail> {
     Ok(())
 }
 
-// What opening the bank answers where a byte of it is 255.
+/// What opening the bank answers where a byte of it is 255.
 fn changed_bank(alloc: Global, offset: u64) -> Result<(&'static str, i64), Fail> {
     let mut disk = MemoryDisk::new(alloc);
     disk.write_at(FileId::BankA, 0, &BANK)?;
@@ -251,7 +251,7 @@ fn each_byte_of_a_settle_is_changed(rt: HostRuntime) -> Result<(), Fail> {
     Ok(())
 }
 
-// What is found after a crash by a choice, where the disk stops after so many changes.
+/// What is found after a crash by a choice, where the disk stops after so many changes.
 fn found_after(alloc: Global, stop: u64, choice: u8) -> Result<(&'static str, i64), Fail> {
     let mut disk = MemoryDisk::new(alloc);
     disk.stop_after(stop);
@@ -312,8 +312,8 @@ fn a_log_is_broken_after_a_fault(rt: HostRuntime) -> Result<(), Fail> {
     Ok(())
 }
 
-// The log behind one entry more, where one request for memory is refused in the whole run. Where the log finds none, the
-// disk is as it was; where the disk finds none, that is a fault of it, and the log is opened again.
+/// The log behind one entry more, where one request for memory is refused in the whole run. Where the log finds none, the
+/// disk is as it was; where the disk finds none, that is a fault of it, and the log is opened again.
 fn append_again(
     rt: &impl Abort,
     alloc: Global,

@@ -30,7 +30,7 @@ fn make(disk: &mut MemoryDisk, step: Step<'_>) -> Result<(), Fault> {
     }
 }
 
-// The files that are there. Want of memory for the list is no fault, and the disk can be asked again.
+/// The files that are there. Want of memory for the list is no fault, and the disk can be asked again.
 fn listed(rt: &impl Abort, disk: &mut MemoryDisk) -> Result<Vec<FileId>, Fail> {
     match disk.list() {
         Ok(files) => Ok(files),
@@ -41,7 +41,7 @@ fn listed(rt: &impl Abort, disk: &mut MemoryDisk) -> Result<Vec<FileId>, Fail> {
     }
 }
 
-// The disk that a crash leaves, at the second try where there is no memory for it at the first.
+/// The disk that a crash leaves, at the second try where there is no memory for it at the first.
 fn crashed(rt: &impl Abort, disk: &MemoryDisk, choice: &[u8]) -> Result<MemoryDisk, Fail> {
     match disk.crash(choice) {
         Ok(left) => Ok(left),
@@ -52,7 +52,7 @@ fn crashed(rt: &impl Abort, disk: &MemoryDisk, choice: &[u8]) -> Result<MemoryDi
     }
 }
 
-// What a file reads as has these bytes, or it is absent.
+/// What a file reads as has these bytes, or it is absent.
 fn reads(
     rt: &impl Abort,
     disk: &mut MemoryDisk,
@@ -81,7 +81,7 @@ fn a_crash_leaves_what_the_choice_says(rt: HostRuntime) -> Result<(), Fail> {
     reads(&rt, &mut disk.crash(&[])?, FILE, Some(&[1, 2, 3]))
 }
 
-// A contract cannot tell a fault from want of memory, so that these calls succeed is asked here.
+/// A contract cannot tell a fault from want of memory, so that these calls succeed is asked here.
 #[test]
 fn calls_on_an_absent_file_succeed(rt: HostRuntime) -> Result<(), Fail> {
     let mut disk = MemoryDisk::new(rt.alloc());
@@ -170,7 +170,7 @@ const SCRIPT: [(Step<'_>, Left<'_>, Left<'_>); 7] = [
     ),
 ];
 
-// The disk reads as a crash by 1 leaves it, and crashes leave these banks.
+/// The disk reads as a crash by 1 leaves it, and crashes leave these banks.
 fn leaves(rt: &impl Abort, disk: &mut MemoryDisk, a: Left<'_>, b: Left<'_>) -> Result<(), Fail> {
     reads(rt, disk, FileId::BankA, a[1])?;
     reads(rt, disk, FileId::BankB, b[1])?;
@@ -182,8 +182,8 @@ fn leaves(rt: &impl Abort, disk: &mut MemoryDisk, a: Left<'_>, b: Left<'_>) -> R
     Ok(())
 }
 
-// Want of memory in a call is a fault, and nothing has changed then. A second try succeeds here:
-// bench/refused_test_memory.py runs this test for each of its requests for memory, which it refuses.
+/// Want of memory in a call is a fault, and nothing has changed then. A second try succeeds here:
+/// bench/refused_test_memory.py runs this test for each of its requests for memory, which it refuses.
 #[test]
 fn refused_memory_changes_nothing(rt: HostRuntime) -> Result<(), Fail> {
     let mut disk = MemoryDisk::new(rt.alloc());

@@ -13,7 +13,7 @@ const SEGMENT: FileId = FileId::Segment {
     base: 131_072,
 };
 
-// The path of an empty folder for this test.
+/// The path of an empty folder for this test.
 fn scratch(rt: HostRuntime, test: &str) -> Result<String, Fail> {
     let path = format!(in rt.alloc(); "{}/recorder-{test}", env::temp_dir(&rt)?.display())?;
     if fs::exists(&rt, path.as_str())? {

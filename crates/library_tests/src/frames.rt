@@ -24,7 +24,7 @@ const PUBLICATION: Publication = Publication {
     stream_id: 1_001,
 };
 
-// The frame in front of a vector, of the vectors' session and stream.
+/// The frame in front of a vector, of the vectors' session and stream.
 fn check_read(
     rt: &impl Abort,
     bytes: &[u8],
@@ -43,7 +43,7 @@ fn check_read(
     Ok(())
 }
 
-// A vector is what its frame is written as, and nothing behind it is written.
+/// A vector is what its frame is written as, and nothing behind it is written.
 fn check_written(rt: &impl Abort, alloc: Global, bytes: &[u8]) -> Result<(), Refusal> {
     let (found, _) = decode_front(bytes)?;
     let frame = found.to_frame(alloc)?;
@@ -81,7 +81,7 @@ fn vectors_are_read_and_written(rt: HostRuntime) -> Result<(), Fail> {
     Ok(())
 }
 
-// The bytes with others from an offset on.
+/// The bytes with others from an offset on.
 fn changed(alloc: Global, bytes: &[u8], offset: usize, new: &[u8]) -> Result<Vec<u8>, AllocError> {
     let mut out = bytes.to_vec(alloc)?;
     for (byte, value) in out.iter_mut().skip(offset).zip(new) {
@@ -113,7 +113,7 @@ fn bad_frame_headers_are_refused(rt: HostRuntime) -> Result<(), Fail> {
     Ok(())
 }
 
-// Some bytes, 27 zeros that fill a message of five bytes up, and others behind them.
+/// Some bytes, 27 zeros that fill a message of five bytes up, and others behind them.
 fn datagram(alloc: Global, first: &[u8], second: &[u8]) -> Result<Vec<u8>, AllocError> {
     let mut bytes = first.to_vec(alloc)?;
     bytes.extend_from_slice(&[0; 27])?;
@@ -239,7 +239,7 @@ fn items_keep_their_order(rt: HostRuntime) -> Result<(), Fail> {
     Ok(())
 }
 
-// Each of these asks again where its first request for memory was refused.
+/// Each of these asks again where its first request for memory was refused.
 fn frame_of(alloc: Global, bytes: &[u8]) -> Result<Frame, Refusal> {
     let (lent, _) = decode_front(bytes)?;
     match lent.to_frame(alloc) {
@@ -271,8 +271,8 @@ fn item_count(alloc: Global) -> Result<usize, AllocError> {
     Ok(items.len())
 }
 
-// A refused request for memory is told as NoMemory, and the call may be made again: bench/refused_test_memory.py runs
-// this test for each of its requests for memory, which it refuses.
+/// A refused request for memory is told as NoMemory, and the call may be made again: bench/refused_test_memory.py runs
+/// this test for each of its requests for memory, which it refuses.
 #[test]
 fn refused_memory_of_frames(rt: HostRuntime) -> Result<(), Fail> {
     let alloc = rt.alloc();

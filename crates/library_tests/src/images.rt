@@ -9,7 +9,7 @@ use std::alloc::{AllocError, Global};
 use std::process::Abort;
 use std::test::Fail;
 
-// A message of the vectors' session and stream.
+/// A message of the vectors' session and stream.
 fn message(alloc: Global, term_id: i32, offset: i32, body: &[u8]) -> Result<Frame, AllocError> {
     Ok(Frame {
         kind: FrameKind::Message,
@@ -24,14 +24,14 @@ fn message(alloc: Global, term_id: i32, offset: i32, body: &[u8]) -> Result<Fram
     })
 }
 
-// A datagram of one frame.
+/// A datagram of one frame.
 fn datagram(alloc: Global, frame: &Frame) -> Result<Vec<u8>, AllocError> {
     let mut bytes = frame.header().to_vec(alloc)?;
     bytes.extend_from_slice(frame.payload.as_slice())?;
     Ok(bytes)
 }
 
-// The datagrams of the frames that a request asks for.
+/// The datagrams of the frames that a request asks for.
 fn repaired(alloc: Global, frames: &[Frame], nak: &Nak) -> Result<Items<Items<u8>>, Fail> {
     if !are_encodable(frames) {
         return Err("a frame has no encoding".into());
@@ -39,7 +39,7 @@ fn repaired(alloc: Global, frames: &[Frame], nak: &Nak) -> Result<Items<Items<u8
     Ok(repair(alloc, frames, nak)?)
 }
 
-// What a receiver sees of an image: the rebuild position, the high-water mark and the request for the gap.
+/// What a receiver sees of an image: the rebuild position, the high-water mark and the request for the gap.
 fn stands(image: &Image, rebuilt: i64, high: i64, gap: Option<[u8; 28]>) -> bool {
     image.rebuilt() == rebuilt && image.high() == high && image.gap().map(|nak| nak.encode()) == gap
 }
@@ -86,7 +86,7 @@ fn a_request_is_answered_by_its_frames(rt: HostRuntime) -> Result<(), Fail> {
     Ok(())
 }
 
-// A datagram of three frames, from offset 0 on.
+/// A datagram of three frames, from offset 0 on.
 fn three_frames(alloc: Global) -> Result<Vec<u8>, AllocError> {
     let mut bytes = Vec::new(alloc);
     for frame in [HELLO_AT_0, HELLO_AT_64, HELLO_AT_128] {
@@ -96,8 +96,8 @@ fn three_frames(alloc: Global) -> Result<Vec<u8>, AllocError> {
     Ok(bytes)
 }
 
-// Takes a block, once more where memory is refused, and counts its frames to those before. One whose list can't grow is
-// short.
+/// Takes a block, once more where memory is refused, and counts its frames to those before. One whose list can't grow is
+/// short.
 fn frames_taken(rt: &impl Abort, image: &mut Image, before: usize) -> Result<usize, Fail> {
     let first = image.take_block();
     if first.is_err() {
@@ -109,8 +109,8 @@ fn frames_taken(rt: &impl Abort, image: &mut Image, before: usize) -> Result<usi
     Ok(before.wrapping_add(block.frames.len()))
 }
 
-// Where memory is refused once, nothing has changed, and the call may be made again: bench/refused_test_memory.py runs
-// this test for each of its requests for memory, which it refuses.
+/// Where memory is refused once, nothing has changed, and the call may be made again: bench/refused_test_memory.py runs
+/// this test for each of its requests for memory, which it refuses.
 #[test]
 fn refused_memory_changes_nothing(rt: HostRuntime) -> Result<(), Fail> {
     let alloc = rt.alloc();
@@ -135,14 +135,14 @@ const FRAMES: u32 = 100_000;
 
 const TOGETHER: u32 = 250;
 
-// The frame of a number, from the largest term id on: what it carries is the number.
+/// The frame of a number, from the largest term id on: what it carries is the number.
 fn numbered(alloc: Global, number: u32) -> Result<Frame, AllocError> {
     let term_id = i32::MAX.wrapping_add((number / 1_024) as i32);
     let offset = (number % 1_024 * 64) as i32;
     message(alloc, term_id, offset, &number.to_le_bytes())
 }
 
-// A heartbeat before the frame of a number.
+/// A heartbeat before the frame of a number.
 fn heartbeat(alloc: Global, number: u32) -> Result<Frame, AllocError> {
     Ok(Frame {
         kind: FrameKind::Heartbeat,
@@ -152,7 +152,7 @@ fn heartbeat(alloc: Global, number: u32) -> Result<Frame, AllocError> {
     })
 }
 
-// The frames of some numbers, from the first on.
+/// The frames of some numbers, from the first on.
 fn frames_from(alloc: Global, first: u32) -> Result<Vec<Frame>, AllocError> {
     let mut frames = Vec::new(alloc);
     for i in 0..TOGETHER {
@@ -161,7 +161,7 @@ fn frames_from(alloc: Global, first: u32) -> Result<Vec<Frame>, AllocError> {
     Ok(frames)
 }
 
-// Sends the frames in an order that a number gives. One in eight is lost, and one in eight comes twice.
+/// Sends the frames in an order that a number gives. One in eight is lost, and one in eight comes twice.
 fn send(alloc: Global, image: &mut Image, frames: &[Frame], mut seed: u32) -> Result<u32, Fail> {
     for i in 0..TOGETHER {
         let index = (i * 77 + seed % TOGETHER) % TOGETHER;
@@ -175,7 +175,7 @@ fn send(alloc: Global, image: &mut Image, frames: &[Frame], mut seed: u32) -> Re
     Ok(seed)
 }
 
-// How often a frame comes.
+/// How often a frame comes.
 fn times(seed: u32) -> u32 {
     match seed >> 29 {
         0 => 0,
@@ -184,7 +184,7 @@ fn times(seed: u32) -> u32 {
     }
 }
 
-// Fills the gap that a request names.
+/// Fills the gap that a request names.
 fn fill(alloc: Global, image: &mut Image, frames: &[Frame], nak: &Nak) -> Result<(), Fail> {
     for bytes in repaired(alloc, frames, nak)?.as_slice() {
         image.insert(bytes.as_slice())?;
@@ -192,7 +192,7 @@ fn fill(alloc: Global, image: &mut Image, frames: &[Frame], nak: &Nak) -> Result
     Ok(())
 }
 
-// Fills gap after gap, until there is none.
+/// Fills gap after gap, until there is none.
 fn fill_all(alloc: Global, image: &mut Image, frames: &[Frame]) -> Result<(), Fail> {
     for _ in 0..=TOGETHER {
         let Some(nak) = image.gap() else {
@@ -203,7 +203,7 @@ fn fill_all(alloc: Global, image: &mut Image, frames: &[Frame]) -> Result<(), Fa
     Err("a gap stays".into())
 }
 
-// Takes all blocks, whose frames begin with that of a number, and answers the number behind the last one.
+/// Takes all blocks, whose frames begin with that of a number, and answers the number behind the last one.
 fn take_all(rt: &impl Abort, image: &mut Image, mut number: u32) -> Result<u32, Fail> {
     for _ in 0..=TOGETHER {
         let Some(block) = image.take_block()? else {

@@ -16,7 +16,7 @@ fn frame(alloc: Global, vector: &[u8]) -> Result<Frame, Fail> {
     Ok(decode_front(vector)?.0.to_frame(alloc)?)
 }
 
-// A frame is taken at a term offset.
+/// A frame is taken at a term offset.
 fn takes(merge: &mut Merge, term_offset: i32) -> bool {
     merge
         .take()
@@ -37,7 +37,7 @@ fn merge_into_the_live_stream(rt: HostRuntime) -> Result<(), Fail> {
     Ok(())
 }
 
-// A message of 64 bytes with no payload at hand, of term 42, offset 64.
+/// A message of 64 bytes with no payload at hand, of term 42, offset 64.
 fn empty_frame(alloc: Global) -> Frame {
     Frame {
         kind: FrameKind::Message,
@@ -52,8 +52,8 @@ fn empty_frame(alloc: Global) -> Frame {
     }
 }
 
-// Where memory is refused once, nothing has changed, and the frame may be offered again: bench/refused_test_memory.py
-// runs this test for each of its requests for memory, which it refuses.
+/// Where memory is refused once, nothing has changed, and the frame may be offered again: bench/refused_test_memory.py
+/// runs this test for each of its requests for memory, which it refuses.
 #[test]
 fn refused_memory_changes_nothing(rt: HostRuntime) -> Result<(), Fail> {
     let alloc = rt.alloc();

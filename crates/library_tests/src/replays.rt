@@ -9,7 +9,7 @@ use std::alloc::Global;
 use std::process::Abort;
 use std::test::Fail;
 
-// A poll of a replay of the recording.
+/// A poll of a replay of the recording.
 #[tactic(auto, using(crate::proofs::SegmentFacts::layout_of_the_tests, crate::proofs::SegmentFacts::geometry_of_the_tests))]
 fn polled(
     rt: &impl Abort,
@@ -28,7 +28,7 @@ fn polled(
     replay.poll(alloc, &mut store, recorded, most)
 }
 
-// Three frames of 64 bytes, stored.
+/// Three frames of 64 bytes, stored.
 fn three_hellos(rt: &impl Abort, alloc: Global) -> Result<MemoryDisk, Refusal> {
     let mut disk = MemoryDisk::new(alloc);
     for bytes in [HELLO_AT_0, HELLO_AT_64, HELLO_AT_128] {
@@ -37,7 +37,7 @@ fn three_hellos(rt: &impl Abort, alloc: Global) -> Result<MemoryDisk, Refusal> {
     Ok(disk)
 }
 
-// The same, asked for again where a request for memory was refused.
+/// The same, asked for again where a request for memory was refused.
 fn stored(rt: &impl Abort, alloc: Global) -> Result<MemoryDisk, Refusal> {
     match three_hellos(rt, alloc) {
         Err(_) => three_hellos(rt, alloc),
@@ -83,7 +83,7 @@ fn damaged_frame(rt: HostRuntime) -> Result<(), Fail> {
     Ok(())
 }
 
-// Where memory is refused once, the replay stays where it is, and the poll may be made again.
+/// Where memory is refused once, the replay stays where it is, and the poll may be made again.
 #[test]
 fn refused_memory_leaves_a_replay(rt: HostRuntime) -> Result<(), Fail> {
     let mut disk = stored(&rt, rt.alloc())?;

@@ -44,7 +44,7 @@ const PUBLICATION: Publication = Publication {
     stream_id: 1_001,
 };
 
-// Writes a block of the recording.
+/// Writes a block of the recording.
 #[tactic(auto, using(crate::proofs::SegmentFacts::layout_of_the_tests))]
 pub(crate) fn store(
     rt: &impl Abort,
@@ -58,13 +58,13 @@ pub(crate) fn store(
     write_block(disk, &LAYOUT, &block)
 }
 
-// Syncs the recording's first segment.
+/// Syncs the recording's first segment.
 #[tactic(auto, using(crate::proofs::SegmentFacts::layout_of_the_tests))]
 fn synced(disk: &mut MemoryDisk) -> Result<(), Refusal> {
     sync_segment(disk, &LAYOUT, 0)
 }
 
-// The frame at a position.
+/// The frame at a position.
 #[tactic(auto, using(crate::proofs::SegmentFacts::layout_of_the_tests, crate::proofs::SegmentFacts::geometry_of_the_tests))]
 fn frame_at(
     alloc: Global,
@@ -75,13 +75,13 @@ fn frame_at(
     read_frame(alloc, disk, &LAYOUT, &GEOMETRY, i64::from(position), limit)
 }
 
-// Whether a position is a boundary.
+/// Whether a position is a boundary.
 #[tactic(auto, using(crate::proofs::SegmentFacts::layout_of_the_tests, crate::proofs::SegmentFacts::geometry_of_the_tests))]
 fn told(disk: &mut MemoryDisk, recorded: i64, position: i64) -> Result<bool, Refusal> {
     is_boundary(disk, &LAYOUT, &GEOMETRY, recorded, position)
 }
 
-// The bytes of the first segment file from an offset on.
+/// The bytes of the first segment file from an offset on.
 fn bytes_at(
     alloc: Global,
     disk: &mut MemoryDisk,
@@ -94,7 +94,7 @@ fn bytes_at(
     Ok(bytes)
 }
 
-// Some bytes, and zeros behind them.
+/// Some bytes, and zeros behind them.
 fn filled_up(alloc: Global, bytes: &[u8], size: usize) -> Result<Vec<u8>, AllocError> {
     let mut whole = bytes.to_vec(alloc)?;
     whole.resize(size, 0)?;
@@ -130,7 +130,7 @@ fn a_frame_costs_one_call(rt: HostRuntime) -> Result<(), Fail> {
     Ok(())
 }
 
-// What is found after a crash by a choice, where the second of two blocks and its sync stop after so many changes.
+/// What is found after a crash by a choice, where the second of two blocks and its sync stop after so many changes.
 fn torn(rt: &impl Abort, alloc: Global, stop: u64, choice: u8) -> Result<(), Fail> {
     let mut disk = MemoryDisk::new(alloc);
     store(rt, alloc, &mut disk, HELLO_AT_0)?;
@@ -182,7 +182,7 @@ const IN_THE_FIRST: &[u8] =
 const IN_THE_SECOND: &[u8] =
     b"\x25\0\0\0\0\xc0\x01\0\0\0\0\0\x07\0\0\0\xe9\x03\0\0\x2d\0\0\0\0\0\0\0\0\0\0\0hello";
 
-// Writes a block of the recording that starts mid-stream.
+/// Writes a block of the recording that starts mid-stream.
 #[tactic(auto, using(crate::proofs::SegmentFacts::layout_from_mid_stream))]
 fn store_mid_stream(
     rt: &impl Abort,
@@ -196,7 +196,7 @@ fn store_mid_stream(
     write_block(disk, &MID_STREAM, &block)
 }
 
-// Whether these bytes stand in a file of the recording that starts mid-stream, at an offset.
+/// Whether these bytes stand in a file of the recording that starts mid-stream, at an offset.
 fn holds(
     alloc: Global,
     disk: &mut MemoryDisk,

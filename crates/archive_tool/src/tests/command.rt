@@ -14,7 +14,7 @@ use std::io;
 use std::process::Abort;
 use std::test::*;
 
-// What the words between blanks ask for.
+/// What the words between blanks ask for.
 fn asked(alloc: Global, line: &str) -> Result<Result<ToolCommand, Error>, Fail> {
     let mut words = Vec::new(alloc);
     for word in line.split(' ') {
@@ -86,7 +86,7 @@ impl Eprint for Streams<'_> {
     }
 }
 
-// The error is of that kind, begins so, is told once, on that stream, and ends the program so; and where it cannot be told.
+/// The error is of that kind, begins so, is told once, on that stream, and ends the program so; and where it cannot be told.
 fn check_told(
     rt: &impl Abort,
     alloc: Global,

@@ -83,8 +83,8 @@ fn a_failing_writer_ends_the_script(rt: HostRuntime) {
     }
 }
 
-// A reply is handed on before the next read, also where half of the next line is at hand, and at the end; what could not
-// be handed on is Write, and not the fault of the reader that would have come next.
+/// A reply is handed on before the next read, also where half of the next line is at hand, and at the end; what could not
+/// be handed on is Write, and not the fault of the reader that would have come next.
 #[test]
 fn a_reply_is_handed_on_before_the_next_read(rt: HostRuntime) {
     for bytes in [b"list 0 0\n".as_slice(), b"list 0 0\nlist", b"quit\n"] {

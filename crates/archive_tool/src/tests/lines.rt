@@ -6,7 +6,7 @@ use std::alloc::Global;
 use std::io::{BufReader, Error, ErrorKind, Read};
 use std::test::*;
 
-// Each line's bytes as text, or `-` where it is too long, each followed by `|`.
+/// Each line's bytes as text, or `-` where it is too long, each followed by `|`.
 fn lines_read(alloc: Global, input: &[u8], room: usize) -> Result<String, Fail> {
     let mut reader = BufReader::with_capacity(alloc, room, input)?;
     let (mut line, mut reads, mut out) = (LineBuffer::new(alloc), 0, String::new(alloc));
@@ -39,7 +39,7 @@ fn lines_of_inputs(rt: HostRuntime) -> Result<(), Fail> {
     Ok(())
 }
 
-// Lines of 262,144 and of 262,145 bytes, and a short one.
+/// Lines of 262,144 and of 262,145 bytes, and a short one.
 #[test]
 fn long_lines(rt: HostRuntime) -> Result<(), Fail> {
     let alloc = rt.alloc();

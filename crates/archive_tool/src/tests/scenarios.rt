@@ -44,7 +44,7 @@ const VECTORS: [(&str, &str); 9] = [
     ),
 ];
 
-// Adds a word of a script or of its replies, a vector in hex.
+/// Adds a word of a script or of its replies, a vector in hex.
 fn add_word(text: &mut String, word: &str) -> Result<(), Fail> {
     for (name, hex) in VECTORS {
         if name == word {
@@ -54,7 +54,7 @@ fn add_word(text: &mut String, word: &str) -> Result<(), Fail> {
     Ok(text.push_str(word)?)
 }
 
-// The text of these lines, which stand apart by `; ` here.
+/// The text of these lines, which stand apart by `; ` here.
 fn text_of(alloc: Global, lines: &str) -> Result<String, Fail> {
     let mut text = String::new(alloc);
     for line in lines.split("; ") {
