@@ -16,6 +16,7 @@ pub mod OrderlyLemmas
 pub mod OrderlyCallLemmas
 pub mod OrderlyAskLemmas
 pub mod FailingLemmas
+pub mod FaultLemmas
 pub mod EndedLemmas
 pub mod WrittenLemmas
 pub mod MakeLemmas

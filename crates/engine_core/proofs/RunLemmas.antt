@@ -1,6 +1,7 @@
 -- Calls one after another.
-use Rattle.std.proofs.Common.{◌≡◌, ◌∙◌, ◌++◌, ◌+◌, ◌<◌, ◌≤◌, inl, inr, sym, ap, subst, refl, ℕ, List, [], ◌∷◌, length, take, get_or, add-one, IsTrue, arith}
+use Rattle.std.proofs.Common.{◌≡◌, ◌∙◌, ◌++◌, ◌+◌, ◌<◌, ◌≤◌, inl, inr, sym, ap, subst, refl, ℕ, List, [], ◌∷◌, length, take, get_or, add-one, cond, IsTrue, arith}
 use Rattle.std.proofs.lemmas.List.{length-append, length-take-le, take_all}
+use Rattle.std.proofs.lemmas.List.Sums.{sum_by-append}
 use Rattle.std.proofs.Math.Seq.{take-suc}
 use Rattle.std.specs.Prelude.{Result, Ok, Err}
 use Rattle.frame_core.specs.declared.refusal.Refusal.{Refusal}
@@ -13,7 +14,7 @@ use Rattle.catalogue_log.specs.LogState.{LogState}
 use Rattle.control_core.specs.declared.event.Event.{Event}
 use Rattle.control_core.specs.Desk.{DeskState}
 use Rattle.control_core.specs.Exact.{Archive, CallEnds}
-use Rattle.engine_core.specs.Calls.{Call, Ended, EndsAs, Ran, Run, Stood, calls_of, is_cut}
+use Rattle.engine_core.specs.Calls.{Call, Ended, EndsAs, HasFailedOften, Ran, Run, Stood, calls_of, faults_in, is_cut, is_fault}
 use Rattle.engine_core.specs.Consistent.{IsConsistent, MayStand, MayStandIn}
 use Rattle.engine_core.specs.Recovery.{RecoversTo}
 use Rattle.engine_core.proofs.AskLemmas.{ended_as}
@@ -107,23 +108,40 @@ calls_push events outcomes i event outcome within is answered =
     let same : length outcomes ≡ length (take i events) = answered ∙ sym (length-take-le i events (omega (arith, within))) in
     ap (λ (es : List Event). calls_of es (outcomes ++ outcome ∷ [])) more ∙ calls_both (take i events) outcomes event outcome same
 
+-- a fault more, where one is answered
+fault_more : (old mid new : Life) (outcomes : List (Result Reply Refusal)) (outcome : Result Reply Refusal) → HasFailedOften (faults_in outcomes) old mid → mid.faults ≤ new.faults → (outcome ≡ Err DeviceFault → HasFailed mid new)
+    → HasFailedOften (faults_in (outcomes ++ outcome ∷ [])) old new
+fault_more old mid new outcomes outcome so_far faults cause = subst (λ (n : ℕ). HasFailedOften n old new) (sym counted) (by outcome cause)
+  where
+    one : Result Reply Refusal → ℕ
+    one o = cond (is_fault o) 1 0
+
+    counted : faults_in (outcomes ++ outcome ∷ []) ≡ faults_in outcomes + one outcome
+    counted = sum_by-append one outcomes (outcome ∷ []) ∙ omega arith
+
+    by : (o : Result Reply Refusal) → (o ≡ Err DeviceFault → HasFailed mid new) → HasFailedOften (faults_in outcomes + one o) old new
+    by (Err DeviceFault) failed = let more = failed refl in omega (arith, so_far, more)
+    by o failed = omega (arith, so_far, faults)
+
 -- the first so many events are answered, whatever the archive is
 pub record HasRun (old new : Life) (old_log log : LogState) (old_desk desk : DeskState) (events : List Event) (i : ℕ) (outcomes : List (Result Reply Refusal)) : Type 0 where
   pub obeyed : IsTrue new.obeys → IsTrue old.obeys
   pub faults : old.faults ≤ new.faults
+  pub cause : HasFailedOften (faults_in outcomes) old new
   pub answered : length outcomes ≡ i
   pub ran : (a : Archive) → IsConsistent old old_log old_desk a → IsTrue new.obeys → Ran old new log desk a (calls_of (take i events) outcomes)
 
 pub none_run : (life : Life) (log : LogState) (desk : DeskState) (events : List Event) → HasRun life life log log desk desk events 0 []
-none_run life log desk events = record { obeyed = λ obeys. obeys; faults = omega arith; answered = refl; ran = λ a was obeys. ran_none life log desk a was }
+none_run life log desk events = record { obeyed = λ obeys. obeys; faults = omega arith; cause = omega arith; answered = refl; ran = λ a was obeys. ran_none life log desk a was }
 
 pub next_run : (old mid new : Life) (old_log log new_log : LogState) (old_desk desk new_desk : DeskState) (events : List Event) (i : ℕ) (event : Event) (outcomes : List (Result Reply Refusal)) (outcome : Result Reply Refusal) → i < length events
     → event ≡ get_or events i event → HasRun old mid old_log log old_desk desk events i outcomes → (IsTrue new.obeys → IsTrue mid.obeys) → mid.faults ≤ new.faults
-    → ((b : Archive) → IsConsistent mid log desk b → (IsTrue (is_cut event) → IsTrue new.obeys) → Ended mid new new_log new_desk b (EndsAs mid new event b outcome))
+    → (outcome ≡ Err DeviceFault → HasFailed mid new) → ((b : Archive) → IsConsistent mid log desk b → (IsTrue (is_cut event) → IsTrue new.obeys) → Ended mid new new_log new_desk b (EndsAs mid new event b outcome))
     → HasRun old new old_log new_log old_desk new_desk events (i + 1) (outcomes ++ outcome ∷ [])
-next_run old mid new old_log log new_log old_desk desk new_desk events i event outcomes outcome within is so_far obeyed faults step = record {
+next_run old mid new old_log log new_log old_desk desk new_desk events i event outcomes outcome within is so_far obeyed faults cause step = record {
   obeyed = λ obeys. so_far.obeyed (obeyed obeys);
   faults = omega (arith, so_far.faults, faults);
+  cause = fault_more old mid new outcomes outcome so_far.cause faults cause;
   answered = length-append outcomes (outcome ∷ []) ∙ ap (λ n. n + 1) so_far.answered;
   ran = λ a was obeys.
       subst (λ (calls : List Call). Ran old new new_log new_desk a calls) (sym (calls_push events outcomes i event outcome within is so_far.answered))

@@ -1,5 +1,5 @@
 -- A call of a crash-consistent archive, and calls one after another: docs/STORAGE.md, "Recovery"; docs/CONTROL.md, "Requests".
-use Rattle.std.specs.Prelude.{◌≡◌, ◌++◌, IsTrue, Bool, true, false, List, [], ◌∷◌, Result, Ok, Err}
+use Rattle.std.specs.Prelude.{◌≡◌, ◌++◌, ◌+◌, ◌-◌, ◌^◌, ◌≤◌, ℕ, min, IsTrue, Bool, true, false, List, [], ◌∷◌, count_by, Result, Ok, Err}
 use Rattle.disk_core.specs.Life.{HasFailed, Life, LeavesOnly}
 use Rattle.frame_core.specs.declared.refusal.Refusal.{Refusal}
 use Rattle.frame_core.specs.declared.refusal.Refusal.TheVariants.{DeviceFault, NoMemory}
@@ -88,3 +88,18 @@ pub record Ran (old new : Life) (log : LogState) (desk : DeskState) (a : Archive
   pub run : Run a calls after
   pub consistent : IsConsistent new log desk after
   pub any_moment : LeavesOnly old new (RecoversTo (Stood a calls))
+
+-- ---- faults
+
+-- a call was answered by a device fault
+abbrev pub is_fault : Result Reply Refusal → Bool
+is_fault (Err DeviceFault) = true
+is_fault _ = false
+
+-- how many calls were
+abbrev pub faults_in : List (Result Reply Refusal) → ℕ
+faults_in outcomes = count_by is_fault outcomes
+
+-- the count of faults rose by so many at least, unless it came to its last value
+abbrev pub HasFailedOften : ℕ → Life → Life → Type 0
+HasFailedOften n old new = min (old.faults + n) (2 ^ 64 - 1) ≤ new.faults

@@ -1,7 +1,8 @@
 //! What is asked of an archive's frames and files as a whole. docs/STORAGE.md, "Damaged frames" and "Stale files".
 
-ghost use Rattle.std.specs.Prelude.{◌≡◌, ◌≤◌, ◌∷◌, map, Bool, IfErr, IfOk, IsTrue, Ok};
-ghost use Rattle.frame_core.specs.declared.refusal.Refusal.TheVariants.{NoMemory};
+ghost use Rattle.std.specs.Prelude.{◌≡◌, ◌≤◌, ◌∷◌, map, Bool, IfErr, IfOk, IsErrOf, IsTrue, Ok};
+ghost use Rattle.frame_core.specs.declared.refusal.Refusal.TheVariants.{DeviceFault, NoMemory};
+ghost use Rattle.disk_core.specs.Life.{HasFailed};
 ghost use Rattle.segment_store.specs.declared.keep.Keep.TheVariants.{Below};
 ghost use Rattle.segment_store.specs.Stale.{HasSwept};
 ghost use Rattle.archive_model.specs.declared.reply.Reply.TheVariants.{Swept};
@@ -31,6 +32,8 @@ impl<D: Disk> Parts<D> {
         ensures orderly { IsOrderly self.new.desk.state }
         ensures obeyed { IsTrue (D.life self.new.storage.disk).obeys → IsTrue (D.life self.old.storage.disk).obeys }
         ensures faults { (D.life self.old.storage.disk).faults ≤ (D.life self.new.storage.disk).faults }
+        ensures cause { IsErrOf result DeviceFault →
+            HasFailed (D.life self.old.storage.disk) (D.life self.new.storage.disk) }
         ensures verified { (a : Archive) →
             IsConsistent (D.life self.old.storage.disk) self.old.storage.log self.old.desk.state a →
             Ended (D.life self.old.storage.disk) (D.life self.new.storage.disk) self.new.storage.log self.new.desk.state a
@@ -54,6 +57,8 @@ impl<D: Disk> Parts<D> {
         ensures orderly { IsOrderly self.new.desk.state }
         ensures obeyed { IsTrue (D.life self.new.storage.disk).obeys → IsTrue (D.life self.old.storage.disk).obeys }
         ensures faults { (D.life self.old.storage.disk).faults ≤ (D.life self.new.storage.disk).faults }
+        ensures cause { IsErrOf result DeviceFault →
+            HasFailed (D.life self.old.storage.disk) (D.life self.new.storage.disk) }
         ensures swept { (a : Archive) →
             IsConsistent (D.life self.old.storage.disk) self.old.storage.log self.old.desk.state a →
             Ended (D.life self.old.storage.disk) (D.life self.new.storage.disk) self.new.storage.log self.new.desk.state a

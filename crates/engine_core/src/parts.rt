@@ -53,6 +53,8 @@ impl<D: Disk> Parts<D> {
         ensures orderly { IsOrderly self.new.desk.state }
         ensures obeyed { IsTrue (D.life self.new.storage.disk).obeys → IsTrue (D.life self.old.storage.disk).obeys }
         ensures faults { (D.life self.old.storage.disk).faults ≤ (D.life self.new.storage.disk).faults }
+        ensures cause { IsErrOf result DeviceFault →
+            HasFailed (D.life self.old.storage.disk) (D.life self.new.storage.disk) }
         ensures asked { (a : Archive) →
             IsConsistent (D.life self.old.storage.disk) self.old.storage.log self.old.desk.state a →
             (IsTrue (is_cut (events.Ask request.now)) → IsTrue (D.life self.new.storage.disk).obeys) →
@@ -85,6 +87,9 @@ impl<D: Disk> Parts<D> {
         ensures orderly { IsOrderly self.new.desk.state }
         ensures obeyed { IsTrue (D.life self.new.storage.disk).obeys → IsTrue (D.life self.old.storage.disk).obeys }
         ensures faults { (D.life self.old.storage.disk).faults ≤ (D.life self.new.storage.disk).faults }
+        // A fault has its cause, unless it is what was decided.
+        ensures cause { IsErrOf result DeviceFault → IsErrOf decided DeviceFault
+            ⊎ HasFailed (D.life self.old.storage.disk) (D.life self.new.storage.disk) }
         ensures made { (a : Archive) (r : Recording) →
             IsConsistent (D.life self.old.storage.disk) self.old.storage.log self.old.desk.state a →
             recording_at a recording.now ≡ Some r → is_end position (registration_of r) ≡ false →
@@ -113,6 +118,8 @@ impl<D: Disk> Parts<D> {
         ensures orderly { IsOrderly self.new.desk.state }
         ensures obeyed { IsTrue (D.life self.new.storage.disk).obeys → IsTrue (D.life self.old.storage.disk).obeys }
         ensures faults { (D.life self.old.storage.disk).faults ≤ (D.life self.new.storage.disk).faults }
+        ensures cause { IsErrOf result DeviceFault →
+            HasFailed (D.life self.old.storage.disk) (D.life self.new.storage.disk) }
         ensures made { (a : Archive) →
             IsConsistent (D.life self.old.storage.disk) self.old.storage.log self.old.desk.state a →
             IsFalse a.desk.is_broken → Accepts (book_of a) command →

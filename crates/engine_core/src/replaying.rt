@@ -1,6 +1,7 @@
 //! Calls of replays. docs/CONTROL.md, "Replays".
 
-ghost use Rattle.std.specs.Prelude.{◌≡◌, ◌≤◌, IfOk, IsTrue, None, Some, if◌then◌else◌};
+ghost use Rattle.std.specs.Prelude.{◌≡◌, ◌≤◌, IfOk, IsErrOf, IsTrue, None, Some, if◌then◌else◌};
+ghost use Rattle.frame_core.specs.declared.refusal.Refusal.TheVariants.{DeviceFault};
 ghost use Rattle.disk_core.specs.Life.{HasFailed, IsQuiet};
 ghost use Rattle.catalogue_log.specs.LogState.{LogState};
 ghost use Rattle.control_core.specs.declared.event.Event.TheVariants as events;
@@ -37,6 +38,8 @@ impl<D: Disk> Parts<D> {
         ensures orderly { IsOrderly self.new.desk.state }
         ensures obeyed { IsTrue (D.life self.new.storage.disk).obeys → IsTrue (D.life self.old.storage.disk).obeys }
         ensures faults { (D.life self.old.storage.disk).faults ≤ (D.life self.new.storage.disk).faults }
+        ensures cause { IsErrOf result DeviceFault →
+            HasFailed (D.life self.old.storage.disk) (D.life self.new.storage.disk) }
         ensures opened { (a : Archive) →
             IsConsistent (D.life self.old.storage.disk) self.old.storage.log self.old.desk.state a →
             Ended (D.life self.old.storage.disk) (D.life self.new.storage.disk) self.new.storage.log self.new.desk.state a
@@ -63,6 +66,8 @@ impl<D: Disk> Parts<D> {
         ensures orderly { IsOrderly self.new.desk.state }
         ensures obeyed { IsTrue (D.life self.new.storage.disk).obeys → IsTrue (D.life self.old.storage.disk).obeys }
         ensures faults { (D.life self.old.storage.disk).faults ≤ (D.life self.new.storage.disk).faults }
+        ensures cause { IsErrOf result DeviceFault →
+            HasFailed (D.life self.old.storage.disk) (D.life self.new.storage.disk) }
         ensures closed { (a : Archive) →
             IsConsistent (D.life self.old.storage.disk) self.old.storage.log self.old.desk.state a →
             Ended (D.life self.old.storage.disk) (D.life self.new.storage.disk) self.new.storage.log self.new.desk.state a
@@ -83,6 +88,8 @@ impl<D: Disk> Parts<D> {
         ensures orderly { IsOrderly self.new.desk.state }
         ensures obeyed { IsTrue (D.life self.new.storage.disk).obeys → IsTrue (D.life self.old.storage.disk).obeys }
         ensures faults { (D.life self.old.storage.disk).faults ≤ (D.life self.new.storage.disk).faults }
+        ensures cause { IsErrOf result DeviceFault →
+            HasFailed (D.life self.old.storage.disk) (D.life self.new.storage.disk) }
         ensures polled { (a : Archive) →
             IsConsistent (D.life self.old.storage.disk) self.old.storage.log self.old.desk.state a →
             Ended (D.life self.old.storage.disk) (D.life self.new.storage.disk) self.new.storage.log self.new.desk.state a
@@ -121,6 +128,7 @@ fn decided_opening<D: Disk>(
     ensures leads { IfOk result (λ opening.
         opening_in (open_decision desk.now.state recording.now position.now length.now) ≡ Some opening) }
     ensures quiet { IsQuiet (D.life disk.old) (D.life disk.new) }
+    ensures cause { IsErrOf result DeviceFault → HasFailed (D.life disk.old) (D.life disk.new) }
 {
     match decide_open(desk, recording, position, length) {
         OpeningDecision::Decided(decided) => decided,

@@ -1,10 +1,15 @@
 //! Events answered one after another. docs/CONTROL.md, "Requests"; docs/STORAGE.md, "Recovery".
 
-ghost use Rattle.std.specs.Prelude.{◌≡◌, ◌≤◌, IfErr, IfOk, IsTrue, length};
-ghost use Rattle.frame_core.specs.declared.refusal.Refusal.TheVariants.{NoMemory};
+ghost use Rattle.std.specs.Prelude.{◌≡◌, ◌≤◌, Bool, IfErr, IfOk, IsErrOf, IsTrue, Ok, length};
+ghost use Rattle.frame_core.specs.declared.refusal.Refusal.TheVariants.{DeviceFault, NoMemory};
+ghost use Rattle.disk_core.specs.Life.{HasFailed};
+ghost use Rattle.segment_store.specs.Stale.{HasSwept};
+ghost use Rattle.archive_model.specs.declared.reply.Reply.TheVariants.{Swept};
+ghost use Rattle.control_core.specs.declared.event.Event.TheVariants as events;
 ghost use Rattle.control_core.specs.Exact.{Archive};
-ghost use Rattle.engine_core.specs.Calls.{Ended, EndsAs, Ran, calls_of, is_cut};
+ghost use Rattle.engine_core.specs.Calls.{Ended, EndsAs, HasFailedOften, Ran, calls_of, faults_in, is_cut};
 ghost use Rattle.engine_core.specs.Consistent.{IsConsistent};
+ghost use Rattle.engine_core.specs.Moves.{registered_keeps};
 ghost use Rattle.engine_core.specs.Orderly.{IsOrderly};
 
 use crate::Engine;
@@ -25,12 +30,18 @@ impl<D: Disk> Engine<D> {
     pub fn step(&mut self, alloc: Global, event: &Event) -> Result<Reply, Refusal>
         ensures obeyed { IsTrue (D.life self.new.parts.storage.disk).obeys → IsTrue (D.life self.old.parts.storage.disk).obeys }
         ensures faults { (D.life self.old.parts.storage.disk).faults ≤ (D.life self.new.parts.storage.disk).faults }
+        ensures cause { IsErrOf result DeviceFault →
+            HasFailed (D.life self.old.parts.storage.disk) (D.life self.new.parts.storage.disk) }
         ensures stepped { (a : Archive) →
             IsConsistent (D.life self.old.parts.storage.disk) self.old.parts.storage.log self.old.parts.desk.state a →
             (IsTrue (is_cut event.now) → IsTrue (D.life self.new.parts.storage.disk).obeys) →
             Ended (D.life self.old.parts.storage.disk) (D.life self.new.parts.storage.disk) self.new.parts.storage.log
             self.new.parts.desk.state a
             (EndsAs (D.life self.old.parts.storage.disk) (D.life self.new.parts.storage.disk) event.now a result) }
+        // What a sweep answers tells what became of the files.
+        ensures swept { (removed : Bool) → event.now ≡ events.Sweep → result ≡ Ok (Swept removed) →
+            HasSwept (registered_keeps self.old.parts.desk.state.register) (D.life self.old.parts.storage.disk)
+            (D.life self.new.parts.storage.disk) removed }
     {
         self.parts.step(alloc, event)
     }
@@ -46,6 +57,8 @@ impl<D: Disk> Engine<D> {
         ensures obeyed { IsTrue (D.life self.new.parts.storage.disk).obeys → IsTrue (D.life self.old.parts.storage.disk).obeys }
         ensures faults { (D.life self.old.parts.storage.disk).faults ≤ (D.life self.new.parts.storage.disk).faults }
         ensures each { IfOk result (λ outcomes. length outcomes.items ≡ length events.now) }
+        ensures cause { IfOk result (λ outcomes.
+            HasFailedOften (faults_in outcomes.items) (D.life self.old.parts.storage.disk) (D.life self.new.parts.storage.disk)) }
         ensures ran { IfOk result (λ outcomes. (a : Archive) →
             IsConsistent (D.life self.old.parts.storage.disk) self.old.parts.storage.log self.old.parts.desk.state a →
             IsTrue (D.life self.new.parts.storage.disk).obeys →
@@ -69,11 +82,17 @@ impl<D: Disk> Parts<D> {
         ensures orderly { IsOrderly self.new.desk.state }
         ensures obeyed { IsTrue (D.life self.new.storage.disk).obeys → IsTrue (D.life self.old.storage.disk).obeys }
         ensures faults { (D.life self.old.storage.disk).faults ≤ (D.life self.new.storage.disk).faults }
+        ensures cause { IsErrOf result DeviceFault →
+            HasFailed (D.life self.old.storage.disk) (D.life self.new.storage.disk) }
         ensures stepped { (a : Archive) →
             IsConsistent (D.life self.old.storage.disk) self.old.storage.log self.old.desk.state a →
             (IsTrue (is_cut event.now) → IsTrue (D.life self.new.storage.disk).obeys) →
             Ended (D.life self.old.storage.disk) (D.life self.new.storage.disk) self.new.storage.log self.new.desk.state a
             (EndsAs (D.life self.old.storage.disk) (D.life self.new.storage.disk) event.now a result) }
+        // What a sweep answers tells what became of the files.
+        ensures swept { (removed : Bool) → event.now ≡ events.Sweep → result ≡ Ok (Swept removed) →
+            HasSwept (registered_keeps self.old.desk.state.register) (D.life self.old.storage.disk)
+            (D.life self.new.storage.disk) removed }
     {
         match event {
             Event::Ask(request) => self.ask(alloc, request),

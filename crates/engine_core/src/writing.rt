@@ -1,6 +1,7 @@
 //! What recorder sessions write. docs/CONTROL.md, "Recorder sessions"; docs/STORAGE.md, "Segments".
 
-ghost use Rattle.std.specs.Prelude.{◌≡◌, ◌≤◌, IsTrue, MatchOption, Ok};
+ghost use Rattle.std.specs.Prelude.{◌≡◌, ◌≤◌, IsErrOf, IsTrue, MatchOption, Ok};
+ghost use Rattle.frame_core.specs.declared.refusal.Refusal.TheVariants.{DeviceFault};
 ghost use Rattle.disk_core.specs.Life.{HasFailed};
 ghost use Rattle.archive_model.specs.declared.reply.Reply.TheVariants as replies;
 ghost use Rattle.control_core.specs.declared.event.Event.TheVariants as events;
@@ -39,6 +40,8 @@ impl<D: Disk> Parts<D> {
         ensures orderly { IsOrderly self.new.desk.state }
         ensures obeyed { IsTrue (D.life self.new.storage.disk).obeys → IsTrue (D.life self.old.storage.disk).obeys }
         ensures faults { (D.life self.old.storage.disk).faults ≤ (D.life self.new.storage.disk).faults }
+        ensures cause { IsErrOf result DeviceFault →
+            HasFailed (D.life self.old.storage.disk) (D.life self.new.storage.disk) }
         ensures written { (a : Archive) →
             IsConsistent (D.life self.old.storage.disk) self.old.storage.log self.old.desk.state a →
             Ended (D.life self.old.storage.disk) (D.life self.new.storage.disk) self.new.storage.log self.new.desk.state a
@@ -77,6 +80,8 @@ impl<D: Disk> Parts<D> {
         ensures orderly { IsOrderly self.new.desk.state }
         ensures obeyed { IsTrue (D.life self.new.storage.disk).obeys → IsTrue (D.life self.old.storage.disk).obeys }
         ensures faults { (D.life self.old.storage.disk).faults ≤ (D.life self.new.storage.disk).faults }
+        ensures cause { IsErrOf result DeviceFault →
+            HasFailed (D.life self.old.storage.disk) (D.life self.new.storage.disk) }
         ensures settled { (a : Archive) →
             IsConsistent (D.life self.old.storage.disk) self.old.storage.log self.old.desk.state a →
             Ended (D.life self.old.storage.disk) (D.life self.new.storage.disk) self.new.storage.log self.new.desk.state a
@@ -103,6 +108,8 @@ impl<D: Disk> Parts<D> {
         ensures orderly { IsOrderly self.new.desk.state }
         ensures obeyed { IsTrue (D.life self.new.storage.disk).obeys → IsTrue (D.life self.old.storage.disk).obeys }
         ensures faults { (D.life self.old.storage.disk).faults ≤ (D.life self.new.storage.disk).faults }
+        ensures cause { IsErrOf result DeviceFault →
+            HasFailed (D.life self.old.storage.disk) (D.life self.new.storage.disk) }
         ensures settled { (a : Archive) →
             IsConsistent (D.life self.old.storage.disk) self.old.storage.log self.old.desk.state a →
             Ended (D.life self.old.storage.disk) (D.life self.new.storage.disk) self.new.storage.log self.new.desk.state a

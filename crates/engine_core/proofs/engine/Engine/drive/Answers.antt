@@ -27,7 +27,7 @@ loop-event-preserved g c =
           (sym pushed.items)
           (next_run old mid new c.args.self.now.parts.storage.log c.loop-event.self.parts.storage.log c.step-outcome.new.self.parts.storage.log c.args.self.now.parts.desk.state c.loop-event.self.parts.desk.state
           c.step-outcome.new.self.parts.desk.state c.args.events.now c.loop-event.event-index c.event-item.result c.loop-event.outcomes.items c.step-outcome.result c.loop-event-test.true c.event-item.is c.loop-event.invariant.0
-          c.step-outcome.ensures.obeyed c.step-outcome.ensures.faults c.step-outcome.ensures.stepped),
+          c.step-outcome.ensures.obeyed c.step-outcome.ensures.faults c.step-outcome.ensures.cause c.step-outcome.ensures.stepped),
       omega (arith, pushed.len, c.loop-event.invariant.1),
       omega (arith, pushed.capacity, c.loop-event.invariant.2),
     )
@@ -37,6 +37,9 @@ returns-clause-obeyed g c = c.loop-event.invariant.0.obeyed
 
 pub returns-clause-faults : goal.returns-clause-faults
 returns-clause-faults g c = c.loop-event.invariant.0.faults
+
+pub returns-clause-cause : goal.returns-clause-cause
+returns-clause-cause g c = c.loop-event.invariant.0.cause
 
 pub returns-clause-each : goal.returns-clause-each
 returns-clause-each g c = omega (arith, c.loop-event.invariant.0.answered, c.loop-event-test.false, c.loop-event.auto.event-index-end)

@@ -1,4 +1,4 @@
-use Rattle.std.proofs.Common.{rules, ◌≡◌, ◌∙◌, false, sym, subst, ap, refl}
+use Rattle.std.proofs.Common.{rules, ◌≡◌, ◌∙◌, false, sym, subst, ap, refl, inl, inr}
 use Rattle.std.proofs.Common.{to_z, of_z, w64}
 use Rattle.disk_core.specs.Life.{HasFailed}
 use Rattle.archive_model.specs.State.{registration_of}
@@ -11,6 +11,8 @@ use Rattle.control_core.specs.Exact.{archive_after, asked_frames}
 use Rattle.engine_core.specs.Calls.{EndsAs}
 use Rattle.engine_core.proofs.EndedLemmas.{untouched}
 use Rattle.engine_core.proofs.AskLemmas.{accepted_ends, answered_ends, asked_of, asks_inside, commit_call, decided_requested, ended_as, inside_accepts, inside_ends, inside_requested, known_recording, refused_ends}
+use Rattle.engine_core.proofs.FaultLemmas.{behind_other, never, refused_other}
+use Rattle.frame_core.specs.declared.refusal.Refusal.TheVariants.{DeviceFault}
 use Rattle.engine_core.proofs.parts.Parts.ask.Goals as goal
 
 pub make-requires-clause-requested : goal.make-requires-clause-requested
@@ -65,3 +67,16 @@ returns-in-IfBoundary-clause-asked g c a was cut =
     ended_as old new c.make_inside.new.self.storage.log c.make_inside.new.self.desk.state a _ (EndsAs old new (events.Ask request) a c.make_inside.result)
     (λ b ends reads. inside_ends a request id position behind r (HasFailed old new) c.make_inside.result b is known.found ends)
     (c.make_inside.ensures.made a r was known.found strictly (λ begins. inside_accepts a request id position behind r was.agrees is known.found begins) (cut inside.cut))
+
+pub returns-in-Refused-clause-cause : goal.returns-in-Refused-clause-cause
+returns-in-Refused-clause-cause g c is =
+    let same : c.in-Refused.refusal ≡ DeviceFault = cc in
+    absurd (refused_other (takes_memory c.args.request.now) c.args.self.now.desk.state c.args.request.now c.in-Refused.refusal c.in-Refused.ensures same)
+
+pub returns-in-IfBoundary-clause-cause : goal.returns-in-IfBoundary-clause-cause
+returns-in-IfBoundary-clause-cause g c is =
+    let behind = c.in-IfBoundary.decided in
+    elim (c.make_inside.ensures.cause is) [
+      | inl fault ↦ absurd (never behind (behind_other c.args.self.now.desk.state c.args.request.now c.in-IfBoundary.recording c.in-IfBoundary.position behind c.in-IfBoundary.ensures) fault)
+      | inr failed ↦ failed
+    ]
