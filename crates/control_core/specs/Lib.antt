@@ -15,6 +15,7 @@ pub mod Turns
 pub mod Machine
 pub mod Agreement
 pub mod Exact
+pub mod Bytes
 pub mod Consistent
 pub mod Rules
 pub mod Calls

@@ -3,6 +3,7 @@
 
 mod accepting;
 mod asked;
+mod bytes;
 mod callers;
 mod calls;
 mod deciding;
@@ -24,6 +25,7 @@ mod turns;
 mod words;
 
 pub use asked::{Asked, Told};
+pub use bytes::read_terms;
 pub use callers::{Callers, OpenReplay, RecorderSession, Written};
 pub use deciding::decide;
 pub use decision::Decision;
