@@ -133,11 +133,7 @@ is_among (name ∷ names) word = bytes_eq word name || is_among names word
 
 -- first words of lines that nothing answers yet
 abbrev pub unserved : List (List ℕ)
-unserved =
-    codes "extend" ∷ codes "write" ∷ codes "settle"
-    ∷ codes "stop" ∷ codes "truncate" ∷ codes "purge-segments" ∷ codes "purge" ∷ codes "find" ∷ codes "positions"
-    ∷ codes "close" ∷ codes "sweep" ∷ codes "verify" ∷ codes "reopen" ∷ codes "compact"
-    ∷ []
+unserved = codes "compact" ∷ []
 
 abbrev pub is_served : List ℕ → Bool
 is_served word = not (is_among unserved word)

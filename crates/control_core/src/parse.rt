@@ -168,23 +168,7 @@ fn recorder_line(alloc: Global, word: &str, words: &mut Words) -> Result<Line, R
 fn is_served(word: &str) -> bool
     ensures { result ≡ is_served word.now }
 {
-    !matches!(
-        word,
-        "extend"
-            | "write"
-            | "settle"
-            | "stop"
-            | "truncate"
-            | "purge-segments"
-            | "purge"
-            | "find"
-            | "positions"
-            | "close"
-            | "sweep"
-            | "verify"
-            | "reopen"
-            | "compact"
-    )
+    word != "compact"
 }
 
 #[tactic(auto, unfolding(crate::specs::Lines::text_of))]
@@ -216,8 +200,8 @@ fn line_of_bytes(alloc: Global, line: &[u8]) -> Result<Line, Refusal>
 
 /// The line that these bytes are, their end not among them: docs/CONTROL.md, "Lines". Costs their length.
 ///
-/// `BadLine` where they are none that the grammar has, also where they are more than 262,144 or the first word is one
-/// that nothing answers yet; `NoMemory` where a channel, a fragment or the bytes of a block find no memory.
+/// `BadLine` where they are none that the grammar has, also where they are more than 262,144 or the first word is
+/// `compact`, which nothing answers yet; `NoMemory` where a channel, a fragment or the bytes of a block find no memory.
 #[tactic(auto, unfolding(crate::specs::Lines::line_of))]
 pub fn parse_line(alloc: Global, line: &[u8]) -> Result<Line, Refusal>
     ensures { Gives (λ x. x) result (line_of line.now) }
