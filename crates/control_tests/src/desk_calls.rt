@@ -6,8 +6,9 @@ use archive_model::{Channel, Reply};
 use control_core::{
     Decision, Desk, FindFields, OpeningDecision, Request, Written, decide, decide_close,
     decide_open, decide_poll, decide_settle, decide_sweep, decide_verify, decide_write, laws,
+    read_terms,
 };
-use frame_core::Refusal;
+use frame_core::{Geometry, Refusal};
 use std::alloc::Global;
 use std::test::*;
 
@@ -56,6 +57,7 @@ fn called(desk: &Desk, kind: u8, number: i64, other: i64) -> u8 {
         3 => number_of(&decide_close(desk, &number)),
         4 => number_of(&decide_sweep(desk)),
         5 => number_of(&decide_verify(desk, &number)),
+        7 => number_of(&read_terms(desk, &number)),
         _ => {
             let block = Written {
                 first: other,
@@ -67,7 +69,7 @@ fn called(desk: &Desk, kind: u8, number: i64, other: i64) -> u8 {
 }
 
 // Whether a write failed, the kind, the session, replay or recording, and another number.
-const CALLS: [(bool, u8, i64, i64, u8); 20] = [
+const CALLS: [(bool, u8, i64, i64, u8); 22] = [
     (true, 0, 9, 0, 16),
     (false, 0, 9, 0, 12),
     (false, 0, 0, 0, 0),
@@ -88,6 +90,8 @@ const CALLS: [(bool, u8, i64, i64, u8); 20] = [
     (true, 6, 9, 64, 16),
     (false, 6, 9, 64, 12),
     (false, 6, 0, 64, 13),
+    (true, 7, 9, 0, 16),
+    (false, 7, 9, 0, 12),
 ];
 
 fn with_replay(alloc: Global, is_broken: bool) -> Result<Desk, Refusal> {
@@ -105,6 +109,19 @@ fn calls_are_refused_in_their_order(rt: HostRuntime) -> Result<(), Fail> {
         let desk = with_replay(rt.alloc(), is_broken)?;
         assert!(rt; called(&desk, kind, number, other) == refusal);
     }
+    Ok(())
+}
+
+#[test]
+fn bytes_are_read_by_the_terms_of_the_recording(rt: HostRuntime) -> Result<(), Fail> {
+    let desk = recording(rt.alloc(), 1, 1)?;
+    let terms = Geometry {
+        initial_term_id: 42,
+        term_length: 65_536,
+        mtu: 1_408,
+    };
+    let found = read_terms(&desk, &0)?;
+    assert!(rt; found == terms);
     Ok(())
 }
 

@@ -36,11 +36,13 @@ fn a_line_that_starts_a_recording(rt: HostRuntime) -> Result<(), Fail> {
 #[test]
 fn lines_with_bytes(rt: HostRuntime) -> Result<(), Fail> {
     for line in [
+        "write 0 00ffA0aF",
         "block 0 00ffA0aF",
         "merge-replay 00ffA0aF",
         "merge-live 00ffA0aF",
     ] {
         let bytes = match parse_line(rt.alloc(), line.as_bytes())? {
+            Line::Write { session: 0, bytes } => bytes,
             Line::Block { session: 0, bytes } => bytes,
             Line::Merge(MergeLine::Replay(bytes)) => bytes,
             Line::Merge(MergeLine::Live(bytes)) => bytes,
@@ -51,7 +53,57 @@ fn lines_with_bytes(rt: HostRuntime) -> Result<(), Fail> {
     Ok(())
 }
 
-/// Each breaks a rule of docs/CONTROL.md, "Lines"; the first is empty.
+/// A line, and what it asks the archive for.
+const ASKED: [(&'static str, &'static str); 12] = [
+    ("list 0 -1", "Event(Ask(List { from: 0, count: -1 }))"),
+    (
+        "extend 1 1001 7 42 65536 1408 128",
+        "Event(Ask(Extend(ExtendFields { recording: 1, stream_id: 1001, session_id: 7, \
+         initial_term_id: 42, term_length: 65536, mtu: 1408, join_position: 128 })))",
+    ),
+    ("settle 3", "Event(Settle { session: 3 })"),
+    (
+        "stop 1 2000",
+        "Event(Ask(Stop { recording: 1, timestamp: 2000 }))",
+    ),
+    (
+        "truncate 1 64",
+        "Event(Ask(Truncate { recording: 1, position: 64 }))",
+    ),
+    (
+        "purge-segments 1 65536",
+        "Event(Ask(PurgeSegments { recording: 1, position: 65536 }))",
+    ),
+    ("purge 1", "Event(Ask(PurgeRecording { recording: 1 }))"),
+    ("positions 1", "Event(Ask(Positions { recording: 1 }))"),
+    ("close 4", "Event(ReplayClose { replay: 4 })"),
+    ("sweep", "Event(Sweep)"),
+    ("verify 1", "Event(Verify { recording: 1 })"),
+    ("reopen", "Reopen"),
+];
+
+#[test]
+fn lines_that_ask_the_archive(rt: HostRuntime) -> Result<(), Fail> {
+    for (line, asked) in ASKED {
+        let line = parse_line(rt.alloc(), line.as_bytes())?;
+        let told = format!(in rt.alloc(); "{line:?}")?;
+        assert!(rt; told.as_str() == asked);
+    }
+    Ok(())
+}
+
+#[test]
+fn a_line_that_seeks_a_recording(rt: HostRuntime) -> Result<(), Fail> {
+    let fields = match parse_line(rt.alloc(), b"find 2 1001 -7 a b")? {
+        Line::Event(Event::Ask(Request::Find(fields))) => fields,
+        _ => return Err(Fail::new("no request")),
+    };
+    assert!(rt; fields.least == 2 && fields.stream_id == 1_001 && fields.session_id == -7);
+    assert!(rt; fields.fragment.as_str() == "a b");
+    Ok(())
+}
+
+/// Each breaks a rule of docs/CONTROL.md, "Lines"; the first is empty, and nothing answers the last.
 const MALFORMED: &str = "
  quit
 quit 
@@ -71,7 +123,10 @@ block 0 000
 block 0 0g
 block 0 00 00
 start 2147483648 7 42 65536 1408 131072 0 1000 c
-start 1001 7 42 65536 1408 131072 0 1000 \nframe 0 00";
+start 1001 7 42 65536 1408 131072 0 1000 \nframe 0 00
+write 0
+sweep 1
+compact";
 
 #[test]
 fn malformed_lines(rt: HostRuntime) -> Result<(), Fail> {
