@@ -1,10 +1,11 @@
 -- Opening an archive after a crash: docs/STORAGE.md, "Recovery".
-use Rattle.std.specs.Prelude.{◌≡◌, ◌⊎◌, ◌<◌, ◌^◌, ℤ, List, [], None, count_by}
+use Rattle.std.specs.Prelude.{◌≡◌, ◌⊎◌, ◌<◌, ◌^◌, ℤ, pos, List, [], None, count_by}
 use Rattle.disk_core.specs.DiskImage.{DiskImage, MayLeave, reads}
 use Rattle.disk_core.specs.Life.{Life, LeavesOnly}
-use Rattle.archive_model.specs.State.{State, register_of}
+use Rattle.archive_model.specs.State.{State, active_count, register_of}
 use Rattle.archive_model.specs.declared.command.Command.TheVariants.{Restart}
 use Rattle.archive_model.specs.Commands.{after}
+use Rattle.archive_model.specs.Register as register
 use Rattle.archive_model.specs.Register.{all_stopped, no_recordings}
 use Rattle.catalogue_log.specs.declared.bank.BankHeader.{BankHeader}
 use Rattle.catalogue_log.specs.declared.entry.Entry.{Entry}
@@ -34,12 +35,13 @@ pub record IsFresh (image : DiskImage) (s : State) (a : Archive) : Type 0 where
   pub blocks : (number : ℤ) → a.blocks number ≡ []
   pub doubt : a.doubt ≡ None
 
--- An archive is open: it is the restart of the state that the disk read as, and a crash at any moment of the opening
--- leaves one of the states before it or a restart of one of them.
-pub record IsOpened (old new : Life) (log : LogState) (desk : DeskState) (s u : State) : Type 0 where
+-- An archive is open: it is the restart of the state that the disk read as, which had so many active recordings, and a
+-- crash at any moment of the opening leaves one of the states before it or a restart of one of them.
+pub record IsOpened (old new : Life) (log : LogState) (desk : DeskState) (restarted : ℤ) (s u : State) : Type 0 where
   pub read : State
   pub is : IsEither s u read
   pub recovers : Recovers (reads old.now) read
+  pub stopped : restarted ≡ pos (active_count read)
   pub archive : Archive
   pub fresh : IsFresh (reads old.now) (after read Restart) archive
   pub consistent : IsConsistent new log desk archive
@@ -50,10 +52,12 @@ pub record IsNotOpened (old new : Life) (s u : State) : Type 0 where
   pub now : LeavesEither new s u ⊎ ((x : State) × IsEither s u x × LeavesEither new x (after x Restart))
   pub any_moment : LeavesOnly old new (RecoversTo (IsNear s u))
 
--- The desk is that of the image's catalogue and a restart, whatever the segment files hold. Fewer than 2^32 entries count.
-pub record IsDeskOf (image : DiskImage) (desk : DeskState) : Type 0 where
+-- The desk is that of the image's catalogue and a restart, which stopped so many recordings, whatever the segment files
+-- hold. Fewer than 2^32 entries count.
+pub record IsDeskOf (image : DiskImage) (desk : DeskState) (restarted : ℤ) : Type 0 where
   pub header : BankHeader
   pub entries : List Entry
   pub catalogue : IsCatalogue image header entries
   pub few : count_by counts entries < 2 ^ 32
   pub is : desk ≡ opened_desk (all_stopped (after_entries no_recordings entries)) (count_by counts entries) header.history_limit
+  pub stopped : restarted ≡ pos (register.active_count (after_entries no_recordings entries))

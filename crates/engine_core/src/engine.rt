@@ -1,6 +1,6 @@
 //! An archive on one thread, made anew or opened. docs/ARCHITECTURE.md, "The engine"; docs/STORAGE.md, "Opening".
 
-ghost use Rattle.std.specs.Prelude.{◌≡◌, ◌≢◌, ◌⊎◌, ◌≤◌, ℕ, IfErr, IfOk, IsFalse, IsTrue, MatchResult};
+ghost use Rattle.std.specs.Prelude.{◌≡◌, ◌≢◌, ◌⊎◌, ◌≤◌, ℕ, pos, IfErr, IfOk, IsFalse, IsTrue, MatchResult};
 ghost use Rattle.frame_core.specs.declared.refusal.Refusal.TheVariants.{DeviceFault, NoMemory};
 ghost use Rattle.disk_core.specs.declared.file_id.FileId.{FileId};
 ghost use Rattle.disk_core.specs.declared.file_id.FileId.TheVariants.{BankA};
@@ -8,7 +8,7 @@ ghost use Rattle.disk_core.specs.DiskImage.{reads};
 ghost use Rattle.disk_core.specs.Life.{HasFailed, LeavesOnly};
 ghost use Rattle.archive_model.specs.declared.command.Command.TheVariants.{Restart};
 ghost use Rattle.archive_model.specs.Commands.{after};
-ghost use Rattle.archive_model.specs.Register.{RegisterState, all_stopped};
+ghost use Rattle.archive_model.specs.Register.{RegisterState, active_count, all_stopped};
 ghost use Rattle.archive_model.specs.State.{State};
 ghost use Rattle.catalogue_log.specs.Catalogue.{ChangesBank, RefusesCatalogue};
 ghost use Rattle.control_core.specs.Desk.{opened_desk};
@@ -28,10 +28,11 @@ use disk_core::Disk;
 use frame_core::Refusal;
 use std::alloc::Global;
 
-/// An archive: its files, the log of its catalogue, and its desk.
+/// An archive: its files, the log of its catalogue, its desk, and how many recordings its opening stopped.
 #[derive(Drop)]
 pub struct Engine<D> {
     pub(crate) parts: Parts<D>,
+    pub(crate) restarted: i64,
     pub ghost orderly: { IsOrderly parts.desk.state } by { IsOrderly-prop parts.desk.state },
 }
 
@@ -52,6 +53,20 @@ impl<D: Disk> Engine<D> {
         self.parts.storage.disk
     }
 
+    /// What the archive knows but its frames: docs/CONTROL.md, "Control state".
+    pub fn desk(&self) -> &Desk
+        ensures { result.now.state ≡ self.now.parts.desk.state }
+    {
+        &self.parts.desk
+    }
+
+    /// How many recordings the opening stopped: 0 of an archive that was made anew.
+    pub fn restarted(&self) -> i64
+        ensures { result ≡ self.now.restarted }
+    {
+        self.restarted
+    }
+
     /// A new archive without recordings on a disk without files, with this limit of its history. From then on every
     /// image that a crash may leave recovers to the state without recordings.
     ///
@@ -62,6 +77,7 @@ impl<D: Disk> Engine<D> {
         ensures made { IfOk result (λ engine. IsMadeIn (D.life disk) (D.life engine.parts.storage.disk) history_limit) }
         ensures consistent { IfOk result (λ engine.
             IsConsistent (D.life engine.parts.storage.disk) engine.parts.storage.log engine.parts.desk.state (new_archive history_limit)) }
+        ensures restarted { IfOk result (λ engine. engine.restarted ≡ pos 0) }
         ensures refused { IfErr result (λ refused.
             RefusesNew (D.life disk) (D.life refused.disk) history_limit refused.refusal) }
         ensures faults { MatchResult result
@@ -75,6 +91,7 @@ impl<D: Disk> Engine<D> {
                     storage: Storage { disk, log },
                     desk: Desk::new(alloc, history_limit),
                 },
+                restarted: 0,
             }),
             Err(refusal) => Err(OpenRefusal { refusal, disk }),
         }
@@ -93,7 +110,7 @@ impl<D: Disk> Engine<D> {
     pub fn open(alloc: Global, disk: D) -> Result<Engine<D>, OpenRefusal<D>>
         ensures opened { IfOk result (λ engine. (s u : State) → LeavesEither (D.life disk) s u →
             IsTrue (D.life engine.parts.storage.disk).obeys →
-            IsOpened (D.life disk) (D.life engine.parts.storage.disk) engine.parts.storage.log engine.parts.desk.state s u) }
+            IsOpened (D.life disk) (D.life engine.parts.storage.disk) engine.parts.storage.log engine.parts.desk.state engine.restarted s u) }
         ensures refused { IfErr result (λ refused. (s u : State) → LeavesEither (D.life disk) s u →
             IsTrue (D.life refused.disk).obeys → IsNotOpened (D.life disk) (D.life refused.disk) s u
             × ((refused.refusal ≡ DeviceFault) ⊎ (refused.refusal ≡ NoMemory))) }
@@ -102,21 +119,20 @@ impl<D: Disk> Engine<D> {
             RefusesCatalogue (reads (D.life disk).now) refused.refusal) }
         // No archive is opened without a catalogue, nor where 2^32 of its entries count or more.
         ensures desk { IfOk result (λ engine. IsTrue (D.life engine.parts.storage.disk).obeys →
-            IsDeskOf (reads (D.life disk).now) engine.parts.desk.state) }
+            IsDeskOf (reads (D.life disk).now) engine.parts.desk.state engine.restarted) }
         ensures cause { IfErr result (λ refused. refused.refusal ≡ DeviceFault →
             HasFailed (D.life disk) (D.life refused.disk)) }
         ensures faults { MatchResult result
             (λ engine. (D.life disk).faults ≤ (D.life engine.parts.storage.disk).faults)
             (λ refused. (D.life disk).faults ≤ (D.life refused.disk).faults) }
-        // Only the bank in use may read otherwise, and where the catalogue is refused no file does.
+        // Only the bank in use may read otherwise, and where it is refused by anything but a fault no file does.
         ensures others { MatchResult result
             (λ engine. (file : FileId) → file ≢ BankA →
             reads (D.life engine.parts.storage.disk).now file ≡ reads (D.life disk).now file)
             (λ refused. (file : FileId) → file ≢ BankA →
             reads (D.life refused.disk).now file ≡ reads (D.life disk).now file) }
-        ensures kept { IfErr result (λ refused. IsTrue (D.life refused.disk).obeys →
-            (refused.refusal ≡ DeviceFault) ⊎ ((refused.refusal ≡ NoMemory)
-            ⊎ ReadsAsBefore (D.life disk) (D.life refused.disk))) }
+        ensures kept { IfErr result (λ refused. (refused.refusal ≡ DeviceFault)
+            ⊎ ReadsAsBefore (D.life disk) (D.life refused.disk)) }
     {
         let mut disk = disk;
         match opening::read_desk(alloc, &mut disk) {
@@ -141,12 +157,15 @@ fn start<D: Disk>(parts: Parts<D>) -> Result<Engine<D>, OpenRefusal<D>>
     ensures refused { IfErr result (λ refused. (x : State) (counted limit : ℕ) →
         IsConsistent (D.life parts.storage.disk) parts.storage.log parts.desk.state (opened_archive x counted limit) →
         LeavesOnly (D.life parts.storage.disk) (D.life refused.disk) (RecoversTo (IsEither x (after x Restart)))) }
+    ensures stopped { IfOk result (λ engine. engine.restarted ≡ pos (active_count parts.desk.state.register)) }
     ensures desk { IfOk result (λ engine. (g : RegisterState) (counted limit : ℕ) →
         parts.desk.state ≡ opened_desk g counted limit →
         engine.parts.desk.state ≡ opened_desk (all_stopped g) counted limit) }
     // Whatever the archive is, where its log works.
     ensures outside { IfErr result (λ refused. IsFalse parts.storage.log.is_broken →
         (refused.refusal ≡ DeviceFault) ⊎ (refused.refusal ≡ NoMemory)) }
+    ensures kept { IfErr result (λ refused. (refused.refusal ≡ DeviceFault)
+        ⊎ (D.life refused.disk ≡ D.life parts.storage.disk)) }
     ensures cause { IfErr result (λ refused. refused.refusal ≡ DeviceFault →
         HasFailed (D.life parts.storage.disk) (D.life refused.disk)) }
     ensures changes { MatchResult result
@@ -155,7 +174,7 @@ fn start<D: Disk>(parts: Parts<D>) -> Result<Engine<D>, OpenRefusal<D>>
 {
     let mut parts = parts;
     match parts.restart() {
-        Ok(_) => Ok(Engine { parts }),
+        Ok(restarted) => Ok(Engine { parts, restarted }),
         Err(refusal) => Err(OpenRefusal {
             refusal,
             disk: parts.storage.disk,

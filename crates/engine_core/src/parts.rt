@@ -1,15 +1,14 @@
 //! The parts of an archive: its files and its desk. docs/ARCHITECTURE.md, "The engine".
 
-ghost use Rattle.std.specs.Prelude.{◌≡◌, ◌⊎◌, ◌≤◌, ℕ, true, false, IfErr, IfOk, IsErrOf, IsFalse, IsTrue, OnOk, Some};
-ghost use Rattle.std.specs.List.{list_any};
+ghost use Rattle.std.specs.Prelude.{◌≡◌, ◌⊎◌, ◌≤◌, ℕ, pos, true, false, IfErr, IfOk, IsErrOf, IsFalse, IsTrue, OnOk, Some};
 ghost use Rattle.frame_core.specs.declared.refusal.Refusal.TheVariants.{DeviceFault, NoMemory};
-ghost use Rattle.disk_core.specs.Life.{HasFailed};
+ghost use Rattle.disk_core.specs.Life.{HasFailed, LeavesOnly};
 ghost use Rattle.archive_model.specs.declared.command.Command.TheVariants.{Restart};
 ghost use Rattle.archive_model.specs.Accepting.{Accepts};
 ghost use Rattle.archive_model.specs.Commands.{after};
-ghost use Rattle.archive_model.specs.Register.{RegisterState, all_stopped, is_active, is_end};
+ghost use Rattle.archive_model.specs.Register.{RegisterState, active_count, all_stopped, is_end};
 ghost use Rattle.archive_model.specs.Replay.{begins_frame};
-ghost use Rattle.archive_model.specs.State.{Recording, State, register_of, registration_of};
+ghost use Rattle.archive_model.specs.State.{Recording, State, registration_of};
 ghost use Rattle.catalogue_log.specs.Catalogue.{ChangesBank};
 ghost use Rattle.catalogue_log.specs.Fold.{counts};
 ghost use Rattle.catalogue_log.specs.History.{IsRequested, entry_of};
@@ -23,6 +22,7 @@ ghost use Rattle.engine_core.specs.Calls.{CommitEnds, Ended, EndsAs, is_cut};
 ghost use Rattle.engine_core.specs.Consistent.{IsConsistent};
 ghost use Rattle.engine_core.specs.Making.{InsideEnds, after_failure};
 ghost use Rattle.engine_core.specs.Orderly.{IsOrderly};
+ghost use Rattle.engine_core.specs.Recovery.{IsEither, RecoversTo};
 
 use crate::Storage;
 use crate::reading::begins_at;
@@ -136,37 +136,43 @@ impl<D: Disk> Parts<D> {
     /// Stops each active recording of an archive that is opened, by four calls of the disk, and answers how many there
     /// were. Where none is active nothing is done.
     ///
-    /// `NoMemory`; `DeviceFault` where a write fails: the archive is then broken. docs/STORAGE.md, "Opening". Costs a
-    /// lookup at each recording.
-    pub fn restart(&mut self) -> Result<Reply, Refusal>
+    /// `NoMemory`, which leaves the disk as it was; `DeviceFault` where a write fails: the archive is then broken.
+    /// docs/STORAGE.md, "Opening". Costs a lookup at each recording.
+    pub fn restart(&mut self) -> Result<i64, Refusal>
         requires orderly { IsOrderly self.old.desk.state }
         ensures orderly { IsOrderly self.new.desk.state }
+        ensures stopped { IfOk result (λ stopped. stopped ≡ pos (active_count self.old.desk.state.register)) }
         ensures changes { ChangesBank (D.life self.old.storage.disk) (D.life self.new.storage.disk) }
-        ensures restarted { (s : State) (counted limit : ℕ) →
+        ensures restarted { OnOk result ((s : State) (counted limit : ℕ) →
             IsConsistent (D.life self.old.storage.disk) self.old.storage.log self.old.desk.state (opened_archive s counted limit) →
-            Ended (D.life self.old.storage.disk) (D.life self.new.storage.disk) self.new.storage.log self.new.desk.state
-            (opened_archive s counted limit)
-            (CommitEnds (opened_archive s counted limit) (reply_after (opened_desk (register_of s) counted limit) Restart)
-            (opened_archive (after s Restart) counted limit)
-            (HasFailed (D.life self.old.storage.disk) (D.life self.new.storage.disk)) result) }
+            IsConsistent (D.life self.new.storage.disk) self.new.storage.log self.new.desk.state
+            (opened_archive (after s Restart) counted limit)) }
+        ensures any_moment { (s : State) (counted limit : ℕ) →
+            IsConsistent (D.life self.old.storage.disk) self.old.storage.log self.old.desk.state (opened_archive s counted limit) →
+            LeavesOnly (D.life self.old.storage.disk) (D.life self.new.storage.disk) (RecoversTo (IsEither s (after s Restart))) }
         ensures desk { OnOk result ((g : RegisterState) (counted limit : ℕ) →
             self.old.desk.state ≡ opened_desk g counted limit →
             self.new.desk.state ≡ opened_desk (all_stopped g) counted limit) }
         // Whatever the archive is, where its log works.
         ensures refused { IfErr result (λ refusal. IsFalse self.old.storage.log.is_broken →
             (refusal ≡ DeviceFault) ⊎ (refusal ≡ NoMemory)) }
+        ensures kept { IfErr result (λ refusal. (refusal ≡ DeviceFault)
+            ⊎ (D.life self.new.storage.disk ≡ D.life self.old.storage.disk)) }
         ensures cause { IsErrOf result DeviceFault →
             HasFailed (D.life self.old.storage.disk) (D.life self.new.storage.disk) }
     {
-        let reply = self.desk.reply(&Command::Restart);
-        if !has_active(&self.desk) {
-            return Ok(reply);
+        let stopped = active_count(&self.desk);
+        if stopped > 0 {
+            let reply = Reply::Reopened {
+                recordings: stopped,
+            };
+            self.enter(&Entry::Restart, reply, Command::Restart)?;
         }
-        self.enter(&Entry::Restart, reply, Command::Restart)
+        Ok(stopped)
     }
 
     /// Adds the entry of a command that is accepted, and for which the desk has room; then the desk follows. Answers the
-    /// reply. `NoMemory`; `DeviceFault` where a write fails: the archive is then broken.
+    /// reply. `NoMemory`, which leaves the disk as it was; `DeviceFault` where a write fails: the archive is then broken.
     fn enter(&mut self, entry: &Entry, reply: Reply, command: Command) -> Result<Reply, Refusal>
         requires orderly { IsOrderly self.old.desk.state }
         requires seats { KeepsSeats self.old.desk.state.register self.old.desk.state.callers }
@@ -186,6 +192,8 @@ impl<D: Disk> Parts<D> {
         // Whatever the archive is: a log that works takes an entry that doesn't count.
         ensures uncounted { IfErr result (λ refusal. IsFalse self.old.storage.log.is_broken → IsFalse (counts entry.now) →
             (refusal ≡ DeviceFault) ⊎ (refusal ≡ NoMemory)) }
+        ensures kept { IfErr result (λ refusal. (refusal ≡ DeviceFault)
+            ⊎ (D.life self.new.storage.disk ≡ D.life self.old.storage.disk)) }
         ensures cause { IsErrOf result DeviceFault →
             HasFailed (D.life self.old.storage.disk) (D.life self.new.storage.disk) }
     {
@@ -210,9 +218,13 @@ pub fn failed(desk: &mut Desk, refusal: Refusal) -> Refusal
     refusal
 }
 
-/// Whether a recording is active. Costs a lookup at each recording.
-fn has_active(desk: &Desk) -> bool
-    ensures { result ≡ list_any is_active desk.now.state.register.recordings }
+/// How many recordings are active. Costs a lookup at each recording.
+fn active_count(desk: &Desk) -> i64
+    ensures count { result ≡ pos (active_count desk.now.state.register) }
+    ensures seats { KeepsSeats desk.now.state.register desk.now.state.callers }
 {
-    desk.recordings().iter().any(|known| known.is_active())
+    desk.recordings()
+        .iter()
+        .filter(|known| known.is_active())
+        .count() as i64
 }

@@ -42,6 +42,7 @@ impl<D: Disk> Engine<D> {
         ensures swept { (removed : Bool) → event.now ≡ events.Sweep → result ≡ Ok (Swept removed) →
             HasSwept (registered_keeps self.old.parts.desk.state.register) (D.life self.old.parts.storage.disk)
             (D.life self.new.parts.storage.disk) removed }
+        ensures restarted { self.new.restarted ≡ self.old.restarted }
     {
         self.parts.step(alloc, event)
     }
@@ -64,6 +65,7 @@ impl<D: Disk> Engine<D> {
             IsTrue (D.life self.new.parts.storage.disk).obeys →
             Ran (D.life self.old.parts.storage.disk) (D.life self.new.parts.storage.disk) self.new.parts.storage.log
             self.new.parts.desk.state a (calls_of events.now outcomes.items)) }
+        ensures restarted { self.new.restarted ≡ self.old.restarted }
         ensures refused { IfErr result (λ refusal. (refusal ≡ NoMemory) × (self.new ≡ self.old)) }
     {
         let mut outcomes = Vec::with_capacity(alloc, events.len())?;

@@ -1,4 +1,4 @@
-use Rattle.std.proofs.Common.{subst, sym, ◌+◌, arith}
+use Rattle.std.proofs.Common.{subst, sym, refl, ◌∙◌, ◌+◌, arith}
 use Rattle.engine_core.proofs.RunLemmas.{HasRun, all_run, next_run, none_run}
 use Rattle.engine_core.proofs.engine.Engine.drive.Goals as goal
 
@@ -11,6 +11,7 @@ loop-event-init g c =
       subst (λ outcomes. HasRun life life log log desk desk c.args.events.now 0 outcomes) (sym none.items) (none_run life log desk c.args.events.now),
       none.len,
       none.capacity,
+      refl,
     )
 
 pub push_reserved-requires : goal.push_reserved-requires
@@ -30,6 +31,7 @@ loop-event-preserved g c =
           c.step-outcome.ensures.obeyed c.step-outcome.ensures.faults c.step-outcome.ensures.cause c.step-outcome.ensures.stepped),
       omega (arith, pushed.len, c.loop-event.invariant.1),
       omega (arith, pushed.capacity, c.loop-event.invariant.2),
+      c.step-outcome.ensures.restarted ∙ c.loop-event.invariant.3,
     )
 
 pub returns-clause-obeyed : goal.returns-clause-obeyed
@@ -48,3 +50,6 @@ pub returns-clause-ran : goal.returns-clause-ran
 returns-clause-ran g c =
     all_run (g.D.Disk.life c.args.self.now.parts.storage.disk) (g.D.Disk.life c.loop-event.self.parts.storage.disk) c.args.self.now.parts.storage.log c.loop-event.self.parts.storage.log c.args.self.now.parts.desk.state c.loop-event.self.parts.desk.state
     c.args.events.now c.loop-event.event-index c.loop-event.outcomes.items c.loop-event.invariant.0 c.loop-event-test.false
+
+pub returns-clause-restarted : goal.returns-clause-restarted
+returns-clause-restarted g c = c.loop-event.invariant.3

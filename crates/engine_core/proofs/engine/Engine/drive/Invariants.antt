@@ -10,3 +10,4 @@ invariant-loop-event g l =
     l.outcomes.items
     × (vec_len l.outcomes ≡ l.event-index)
     × (length l.events ≤ vec_capacity l.outcomes)
+    × (l.self.restarted ≡ l.initial.self.restarted)

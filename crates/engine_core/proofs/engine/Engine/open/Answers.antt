@@ -1,10 +1,10 @@
-use Rattle.std.proofs.Common.{refl, inl, inr}
+use Rattle.std.proofs.Common.{refl}
 use Rattle.std.proofs.lemmas.Result.{IfErr-weaker}
 use Rattle.disk_core.specs.DiskImage.{reads}
 use Rattle.archive_model.specs.Register.{no_recordings}
 use Rattle.catalogue_log.specs.Fold.{after_entries}
 use Rattle.engine_core.proofs.OpeningLemmas.{fault_refuses}
-use Rattle.engine_core.proofs.ReopenLemmas.{desk_read, either_then, err_three, err_two, failed_later, ok_two, open_done, opened_consistent, read_refused, reads_as, reads_otherwise, stop_refused}
+use Rattle.engine_core.proofs.ReopenLemmas.{active_same, desk_read, either_then, err_three, err_two, failed_later, kept_reads, ok_three, open_done, opened_consistent, read_refused, reads_as, reads_otherwise, stop_refused}
 use Rattle.engine_core.proofs.engine.Engine.open.Goals as goal
 
 pub returns-in-Ok-clause-opened : goal.returns-in-Ok-clause-opened
@@ -12,14 +12,14 @@ returns-in-Ok-clause-opened g c =
     let old = g.D.Disk.life c.args.disk in
     let mid = g.D.Disk.life c.read_desk.new.disk in
     let log = c.in-Ok.log in
-    ok_two c.start.result _ _ _ _
-    (λ engine changes started s u leaves obeys.
+    ok_three c.start.result _ _ _ _ _
+    (λ engine changes started stopped s u leaves obeys.
     let to = reads_as old s u (g.met.D.Disk.reads_may_stay c.args.disk) leaves in
     let sound = c.in-Ok.ensures.sound (changes.obeyed obeys) to.state to.recovers in
     let was = opened_consistent mid log c.in-Ok.desk.state to.state log.counted log.header.history_limit sound.0 refl refl sound.1 in
-    open_done old mid (g.D.Disk.life engine.parts.storage.disk) log engine.parts.storage.log engine.parts.desk.state s u leaves c.read_desk.ensures.before (g.met.D.Disk.reads_may_stay c.read_desk.new.disk) to sound.0
-    (started to.state log.counted log.header.history_limit was))
-    c.start.ensures.changes c.start.ensures.started
+    open_done old mid (g.D.Disk.life engine.parts.storage.disk) log engine.parts.storage.log engine.parts.desk.state engine.restarted s u leaves c.read_desk.ensures.before (g.met.D.Disk.reads_may_stay c.read_desk.new.disk) to sound.0
+    (started to.state log.counted log.header.history_limit was) (active_same c.in-Ok.desk.state to.state log.counted log.header.history_limit engine.restarted sound.1 stopped))
+    c.start.ensures.changes c.start.ensures.started c.start.ensures.stopped
 
 pub returns-in-Ok-clause-refused : goal.returns-in-Ok-clause-refused
 returns-in-Ok-clause-refused g c =
@@ -46,11 +46,12 @@ returns-in-Ok-clause-other g c =
 pub returns-in-Ok-clause-desk : goal.returns-in-Ok-clause-desk
 returns-in-Ok-clause-desk g c =
     let log = c.in-Ok.log in
-    ok_two c.start.result _ _ _ _
-    (λ engine changes stopped obeys.
+    ok_three c.start.result _ _ _ _ _
+    (λ engine changes desk stopped obeys.
     let read = c.in-Ok.ensures.log (changes.obeyed obeys) in
-    desk_read (reads (g.D.Disk.life c.args.disk).now) log read.0 engine.parts.desk.state read.1 c.in-Ok.ensures.few (stopped (after_entries no_recordings read.0) log.counted log.header.history_limit read.2))
-    c.start.ensures.changes c.start.ensures.desk
+    desk_read (reads (g.D.Disk.life c.args.disk).now) log read.0 c.in-Ok.desk.state engine.parts.desk.state engine.restarted read.1 c.in-Ok.ensures.few read.2
+    (desk (after_entries no_recordings read.0) log.counted log.header.history_limit read.2) stopped)
+    c.start.ensures.changes c.start.ensures.desk c.start.ensures.stopped
 
 pub returns-in-Ok-clause-cause : goal.returns-in-Ok-clause-cause
 returns-in-Ok-clause-cause g c =
@@ -74,6 +75,6 @@ returns-in-Ok-clause-others g c =
 
 pub returns-in-Ok-clause-kept : goal.returns-in-Ok-clause-kept
 returns-in-Ok-clause-kept g c =
-    err_two c.start.result _ _ _ _
-    (λ refused changes outside obeys. elim (outside (c.in-Ok.ensures.log (changes.obeyed obeys)).1.works) [ inl fault ↦ inl fault | inr memory ↦ inr (inl memory) ])
-    c.start.ensures.changes c.start.ensures.outside
+    let old = g.D.Disk.life c.args.disk in
+    let mid = g.D.Disk.life c.read_desk.new.disk in
+    IfErr-weaker c.start.result _ _ (λ refused. kept_reads old mid (g.D.Disk.life refused.disk) refused.refusal c.read_desk.ensures.before) c.start.ensures.kept

@@ -47,3 +47,9 @@ pub returns-in-Err-clause-cause : goal.returns-in-Err-clause-cause
 returns-in-Err-clause-cause g c is =
     let same : c.in-Err.refusal ≡ DeviceFault = cc in
     c.in-Err.ensures.cause (ap Err same)
+
+pub returns-in-Err-clause-kept : goal.returns-in-Err-clause-kept
+returns-in-Err-clause-kept g c =
+    let old = g.D.Disk.life c.args.self.now.storage.disk in
+    let new = g.D.Disk.life c.commit.new.self.disk in
+    subst (λ r. (r ≡ DeviceFault) ⊎ (new ≡ old)) (sym c.failed.ensures.same) c.in-Err.ensures.kept

@@ -1,46 +1,49 @@
-use Rattle.std.proofs.Common.{◌≡◌, ◌∙◌, true, false, refl, sym, subst, ap}
-use Rattle.std.proofs.lemmas.Result.{on_ok_weaker}
-use Rattle.std.specs.List.{list_any}
-use Rattle.archive_model.specs.declared.command.Command.TheVariants.{Restart}
-use Rattle.archive_model.specs.Commands.{after}
-use Rattle.archive_model.specs.Register.{is_active}
-use Rattle.archive_model.specs.State.{register_of}
-use Rattle.control_core.specs.Changes.{desk_after, reply_after}
+use Rattle.std.proofs.Common.{◌≡◌, ◌∙◌, true, refl, sym, ap, arith}
+use Rattle.std.proofs.lemmas.Int.{ints}
+use Rattle.std.proofs.lemmas.Bool.Decides.{nat_tests}
+use Rattle.archive_model.specs.Register.{active_count}
+use Rattle.archive_model.specs.declared.reply.Reply.TheVariants.{Reopened}
 use Rattle.control_core.specs.Desk.{opened_desk}
 use Rattle.control_core.specs.Exact.{opened_archive}
 use Rattle.disk_core.specs.Life.{HasFailed}
-use Rattle.engine_core.specs.Calls.{CommitEnds, Ended}
-use Rattle.engine_core.proofs.EndedLemmas.{untouched}
-use Rattle.engine_core.proofs.ReopenLemmas.{changes_nothing, none_active, none_stop, restart_of}
+use Rattle.engine_core.proofs.ReopenLemmas.{none_stop, restart_entered, restart_needless, restart_refused}
 use Rattle.engine_core.proofs.parts.Parts.restart.Goals as goal
 
-pub returns-then-not-has_active-clause-restarted : goal.returns-then-not-has_active-clause-restarted
-returns-then-not-has_active-clause-restarted g c s counted limit was =
-    let life = g.D.Disk.life c.args.self.now.storage.disk in
-    let desk = c.args.self.now.desk.state in
-    let told : c.reply-reply.result ≡ reply_after (opened_desk (register_of s) counted limit) Restart = c.reply-reply.ensures.reply ∙ ap (λ d. reply_after d Restart) was.desk_is in
-    let none : list_any is_active desk.register.recordings ≡ false = sym c.has_active.ensures ∙ c.if-not-has_active.true in
-    untouched life c.args.self.now.storage.log desk (opened_archive s counted limit) _ was (told, none_active life c.args.self.now.storage.log desk s counted limit was none)
-
-pub returns-clause-restarted : goal.returns-clause-restarted
-returns-clause-restarted g c s counted limit was =
+pub returns-in_err-enter-clause-any_moment : goal.returns-in_err-enter-clause-any_moment
+returns-in_err-enter-clause-any_moment g c s counted limit was =
     let old = g.D.Disk.life c.args.self.now.storage.disk in
     let new = g.D.Disk.life c.enter.new.self.storage.disk in
-    let a = opened_archive s counted limit in
-    let log = c.enter.new.self.storage.log in
-    let desk = c.enter.new.self.desk.state in
-    let told : c.reply-reply.result ≡ reply_after (opened_desk (register_of s) counted limit) Restart = c.reply-reply.ensures.reply ∙ ap (λ d. reply_after d Restart) was.desk_is in
-    let ended = c.enter.ensures.entered a was refl (true, refl, refl) refl in
-    subst (λ r. Ended old new log desk a (CommitEnds a r (opened_archive (after s Restart) counted limit) (HasFailed old new) c.enter.result)) told
-    (subst (λ b. Ended old new log desk a (CommitEnds a c.reply-reply.result b (HasFailed old new) c.enter.result)) (restart_of s counted limit was.well) ended)
+    restart_refused c.in_err-enter.field-0.0 old new c.args.self.now.storage.log c.enter.new.self.storage.log c.args.self.now.desk.state c.enter.new.self.desk.state s counted limit (Reopened c.active_count-stopped.result) (HasFailed old new) was
+    (c.in_err-enter.ensures.entered (opened_archive s counted limit) was refl (true, refl, refl) refl)
 
-pub returns-then-not-has_active-clause-changes : goal.returns-then-not-has_active-clause-changes
-returns-then-not-has_active-clause-changes g c = changes_nothing (g.D.Disk.life c.args.self.now.storage.disk)
+pub returns-in_ok-enter-clause-restarted : goal.returns-in_ok-enter-clause-restarted
+returns-in_ok-enter-clause-restarted g c s counted limit was =
+    let old = g.D.Disk.life c.args.self.now.storage.disk in
+    let new = g.D.Disk.life c.enter.new.self.storage.disk in
+    (restart_entered old new c.args.self.now.storage.log c.enter.new.self.storage.log c.args.self.now.desk.state c.enter.new.self.desk.state s counted limit _ c.in_ok-enter.field-0 (HasFailed old new) was
+    (c.in_ok-enter.ensures.entered (opened_archive s counted limit) was refl (true, refl, refl) refl)).0
 
-pub returns-then-not-has_active-clause-desk : goal.returns-then-not-has_active-clause-desk
-returns-then-not-has_active-clause-desk g c known counted limit is =
-    let none : list_any is_active known.recordings ≡ false = sym (ap (λ d. list_any is_active d.register.recordings) is) ∙ sym c.has_active.ensures ∙ c.if-not-has_active.true in
+pub returns-in_ok-enter-clause-any_moment : goal.returns-in_ok-enter-clause-any_moment
+returns-in_ok-enter-clause-any_moment g c s counted limit was =
+    let old = g.D.Disk.life c.args.self.now.storage.disk in
+    let new = g.D.Disk.life c.enter.new.self.storage.disk in
+    (restart_entered old new c.args.self.now.storage.log c.enter.new.self.storage.log c.args.self.now.desk.state c.enter.new.self.desk.state s counted limit _ c.in_ok-enter.field-0 (HasFailed old new) was
+    (c.in_ok-enter.ensures.entered (opened_archive s counted limit) was refl (true, refl, refl) refl)).1
+
+pub returns-else-stopped-gt0-clause-restarted : goal.returns-else-stopped-gt0-clause-restarted
+returns-else-stopped-gt0-clause-restarted g c s counted limit was =
+    let desk = c.args.self.now.desk.state in
+    let none : active_count desk.register ≡ 0 = grind (arith, ints, nat_tests, c.active_count-stopped.ensures.count, c.if-stopped-gt0.false) in
+    (restart_needless (g.D.Disk.life c.args.self.now.storage.disk) c.args.self.now.storage.log desk s counted limit was none).0
+
+pub returns-else-stopped-gt0-clause-any_moment : goal.returns-else-stopped-gt0-clause-any_moment
+returns-else-stopped-gt0-clause-any_moment g c s counted limit was =
+    let desk = c.args.self.now.desk.state in
+    let none : active_count desk.register ≡ 0 = grind (arith, ints, nat_tests, c.active_count-stopped.ensures.count, c.if-stopped-gt0.false) in
+    (restart_needless (g.D.Disk.life c.args.self.now.storage.disk) c.args.self.now.storage.log desk s counted limit was none).1
+
+pub returns-else-stopped-gt0-clause-desk : goal.returns-else-stopped-gt0-clause-desk
+returns-else-stopped-gt0-clause-desk g c known counted limit is =
+    let now : active_count c.args.self.now.desk.state.register ≡ 0 = grind (arith, ints, nat_tests, c.active_count-stopped.ensures.count, c.if-stopped-gt0.false) in
+    let none : active_count known ≡ 0 = sym (ap (λ d. active_count d.register) is) ∙ now in
     is ∙ ap (λ r. opened_desk r counted limit) (sym (none_stop known none))
-
-pub returns-clause-desk : goal.returns-clause-desk
-returns-clause-desk g c = on_ok_weaker c.enter.result (λ after known counted limit is. after ∙ ap (λ d. desk_after d Restart) is) c.enter.ensures.desk
