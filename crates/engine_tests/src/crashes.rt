@@ -65,13 +65,15 @@ fn a_fault_breaks_the_archive(rt: HostRuntime) -> Result<(), Fail> {
     assert!(rt; told(&answer(alloc, &mut engine, Act::Settle(0))) == ("error", 17));
     assert!(rt; told(&answer(alloc, &mut engine, Act::Stop(0))) == ("error", 16));
     assert!(rt; told(&answer(alloc, &mut engine, Act::Verify(0))) == ("verified", 0));
+    assert!(rt; engine.desk().is_broken());
     let mut engine = opened(alloc, engine.into_disk())?;
     assert!(rt; told(&answer(alloc, &mut engine, Act::Truncate(0, 0))) == ("truncated", 0));
     Ok(())
 }
 
-/// How many changes of the disk an opening makes, of an archive whose recording is active or has stopped.
-fn changes_of_opening(alloc: Global, has_stopped: bool) -> Result<u64, Refusal> {
+/// How many changes of the disk an opening makes, of an archive whose recording is active or has stopped; and how many
+/// recordings it stopped.
+fn changes_of_opening(alloc: Global, has_stopped: bool) -> Result<(u64, i64), Refusal> {
     let mut engine = made(alloc, MemoryDisk::new(alloc), 3)?;
     answer(alloc, &mut engine, Act::Start(0))?;
     answer(alloc, &mut engine, Act::Write(0, 0))?;
@@ -80,14 +82,16 @@ fn changes_of_opening(alloc: Global, has_stopped: bool) -> Result<u64, Refusal> 
     }
     let disk = engine.into_disk();
     let before = disk.changes();
-    let disk = opened(alloc, disk)?.into_disk();
-    Ok(disk.changes().wrapping_sub(before))
+    let engine = opened(alloc, disk)?;
+    let restarted = engine.restarted();
+    let disk = engine.into_disk();
+    Ok((disk.changes().wrapping_sub(before), restarted))
 }
 
 /// Two banks and a segment file are synced; a restart is committed only where a recording was active.
 #[test]
 fn an_opening_restarts_active_recordings_alone(rt: HostRuntime) -> Result<(), Fail> {
-    assert!(rt; changes_of_opening(rt.alloc(), true)? == 3);
-    assert!(rt; changes_of_opening(rt.alloc(), false)? == 7);
+    assert!(rt; changes_of_opening(rt.alloc(), true)? == (3, 0));
+    assert!(rt; changes_of_opening(rt.alloc(), false)? == (7, 1));
     Ok(())
 }
