@@ -1,9 +1,9 @@
 mod PartsLemmas
-mod StartLemmas
-mod ListingLemmas
-mod BlockLemmas
-mod PollLemmas
-mod TranscriptLemmas
+mod WorksLemmas
+mod CallLemmas
+mod OpeningLemmas
+mod LineLemmas
 mod ProgressLemmas
 mod ScriptLemmas
+mod EndLemmas
 mod CommandLineLemmas

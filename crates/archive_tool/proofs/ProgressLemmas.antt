@@ -1,60 +1,99 @@
 -- How far a script is: which lines of its input are answered by the text that the writer gained.
-use Rattle.std.proofs.Common.{◌≡◌, ℕ, Bool, true, false, List, [], ◌∷◌, ◌++◌, length, take, Option, Some, None, refl, sym, ap, subst, ◌∙◌, append_assoc}
+use Rattle.std.proofs.Common.{◌≡◌, ℕ, Bool, true, false, List, [], ◌∷◌, ◌++◌, length, take, drop, Option, Some, None, refl, sym, ap, subst, ◌∙◌, inl, inr, append_assoc}
 use Rattle.std.proofs.lemmas.List.{append-nil}
 use Rattle.std.specs.Io.KnownBytes.{Appends, Keeps, IsAtEnd}
 use Rattle.std.proofs.KnownBytes.{Appends-nil, Appends-trans, Appends-kept}
 use Rattle.std.specs.Prelude.{IfSome}
 use Rattle.archive_tool.specs.InputLines.{lines_of, kept, NextLine}
-use Rattle.archive_tool.specs.Transcript.{Transcript, Serves, until_quit, AnswersAll, AnswersSome, IsRight, Replied, Writes}
-use Rattle.archive_tool.proofs.TranscriptLemmas.{EndsLine, NoneQuits, none_quits-more, until-append, until-last, take-front, transcript-more, only_answers}
+use Rattle.archive_tool.specs.Transcript.{Transcript, until_quit, AnswersAll, AnswersSome, LeftNear, Writes}
+
+-- ---- lines up to the one that quits
+
+-- none of the lines quits
+abbrev pub NoneQuits : (Option (List ℕ) → Bool) → List (List ℕ) → Type 0
+NoneQuits quits [] = Unit {0}
+NoneQuits quits (line ∷ lines) = (quits (kept line) ≡ false) × NoneQuits quits lines
+
+none_quits-more : (quits : Option (List ℕ) → Bool) (lines : List (List ℕ)) (line : List ℕ) → NoneQuits quits lines → quits (kept line) ≡ false → NoneQuits quits (lines ++ line ∷ [])
+none_quits-more quits [] line none one = (one, tt)
+none_quits-more quits (first ∷ lines) line none one = (none.0, none_quits-more quits lines line none.1 one)
+
+-- where none of the first lines quits, they are all answered
+until-append : (quits : Option (List ℕ) → Bool) (lines more : List (List ℕ)) → NoneQuits quits lines → until_quit quits (lines ++ more) ≡ lines ++ until_quit quits more
+until-append quits [] more none = refl
+until-append quits (line ∷ lines) more none = rw none.0 (ap (λ ls. line ∷ ls) (until-append quits lines more none.1))
+
+-- the line that quits is the last
+until-last : (quits : Option (List ℕ) → Bool) (lines more : List (List ℕ)) (line : List ℕ) → NoneQuits quits lines → quits (kept line) ≡ true → until_quit quits (lines ++ line ∷ more) ≡ lines ++ line ∷ []
+until-last quits lines more line none quit = until-append quits lines (line ∷ more) none ∙ ap (λ ls. lines ++ ls) (rw quit refl)
+
+-- the first lines are what they are, and so are the others
+take-front : (lines more : List (List ℕ)) → take (length lines) (lines ++ more) ≡ lines
+take-front [] more = refl
+take-front (line ∷ lines) more = ap (λ ls. line ∷ ls) (take-front lines more)
+
+drop-front : (lines more : List (List ℕ)) → drop (length lines) (lines ++ more) ≡ more
+drop-front [] more = refl
+drop-front (line ∷ lines) more = drop-front lines more
+
+-- ---- one line more
+
+module _ {S : Type 0} (Answers : S → Option (List ℕ) → List ℕ → S → Type 0) where
+  transcript-more : (old : S) (lines : List (List ℕ)) (text : List ℕ) (mid : S) (line reply : List ℕ) (new : S) → Transcript Answers old lines text mid → Answers mid (kept line) reply new → Transcript Answers old (lines ++ line ∷ []) (text ++ reply) new
+  transcript-more old [] text mid line reply new done more =
+      let here : Answers old (kept line) reply new = subst (λ s. Answers s (kept line) reply new) done.1 more in
+      (reply, new, [], here, ap (λ t. t ++ reply) done.0 ∙ sym (append-nil reply), (refl, refl))
+  transcript-more old (first ∷ lines) text mid line reply new done more =
+      let rest = transcript-more done.1 lines done.2 mid line reply new done.5 more in
+      (done.0, done.1, done.2 ++ reply, done.3, ap (λ t. t ++ reply) done.4 ∙ append_assoc done.0 done.2 reply, rest)
 
 module _ {S : Type 0} (start : S) (quits : Option (List ℕ) → Bool) (Answers : S → Option (List ℕ) → List ℕ → S → Type 0) where
   -- these lines of the bytes before are answered, and these bytes are left
-  pub record HasServed (before now text : List ℕ) (state : S) : Type 0 where
+  pub record HasAnswered (before now text : List ℕ) (state : S) : Type 0 where
     pub done : List (List ℕ)
     pub all : lines_of before ≡ done ++ lines_of now
     pub none : NoneQuits quits done
-    pub served : Transcript (Serves Answers) start done text state
+    pub answered : Transcript Answers start done text state
 
   -- the same, where the bytes are known
-  abbrev pub ServedSoFar : Option (List ℕ) → Option (List ℕ) → List ℕ → S → Type 0
-  ServedSoFar None now text state = Unit {0}
-  ServedSoFar (Some before) None text state = ⊥
-  ServedSoFar (Some before) (Some now) text state = HasServed before now text state
+  abbrev pub SoFar : Option (List ℕ) → Option (List ℕ) → List ℕ → S → Type 0
+  SoFar None now text state = Unit {0}
+  SoFar (Some before) None text state = ⊥
+  SoFar (Some before) (Some now) text state = HasAnswered before now text state
 
   -- how far a script is
   pub record Progress (before now contents written : Option (List ℕ)) (state : S) : Type 0 where
     pub text : List ℕ
     pub appended : Appends contents written text
-    pub so_far : ServedSoFar before now text state
+    pub so_far : SoFar before now text state
 
-  start_so_far : (before : Option (List ℕ)) → ServedSoFar before before [] start
+  start_so_far : (before : Option (List ℕ)) → SoFar before before [] start
   start_so_far None = tt
-  start_so_far (Some bytes) = record { done = []; all = refl; none = tt; served = (refl, refl) }
+  start_so_far (Some bytes) = record { done = []; all = refl; none = tt; answered = (refl, refl) }
 
   -- nothing is read and nothing answered
   pub progress-start : (before contents : Option (List ℕ)) → Progress before before contents contents start
   progress-start before contents = record { text = []; appended = Appends-nil contents; so_far = start_so_far before }
 
-  more_so_far : (before now later : Option (List ℕ)) (text line reply : List ℕ) (state new : S) → ServedSoFar before now text state → NextLine now later line → Serves Answers state (kept line) reply new → quits (kept line) ≡ false → ServedSoFar before later (text ++ reply) new
-  more_so_far None now later text line reply state new so_far next serves goes_on = tt
-  more_so_far (Some before) None later text line reply state new so_far next serves goes_on = absurd so_far
-  more_so_far (Some before) (Some now) None text line reply state new so_far next serves goes_on = absurd next
-  more_so_far (Some before) (Some now) (Some later) text line reply state new so_far next serves goes_on =
+  more_so_far : (before now later : Option (List ℕ)) (text line reply : List ℕ) (state new : S) → SoFar before now text state → NextLine now later line → Answers state (kept line) reply new → quits (kept line) ≡ false → SoFar before later (text ++ reply) new
+  more_so_far None now later text line reply state new so_far next answers goes_on = tt
+  more_so_far (Some before) None later text line reply state new so_far next answers goes_on = absurd so_far
+  more_so_far (Some before) (Some now) None text line reply state new so_far next answers goes_on = absurd next
+  more_so_far (Some before) (Some now) (Some later) text line reply state new so_far next answers goes_on =
       record {
         done = so_far.done ++ line ∷ [];
         all = so_far.all ∙ ap (λ ls. so_far.done ++ ls) next ∙ sym (append_assoc so_far.done (line ∷ []) (lines_of later));
         none = none_quits-more quits so_far.done line so_far.none goes_on;
-        served = transcript-more (Serves Answers) start so_far.done text state line reply new so_far.served serves;
+        answered = transcript-more Answers start so_far.done text state line reply new so_far.answered answers;
       }
 
   -- one more line is answered
-  pub progress-more : (before now later contents written then : Option (List ℕ)) (line : List ℕ) (state new : S) → Progress before now contents written state → NextLine now later line → Replied Answers written then (kept line) state new → quits (kept line) ≡ false → Progress before later contents then new
-  progress-more before now later contents written then line state new progress next replied goes_on =
+  pub progress-more : (before now later contents written then : Option (List ℕ)) (line reply : List ℕ) (state new : S) → Progress before now contents written state → NextLine now later line → Appends written then reply → Answers state (kept line) reply new → quits (kept line) ≡ false → Progress before later contents then new
+  progress-more before now later contents written then line reply state new progress next appended answers goes_on =
       record {
-        text = progress.text ++ replied.reply;
-        appended = Appends-trans contents written then progress.text replied.reply progress.appended replied.appended;
-        so_far = more_so_far before now later progress.text line replied.reply state new progress.so_far next replied.serves goes_on;
+        text = progress.text ++ reply;
+        appended = Appends-trans contents written then progress.text reply progress.appended appended;
+        so_far = more_so_far before now later progress.text line reply state new progress.so_far next answers goes_on;
       }
 
   -- the writer stays as it was
@@ -62,59 +101,80 @@ module _ {S : Type 0} (start : S) (quits : Option (List ℕ) → Bool) (Answers 
   progress-kept before now contents written then state progress keeps =
       record { text = progress.text; appended = Appends-kept contents written then progress.text progress.appended keeps; so_far = progress.so_far }
 
-  module _ (ends : (old : S) (line : Option (List ℕ)) (reply : List ℕ) (new : S) → Answers old line reply new → EndsLine reply) where
-    right_all : (lines : List (List ℕ)) (text : List ℕ) → AnswersAll start quits (Serves Answers) lines text → IsRight (AnswersAll start quits Answers) (AnswersAll start quits (Serves Answers)) lines text
-    right_all lines text served = record { served = served; exact = λ never. (served.0, only_answers Answers ends start (until_quit quits lines) text served.0 served.1 never) }
+  module _ (Left : S → Type 0) where
+    abbrev pub All : List (List ℕ) → List ℕ → Type 0
+    All = AnswersAll start Left quits Answers
 
-    right_some : (lines : List (List ℕ)) (text : List ℕ) → AnswersSome start quits (Serves Answers) lines text → IsRight (AnswersSome start quits Answers) (AnswersSome start quits (Serves Answers)) lines text
-    right_some lines text served =
-        record { served = served; exact = λ never. (served.0, served.1, only_answers Answers ends start (take served.0 (until_quit quits lines)) text served.1 served.2 never) }
+    abbrev pub First : List (List ℕ) → List ℕ → Type 0
+    First = AnswersSome start Left quits Answers
 
-    abbrev pub RightAll : List (List ℕ) → List ℕ → Type 0
-    RightAll lines text = IsRight (AnswersAll start quits Answers) (AnswersAll start quits (Serves Answers)) lines text
-
-    abbrev pub RightSome : List (List ℕ) → List ℕ → Type 0
-    RightSome lines text = IsRight (AnswersSome start quits Answers) (AnswersSome start quits (Serves Answers)) lines text
-
-    last_right : (before now later : Option (List ℕ)) (text line reply : List ℕ) (state new : S) → ServedSoFar before now text state → NextLine now later line → Serves Answers state (kept line) reply new → quits (kept line) ≡ true → IfSome before (λ bytes. RightAll (lines_of bytes) (text ++ reply))
-    last_right None now later text line reply state new so_far next serves quit = tt
-    last_right (Some before) None later text line reply state new so_far next serves quit = absurd so_far
-    last_right (Some before) (Some now) None text line reply state new so_far next serves quit = absurd next
-    last_right (Some before) (Some now) (Some later) text line reply state new so_far next serves quit =
+    last_all : (before now later : Option (List ℕ)) (text line reply : List ℕ) (state new : S) → SoFar before now text state → NextLine now later line → Answers state (kept line) reply new → quits (kept line) ≡ true → Left new → IfSome before (λ bytes. All (lines_of bytes) (text ++ reply))
+    last_all None now later text line reply state new so_far next answers quit left = tt
+    last_all (Some before) None later text line reply state new so_far next answers quit left = absurd so_far
+    last_all (Some before) (Some now) None text line reply state new so_far next answers quit left = absurd next
+    last_all (Some before) (Some now) (Some later) text line reply state new so_far next answers quit left =
         let lines : until_quit quits (lines_of before) ≡ so_far.done ++ line ∷ [] = ap (until_quit quits) (so_far.all ∙ ap (λ ls. so_far.done ++ ls) next) ∙ until-last quits so_far.done (lines_of later) line so_far.none quit in
-        right_all (lines_of before) (text ++ reply) (new, subst (λ ls. Transcript (Serves Answers) start ls (text ++ reply) new) (sym lines) (transcript-more (Serves Answers) start so_far.done text state line reply new so_far.served serves))
+        (new, subst (λ ls. Transcript Answers start ls (text ++ reply) new) (sym lines) (transcript-more Answers start so_far.done text state line reply new so_far.answered answers), left)
 
     -- the line that quits is answered
-    pub progress-last : (before now later contents written then : Option (List ℕ)) (line : List ℕ) (state new : S) → Progress before now contents written state → NextLine now later line → Replied Answers written then (kept line) state new → quits (kept line) ≡ true → Writes before contents then RightAll
-    progress-last before now later contents written then line state new progress next replied quit =
+    pub progress-last : (before now later contents written then : Option (List ℕ)) (line reply : List ℕ) (state new : S) → Progress before now contents written state → NextLine now later line → Appends written then reply → Answers state (kept line) reply new → quits (kept line) ≡ true → Left new → Writes before contents then All
+    progress-last before now later contents written then line reply state new progress next appended answers quit left =
         record {
-          text = progress.text ++ replied.reply;
-          appended = Appends-trans contents written then progress.text replied.reply progress.appended replied.appended;
-          right = last_right before now later progress.text line replied.reply state new progress.so_far next replied.serves quit;
+          text = progress.text ++ reply;
+          appended = Appends-trans contents written then progress.text reply progress.appended appended;
+          right = last_all before now later progress.text line reply state new progress.so_far next answers quit left;
         }
 
-    end_right : (before now : Option (List ℕ)) (text : List ℕ) (state : S) → ServedSoFar before now text state → IsAtEnd now → IfSome before (λ bytes. RightAll (lines_of bytes) text)
-    end_right None now text state so_far end = tt
-    end_right (Some before) None text state so_far end = absurd so_far
-    end_right (Some before) (Some now) text state so_far end =
+    end_all : (before now : Option (List ℕ)) (text : List ℕ) (state : S) → SoFar before now text state → IsAtEnd now → Left state → IfSome before (λ bytes. All (lines_of bytes) text)
+    end_all None now text state so_far end left = tt
+    end_all (Some before) None text state so_far end left = absurd so_far
+    end_all (Some before) (Some now) text state so_far end left =
         let lines : until_quit quits (lines_of before) ≡ so_far.done =
         ap (until_quit quits) (so_far.all ∙ ap (λ bytes. so_far.done ++ lines_of bytes) end) ∙ until-append quits so_far.done [] so_far.none ∙ append-nil so_far.done in
-        right_all (lines_of before) text (state, subst (λ ls. Transcript (Serves Answers) start ls text state) (sym lines) so_far.served)
+        (state, subst (λ ls. Transcript Answers start ls text state) (sym lines) so_far.answered, left)
 
     -- the input is at its end
-    pub progress-end : (before now contents written : Option (List ℕ)) (state : S) → Progress before now contents written state → IsAtEnd now → Writes before contents written RightAll
-    progress-end before now contents written state progress end =
-        record { text = progress.text; appended = progress.appended; right = end_right before now progress.text state progress.so_far end }
+    pub progress-end : (before now contents written : Option (List ℕ)) (state : S) → Progress before now contents written state → IsAtEnd now → Left state → Writes before contents written All
+    progress-end before now contents written state progress end left =
+        record { text = progress.text; appended = progress.appended; right = end_all before now progress.text state progress.so_far end left }
 
-    some_right : (before now : Option (List ℕ)) (text : List ℕ) (state : S) → ServedSoFar before now text state → IfSome before (λ bytes. RightSome (lines_of bytes) text)
-    some_right None now text state so_far = tt
-    some_right (Some before) None text state so_far = absurd so_far
-    some_right (Some before) (Some now) text state so_far =
-        let lines : take (length so_far.done) (until_quit quits (lines_of before)) ≡ so_far.done =
-        ap (λ ls. take (length so_far.done) (until_quit quits ls)) so_far.all ∙ ap (take (length so_far.done)) (until-append quits so_far.done (lines_of now) so_far.none) ∙ take-front so_far.done (until_quit quits (lines_of now)) in
-        right_some (lines_of before) text (length so_far.done, state, subst (λ ls. Transcript (Serves Answers) start ls text state) (sym lines) so_far.served)
+    -- what is left is the state, or the one after the next line that is to be read
+    abbrev pub Near : Option (List ℕ) → S → Type 0
+    Near now state = IfSome now (λ bytes. LeftNear start Left quits Answers state (until_quit quits (lines_of bytes)))
+
+    left_near : (state : S) (lines : List (List ℕ)) → Left state → LeftNear start Left quits Answers state lines
+    left_near state [] left = left
+    left_near state (line ∷ lines) left = inl left
+
+    pub near-here : (now : Option (List ℕ)) (state : S) → Left state → Near now state
+    near-here None state left = tt
+    near-here (Some now) state left = left_near state (until_quit quits (lines_of now)) left
+
+    pub near-next : (now later : Option (List ℕ)) (line reply : List ℕ) (state new : S) → NextLine now later line → Answers state (kept line) reply new → Left new → Near now state
+    near-next None later line reply state new next answers left = tt
+    near-next (Some now) None line reply state new next answers left = absurd next
+    near-next (Some now) (Some later) line reply state new next answers left =
+        subst (λ ls. LeftNear start Left quits Answers state (until_quit quits ls)) (sym next) (inr (reply, new, answers, left))
+
+    some_first : (before now : Option (List ℕ)) (text : List ℕ) (state : S) → SoFar before now text state → Near now state → IfSome before (λ bytes. First (lines_of bytes) text)
+    some_first None now text state so_far near = tt
+    some_first (Some before) None text state so_far near = absurd so_far
+    some_first (Some before) (Some now) text state so_far near =
+        let lines : until_quit quits (lines_of before) ≡ so_far.done ++ until_quit quits (lines_of now) = ap (until_quit quits) so_far.all ∙ until-append quits so_far.done (lines_of now) so_far.none in
+        let front : take (length so_far.done) (until_quit quits (lines_of before)) ≡ so_far.done = ap (take (length so_far.done)) lines ∙ take-front so_far.done (until_quit quits (lines_of now)) in
+        let behind : drop (length so_far.done) (until_quit quits (lines_of before)) ≡ until_quit quits (lines_of now) = ap (drop (length so_far.done)) lines ∙ drop-front so_far.done (until_quit quits (lines_of now)) in (
+          length so_far.done,
+          state,
+          subst (λ ls. Transcript Answers start ls text state) (sym front) so_far.answered,
+          subst (λ ls. LeftNear start Left quits Answers state ls) (sym behind) near,
+        )
 
     -- the script ends early
-    pub progress-fault : (before now contents written : Option (List ℕ)) (state : S) → Progress before now contents written state → Writes before contents written RightSome
-    progress-fault before now contents written state progress =
-        record { text = progress.text; appended = progress.appended; right = some_right before now progress.text state progress.so_far }
+    pub progress-early : (before now contents written : Option (List ℕ)) (state : S) → Progress before now contents written state → Near now state → Writes before contents written First
+    progress-early before now contents written state progress near =
+        record { text = progress.text; appended = progress.appended; right = some_first before now progress.text state progress.so_far near }
+
+    -- whatever was written
+    pub progress-cut : (before now contents written : Option (List ℕ)) (state : S) → Progress before now contents written state → Near now state → IfSome before (λ bytes. (text : List ℕ) × First (lines_of bytes) text)
+    progress-cut None now contents written state progress near = tt
+    progress-cut (Some before) now contents written state progress near = (progress.text, some_first (Some before) now progress.text state progress.so_far near)

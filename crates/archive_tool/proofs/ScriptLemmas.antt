@@ -1,128 +1,163 @@
--- Each answer is a line or more, and what serves a line is written so.
-use Rattle.std.proofs.Common.{◌≡◌, ℕ, ℤ, Bool, true, false, List, [], ◌∷◌, ◌++◌, Option, Some, None, Result, Ok, Err, refl, sym, ap, subst, ◌∙◌, inl, inr, append_assoc, OnOk, codes}
-use Rattle.std.specs.Fmt.{signed_decimal, decimal, digits}
-use Rattle.frame_core.specs.Refusal.{number_of}
-use Rattle.std.specs.List.{flat_map}
-use Rattle.std.specs.Io.KnownBytes.{Appends}
+-- A script's lines are answered one after another, and its disk keeps up with what was written.
+use Rattle.std.proofs.Common.{◌≡◌, ◌≤◌, ◌∙◌, ℕ, true, false, List, Option, Result, Ok, Err, refl, sym, ap, subst, arith, IsTrue}
+use Rattle.std.specs.Io.KnownBytes.{Appends, IsAtEnd, Keeps}
+use Rattle.std.specs.Prelude.{IfErr, MatchResult, OnOk}
 use Rattle.frame_core.specs.declared.refusal.Refusal.{Refusal}
-use Rattle.frame_core.specs.declared.refusal.Refusal.TheVariants.{NoMemory}
 use Rattle.archive_model.specs.declared.reply.Reply.{Reply}
-use Rattle.archive_model.specs.declared.reply.Reply.TheVariants as replies
-use Rattle.archive_model.specs.declared.reply.PolledFrame.{PolledFrame}
-use Rattle.control_core.specs.ReplyText.{reply_text, told, end_line, taken_line, swept_line, merge_line, frame_line}
-use Rattle.control_core.specs.RefusalText.{name_of, place_of, refusal_text}
-use Rattle.control_core.specs.Calls.{OrNoMemory}
-use Rattle.archive_tool.specs.declared.fault.ScriptFault.{ScriptFault}
-use Rattle.archive_tool.specs.declared.fault.ScriptFault.TheVariants as faults
+use Rattle.disk_core.specs.Life.{Life}
+use Rattle.control_core.specs.Exact.{Archive}
+use Rattle.archive_tool.specs.declared.fault.EarlyEnd.{EarlyEnd}
+use Rattle.archive_tool.specs.declared.fault.EarlyEnd.TheVariants as ends
+use Rattle.archive_tool.specs.declared.state.ScriptState.{ScriptState}
 use Rattle.archive_tool.specs.InputLines.{ReadsLine}
-use Rattle.archive_tool.specs.ScriptLines.{ScriptState, ReadLineEnds}
-use Rattle.archive_tool.specs.Transcript.{Serves, Replied, Writes, memory_line}
-use Rattle.archive_tool.specs.Script.{Answers, asked, outcome_text, beginning, quits, IsTranscript, EndsEarly, FailsToAnswer}
-use Rattle.archive_tool.proofs.ProgressLemmas.{Progress, progress-kept, progress-more, progress-last, progress-fault}
-use Rattle.archive_tool.proofs.TranscriptLemmas.{EndsLine}
+use Rattle.archive_tool.specs.Script.{Answers, EndsEarly, FailsToAnswer, IsTranscript, Replied, Works, asked, outcome_text, quits}
+use Rattle.archive_tool.specs.ScriptLines.{Answered, Scene, begun_with}
+use Rattle.archive_tool.specs.Tie.{IsScene, life_of}
+use Rattle.archive_tool.specs.Transcript.{Writes}
+use Rattle.archive_tool.proofs.ProgressLemmas.{Near, Progress, near-here, near-next, progress-cut, progress-early, progress-end, progress-kept, progress-last, progress-more, progress-start}
+use Rattle.archive_tool.proofs.WorksLemmas.{works_first, works_then}
 
--- a text whose last line has its end
-abbrev HasEnd : List ℕ → Type 0
-HasEnd text = (front : List ℕ) × (text ≡ front ++ 10 ∷ [])
+-- ---- one line
 
-end-append : (front text : List ℕ) → HasEnd text → HasEnd (front ++ text)
-end-append front text end = (front ++ end.0, ap (λ t. front ++ t) end.1 ∙ sym (append_assoc front end.0 (10 ∷ [])))
+told : (contents written : Option (List ℕ)) (outcome : Result Reply Refusal) (result : Result (Unit {0}) EarlyEnd) → OnOk result (Appends contents written (outcome_text outcome)) → IfErr result (λ end. FailsToAnswer end contents written)
+    → MatchResult result (λ done. Appends contents written (outcome_text outcome)) (λ end. FailsToAnswer end contents written)
+told contents written outcome (Ok done) appended fails = appended
+told contents written outcome (Err end) appended fails = fails
 
-told_end : (word : List ℕ) (z : ℤ) → HasEnd (told word z)
-told_end word z = end-append word _ (end-append (signed_decimal z) (10 ∷ []) ([], refl))
+-- what is written of an answer answers the line
+pub replied : (contents written line : Option (List ℕ)) (old new : Scene) (outcome : Result Reply Refusal) (result : Result (Unit {0}) EarlyEnd) → Answered old (asked line) outcome new → OnOk result (Appends contents written (outcome_text outcome))
+    → IfErr result (λ end. FailsToAnswer end contents written) → Replied contents written line old new result
+replied contents written line old new outcome result answered appended fails =
+    record { reply = outcome_text outcome; answers = (outcome, answered, refl); told = told contents written outcome result appended fails }
 
-frame_end : (f : PolledFrame) → HasEnd (frame_line f)
-frame_end f = end-append (codes "frame ") _ (end-append (signed_decimal f.position) _ (end-append (codes " ") _ (end-append _ (10 ∷ []) ([], refl))))
+-- ---- lines one after another
 
-poll_end : (next : Option ℤ) → HasEnd (end_line next)
-poll_end None = (codes "done", refl)
-poll_end (Some next) = told_end (codes "more ") next
-
-taken_end : (frame : Option PolledFrame) → HasEnd (taken_line frame)
-taken_end None = (codes "none", refl)
-taken_end (Some f) = frame_end f
-
-swept_end : (removed : Bool) → HasEnd (swept_line removed)
-swept_end true = (codes "swept 1", refl)
-swept_end false = (codes "swept 0", refl)
-
-merge_end : (is_merged : Bool) (cursor : ℤ) → HasEnd (merge_line is_merged cursor)
-merge_end true cursor = told_end (codes "merged yes ") cursor
-merge_end false cursor = told_end (codes "merged no ") cursor
-
-reply_end : (reply : Reply) → HasEnd (reply_text reply)
-reply_end (replies.Started recording session) = end-append (codes "started ") _ (end-append (signed_decimal recording) _ (told_end (codes " ") session))
-reply_end (replies.Extended session) = told_end (codes "extended ") session
-reply_end (replies.Written position) = told_end (codes "written ") position
-reply_end (replies.Settled position) = told_end (codes "settled ") position
-reply_end (replies.Stopped position) = told_end (codes "stopped ") position
-reply_end (replies.Truncated position) = told_end (codes "truncated ") position
-reply_end (replies.Purged segments) = told_end (codes "purged ") segments
-reply_end replies.PurgedRecording = (codes "purged-recording", refl)
-reply_end (replies.Recordings descriptors) = end-append _ _ (end-append (codes "end ") _ (end-append _ (10 ∷ []) ([], refl)))
-reply_end (replies.Found recording) = told_end (codes "found ") recording
-reply_end (replies.Positions start recorded stop) =
-    end-append (codes "positions ") _ (end-append (signed_decimal start) _ (end-append (codes " ") _ (end-append (signed_decimal recorded) _ (told_end (codes " ") stop))))
-reply_end (replies.ReplayOpened replay) = told_end (codes "replay ") replay
-reply_end (replies.Polled frames next) = end-append (flat_map frame_line frames) _ (poll_end next)
-reply_end replies.Closed = (codes "closed", refl)
-reply_end (replies.Swept removed) = swept_end removed
-reply_end (replies.Verified frames) = told_end (codes "verified ") frames
-reply_end (replies.Reopened recordings) = told_end (codes "reopened ") recordings
-reply_end replies.Compacted = (codes "compacted", refl)
-reply_end (replies.MergeOpened position) = told_end (codes "merge ") position
-reply_end replies.Held = (codes "held", refl)
-reply_end replies.Ignored = (codes "ignored", refl)
-reply_end replies.Full = (codes "full", refl)
-reply_end (replies.Taken frame) = taken_end frame
-reply_end (replies.MergeState is_merged cursor) = merge_end is_merged cursor
-reply_end replies.Bye = (codes "bye", refl)
-
-refusal_end : (refusal : Refusal) → HasEnd (refusal_text refusal)
-unfolding refusal_text
-refusal_end refusal = end-append (codes "error " ++ decimal (number_of refusal) ++ codes " " ++ name_of refusal ++ place_of refusal) (10 ∷ []) ([], refl)
-
--- the line of a refusal for want of memory
-no_memory_text : refusal_text NoMemory ≡ memory_line ++ 10 ∷ []
-unfolding refusal_text digits
-no_memory_text = refl
-
-outcome_end : (outcome : Result Reply Refusal) → HasEnd (outcome_text outcome)
-outcome_end (Ok reply) = reply_end reply
-outcome_end (Err refusal) = refusal_end refusal
-
--- each answer ends its line
-pub answers_end : (old : ScriptState) (line : Option (List ℕ)) (reply : List ℕ) (new : ScriptState) → Answers old line reply new → EndsLine reply
-answers_end old line reply new answers = let end = outcome_end answers.0 in inr (end.0, answers.2 ∙ end.1)
-
-served : (old : ScriptState) (line : Option (List ℕ)) (outcome : Result Reply Refusal) (new : ScriptState) → OrNoMemory old (ReadLineEnds old (asked line)) outcome new → Serves Answers old line (outcome_text outcome) new
-served old line (Ok reply) new ends = inl (Ok reply, ends, refl)
-served old line (Err NoMemory) new ends = inr (no_memory_text, ends)
-served old line (Err refusal) new ends = inl (Err refusal, ends, refl)
-
--- what is written of an answer serves its line
-pub replied : (contents written line : Option (List ℕ)) (old new : ScriptState) (outcome : Result Reply Refusal) (result : Result (Unit {0}) ScriptFault) → OrNoMemory old (ReadLineEnds old (asked line)) outcome new → OnOk result (Appends contents written (outcome_text outcome)) → OnOk result (Replied Answers contents written line old new)
-replied contents written line old new outcome (Ok done) ends appended = record { reply = outcome_text outcome; appended = appended; serves = served old line outcome new ends }
-replied contents written line old new outcome (Err fault) ends appended = tt
-
--- what was answered before a read that failed is the transcript of the first lines
-pub early_read : (before now contents written : Option (List ℕ)) (state : ScriptState) (fault : ScriptFault) → Progress beginning quits Answers before now contents written state → EndsEarly fault before contents written
-early_read before now contents written state faults.Write progress = tt
-early_read before now contents written state faults.Read progress = progress-fault beginning quits Answers answers_end before now contents written state progress
-early_read before now contents written state faults.Memory progress = progress-fault beginning quits Answers answers_end before now contents written state progress
-
--- so is it before an answer that found no memory
-pub early_answer : (before now contents written then : Option (List ℕ)) (state : ScriptState) (fault : ScriptFault) → Progress beginning quits Answers before now contents written state → FailsToAnswer fault written then → EndsEarly fault before contents then
-early_answer before now contents written then state faults.Write progress keeps = tt
-early_answer before now contents written then state faults.Read progress fails = elim fails [ ]
-early_answer before now contents written then state faults.Memory progress keeps = early_read before now contents then state faults.Memory (progress-kept beginning quits Answers before now contents written then state progress keeps)
+abbrev pub Came : Archive → Option (List ℕ) → Option (List ℕ) → Option (List ℕ) → Option (List ℕ) → Scene → Type 0
+Came a = Progress (begun_with a) quits Answers
 
 -- a line is answered, and the next one is read
-pub goes_on : (before now later contents written then line : Option (List ℕ)) (state new : ScriptState) → Progress beginning quits Answers before now contents written state → ReadsLine now later line → Replied Answers written then line state new → quits line ≡ false → Progress beginning quits Answers before later contents then new
-goes_on before now later contents written then line state new progress read replied more =
-    progress-more beginning quits Answers before now later contents written then read.line state new progress read.next (subst (λ l. Replied Answers written then l state new) read.is_kept replied) (ap quits (sym read.is_kept) ∙ more)
+goes_on : (a : Archive) (before now later contents written then line : Option (List ℕ)) (state new : Scene) → Came a before now contents written state → ReadsLine now later line → Replied written then line state new (Ok tt) → quits line ≡ false
+    → Came a before later contents then new
+goes_on a before now later contents written then line state new so_far read replied more =
+    progress-more (begun_with a) quits Answers before now later contents written then read.line replied.reply state new so_far read.next replied.told
+    (subst (λ l. Answers state l replied.reply new) read.is_kept replied.answers) (ap quits (sym read.is_kept) ∙ more)
 
 -- the line that quits is answered
-pub ends_at_quit : (before now later contents written then line : Option (List ℕ)) (state new : ScriptState) → Progress beginning quits Answers before now contents written state → ReadsLine now later line → Replied Answers written then line state new → quits line ≡ true → Writes before contents then IsTranscript
-ends_at_quit before now later contents written then line state new progress read replied quit =
-    progress-last beginning quits Answers answers_end before now later contents written then read.line state new progress read.next (subst (λ l. Replied Answers written then l state new) read.is_kept replied) (ap quits (sym read.is_kept) ∙ quit)
+at_quit : (a : Archive) (Left : Scene → Type 0) (before now later contents written then line : Option (List ℕ)) (state new : Scene) → Came a before now contents written state → ReadsLine now later line → Replied written then line state new (Ok tt)
+    → quits line ≡ true → Left new → Writes before contents then (IsTranscript a Left)
+at_quit a Left before now later contents written then line state new so_far read replied quit left =
+    progress-last (begun_with a) quits Answers Left before now later contents written then read.line replied.reply state new so_far read.next replied.told
+    (subst (λ l. Answers state l replied.reply new) read.is_kept replied.answers) (ap quits (sym read.is_kept) ∙ quit) left
+
+-- a script that ends early, wherever it is
+early : (a : Archive) (Left : Scene → Type 0) (before now contents written : Option (List ℕ)) (state : Scene) (end : EarlyEnd) → Came a before now contents written state → Near (begun_with a) quits Answers Left now state
+    → EndsEarly end a Left before contents written
+early a Left before now contents written state ends.Write so_far near = progress-cut (begun_with a) quits Answers Left before now contents written state so_far near
+early a Left before now contents written state ends.Read so_far near = progress-early (begun_with a) quits Answers Left before now contents written state so_far near
+early a Left before now contents written state ends.Memory so_far near = progress-early (begun_with a) quits Answers Left before now contents written state so_far near
+
+-- before a line is answered
+early_here : (a : Archive) (Left : Scene → Type 0) (before now contents written : Option (List ℕ)) (state : Scene) (end : EarlyEnd) → Came a before now contents written state → Left state → EndsEarly end a Left before contents written
+early_here a Left before now contents written state end so_far left = early a Left before now contents written state end so_far (near-here (begun_with a) quits Answers Left now state left)
+
+-- behind one whose answer was not written
+early_unsaid : (a : Archive) (Left : Scene → Type 0) (before now later contents written then line : Option (List ℕ)) (state new : Scene) (end : EarlyEnd) → Came a before now contents written state → ReadsLine now later line
+    → Replied written then line state new (Err end) → Left new → EndsEarly end a Left before contents then
+early_unsaid a Left before now later contents written then line state new end so_far read replied left = by end replied
+  where
+    near : (end : EarlyEnd) → Replied written then line state new (Err end) → Near (begun_with a) quits Answers Left now state
+    near end replied = near-next (begun_with a) quits Answers Left now later read.line replied.reply state new read.next (subst (λ l. Answers state l replied.reply new) read.is_kept replied.answers) left
+
+    by : (end : EarlyEnd) → Replied written then line state new (Err end) → EndsEarly end a Left before contents then
+    by ends.Write replied = progress-cut (begun_with a) quits Answers Left before now contents written state so_far (near ends.Write replied)
+    by ends.Read replied = absurd replied.told
+    by ends.Memory replied = early a Left before now contents then state ends.Memory (progress-kept (begun_with a) quits Answers before now contents written then state so_far replied.told) (near ends.Memory replied)
+
+-- ---- the loop
+
+-- how far the script has come, where no call of its disk has failed
+pub record HasCome {D : Type 0} (life : D → Life) (old new : ScriptState D) (before now contents written : Option (List ℕ)) : Type 0 where
+  pub obeyed : IsTrue (life_of life new.archive).obeys → IsTrue (life_of life old.archive).obeys
+  pub faults : (life_of life old.archive).faults ≤ (life_of life new.archive).faults
+  pub so_far : (a : Archive) → IsScene life old (begun_with a) → Works (life_of life old.archive) (life_of life new.archive) → (s : Scene) × IsScene life new s × Came a before now contents written s
+
+pub none_yet : {D : Type 0} (life : D → Life) (state : ScriptState D) (before contents : Option (List ℕ)) → HasCome life state state before before contents contents
+none_yet life state before contents = record {
+  obeyed = λ obeys. obeys;
+  faults = omega arith;
+  so_far = λ a begun works. (begun_with a, begun, progress-start (begun_with a) quits Answers before contents);
+}
+
+pub still : {D : Type 0} (life : D → Life) (old new : ScriptState D) (before now contents written then : Option (List ℕ)) → HasCome life old new before now contents written → Keeps written then → HasCome life old new before now contents then
+still life old new before now contents written then come keeps = record {
+  obeyed = come.obeyed;
+  faults = come.faults;
+  so_far = λ a begun works. let here = come.so_far a begun works in (here.0, here.1, progress-kept (begun_with a) quits Answers before now contents written then here.0 here.2 keeps);
+}
+
+-- what a line does
+pub record AnswersLine {D : Type 0} (life : D → Life) (old new : ScriptState D) (contents written line : Option (List ℕ)) (result : Result (Unit {0}) EarlyEnd) : Type 0 where
+  pub obeyed : IsTrue (life_of life new.archive).obeys → IsTrue (life_of life old.archive).obeys
+  pub faults : (life_of life old.archive).faults ≤ (life_of life new.archive).faults
+  pub replied : (s : Scene) → IsScene life old s → Works (life_of life old.archive) (life_of life new.archive) → (t : Scene) × IsScene life new t × Replied contents written line s t result
+
+-- before the line, after it, and its answer
+record Next {D : Type 0} (life : D → Life) (new : ScriptState D) (a : Archive) (before now contents written then line : Option (List ℕ)) (result : Result (Unit {0}) EarlyEnd) : Type 0 where
+  pub here : Scene
+  pub come : Came a before now contents written here
+  pub there : Scene
+  pub is : IsScene life new there
+  pub replied : Replied written then line here there result
+
+next : {D : Type 0} (life : D → Life) (old mid new : ScriptState D) (a : Archive) (before now contents written then line : Option (List ℕ)) (result : Result (Unit {0}) EarlyEnd) → HasCome life old mid before now contents written
+    → AnswersLine life mid new written then line result → IsScene life old (begun_with a) → Works (life_of life old.archive) (life_of life new.archive) → Next life new a before now contents written then line result
+next life old mid new a before now contents written then line result come line_of begun works =
+    let first = works_first (life_of life old.archive) (life_of life mid.archive) (life_of life new.archive) works line_of.obeyed come.faults line_of.faults in
+    let later = works_then (life_of life old.archive) (life_of life mid.archive) (life_of life new.archive) works come.faults line_of.faults in
+    let here = come.so_far a begun first in
+    let there = line_of.replied here.0 here.1 later in
+    record { here = here.0; come = here.2; there = there.0; is = there.1; replied = there.2 }
+
+pub one_more : {D : Type 0} (life : D → Life) (old mid new : ScriptState D) (before now later contents written then line : Option (List ℕ)) → HasCome life old mid before now contents written → ReadsLine now later line
+    → AnswersLine life mid new written then line (Ok tt) → quits line ≡ false → HasCome life old new before later contents then
+one_more life old mid new before now later contents written then line come read line_of more = record {
+  obeyed = λ obeys. come.obeyed (line_of.obeyed obeys);
+  faults = let first = come.faults in let behind = line_of.faults in omega (arith, first, behind);
+  so_far = λ a begun works.
+      let n = next life old mid new a before now contents written then line (Ok tt) come line_of begun works in
+      (n.there, n.is, goes_on a before now later contents written then line n.here n.there n.come read n.replied more);
+}
+
+pub whole_at_end : {D : Type 0} (life : D → Life) (old new : ScriptState D) (before now contents written : Option (List ℕ)) → HasCome life old new before now contents written → IsAtEnd now
+    → (a : Archive) → IsScene life old (begun_with a) → Works (life_of life old.archive) (life_of life new.archive) → Writes before contents written (IsTranscript a (IsScene life new))
+whole_at_end life old new before now contents written come end a begun works =
+    let here = come.so_far a begun works in
+    progress-end (begun_with a) quits Answers (IsScene life new) before now contents written here.0 here.2 end here.1
+
+pub whole_at_quit : {D : Type 0} (life : D → Life) (old mid new : ScriptState D) (before now later contents written then line : Option (List ℕ)) → HasCome life old mid before now contents written → ReadsLine now later line
+    → AnswersLine life mid new written then line (Ok tt) → quits line ≡ true
+    → (a : Archive) → IsScene life old (begun_with a) → Works (life_of life old.archive) (life_of life new.archive) → Writes before contents then (IsTranscript a (IsScene life new))
+whole_at_quit life old mid new before now later contents written then line come read line_of quit a begun works =
+    let n = next life old mid new a before now contents written then line (Ok tt) come line_of begun works in
+    at_quit a (IsScene life new) before now later contents written then line n.here n.there n.come read n.replied quit n.is
+
+pub early_at_line : {D : Type 0} (life : D → Life) (old new : ScriptState D) (before now contents written : Option (List ℕ)) (end : EarlyEnd) → HasCome life old new before now contents written
+    → (a : Archive) → IsScene life old (begun_with a) → Works (life_of life old.archive) (life_of life new.archive) → EndsEarly end a (IsScene life new) before contents written
+early_at_line life old new before now contents written end come a begun works =
+    let here = come.so_far a begun works in
+    early_here a (IsScene life new) before now contents written here.0 end here.2 here.1
+
+pub early_behind_line : {D : Type 0} (life : D → Life) (old mid new : ScriptState D) (before now later contents written then line : Option (List ℕ)) (end : EarlyEnd) → HasCome life old mid before now contents written → ReadsLine now later line
+    → AnswersLine life mid new written then line (Err end)
+    → (a : Archive) → IsScene life old (begun_with a) → Works (life_of life old.archive) (life_of life new.archive) → EndsEarly end a (IsScene life new) before contents then
+early_behind_line life old mid new before now later contents written then line end come read line_of a begun works =
+    let n = next life old mid new a before now contents written then line (Err end) come line_of begun works in
+    early_unsaid a (IsScene life new) before now later contents written then line n.here n.there end n.come read n.replied n.is
+
+-- what a line does, as its answer is looked at
+pub as_answered : {D : Type 0} (life : D → Life) (old new : ScriptState D) (contents written line : Option (List ℕ)) (result as_result : Result (Unit {0}) EarlyEnd) → result ≡ as_result
+    → (IsTrue (life_of life new.archive).obeys → IsTrue (life_of life old.archive).obeys) → (life_of life old.archive).faults ≤ (life_of life new.archive).faults
+    → ((s : Scene) → IsScene life old s → Works (life_of life old.archive) (life_of life new.archive) → (t : Scene) × IsScene life new t × Replied contents written line s t result)
+    → AnswersLine life old new contents written line as_result
+as_answered life old new contents written line result as_result is obeyed faults replied =
+    subst (λ (r : Result (Unit {0}) EarlyEnd). AnswersLine life old new contents written line r) is (record { obeyed = obeyed; faults = faults; replied = replied })

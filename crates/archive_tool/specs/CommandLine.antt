@@ -8,7 +8,7 @@ use Rattle.clap.specs.declared.error.ErrorKind.{ErrorKind}
 use Rattle.clap.specs.declared.error.ErrorKind.TheVariants as kinds
 use Rattle.frame_core.specs.declared.refusal.Refusal.{Refusal}
 use Rattle.frame_core.specs.declared.refusal.Refusal.TheVariants.{DeviceFault, NoMemory}
-use Rattle.archive_tool.specs.declared.fault.ScriptFault.TheVariants as faults
+use Rattle.archive_tool.specs.declared.fault.EarlyEnd.TheVariants as faults
 use Rattle.archive_tool.specs.declared.status.Ending.{Ending}
 use Rattle.archive_tool.specs.declared.status.Ending.TheVariants.{Done, Cut, NoCommand, Failed}
 use Rattle.archive_tool.specs.declared.command.ToolCommand.{ToolCommand}

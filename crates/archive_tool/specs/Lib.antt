@@ -7,3 +7,5 @@ pub mod Script
 pub mod CommandLine
 -- How a line is put together from parts.
 pub mod Parts
+-- What values in memory and a disk are to an archive.
+pub mod Tie

@@ -14,15 +14,31 @@ use Rattle.merge_core.specs.declared.merge.Offered.TheVariants.{Held, Ignored, F
 use Rattle.merge_core.specs.Merge.{Merging, opened, answer_to, after_replay_frame, after_live_frame, after_take, next_frame}
 use Rattle.control_core.specs.declared.merge_line.MergeLine.{MergeLine}
 use Rattle.control_core.specs.declared.merge_line.MergeLine.TheVariants as merges
-use Rattle.control_core.specs.Calls.{EndsIn}
-use Rattle.control_core.specs.Answers.{Refused, Answered}
+
+-- what a line may end with: its answer, and what it is about then
+abbrev pub Ends : Type 0 → Type 1
+Ends S = Result Reply Refusal → S → Type 0
+
+-- refused, and nothing is changed
+abbrev pub Refused : {S : Type 0} → S → Refusal → Ends S
+Refused a refusal outcome new = (outcome ≡ Err refusal) × (new ≡ a)
+
+-- answered, and nothing is changed
+abbrev pub Answered : {S : Type 0} → S → Reply → Ends S
+Answered a reply outcome new = (outcome ≡ Ok reply) × (new ≡ a)
+
+-- the same, or want of memory, which changes nothing
+abbrev pub OrNoMemory : {S : Type 0} → S → Ends S → Ends S
+OrNoMemory old ends (Ok reply) new = ends (Ok reply) new
+OrNoMemory old ends (Err NoMemory) new = new ≡ old
+OrNoMemory old ends (Err refusal) new = ends (Err refusal) new
 
 -- a merge looks at no MTU
 abbrev pub geometry_of : ℤ → ℤ → Geometry
 geometry_of term term_length = record { initial_term_id = term; term_length = term_length; mtu = pos 65504 }
 
 -- a merge begins anew, or none may begin there, and an earlier one stays
-abbrev pub OpenEnds : Option Merging → ℤ → ℤ → ℤ → EndsIn (Option Merging)
+abbrev pub OpenEnds : Option Merging → ℤ → ℤ → ℤ → Ends (Option Merging)
 OpenEnds old term term_length position (Ok reply) new =
     (may_begin_at term_length position ≡ true)
     × (reply ≡ replies.MergeOpened position)
@@ -49,11 +65,11 @@ reply_to (Ok Full) = Ok replies.Full
 reply_to (Err refusal) = Err refusal
 
 -- that frame is offered
-abbrev pub FrameEnds : (Frame → Merging → Merging) → Merging → Result Frame Refusal → EndsIn (Option Merging)
+abbrev pub FrameEnds : (Frame → Merging → Merging) → Merging → Result Frame Refusal → Ends (Option Merging)
 FrameEnds after m (Ok frame) outcome new = (outcome ≡ reply_to (answer_to frame m)) × (new ≡ Some (after frame m))
 FrameEnds after m (Err refusal) outcome new = Refused (Some m) refusal outcome new
 
-abbrev pub OfferEnds : (Frame → Merging → Merging) → Merging → List ℕ → EndsIn (Option Merging)
+abbrev pub OfferEnds : (Frame → Merging → Merging) → Merging → List ℕ → Ends (Option Merging)
 OfferEnds after m bytes outcome new = (offer : Result Frame Refusal) × IsOffer bytes offer × FrameEnds after m offer outcome new
 
 -- the next frame of the output, and where it begins
@@ -61,11 +77,11 @@ abbrev pub frame_at : ℕ → Option Frame → Option PolledFrame
 frame_at position None = None
 frame_at position (Some frame) = Some (record { position = pos position; frame = frame })
 
-abbrev pub TakeEnds : Merging → EndsIn (Option Merging)
+abbrev pub TakeEnds : Merging → Ends (Option Merging)
 TakeEnds m outcome new = (outcome ≡ Ok (replies.Taken (frame_at m.cursor (next_frame m)))) × (new ≡ Some (after_take m))
 
 -- lines to a merge that was begun
-abbrev pub BegunEnds : Merging → MergeLine → EndsIn (Option Merging)
+abbrev pub BegunEnds : Merging → MergeLine → Ends (Option Merging)
 BegunEnds m (merges.Open term term_length position) = OpenEnds (Some m) term term_length position
 BegunEnds m (merges.Replay bytes) = OfferEnds after_replay_frame m bytes
 BegunEnds m (merges.Live bytes) = OfferEnds after_live_frame m bytes
@@ -73,10 +89,10 @@ BegunEnds m merges.Take = TakeEnds m
 BegunEnds m merges.State = Answered (Some m) (replies.MergeState m.is_merged (pos m.cursor))
 
 -- lines to none
-abbrev pub FirstEnds : MergeLine → EndsIn (Option Merging)
+abbrev pub FirstEnds : MergeLine → Ends (Option Merging)
 FirstEnds (merges.Open term term_length position) = OpenEnds None term term_length position
 FirstEnds line = Refused None UnknownReplay
 
-abbrev pub MergeEnds : Option Merging → MergeLine → EndsIn (Option Merging)
+abbrev pub MergeEnds : Option Merging → MergeLine → Ends (Option Merging)
 MergeEnds None line = FirstEnds line
 MergeEnds (Some m) line = BegunEnds m line

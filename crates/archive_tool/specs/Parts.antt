@@ -2,8 +2,8 @@
 use Rattle.std.specs.Prelude.{◌≡◌, ◌≢◌, ◌++◌, ℕ, List, [], ◌∷◌, Option, Result, Err}
 use Rattle.std.specs.List.{All}
 use Rattle.std.specs.Io.KnownBytes.{Keeps, Consumes, IsAtEnd}
-use Rattle.archive_tool.specs.declared.fault.ScriptFault.{ScriptFault}
-use Rattle.archive_tool.specs.declared.fault.ScriptFault.TheVariants.{Read}
+use Rattle.archive_tool.specs.declared.fault.EarlyEnd.{EarlyEnd}
+use Rattle.archive_tool.specs.declared.fault.EarlyEnd.TheVariants.{Read}
 use Rattle.archive_tool.specs.declared.lines.Part.{Part}
 use Rattle.archive_tool.specs.declared.lines.Part.TheVariants.{More, Ended, AtEnd}
 use Rattle.archive_tool.specs.InputLines.{kept}
@@ -30,5 +30,5 @@ TakesPart Ended old new line_old line_new = Moves old new line_old line_new (10 
 TakesPart AtEnd old new line_old line_new = IsAtEnd old × Keeps old new × (line_new ≡ line_old)
 
 -- an input that was looked at as often as may be is refused, and nothing is taken of it
-abbrev pub IsSpent : {T : Type 0} → Result T ScriptFault → Option (List ℕ) → Option (List ℕ) → Type 0
+abbrev pub IsSpent : {T : Type 0} → Result T EarlyEnd → Option (List ℕ) → Option (List ℕ) → Type 0
 IsSpent result old new = (result ≡ Err Read) × Keeps old new

@@ -1,17 +1,33 @@
 -- A script's output is the transcript of its lines. docs/CONTROL.md, "Scripts".
-use Rattle.std.specs.Prelude.{◌≡◌, ℕ, Bool, true, false, List, Option, Some, None, Result, Ok, Err, bytes_eq, codes}
-use Rattle.std.specs.Io.KnownBytes.{Keeps}
+use Rattle.std.specs.Prelude.{◌≡◌, ◌⊎◌, ◌<◌, ◌-◌, ◌^◌, ℕ, Bool, true, false, IsTrue, List, Option, Some, None, Result, Ok, Err, IfSome, MatchResult, bytes_eq, codes}
+use Rattle.std.specs.Io.KnownBytes.{Appends, Keeps}
 use Rattle.frame_core.specs.declared.refusal.Refusal.{Refusal}
 use Rattle.frame_core.specs.declared.refusal.Refusal.TheVariants.{BadLine}
+use Rattle.disk_core.specs.declared.file_id.FileId.{FileId}
+use Rattle.disk_core.specs.DiskImage.{DiskImage, MayLeave, reads}
+use Rattle.disk_core.specs.Life.{Life}
+use Rattle.archive_model.specs.declared.command.Command.TheVariants.{Restart}
 use Rattle.archive_model.specs.declared.reply.Reply.{Reply}
+use Rattle.archive_model.specs.Commands.{after}
+use Rattle.archive_model.specs.State.{State}
 use Rattle.control_core.specs.declared.line.Line.{Line}
+use Rattle.control_core.specs.Exact.{Archive}
 use Rattle.control_core.specs.Lines.{line_of}
 use Rattle.control_core.specs.ReplyText.{reply_text}
 use Rattle.control_core.specs.RefusalText.{refusal_text}
+use Rattle.engine_core.specs.Engine.{new_archive}
+use Rattle.engine_core.specs.Opened.{IsFresh, LeavesEither}
+use Rattle.engine_core.specs.Opening.{ReadsAsBefore}
+use Rattle.engine_core.specs.Recovery.{Recovers}
+use Rattle.archive_tool.specs.declared.fault.EarlyEnd.{EarlyEnd}
+use Rattle.archive_tool.specs.declared.fault.EarlyEnd.TheVariants as ends
 use Rattle.archive_tool.specs.declared.fault.ScriptFault.{ScriptFault}
 use Rattle.archive_tool.specs.declared.fault.ScriptFault.TheVariants as faults
-use Rattle.archive_tool.specs.ScriptLines.{ScriptState, new_script, ReadLineEnds}
-use Rattle.archive_tool.specs.Transcript.{AnswersAll, AnswersSome, Serves, IsRight, Writes}
+use Rattle.archive_tool.specs.InputLines.{lines_of}
+use Rattle.archive_tool.specs.ScriptLines.{Answered, Scene, archive_of, begun_with}
+use Rattle.archive_tool.specs.Transcript.{AnswersAll, AnswersSome, Writes}
+
+-- ---- answers
 
 -- what a line asks for; one that is too long is none
 abbrev pub asked : Option (List ℕ) → Result Line Refusal
@@ -23,42 +39,92 @@ abbrev pub outcome_text : Result Reply Refusal → List ℕ
 outcome_text (Ok reply) = reply_text reply
 outcome_text (Err refusal) = refusal_text refusal
 
--- From the old state the text may be the answer to the line, and new the state after it.
-abbrev pub Answers : ScriptState → Option (List ℕ) → List ℕ → ScriptState → Type 0
-Answers old line text new = (outcome : Result Reply Refusal) × ReadLineEnds old (asked line) outcome new × (text ≡ outcome_text outcome)
+-- From the old scene the text may be the answer to the line, and new the scene after it.
+abbrev pub Answers : Scene → Option (List ℕ) → List ℕ → Scene → Type 0
+Answers old line text new = (outcome : Result Reply Refusal) × Answered old (asked line) outcome new × (text ≡ outcome_text outcome)
 
 -- the line behind which no further line is read
 abbrev pub quits : Option (List ℕ) → Bool
 quits None = false
 quits (Some bytes) = bytes_eq bytes (codes "quit")
 
--- the history of a script may have so many entries
-abbrev pub beginning : ScriptState
-beginning = new_script 1048576
+-- ---- the disk
 
--- The text answers all lines up to the one that quits; where it never says that memory ran out, each exactly.
-abbrev pub IsTranscript : List (List ℕ) → List ℕ → Type 0
-IsTranscript = IsRight (AnswersAll beginning quits Answers) (AnswersAll beginning quits (Serves Answers))
+-- the disk obeys the crash model, and no call of it has failed; the count of faults can tell
+pub record Works (old new : Life) : Type 0 where
+  pub obeys : IsTrue new.obeys
+  pub steady : new.faults ≡ old.faults
+  pub tells : new.faults < 2 ^ 64 - 1
+
+-- no file is there
+abbrev pub IsBlank : Life → Type 0
+IsBlank life = (file : FileId) → reads life.now file ≡ None
+
+-- The disk recovers to a state: it reads as this one, and a crash would leave this one or one other. The archive is its
+-- restart, with the history that the catalogue has.
+pub record Restarts (life : Life) (a : Archive) : Type 0 where
+  pub state : State
+  pub other : State
+  pub leaves : LeavesEither life state other
+  pub recovers : Recovers (reads life.now) state
+  pub fresh : IsFresh (reads life.now) (after state Restart) a
+
+-- what a script begins with: a new archive where no file is there, else the restart of what the disk recovers to
+abbrev pub Begins : Life → Archive → Type 0
+Begins life a = (IsBlank life × (a ≡ new_archive 1048576)) ⊎ Restarts life a
+
+-- every image that a crash now may leave recovers to the state of the scene's archive
+abbrev pub LeavesScene : Life → Scene → Type 0
+LeavesScene life s = (image : DiskImage) → MayLeave life.now image → Recovers image (archive_of s.archive).state
+
+-- ---- scripts
+
+-- the text answers all lines up to the one that quits, from this archive on
+abbrev pub IsTranscript : Archive → (Scene → Type 0) → List (List ℕ) → List ℕ → Type 0
+IsTranscript a Left = AnswersAll (begun_with a) Left quits Answers
 
 -- the same of the first of these lines
-abbrev pub IsTranscriptOfFirst : List (List ℕ) → List ℕ → Type 0
-IsTranscriptOfFirst = IsRight (AnswersSome beginning quits Answers) (AnswersSome beginning quits (Serves Answers))
+abbrev pub IsTranscriptOfFirst : Archive → (Scene → Type 0) → List (List ℕ) → List ℕ → Type 0
+IsTranscriptOfFirst a Left = AnswersSome (begun_with a) Left quits Answers
 
--- what a script that ended early has written; nothing is said of one that could not write
-abbrev pub EndsEarly : ScriptFault → Option (List ℕ) → Option (List ℕ) → Option (List ℕ) → Type 0
-EndsEarly faults.Write input contents written = Unit {0}
-EndsEarly faults.Read input contents written = Writes input contents written IsTranscriptOfFirst
-EndsEarly faults.Memory input contents written = Writes input contents written IsTranscriptOfFirst
+-- what a script that ended early has written, and left; of one that could not write, what it left
+abbrev pub EndsEarly : EarlyEnd → Archive → (Scene → Type 0) → Option (List ℕ) → Option (List ℕ) → Option (List ℕ) → Type 0
+EndsEarly ends.Write a Left input contents written = IfSome input (λ bytes. (text : List ℕ) × IsTranscriptOfFirst a Left (lines_of bytes) text)
+EndsEarly ends.Read a Left input contents written = Writes input contents written (IsTranscriptOfFirst a Left)
+EndsEarly ends.Memory a Left input contents written = Writes input contents written (IsTranscriptOfFirst a Left)
+
+-- the archive was not opened, for want of memory: nothing is written, and the disk reads and leaves what it did before
+pub record IsUnopened (old new : Life) (contents written : Option (List ℕ)) (end : EarlyEnd) : Type 0 where
+  pub memory : end ≡ ends.Memory
+  pub kept : Keeps contents written
+  pub before : ReadsAsBefore old new
+
+-- why a script ended, and its disk
+abbrev pub end_of : {D : Type 0} → ScriptFault D → EarlyEnd
+end_of (faults.Read disk) = ends.Read
+end_of (faults.Write disk) = ends.Write
+end_of (faults.Memory disk) = ends.Memory
+
+abbrev pub disk_of : {D : Type 0} → ScriptFault D → D
+disk_of (faults.Read disk) = disk
+disk_of (faults.Write disk) = disk
+disk_of (faults.Memory disk) = disk
 
 -- A script ends by its first fault; one that was read to its end, and whose output could not be handed on, by Write.
-abbrev pub ended_by : Result (Unit {0}) ScriptFault → Bool → Result (Unit {0}) ScriptFault
-ended_by (Err fault) is_flushed = Err fault
+abbrev pub ended_by : Result (Unit {0}) EarlyEnd → Bool → Result (Unit {0}) EarlyEnd
+ended_by (Err end) is_flushed = Err end
 ended_by (Ok done) true = Ok done
-ended_by (Ok done) false = Err faults.Write
+ended_by (Ok done) false = Err ends.Write
 
 -- why a line was not answered: no input is read; where no memory was found, nothing was written; and nothing is said
 -- of a writer that failed
-abbrev pub FailsToAnswer : ScriptFault → Option (List ℕ) → Option (List ℕ) → Type 0
-FailsToAnswer faults.Read contents written = ⊥
-FailsToAnswer faults.Memory contents written = Keeps contents written
-FailsToAnswer faults.Write contents written = Unit {0}
+abbrev pub FailsToAnswer : EarlyEnd → Option (List ℕ) → Option (List ℕ) → Type 0
+FailsToAnswer ends.Read contents written = ⊥
+FailsToAnswer ends.Memory contents written = Keeps contents written
+FailsToAnswer ends.Write contents written = Unit {0}
+
+-- a line is answered, and what is written of the answer
+pub record Replied (contents written line : Option (List ℕ)) (old new : Scene) (result : Result (Unit {0}) EarlyEnd) : Type 0 where
+  pub reply : List ℕ
+  pub answers : Answers old line reply new
+  pub told : MatchResult result (λ done. Appends contents written reply) (λ end. FailsToAnswer end contents written)

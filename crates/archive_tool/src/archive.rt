@@ -1,235 +1,163 @@
-//! An archive in memory: the book of its recordings, and what it keeps of its callers.
+//! The archive that a script works on. docs/CONTROL.md, "Lines".
 
-ghost use Rattle.std.specs.Prelude.{◌≡◌, ◌∷◌, [], MatchOption, IfOk};
-ghost use Rattle.frame_core.specs.Block.{end_position};
-ghost use Rattle.control_core.specs.Rules.{ContinuesAt};
-ghost use Rattle.control_core.specs.Control.{new_archive};
-ghost use Rattle.control_core.specs.Calls.{OrNoMemory, StartEnds, ListEnds, OpenEnds, PollEnds, BytesEnd};
-ghost use Rattle.control_core.specs.Answers.{RequestEnds, EventEnds};
+ghost use Rattle.std.specs.Prelude.{◌≡◌, ◌≤◌, IfErr, IfOk, IsTrue};
+ghost use Rattle.archive_model.specs.declared.reply.Reply.TheVariants.{Reopened};
+ghost use Rattle.control_core.specs.Exact.{Archive};
+ghost use Rattle.engine_core.specs.Opening.{ReadsAsBefore};
+ghost use Rattle.archive_tool.specs.Script.{Begins, Restarts, Works};
+ghost use Rattle.archive_tool.specs.ScriptLines.{Calls, OrWant, Records, Reopens, Standing, WhereOpen, Writes, opened};
+ghost use Rattle.archive_tool.specs.Tie.{IsStanding, ReadsBlock, closed_by, life_of};
 
-use crate::listing::descriptors;
-use crate::parameters::{bound_of, is_listing, is_poll, is_replay, opening_position};
-use crate::polling::{end_of, next_frames, next_of};
-use archive_model::{Book, Recording, Reply, StartFields};
-use control_core::{Callers, Event, RecorderSession, Request, Written};
-use frame_core::limits::{LAST_NUMBER, MAX_OPEN_REPLAYS};
-use frame_core::{Block, Items, Refusal, block_end, block_of};
-use std::alloc::{AllocError, Global};
-use std::marker::Model;
+use archive_model::Reply;
+use control_core::{Event, read_terms};
+use disk_core::Disk;
+use engine_core::{Engine, OpenRefusal};
+use frame_core::{Block, Refusal, block_of};
+use std::alloc::Global;
 
-/// An archive whose recordings lie in memory. To a contract it is its control state.
+/// Entries that the history of a new archive may have.
+const HISTORY: u32 = 1_048_576;
+
+/// An archive, or the disk of one that could not be opened.
 #[derive(Drop)]
-pub struct Archive {
-    alloc: Global,
-    book: Book,
-    callers: Callers,
+pub enum ScriptArchive<D> {
+    /// It is open.
+    Open(Engine<D>),
+    /// None is open.
+    Closed(D),
 }
 
-impl Model for Archive {
-    ghost use Rattle.std.specs.Prelude.{false};
-    ghost use Rattle.control_core.specs.Control.{Control};
-
-    ghost Value = { Control };
-
-    ghost view = { λ a. record {
-      book = a.book;
-      sessions = a.callers.sessions;
-      replays = a.callers.replays;
-      next_session = a.callers.next_session;
-      next_replay = a.callers.next_replay;
-      is_broken = false;
-    } };
-}
-
-impl Archive {
-    /// An archive without recordings, whose history may have so many entries. Takes no memory.
-    pub fn new(alloc: Global, history: u32) -> Archive
-        ensures { result ≡ new_archive history }
+impl<D: Disk> ScriptArchive<D> {
+    /// The archive of a disk: a new one where no file is there, whose history may have 1,048,576 entries; else the one that
+    /// is opened. Where it is refused none is open. Want of memory hands the disk back, and has changed nothing that is
+    /// read. Costs what `Engine::create` or `Engine::open` costs.
+    pub fn of_disk(alloc: Global, disk: D) -> Result<ScriptArchive<D>, D>
+        ensures begun { IfOk result (λ archive. (a : Archive) → Begins (D.life disk) a →
+            Works (D.life disk) (life_of D.life archive) → IsStanding D.life archive (opened a)) }
+        ensures faults { IfOk result (λ archive. (D.life disk).faults ≤ (life_of D.life archive).faults) }
+        ensures unopened { IfErr result (λ back. ReadsAsBefore (D.life disk) (D.life back)) }
     {
-        Archive {
-            alloc,
-            book: Book::new(alloc, history),
-            callers: Callers::new(alloc),
+        match Engine::create(alloc, disk, HISTORY) {
+            Ok(engine) => Ok(ScriptArchive::Open(engine)),
+            Err(OpenRefusal { refusal, disk }) => {
+                if refusal == Refusal::BadParameter {
+                    opened(alloc, disk)
+                } else {
+                    unless_memory(refusal, disk)
+                }
+            }
         }
     }
 
-    /// Begins a recording, and opens a session that writes it.
-    pub fn start(&mut self, fields: &StartFields) -> Result<Reply, Refusal>
-        ensures { OrNoMemory self.old (StartEnds self.old fields.now) result self.new }
+    /// The disk, with the files as they are.
+    pub fn into_disk(self) -> D
+        ensures { D.life result ≡ life_of D.life self }
     {
-        let recording = self.book.next_recording();
-        let session = self.callers.next_session();
-        if !fields.is_in_range() {
-            return Err(Refusal::BadParameter);
+        match self {
+            ScriptArchive::Open(engine) => engine.into_disk(),
+            ScriptArchive::Closed(disk) => disk,
         }
-        if session == LAST_NUMBER {
-            return Err(Refusal::MaxRecordings);
-        }
-        self.callers.add_session(recording)?;
-        if let Err(refusal) = self.book.start(fields) {
-            self.callers.withdraw_session(session);
-            return Err(refusal);
-        }
-        Ok(Reply::Started { recording, session })
     }
 
-    /// The descriptors of recordings of at least an id, at most so many, by rising id. Costs a look at each recording
-    /// before the last of them, and the copies.
-    pub fn list(&self, from: &i64, count: &i64) -> Result<Reply, Refusal>
-        ensures { OrNoMemory self.now (ListEnds self.now from.now count.now) result self.now }
+    /// Answers a call: `Broken` where no archive is open, else as `Engine::step`.
+    pub fn call(&mut self, alloc: Global, event: &Event) -> Result<Reply, Refusal>
+        ensures obeyed { IsTrue (life_of D.life self.new).obeys → IsTrue (life_of D.life self.old).obeys }
+        ensures faults { (life_of D.life self.old).faults ≤ (life_of D.life self.new).faults }
+        ensures called { (s : Standing) → IsStanding D.life self.old s → Works (life_of D.life self.old) (life_of D.life self.new) →
+            (t : Standing) × IsStanding D.life self.new t × WhereOpen (Calls event.now) s result t }
     {
-        if !is_listing(from, count) {
-            return Err(Refusal::BadParameter);
+        match self {
+            ScriptArchive::Open(engine) => engine.step(alloc, event),
+            ScriptArchive::Closed(_) => Err(Refusal::Broken),
         }
-        let found = descriptors(self.alloc, self.book.recordings(), from, *count as usize)?;
-        Ok(Reply::Recordings(Items::from_vec(found)))
     }
 
-    /// Opens a replay of a recording from a position, -1 for the start, with a length in bytes of the stream, -1 for
-    /// all that is recorded. Costs a look at each frame before the position.
-    pub fn open_replay(
-        &mut self,
-        recording: &i64,
-        position: &i64,
-        size: &i64,
-    ) -> Result<Reply, Refusal>
-        ensures { OrNoMemory self.old
-            (OpenEnds self.old recording.now position.now size.now) result self.new }
+    /// Writes the bytes of a block, read by the terms of the recording that a session writes.
+    pub fn write(&mut self, alloc: Global, session: &i64, bytes: &[u8]) -> Result<Reply, Refusal>
+        ensures obeyed { IsTrue (life_of D.life self.new).obeys → IsTrue (life_of D.life self.old).obeys }
+        ensures faults { (life_of D.life self.old).faults ≤ (life_of D.life self.new).faults }
+        ensures written { (s : Standing) → IsStanding D.life self.old s → Works (life_of D.life self.old) (life_of D.life self.new) →
+            (t : Standing) × IsStanding D.life self.new t × OrWant s (WhereOpen (Writes session.now bytes.now) s) result t }
     {
-        if !is_replay(position, size) {
-            return Err(Refusal::BadParameter);
-        }
-        let Some(found) = self.book.recording(recording) else {
-            return Err(Refusal::UnknownRecording);
+        let block = self.read(alloc, session, bytes)?;
+        let event = Event::Write {
+            session: *session,
+            block,
         };
-        let at = opening_position(found, position);
-        if !found.is_boundary(&at) {
-            return Err(Refusal::BadPosition);
-        }
-        if self.callers.open_replays() >= MAX_OPEN_REPLAYS {
-            return Err(Refusal::MaxReplays);
-        }
-        let replay = self.callers.next_replay();
-        if replay == LAST_NUMBER {
-            return Err(Refusal::MaxReplays);
-        }
-        self.callers
-            .add_replay(*recording, at, bound_of(&at, size))?;
-        Ok(Reply::ReplayOpened { replay })
+        self.call(alloc, &event)
     }
 
-    /// The next frames of a replay, at most so many. Costs a look at each frame before the last of them, and the
-    /// copies.
-    pub fn poll_replay(&mut self, number: &i64, most: &i64) -> Result<Reply, Refusal>
-        ensures { OrNoMemory self.old (PollEnds self.old number.now most.now) result self.new }
+    /// The block of bytes that are read by the terms of the recording that a session writes.
+    fn read(&self, alloc: Global, session: &i64, bytes: &[u8]) -> Result<Block, Refusal>
+        ensures { (s : Standing) → IsStanding D.life self.now s → ReadsBlock s session.now bytes.now result }
     {
-        if !is_poll(most) {
-            return Err(Refusal::BadParameter);
-        }
-        let Some(replay) = self.callers.replay(number) else {
-            return Err(Refusal::UnknownReplay);
-        };
-        let Some(recording) = self.book.recording(&replay.recording) else {
-            return Err(Refusal::UnknownRecording);
-        };
-        let frames = next_frames(self.alloc, recording, &replay, most)?;
-        let end = end_of(&replay.next, frames.as_slice());
-        let next = next_of(&replay, recording, &end);
-        self.callers.set_next(number, &end);
-        Ok(Reply::Polled { frames, next })
-    }
-
-    /// Reads the bytes of a block by the terms of the recording that a session writes, writes it, and settles it. The
-    /// first refusal is answered: where it is the one that settling meets, the block stays written.
-    pub fn block(&mut self, session: &i64, bytes: &[u8]) -> Result<Reply, Refusal>
-        ensures { OrNoMemory self.old (BytesEnd self.old session.now bytes.now) result self.new }
-    {
-        let Some(seat) = self.callers.session(session) else {
-            return Err(Refusal::StaleSession);
-        };
-        let Some(recording) = self.book.recording(&seat.recording) else {
-            return Err(Refusal::UnknownRecording);
-        };
-        if !recording.is_active() {
-            return Err(Refusal::NotActive);
-        }
-        let block = block_of(self.alloc, &recording.descriptor().geometry(), bytes)?;
-        let Some(last) = continued_to(recording, &seat, &block) else {
-            return Err(Refusal::BadBlock);
-        };
-        if seat.written.is_some() {
-            return Err(Refusal::NeedSettle);
-        }
-        if !self.book.has_room() {
-            let first = block.position;
-            self.callers
-                .set_written(session, Some(Written { first, last }));
-            return Err(Refusal::HistoryFull);
-        }
-        let blocks = one(self.alloc, block)?;
-        self.book.append(&seat.recording, blocks)
-    }
-
-    /// Answers a call. One that no line brings yet is `BadLine`.
-    pub fn call(&mut self, event: &Event) -> Result<Reply, Refusal>
-        ensures { OrNoMemory self.old (EventEnds self.old event.now) result self.new }
-    {
-        match event {
-            Event::Ask(request) => self.ask(request),
-            Event::ReplayOpen {
-                recording,
-                position,
-                length,
-            } => self.open_replay(recording, position, length),
-            Event::ReplayPoll { replay, max } => self.poll_replay(replay, max),
-            Event::Write { .. }
-            | Event::Settle { .. }
-            | Event::ReplayClose { .. }
-            | Event::Sweep
-            | Event::Verify { .. } => Err(Refusal::BadLine),
+        match self {
+            ScriptArchive::Open(engine) => block_of(
+                alloc,
+                &read_terms(engine.desk(), session)?,
+                bytes,
+            ),
+            ScriptArchive::Closed(_) => Err(Refusal::Broken),
         }
     }
 
-    /// Answers a request. One that no line brings yet is `BadLine`.
-    fn ask(&mut self, request: &Request) -> Result<Reply, Refusal>
-        ensures { OrNoMemory self.old (RequestEnds self.old request.now) result self.new }
+    /// Writes the bytes of a block, and settles it. Where settling is refused it stays written.
+    pub fn record(&mut self, alloc: Global, session: &i64, bytes: &[u8]) -> Result<Reply, Refusal>
+        ensures obeyed { IsTrue (life_of D.life self.new).obeys → IsTrue (life_of D.life self.old).obeys }
+        ensures faults { (life_of D.life self.old).faults ≤ (life_of D.life self.new).faults }
+        ensures recorded { (s : Standing) → IsStanding D.life self.old s → Works (life_of D.life self.old) (life_of D.life self.new) →
+            (t : Standing) × IsStanding D.life self.new t × OrWant s (WhereOpen (Records session.now bytes.now) s) result t }
     {
-        match request {
-            Request::Start(fields) => self.start(fields),
-            Request::List { from, count } => self.list(from, count),
-            Request::Stop { .. }
-            | Request::Extend(_)
-            | Request::Truncate { .. }
-            | Request::PurgeSegments { .. }
-            | Request::PurgeRecording { .. }
-            | Request::Find(_)
-            | Request::Positions { .. } => Err(Refusal::BadLine),
+        self.write(alloc, session, bytes)?;
+        self.call(alloc, &Event::Settle { session: *session })
+    }
+
+    /// Closes the archive and opens it again: how many recordings that stopped. Where it is refused none is open.
+    pub fn reopen(self, alloc: Global) -> (ScriptArchive<D>, Result<Reply, Refusal>)
+        ensures obeyed { IsTrue (life_of D.life result.0).obeys → IsTrue (life_of D.life self).obeys }
+        ensures faults { (life_of D.life self).faults ≤ (life_of D.life result.0).faults }
+        ensures reopened { (s : Standing) → IsStanding D.life self s → Works (life_of D.life self) (life_of D.life result.0) →
+            (t : Standing) × IsStanding D.life result.0 t × Reopens s result.1 t }
+    {
+        match Engine::open(alloc, self.into_disk()) {
+            Ok(engine) => {
+                let reply = reply_of(&engine);
+                (ScriptArchive::Open(engine), Ok(reply))
+            }
+            Err(OpenRefusal { refusal, disk }) => (ScriptArchive::Closed(disk), Err(refusal)),
         }
     }
 }
 
-/// Where a block ends that continues what a session has written of a recording, in bytes of the stream.
-fn continued_to(recording: &Recording, seat: &RecorderSession, block: &Block) -> Option<i64>
-    ensures { MatchOption result
-        (ContinuesAt recording.now seat.now block.now → ⊥)
-        (λ end. ContinuesAt recording.now seat.now block.now × (end ≡ end_position block.now)) }
+/// The archive of a disk with files, opened; none where that is refused. The disk again for want of memory.
+fn opened<D: Disk>(alloc: Global, disk: D) -> Result<ScriptArchive<D>, D>
+    ensures begun { IfOk result (λ archive. (a : Archive) → Restarts (D.life disk) a →
+        Works (D.life disk) (life_of D.life archive) → IsStanding D.life archive (opened a)) }
+    ensures obeyed { IfOk result (λ archive. IsTrue (life_of D.life archive).obeys → IsTrue (D.life disk).obeys) }
+    ensures faults { IfOk result (λ archive. (D.life disk).faults ≤ (life_of D.life archive).faults) }
+    ensures unopened { IfErr result (λ back. ReadsAsBefore (D.life disk) (D.life back)) }
 {
-    let next = match seat.written {
-        None => recording.recorded_position(),
-        Some(written) => written.last,
-    };
-    if block.position != next {
-        return None;
+    match Engine::open(alloc, disk) {
+        Ok(engine) => Ok(ScriptArchive::Open(engine)),
+        Err(OpenRefusal { refusal, disk }) => unless_memory(refusal, disk),
     }
-    let descriptor = recording.descriptor();
-    block_end(&descriptor.geometry(), &descriptor.publication(), block)
 }
 
-/// A list of one block.
-fn one(alloc: Global, block: Block) -> Result<Items<Block>, AllocError>
-    ensures { IfOk result (λ blocks. blocks ≡ block ∷ []) }
+/// None is open, by this refusal; the disk again for want of memory.
+fn unless_memory<D: Disk>(refusal: Refusal, disk: D) -> Result<ScriptArchive<D>, D>
+    ensures { result ≡ closed_by refusal disk }
 {
-    let mut blocks = Items::new(alloc);
-    blocks.push(block)?;
-    Ok(blocks)
+    match refusal {
+        Refusal::NoMemory => Err(disk),
+        _ => Ok(ScriptArchive::Closed(disk)),
+    }
+}
+
+/// How many recordings the opening stopped.
+fn reply_of<D: Disk>(engine: &Engine<D>) -> Reply
+    ensures { result ≡ Reopened engine.now.restarted }
+{
+    Reply::Reopened {
+        recordings: engine.restarted(),
+    }
 }

@@ -1,13 +1,14 @@
 //! Why a script ended before its last line. docs/CONTROL.md, "Scripts".
 
 ghost use Rattle.std.specs.Prelude.{◌≡◌};
-ghost use Rattle.archive_tool.specs.declared.fault.ScriptFault.TheVariants.{Memory};
+ghost use Rattle.archive_tool.specs.declared.fault.EarlyEnd.TheVariants.{Memory};
+ghost use Rattle.archive_tool.specs.Script.{disk_of, end_of};
 
 use std::alloc::AllocError;
 
 /// Why a script ended before its last line.
 #[derive(Clone, Copy, Debug, PartialEq, Eq)]
-pub enum ScriptFault {
+pub enum EarlyEnd {
     /// Its input could not be read on, or was looked at as often as may be.
     Read,
     /// What was answered could not be written.
@@ -16,10 +17,46 @@ pub enum ScriptFault {
     Memory,
 }
 
-impl From<AllocError> for ScriptFault {
+impl From<AllocError> for EarlyEnd {
     ghost from_gives = { λ _ fault. fault ≡ Memory };
 
     fn from(_: AllocError) -> Self {
-        ScriptFault::Memory
+        EarlyEnd::Memory
+    }
+}
+
+/// Why a script ended before its last line, and the disk of its archive.
+#[derive(Drop)]
+pub enum ScriptFault<D> {
+    /// Its input could not be read on, or was looked at as often as may be.
+    Read(D),
+    /// What was answered could not be written.
+    Write(D),
+    /// A request for memory was refused where no line could say so.
+    Memory(D),
+}
+
+impl<D> ScriptFault<D> {
+    /// The fault of a script that ended so, with its disk.
+    pub fn new(end: EarlyEnd, disk: D) -> ScriptFault<D>
+        ensures end { end_of result ≡ end }
+        ensures disk { disk_of result ≡ disk }
+    {
+        match end {
+            EarlyEnd::Read => ScriptFault::Read(disk),
+            EarlyEnd::Write => ScriptFault::Write(disk),
+            EarlyEnd::Memory => ScriptFault::Memory(disk),
+        }
+    }
+
+    /// Why, without the disk.
+    pub fn end(&self) -> EarlyEnd
+        ensures { result ≡ end_of self.now }
+    {
+        match self {
+            ScriptFault::Read(_) => EarlyEnd::Read,
+            ScriptFault::Write(_) => EarlyEnd::Write,
+            ScriptFault::Memory(_) => EarlyEnd::Memory,
+        }
     }
 }

@@ -5,7 +5,7 @@ ghost use Rattle.std.specs.Io.KnownBytes.{IsAtEnd};
 ghost use Rattle.archive_tool.specs.InputLines.{kept, ReadsLine};
 ghost use Rattle.archive_tool.specs.Parts.{HasNoEnd, Grows, IsSpent, TakesPart};
 
-use crate::fault::ScriptFault;
+use crate::fault::EarlyEnd;
 use frame_core::limits::MAX_LINE_LENGTH;
 use std::alloc::{AllocError, Global};
 use std::io::{BufRead, ErrorKind};
@@ -105,15 +105,15 @@ fn take_part<R: BufRead>(
     reader: &mut R,
     reads: &mut u64,
     line: &mut LineBuffer,
-) -> Result<Part, ScriptFault>
+) -> Result<Part, EarlyEnd>
     ensures taken { IfOk result (λ part.
         TakesPart part (R.remaining reader.old) (R.remaining reader.new) line.old line.new) }
     ensures counted { OnOk result ((reads.old < MAX_READS) × (reads.new ≡ reads.old + 1)) }
     ensures spent { MAX_READS ≤ reads.old → IsSpent result (R.remaining reader.old) (R.remaining reader.new) }
-    ensures faults { IfErr result (λ fault. fault ≢ ScriptFault.Write) }
+    ensures faults { IfErr result (λ fault. fault ≢ EarlyEnd.Write) }
 {
     if *reads >= MAX_READS {
-        return Err(ScriptFault::Read);
+        return Err(EarlyEnd::Read);
     }
     *reads += 1;
     let shown = match reader.fill_buf() {
@@ -122,7 +122,7 @@ fn take_part<R: BufRead>(
             return if e.kind() == ErrorKind::Interrupted {
                 Ok(Part::More)
             } else {
-                Err(ScriptFault::Read)
+                Err(EarlyEnd::Read)
             };
         }
     };
@@ -153,13 +153,13 @@ pub(crate) fn read_line<R: BufRead>(
     reader: &mut R,
     reads: &mut u64,
     line: &mut LineBuffer,
-) -> Result<bool, ScriptFault>
+) -> Result<bool, EarlyEnd>
     ensures counted { OnOk result (reads.old < reads.new) }
     ensures found { IfOk result (λ is_line. MatchBool is_line
         (ReadsLine (R.remaining reader.old) (R.remaining reader.new) line.new)
         (IsAtEnd (R.remaining reader.old))) }
     ensures spent { MAX_READS ≤ reads.old → IsSpent result (R.remaining reader.old) (R.remaining reader.new) }
-    ensures faults { IfErr result (λ fault. fault ≢ ScriptFault.Write) }
+    ensures faults { IfErr result (λ fault. fault ≢ EarlyEnd.Write) }
 {
     line.clear();
     loop {

@@ -9,10 +9,7 @@ mod archive;
 mod command;
 mod fault;
 mod lines;
-mod listing;
 mod merging;
-mod parameters;
-mod polling;
 mod script;
 mod state;
 mod status;
@@ -21,7 +18,8 @@ use clap::Error;
 use clap::error::ErrorKind;
 use command::{ToolCommand, command_of, unreadable_words};
 use control_core::print_refusal;
-use fault::ScriptFault;
+use disk_core::MemoryDisk;
+use fault::EarlyEnd;
 use frame_core::Refusal;
 use script::run_script;
 use status::Ending;
@@ -64,7 +62,7 @@ fn commanded<R: AllocGlobal + Env + Input + Print + Eprint>(rt: &R) -> Ending {
     match asked {
         Ok(ToolCommand::Run) => match run(rt) {
             Ok(()) => Ending::Done,
-            Err(fault) => Ending::Cut(fault),
+            Err(end) => Ending::Cut(end),
         },
         Err(error) => told(rt, &error),
     }
@@ -95,12 +93,16 @@ fn told<R: Print + Eprint>(rt: &R, error: &Error) -> Ending
     }
 }
 
-/// Answers the control lines of standard input on standard output.
-fn run<R: AllocGlobal + Input + Print>(rt: &R) -> Result<(), ScriptFault> {
+/// Answers the control lines of standard input on standard output, over an archive in memory.
+fn run<R: AllocGlobal + Input + Print>(rt: &R) -> Result<(), EarlyEnd> {
     let Ok(mut writer) = BufWriter::new(rt.alloc(), io::writer(rt)) else {
-        return Err(ScriptFault::Memory);
+        return Err(EarlyEnd::Memory);
     };
-    run_script(rt.alloc(), rt.reader(), &mut writer)
+    let disk = MemoryDisk::new(rt.alloc());
+    match run_script(rt.alloc(), rt.reader(), &mut writer, disk) {
+        Ok(_) => Ok(()),
+        Err(fault) => Err(fault.end()),
+    }
 }
 
 /// Tells a refusal on standard error.

@@ -1,8 +1,7 @@
 //! Lines to the merge of a replay and the live stream: docs/CONTROL.md, "Merging".
 
 ghost use Rattle.std.specs.Prelude.{◌≡◌, pos};
-ghost use Rattle.control_core.specs.Calls.{OrNoMemory};
-ghost use Rattle.archive_tool.specs.Merging.{MergeEnds, OpenEnds, IsOfferOrMemory, reply_to, frame_at};
+ghost use Rattle.archive_tool.specs.Merging.{MergeEnds, OpenEnds, OrNoMemory, IsOfferOrMemory, reply_to, frame_at};
 ghost use Rattle.merge_core.specs.Merge.{next_frame, after_take};
 
 use archive_model::{PolledFrame, Reply, may_begin_at};

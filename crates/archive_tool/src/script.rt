@@ -1,26 +1,26 @@
 //! A script of control lines, from a reader to a writer. docs/CONTROL.md, "Scripts".
 
-ghost use Rattle.std.specs.Prelude.{◌≡◌, ◌↔◌, Contains, IsTrue, OnOk, IfErr, bytes_eq, codes};
+ghost use Rattle.std.specs.Prelude.{◌≡◌, ◌⊎◌, ◌≤◌, ◌↔◌, Contains, IfErr, IfOk, IsTrue, OnOk, bytes_eq, codes};
 ghost use Rattle.std.specs.Io.KnownBytes.{Appends, Keeps};
 ghost use Rattle.std.specs.Io.Buffered.{reader_remaining};
+ghost use Rattle.control_core.specs.Exact.{Archive};
 ghost use Rattle.control_core.specs.ReplyText.{reply_text};
 ghost use Rattle.control_core.specs.RefusalText.{refusal_text};
-ghost use Rattle.control_core.specs.Calls.{OrNoMemory};
-ghost use Rattle.archive_tool.specs.Transcript.{Writes, Replied};
-ghost use Rattle.archive_tool.specs.ScriptLines.{ReadLineEnds};
-ghost use Rattle.archive_tool.specs.Script.{Answers, asked, outcome_text, quits, FailsToAnswer, IsTranscript, EndsEarly, ended_by};
+ghost use Rattle.archive_tool.specs.Transcript.{Writes};
+ghost use Rattle.archive_tool.specs.ScriptLines.{Answered, Scene, begun_with};
+ghost use Rattle.archive_tool.specs.Script.{Begins, EndsEarly, FailsToAnswer, IsTranscript, IsUnopened, LeavesScene, Replied, Works, asked, disk_of, end_of, ended_by, outcome_text, quits};
+ghost use Rattle.archive_tool.specs.Tie.{GoesOn, IsScene, life_of};
 
-use crate::fault::ScriptFault;
+use crate::archive::ScriptArchive;
+use crate::fault::{EarlyEnd, ScriptFault};
 use crate::lines::{LineBuffer, read_line};
 use crate::state::ScriptState;
 use archive_model::Reply;
 use control_core::{parse_line, print_refusal, print_reply};
+use disk_core::Disk;
 use frame_core::Refusal;
 use std::alloc::Global;
 use std::io::{BufReader, Read, Write};
-
-/// Entries that a script's history may have.
-const HISTORY: u32 = 1_048_576;
 
 /// Bytes that are read at once at most.
 const READ_AHEAD: usize = 65_536;
@@ -35,15 +35,24 @@ fn is_quit(line: &LineBuffer) -> bool
     }
 }
 
-/// What a line is answered. A line that is too long is `BadLine`.
-fn outcome_of(alloc: Global, state: &mut ScriptState, line: &LineBuffer) -> Result<Reply, Refusal>
-    ensures { OrNoMemory state.old (ReadLineEnds state.old (asked line.now)) result state.new }
+/// What a line is answered, and how the script stands then. A line that is too long is `BadLine`.
+fn outcome_of<D: Disk>(
+    alloc: Global,
+    state: ScriptState<D>,
+    line: &LineBuffer,
+) -> (ScriptState<D>, Result<Reply, Refusal>)
+    ensures obeyed { IsTrue (life_of D.life result.0.archive).obeys → IsTrue (life_of D.life state.archive).obeys }
+    ensures faults { (life_of D.life state.archive).faults ≤ (life_of D.life result.0.archive).faults }
+    ensures answered { (s : Scene) → IsScene D.life state s → Works (life_of D.life state.archive) (life_of D.life result.0.archive) →
+        (t : Scene) × IsScene D.life result.0 t × Answered s (asked line.now) result.1 t }
 {
     let Some(bytes) = line.bytes() else {
-        return Err(Refusal::BadLine);
+        return (state, Err(Refusal::BadLine));
     };
-    let line = parse_line(alloc, bytes)?;
-    state.answer(&line)
+    match parse_line(alloc, bytes) {
+        Ok(line) => state.answer(alloc, &line),
+        Err(refusal) => (state, Err(refusal)),
+    }
 }
 
 /// Writes what was answered. `Memory` where a reply's text finds no memory, and then nothing is written; `Write`
@@ -52,7 +61,7 @@ fn write_outcome<W: Write>(
     alloc: Global,
     outcome: &Result<Reply, Refusal>,
     writer: &mut W,
-) -> Result<(), ScriptFault>
+) -> Result<(), EarlyEnd>
     ensures ok { OnOk result
         (Appends (W.contents writer.old) (W.contents writer.new) (outcome_text outcome.now)) }
     ensures err { IfErr result
@@ -64,46 +73,47 @@ fn write_outcome<W: Write>(
     }
 }
 
-fn write_reply<W: Write>(alloc: Global, reply: &Reply, writer: &mut W) -> Result<(), ScriptFault>
+fn write_reply<W: Write>(alloc: Global, reply: &Reply, writer: &mut W) -> Result<(), EarlyEnd>
     ensures ok { OnOk result
         (Appends (W.contents writer.old) (W.contents writer.new) (reply_text reply.now)) }
     ensures err { IfErr result
         (λ fault. FailsToAnswer fault (W.contents writer.old) (W.contents writer.new)) }
 {
     let Ok(text) = print_reply(alloc, reply) else {
-        return Err(ScriptFault::Memory);
+        return Err(EarlyEnd::Memory);
     };
     if writer.write_all(text.as_slice()).is_err() {
-        return Err(ScriptFault::Write);
+        return Err(EarlyEnd::Write);
     }
     Ok(())
 }
 
-fn write_refusal<W: Write>(refusal: &Refusal, writer: &mut W) -> Result<(), ScriptFault>
+fn write_refusal<W: Write>(refusal: &Refusal, writer: &mut W) -> Result<(), EarlyEnd>
     ensures ok { OnOk result
         (Appends (W.contents writer.old) (W.contents writer.new) (refusal_text refusal.now)) }
-    ensures err { IfErr result (λ fault. fault ≡ ScriptFault.Write) }
+    ensures err { IfErr result (λ fault. fault ≡ EarlyEnd.Write) }
 {
     if writer.write_all(print_refusal(refusal).as_bytes()).is_err() {
-        return Err(ScriptFault::Write);
+        return Err(EarlyEnd::Write);
     }
     Ok(())
 }
 
 /// Answers a line.
-fn answer_line<W: Write>(
+fn answer_line<W: Write, D: Disk>(
     alloc: Global,
-    state: &mut ScriptState,
+    state: ScriptState<D>,
     line: &LineBuffer,
     writer: &mut W,
-) -> Result<(), ScriptFault>
-    ensures ok { OnOk result (Replied Answers
-        (W.contents writer.old) (W.contents writer.new) line.now state.old state.new) }
-    ensures err { IfErr result
-        (λ fault. FailsToAnswer fault (W.contents writer.old) (W.contents writer.new)) }
+) -> (ScriptState<D>, Result<(), EarlyEnd>)
+    ensures obeyed { IsTrue (life_of D.life result.0.archive).obeys → IsTrue (life_of D.life state.archive).obeys }
+    ensures faults { (life_of D.life state.archive).faults ≤ (life_of D.life result.0.archive).faults }
+    ensures replied { (s : Scene) → IsScene D.life state s → Works (life_of D.life state.archive) (life_of D.life result.0.archive) →
+        (t : Scene) × IsScene D.life result.0 t
+        × Replied (W.contents writer.old) (W.contents writer.new) line.now s t result.1 }
 {
-    let outcome = outcome_of(alloc, state, line);
-    write_outcome(alloc, &outcome, writer)
+    let (state, outcome) = outcome_of(alloc, state, line);
+    (state, write_outcome(alloc, &outcome, writer))
 }
 
 /// Whether a whole line is at hand.
@@ -117,82 +127,107 @@ fn has_line(buffered: &[u8]) -> bool
 fn flush_if_waiting<R: Read, W: Write>(
     reader: &BufReader<R>,
     writer: &mut W,
-) -> Result<(), ScriptFault>
+) -> Result<(), EarlyEnd>
     ensures kept { Keeps (W.contents writer.old) (W.contents writer.new) }
-    ensures fault { IfErr result (λ fault. fault ≡ ScriptFault.Write) }
+    ensures fault { IfErr result (λ fault. fault ≡ EarlyEnd.Write) }
 {
     if has_line(reader.buffer()) {
         return Ok(());
     }
     if writer.flush().is_err() {
-        return Err(ScriptFault::Write);
+        return Err(EarlyEnd::Write);
     }
     Ok(())
 }
 
 /// Answers line after line, up to the one that quits or the end of the input.
-fn run_lines<R: Read + Drop, W: Write>(
+fn run_lines<R: Read + Drop, W: Write, D: Disk>(
     alloc: Global,
+    state: ScriptState<D>,
     reader: &mut BufReader<R>,
     writer: &mut W,
-) -> Result<(), ScriptFault>
-    ensures whole { OnOk result (Writes (reader_remaining R.remaining reader.old)
-        (W.contents writer.old) (W.contents writer.new) IsTranscript) }
-    ensures early { IfErr result (λ fault. EndsEarly fault (reader_remaining R.remaining reader.old)
+) -> (ScriptState<D>, Result<(), EarlyEnd>)
+    ensures goes_on { GoesOn (life_of D.life state.archive) (life_of D.life result.0.archive) }
+    ensures whole { OnOk result.1 ((a : Archive) → IsScene D.life state (begun_with a) →
+        Works (life_of D.life state.archive) (life_of D.life result.0.archive) →
+        Writes (reader_remaining R.remaining reader.old) (W.contents writer.old) (W.contents writer.new)
+        (IsTranscript a (IsScene D.life result.0))) }
+    ensures early { IfErr result.1 (λ end. (a : Archive) → IsScene D.life state (begun_with a) →
+        Works (life_of D.life state.archive) (life_of D.life result.0.archive) →
+        EndsEarly end a (IsScene D.life result.0) (reader_remaining R.remaining reader.old)
         (W.contents writer.old) (W.contents writer.new)) }
 {
-    let mut state = ScriptState::new(alloc, HISTORY);
+    let mut state = state;
     let mut line = LineBuffer::new(alloc);
     let mut reads = 0u64;
     'lines: loop {
-        match flush_if_waiting(reader, writer) {
-            Ok(()) => {}
-            Err(fault) => return Err(fault),
+        if let Err(end) = flush_if_waiting(reader, writer) {
+            return (state, Err(end));
         }
         match read_line(reader, &mut reads, &mut line) {
             Ok(true) => {}
-            Ok(false) => return Ok(()),
-            Err(fault) => return Err(fault),
+            Ok(false) => return (state, Ok(())),
+            Err(end) => return (state, Err(end)),
         }
-        match answer_line(alloc, &mut state, &line, writer) {
+        let (next, answered) = answer_line(alloc, state, &line, writer);
+        state = next;
+        match answered {
             Ok(()) => {}
-            Err(fault) => return Err(fault),
+            Err(end) => return (state, Err(end)),
         }
         if is_quit(&line) {
-            return Ok(());
+            return (state, Ok(()));
         }
     }
 }
 
-/// Answers the control lines of a reader on a writer, up to the line `quit` or the end of the input: docs/CONTROL.md,
-/// "Scripts". The archive lies in memory, begins without recordings, and is gone at the end.
+/// Answers the control lines of a reader on a writer, up to the line `quit` or the end of the input, over the archive of a
+/// disk: docs/CONTROL.md, "Scripts". Where no file is there it is made, with a history of 1,048,576 entries; else it is
+/// opened, and where that is refused every line is `Broken` but those that need no archive, until `reopen` opens it. The
+/// disk comes back.
 ///
 /// Each line is answered before the next one is waited for. What the writer had stays before what it gains. `Read`
-/// where the reader fails, or was looked at 9,223,372,036,854,775,807 times; `Memory` where a reply's text finds no
-/// memory; `Write` where the writer fails. What was answered before stays written.
-pub fn run_script<R: Read + Drop, W: Write>(
+/// where the reader fails, or was looked at 9,223,372,036,854,775,807 times; `Memory` where a reply's text or the opening
+/// finds no memory; `Write` where the writer fails. What was answered before stays written.
+pub fn run_script<R: Read + Drop, W: Write, D: Disk>(
     alloc: Global,
     reader: R,
     writer: &mut W,
-) -> Result<(), ScriptFault>
-    ensures whole { OnOk result (Writes (R.remaining reader)
-        (W.contents writer.old) (W.contents writer.new) IsTranscript) }
-    ensures early { IfErr result (λ fault. EndsEarly fault (R.remaining reader)
-        (W.contents writer.old) (W.contents writer.new)) }
+    disk: D,
+) -> Result<D, ScriptFault<D>>
+    ensures whole { IfOk result (λ back. (a : Archive) → Begins (D.life disk) a → Works (D.life disk) (D.life back) →
+        Writes (R.remaining reader) (W.contents writer.old) (W.contents writer.new)
+        (IsTranscript a (LeavesScene (D.life back)))) }
+    ensures early { IfErr result (λ fault. (a : Archive) → Begins (D.life disk) a → Works (D.life disk) (D.life (disk_of fault)) →
+        EndsEarly (end_of fault) a (LeavesScene (D.life (disk_of fault))) (R.remaining reader)
+        (W.contents writer.old) (W.contents writer.new)
+        ⊎ IsUnopened (D.life disk) (D.life (disk_of fault)) (W.contents writer.old) (W.contents writer.new) (end_of fault)) }
 {
     let Ok(mut reader) = BufReader::with_capacity(alloc, READ_AHEAD, reader) else {
-        return Err(ScriptFault::Memory);
+        return Err(ScriptFault::Memory(disk));
     };
-    let outcome = run_lines(alloc, &mut reader, writer);
-    after_flush(outcome, writer.flush().is_ok())
+    let archive = match ScriptArchive::of_disk(alloc, disk) {
+        Ok(archive) => archive,
+        Err(disk) => return Err(ScriptFault::Memory(disk)),
+    };
+    let state = ScriptState {
+        archive,
+        merge: None,
+    };
+    let (state, outcome) = run_lines(alloc, state, &mut reader, writer);
+    let disk = state.archive.into_disk();
+    match after_flush(outcome, writer.flush().is_ok()) {
+        Ok(()) => Ok(disk),
+        Err(end) => Err(ScriptFault::new(end, disk)),
+    }
 }
 
 /// How a script ended, once what it wrote was handed on or could not be.
-fn after_flush(outcome: Result<(), ScriptFault>, is_flushed: bool) -> Result<(), ScriptFault>
+fn after_flush(outcome: Result<(), EarlyEnd>, is_flushed: bool) -> Result<(), EarlyEnd>
     ensures { result ≡ ended_by outcome is_flushed }
 {
     match outcome {
-        Ok(()) if !is_flushed => Err(ScriptFault::Write),
+        Ok(()) if !is_flushed => Err(EarlyEnd::Write),
         outcome => outcome,
     }
 }

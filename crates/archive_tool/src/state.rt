@@ -1,56 +1,51 @@
 //! What the lines of a script are answered by: an archive, and a merge of a replay and the live stream.
 
-ghost use Rattle.std.specs.Prelude.{◌≡◌};
-ghost use Rattle.control_core.specs.Calls.{OrNoMemory};
-ghost use Rattle.archive_tool.specs.ScriptLines.{LineEnds, new_script};
+ghost use Rattle.std.specs.Prelude.{◌≡◌, ◌≤◌, IsTrue, Ok};
+ghost use Rattle.archive_tool.specs.Script.{Works};
+ghost use Rattle.archive_tool.specs.ScriptLines.{LineEnds, OrWant, Scene};
+ghost use Rattle.archive_tool.specs.Tie.{IsScene, life_of};
 
-use crate::archive::Archive;
+use crate::archive::ScriptArchive;
 use crate::merging::answer_merge;
 use archive_model::Reply;
 use control_core::Line;
+use disk_core::Disk;
 use frame_core::Refusal;
 use merge_core::Merge;
 use std::alloc::Global;
-use std::marker::Model;
 
 /// An archive, and the merge that was begun last.
 #[derive(Drop)]
-pub struct ScriptState {
-    alloc: Global,
-    archive: Archive,
-    merge: Option<Merge>,
+pub struct ScriptState<D> {
+    pub archive: ScriptArchive<D>,
+    pub merge: Option<Merge>,
 }
 
-impl Model for ScriptState {
-    ghost use Rattle.archive_tool.specs.ScriptLines.{ScriptState};
-
-    ghost Value = { ScriptState };
-
-    ghost view = { λ s. record { archive = s.archive; merge = s.merge } };
-}
-
-impl ScriptState {
-    /// An archive without recordings, whose history may have so many entries, and no merge. Takes no memory.
-    pub fn new(alloc: Global, history: u32) -> ScriptState
-        ensures { result ≡ new_script history }
+impl<D: Disk> ScriptState<D> {
+    /// Answers a line that was read, and hands back how the script stands then. `compact` is `BadLine` until something
+    /// answers it. Costs what the line asks for.
+    pub fn answer(self, alloc: Global, line: &Line) -> (ScriptState<D>, Result<Reply, Refusal>)
+        ensures obeyed { IsTrue (life_of D.life result.0.archive).obeys → IsTrue (life_of D.life self.archive).obeys }
+        ensures faults { (life_of D.life self.archive).faults ≤ (life_of D.life result.0.archive).faults }
+        ensures answered { (s : Scene) → IsScene D.life self s → Works (life_of D.life self.archive) (life_of D.life result.0.archive) →
+            (t : Scene) × IsScene D.life result.0 t × OrWant s (LineEnds s line.now) result.1 t }
     {
-        ScriptState {
-            alloc,
-            archive: Archive::new(alloc, history),
-            merge: None,
-        }
-    }
-
-    /// Answers a line that was read. One that nothing answers yet is `BadLine`.
-    pub fn answer(&mut self, line: &Line) -> Result<Reply, Refusal>
-        ensures { OrNoMemory self.old (LineEnds self.old line.now) result self.new }
-    {
-        match line {
-            Line::Event(event) => self.archive.call(event),
-            Line::Block { session, bytes } => self.archive.block(session, bytes.as_slice()),
-            Line::Merge(line) => answer_merge(self.alloc, &mut self.merge, line),
+        let ScriptState {
+            mut archive,
+            mut merge,
+        } = self;
+        let outcome = match line {
+            Line::Reopen => {
+                let (archive, outcome) = archive.reopen(alloc);
+                return (ScriptState { archive, merge }, outcome);
+            }
+            Line::Event(event) => archive.call(alloc, event),
+            Line::Write { session, bytes } => archive.write(alloc, session, bytes.as_slice()),
+            Line::Block { session, bytes } => archive.record(alloc, session, bytes.as_slice()),
+            Line::Merge(line) => answer_merge(alloc, &mut merge, line),
             Line::Quit => Ok(Reply::Bye),
-            Line::Write { .. } | Line::Reopen | Line::Compact => Err(Refusal::BadLine),
-        }
+            Line::Compact => Err(Refusal::BadLine),
+        };
+        (ScriptState { archive, merge }, outcome)
     }
 }

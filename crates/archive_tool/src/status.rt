@@ -3,7 +3,7 @@
 ghost use Rattle.std.specs.Prelude.{◌≡◌};
 ghost use Rattle.archive_tool.specs.CommandLine.{refusal_of, status_of};
 
-use crate::fault::ScriptFault;
+use crate::fault::EarlyEnd;
 use clap::error::ErrorKind;
 use frame_core::Refusal;
 use std::io;
@@ -23,7 +23,7 @@ pub enum Ending {
     /// A script was read to its end.
     Done,
     /// A script ended early.
-    Cut(ScriptFault),
+    Cut(EarlyEnd),
     /// The words of the command line asked for no command; what is wrong with them, or the help, was told.
     NoCommand(ErrorKind),
     /// The words could not be read, or nothing could be told of them.
@@ -37,8 +37,8 @@ impl Ending {
     {
         match self {
             Ending::Done => DONE,
-            Ending::Cut(ScriptFault::Memory) => REFUSED,
-            Ending::Cut(ScriptFault::Read | ScriptFault::Write) => DEVICE,
+            Ending::Cut(EarlyEnd::Memory) => REFUSED,
+            Ending::Cut(EarlyEnd::Read | EarlyEnd::Write) => DEVICE,
             Ending::NoCommand(ErrorKind::DisplayHelp | ErrorKind::DisplayVersion) => DONE,
             Ending::NoCommand(ErrorKind::OutOfMemory) => REFUSED,
             Ending::NoCommand(_) => USAGE,
@@ -53,8 +53,8 @@ impl Ending {
     {
         match self {
             Ending::Done => None,
-            Ending::Cut(ScriptFault::Memory) => Some(Refusal::NoMemory),
-            Ending::Cut(ScriptFault::Read | ScriptFault::Write) => Some(Refusal::DeviceFault),
+            Ending::Cut(EarlyEnd::Memory) => Some(Refusal::NoMemory),
+            Ending::Cut(EarlyEnd::Read | EarlyEnd::Write) => Some(Refusal::DeviceFault),
             Ending::NoCommand(ErrorKind::OutOfMemory) => Some(Refusal::NoMemory),
             Ending::NoCommand(_) => None,
             Ending::Failed(io::ErrorKind::OutOfMemory) => Some(Refusal::NoMemory),

@@ -125,6 +125,9 @@ impl<D: Disk> Engine<D> {
         ensures faults { MatchResult result
             (λ engine. (D.life disk).faults ≤ (D.life engine.parts.storage.disk).faults)
             (λ refused. (D.life disk).faults ≤ (D.life refused.disk).faults) }
+        ensures obeyed { MatchResult result
+            (λ engine. IsTrue (D.life engine.parts.storage.disk).obeys → IsTrue (D.life disk).obeys)
+            (λ refused. IsTrue (D.life refused.disk).obeys → IsTrue (D.life disk).obeys) }
         // Only the bank in use may read otherwise, and where it is refused by anything but a fault no file does.
         ensures others { MatchResult result
             (λ engine. (file : FileId) → file ≢ BankA →

@@ -4,37 +4,42 @@ use Rattle.std.specs.Prelude.{MatchBool}
 use Rattle.std.specs.Io.Buffered.{reader_remaining}
 use Rattle.std.specs.Io.KnownBytes.{IsAtEnd}
 use Rattle.archive_tool.specs.InputLines.{ReadsLine}
-use Rattle.archive_tool.specs.Script.{Answers, beginning, quits}
-use Rattle.archive_tool.proofs.ProgressLemmas.{progress-kept, progress-end}
-use Rattle.archive_tool.proofs.ScriptLemmas.{answers_end, early_read, early_answer, goes_on, ends_at_quit}
+use Rattle.archive_tool.specs.Script.{quits}
+use Rattle.archive_tool.proofs.ScriptLemmas.{as_answered, early_at_line, early_behind_line, none_yet, one_more, still, whole_at_end, whole_at_quit}
 use Rattle.archive_tool.proofs.script.run_lines.Goals as goal
+
+pub lines-init : goal.lines-init
+lines-init g c = none_yet g.D.Disk.life c.args.state (reader_remaining g.R.Read.remaining c.args.reader.now) (g.W.Write.contents c.args.writer.now)
+
+pub returns-in-Err-clause-early : goal.returns-in-Err-clause-early
+returns-in-Err-clause-early g c =
+    early_at_line g.D.Disk.life _ _ _ _ _ _ c.in-Err.end (still g.D.Disk.life _ _ _ _ _ _ _ c.lines.invariant c.flush_if_waiting.ensures.kept)
 
 pub returns-in-Ok-false-clause-whole : goal.returns-in-Ok-false-clause-whole
 returns-in-Ok-false-clause-whole g c =
-    let kept = progress-kept beginning quits Answers _ _ _ _ _ _ c.lines.invariant c.flush_if_waiting.ensures.kept in
     let at_end : IsAtEnd (reader_remaining g.R.Read.remaining c.lines.reader) = subst (λ b. MatchBool b (ReadsLine (reader_remaining g.R.Read.remaining c.lines.reader) (reader_remaining g.R.Read.remaining c.read_line.new.reader) c.read_line.new.line) (IsAtEnd (reader_remaining g.R.Read.remaining c.lines.reader))) c.in-Ok-false.field-0-test c.in-Ok-false.ensures.found in
-    progress-end beginning quits Answers answers_end _ _ _ _ _ kept at_end
+    whole_at_end g.D.Disk.life _ _ _ _ _ _ (still g.D.Disk.life _ _ _ _ _ _ _ c.lines.invariant c.flush_if_waiting.ensures.kept) at_end
 
 pub returns-in-Err-read_line-clause-early : goal.returns-in-Err-read_line-clause-early
 returns-in-Err-read_line-clause-early g c =
-    let kept = progress-kept beginning quits Answers _ _ _ _ _ _ c.lines.invariant c.flush_if_waiting.ensures.kept in
-    early_read _ _ _ _ _ _ kept
+    early_at_line g.D.Disk.life _ _ _ _ _ _ c.in-Err-read_line.end (still g.D.Disk.life _ _ _ _ _ _ _ c.lines.invariant c.flush_if_waiting.ensures.kept)
 
-pub returns-in-Err-answer_line-clause-early : goal.returns-in-Err-answer_line-clause-early
-returns-in-Err-answer_line-clause-early g c =
-    let kept = progress-kept beginning quits Answers _ _ _ _ _ _ c.lines.invariant c.flush_if_waiting.ensures.kept in
-    early_answer _ _ _ _ _ _ _ kept c.in-Err-answer_line.ensures.err
+pub returns-in-Err-answered-clause-early : goal.returns-in-Err-answered-clause-early
+returns-in-Err-answered-clause-early g c =
+    let read = subst (λ b. MatchBool b (ReadsLine (reader_remaining g.R.Read.remaining c.lines.reader) (reader_remaining g.R.Read.remaining c.read_line.new.reader) c.read_line.new.line) (IsAtEnd (reader_remaining g.R.Read.remaining c.lines.reader))) c.in-Ok-true.field-0-test c.in-Ok-true.ensures.found in
+    let done = as_answered g.D.Disk.life _ _ _ _ _ _ _ c.in-Err-answered.is c.answer_line-next.ensures.obeyed c.answer_line-next.ensures.faults c.answer_line-next.ensures.replied in
+    early_behind_line g.D.Disk.life _ _ _ _ _ _ _ _ _ _ c.in-Err-answered.end (still g.D.Disk.life _ _ _ _ _ _ _ c.lines.invariant c.flush_if_waiting.ensures.kept) read done
 
 pub returns-then-is_quit-clause-whole : goal.returns-then-is_quit-clause-whole
 returns-then-is_quit-clause-whole g c =
-    let kept = progress-kept beginning quits Answers _ _ _ _ _ _ c.lines.invariant c.flush_if_waiting.ensures.kept in
     let read = subst (λ b. MatchBool b (ReadsLine (reader_remaining g.R.Read.remaining c.lines.reader) (reader_remaining g.R.Read.remaining c.read_line.new.reader) c.read_line.new.line) (IsAtEnd (reader_remaining g.R.Read.remaining c.lines.reader))) c.in-Ok-true.field-0-test c.in-Ok-true.ensures.found in
+    let done = as_answered g.D.Disk.life _ _ _ _ _ _ _ c.in-Ok.is c.answer_line-next.ensures.obeyed c.answer_line-next.ensures.faults c.answer_line-next.ensures.replied in
     let quit : quits c.read_line.new.line ≡ true = search rules in
-    ends_at_quit _ _ _ _ _ _ _ _ _ kept read c.in-Ok-answer_line.ensures.ok quit
+    whole_at_quit g.D.Disk.life _ _ _ _ _ _ _ _ _ _ (still g.D.Disk.life _ _ _ _ _ _ _ c.lines.invariant c.flush_if_waiting.ensures.kept) read done quit
 
 pub lines-preserved : goal.lines-preserved
 lines-preserved g c =
-    let kept = progress-kept beginning quits Answers _ _ _ _ _ _ c.lines.invariant c.flush_if_waiting.ensures.kept in
     let read = subst (λ b. MatchBool b (ReadsLine (reader_remaining g.R.Read.remaining c.lines.reader) (reader_remaining g.R.Read.remaining c.read_line.new.reader) c.read_line.new.line) (IsAtEnd (reader_remaining g.R.Read.remaining c.lines.reader))) c.in-Ok-true.field-0-test c.in-Ok-true.ensures.found in
+    let done = as_answered g.D.Disk.life _ _ _ _ _ _ _ c.in-Ok.is c.answer_line-next.ensures.obeyed c.answer_line-next.ensures.faults c.answer_line-next.ensures.replied in
     let more : quits c.read_line.new.line ≡ false = search rules in
-    goes_on _ _ _ _ _ _ _ _ _ kept read c.in-Ok-answer_line.ensures.ok more
+    one_more g.D.Disk.life _ _ _ _ _ _ _ _ _ _ (still g.D.Disk.life _ _ _ _ _ _ _ c.lines.invariant c.flush_if_waiting.ensures.kept) read done more

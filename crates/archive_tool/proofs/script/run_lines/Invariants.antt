@@ -1,11 +1,10 @@
 use Rattle.std.proofs.Common.{◌-◌}
 use Rattle.std.specs.Io.Buffered.{reader_remaining}
-use Rattle.archive_tool.specs.Script.{Answers, beginning, quits}
-use Rattle.archive_tool.proofs.ProgressLemmas.{Progress}
+use Rattle.archive_tool.proofs.ScriptLemmas.{HasCome}
 use Rattle.archive_tool.proofs.script.run_lines.Given as goal
 
 abbrev pub invariant-lines : goal.invariant-lines
-invariant-lines g l = Progress beginning quits Answers (reader_remaining g.R.Read.remaining l.fn.reader) (reader_remaining g.R.Read.remaining l.reader) (g.W.Write.contents l.fn.writer) (g.W.Write.contents l.writer) l.state
+invariant-lines g l = HasCome g.D.Disk.life l.fn.state l.state (reader_remaining g.R.Read.remaining l.fn.reader) (reader_remaining g.R.Read.remaining l.reader) (g.W.Write.contents l.fn.writer) (g.W.Write.contents l.writer)
 
 abbrev pub decreases-lines : goal.decreases-lines
 decreases-lines g l = 18446744073709551615 - l.reads

@@ -1,31 +1,31 @@
--- A block that the archive answers is the script's line answered.
-use Rattle.std.proofs.Common.{◌≡◌, refl, sym, subst, ap, ℕ, ℤ, List, Result, Ok, Err}
-use Rattle.frame_core.specs.declared.refusal.Refusal.{Refusal}
-use Rattle.frame_core.specs.declared.refusal.Refusal.TheVariants.{NoMemory}
-use Rattle.archive_model.specs.declared.reply.Reply.{Reply}
-use Rattle.control_core.specs.declared.line.Line.{Line}
+-- Each line is the archive's, the merge's, or neither's.
+use Rattle.std.proofs.Common.{◌∙◌, ℕ, List, ap, refl, sym}
+use Rattle.std.specs.Prelude.{Ok, Err}
+use Rattle.frame_core.specs.declared.refusal.Refusal.TheVariants.{BadLine}
+use Rattle.archive_model.specs.declared.reply.Reply.TheVariants.{Bye}
 use Rattle.control_core.specs.declared.line.Line.TheVariants as lines
-use Rattle.control_core.specs.Control.{Control}
-use Rattle.control_core.specs.Calls.{OrNoMemory, BytesEnd}
-use Rattle.archive_tool.specs.ScriptLines.{ScriptState, LineEnds}
+use Rattle.archive_tool.specs.ScriptLines.{Calls, Records, Reopens, WhereOpen, Writes}
+use Rattle.archive_tool.proofs.LineLemmas.{by_call, by_merge, by_none, by_want, shown}
+use Rattle.archive_tool.proofs.state.ScriptState.answer.Goals.{in-Event, in-Write, in-Block, in-Merge, in-Quit, in-Compact}
 use Rattle.archive_tool.proofs.state.ScriptState.answer.Goals as goal
 
--- the archive of the state is answered for, whatever the state and the line are called
-block_answers : (s : ScriptState) (session : ℤ) (bytes : List ℕ) (result : Result Reply Refusal) (a : Control)
-    → OrNoMemory s.archive (BytesEnd s.archive session bytes) result a
-    → OrNoMemory s (LineEnds s (lines.Block session bytes)) result (record { archive = a; merge = s.merge })
-block_answers s session bytes (Ok reply) a ends = (ends, refl)
-block_answers s session bytes (Err NoMemory) a ends = ap (λ (kept : Control). let new : ScriptState = record { archive = kept; merge = s.merge } in new) ends
-block_answers s session bytes (Err refusal) a ends = (ends, refl)
+pub returns-in-Reopen-clause-answered : goal.returns-in-Reopen-clause-answered
+returns-in-Reopen-clause-answered g c =
+    shown g.D.Disk.life c.args.self c.args.line.now lines.Reopen c.reopen-archive.result.0 c.reopen-archive.result.0 c.args.self.merge c.args.self.merge c.reopen-archive.result.1 c.reopen-archive.result.1 c.in-Reopen.is refl refl refl
+    (by_call g.D.Disk.life c.args.self c.reopen-archive.result.0 Reopens c.reopen-archive.result.1 c.reopen-archive.ensures.reopened)
 
-answered : (old s : ScriptState) (line : Line) (session : ℤ) (bytes shown : List ℕ) (result : Result Reply Refusal) (a : Control)
-    → old ≡ s → line ≡ lines.Block session bytes → shown ≡ bytes → OrNoMemory s.archive (BytesEnd s.archive session shown) result a
-    → OrNoMemory old (LineEnds old line) result (record { archive = a; merge = s.merge })
-answered old s line session bytes shown result a is line_is shown_is ends =
-    let new : ScriptState = record { archive = a; merge = s.merge } in
-    let here = block_answers s session bytes result a (subst (λ (b : List ℕ). OrNoMemory s.archive (BytesEnd s.archive session b) result a) shown_is ends) in
-    let of_line = subst (λ (l : Line). OrNoMemory s (LineEnds s l) result new) (sym line_is) here in
-    subst (λ (o : ScriptState). OrNoMemory o (LineEnds o line) result new) (sym is) of_line
-
-pub returns-in-Block : goal.returns-in-Block
-returns-in-Block c = answered c.args.self.now (record { archive = c.self.inside.archive; merge = c.self.inside.merge }) c.args.line.now c.in-Block.session c.in-Block.bytes c.as_slice.result.now c.block.result c.block.new.self (sym c.self.view_is) c.in-Block.is c.as_slice.ensures c.block.ensures
+pub returns-clause-answered : goal.returns-clause-answered
+returns-clause-answered g c = elim c.match-line.branch [
+  | in-Event w ↦ shown g.D.Disk.life c.args.self c.args.line.now (lines.Event w.in-Event.event) c.match-line.archive w.call-outcome.new.self c.match-line.merge c.args.self.merge c.match-line.outcome w.call-outcome.result w.in-Event.is w.archive-is w.merge-is w.outcome-is
+      (by_call g.D.Disk.life c.args.self w.call-outcome.new.self (WhereOpen (Calls w.in-Event.event)) w.call-outcome.result w.call-outcome.ensures.called)
+  | in-Write w ↦ shown g.D.Disk.life c.args.self c.args.line.now (lines.Write w.in-Write.session w.as_slice.result.now) c.match-line.archive w.write-outcome.new.self c.match-line.merge c.args.self.merge c.match-line.outcome w.write-outcome.result (w.in-Write.is ∙ ap (λ (b : List ℕ). lines.Write w.in-Write.session b) (sym w.as_slice.ensures)) w.archive-is w.merge-is w.outcome-is
+      (by_want g.D.Disk.life c.args.self w.write-outcome.new.self (WhereOpen (Writes w.in-Write.session w.as_slice.result.now)) w.write-outcome.result w.write-outcome.ensures.written)
+  | in-Block w ↦ shown g.D.Disk.life c.args.self c.args.line.now (lines.Block w.in-Block.session w.as_slice-in-Block.result.now) c.match-line.archive w.record-outcome.new.self c.match-line.merge c.args.self.merge c.match-line.outcome w.record-outcome.result (w.in-Block.is ∙ ap (λ (b : List ℕ). lines.Block w.in-Block.session b) (sym w.as_slice-in-Block.ensures)) w.archive-is w.merge-is w.outcome-is
+      (by_want g.D.Disk.life c.args.self w.record-outcome.new.self (WhereOpen (Records w.in-Block.session w.as_slice-in-Block.result.now)) w.record-outcome.result w.record-outcome.ensures.recorded)
+  | in-Merge w ↦ shown g.D.Disk.life c.args.self c.args.line.now (lines.Merge w.in-Merge.line) c.match-line.archive c.args.self.archive c.match-line.merge w.answer_merge-outcome.new.merge c.match-line.outcome w.answer_merge-outcome.result w.in-Merge.is w.archive-is w.merge-is w.outcome-is
+      (by_merge g.D.Disk.life c.args.self w.in-Merge.line w.answer_merge-outcome.new.merge w.answer_merge-outcome.result w.answer_merge-outcome.ensures)
+  | in-Quit w ↦ shown g.D.Disk.life c.args.self c.args.line.now lines.Quit c.match-line.archive c.args.self.archive c.match-line.merge c.args.self.merge c.match-line.outcome (Ok Bye) w.in-Quit.is w.archive-is w.merge-is w.outcome-is
+      (by_none g.D.Disk.life c.args.self lines.Quit (Ok Bye) (λ s. (refl, refl)))
+  | in-Compact w ↦ shown g.D.Disk.life c.args.self c.args.line.now lines.Compact c.match-line.archive c.args.self.archive c.match-line.merge c.args.self.merge c.match-line.outcome (Err BadLine) w.in-Compact.is w.archive-is w.merge-is w.outcome-is
+      (by_none g.D.Disk.life c.args.self lines.Compact (Err BadLine) (λ s. (refl, refl)))
+]

@@ -64,6 +64,13 @@ returns-in-Err-clause-refused g c s u leaves obeys =
     let to = reads_as old s u (g.met.D.Disk.reads_may_stay c.args.disk) leaves in
     (read_refused old mid s u leaves c.read_desk.ensures.before, c.in-Err.ensures.whole obeys to.state to.recovers)
 
+pub returns-in-Ok-clause-obeyed : goal.returns-in-Ok-clause-obeyed
+returns-in-Ok-clause-obeyed g c =
+    either_then c.start.result _ _ _ _
+    (λ engine changes obeys. c.read_desk.ensures.before.obeyed (changes.obeyed obeys))
+    (λ refused changes obeys. c.read_desk.ensures.before.obeyed (changes.obeyed obeys))
+    c.start.ensures.changes
+
 pub returns-in-Ok-clause-others : goal.returns-in-Ok-clause-others
 returns-in-Ok-clause-others g c =
     let old = g.D.Disk.life c.args.disk in

@@ -1,0 +1,27 @@
+-- A disk of which no call has failed, in each part of a stretch of calls.
+use Rattle.std.proofs.Common.{◌≡◌, ◌≤◌, ℕ, IsTrue, arith}
+use Rattle.disk_core.specs.Life.{HasFailed, Life}
+use Rattle.archive_tool.specs.Script.{Works}
+
+pub not_failed : (old new : Life) → Works old new → HasFailed old new → ⊥
+not_failed old new works failed =
+    let steady = works.steady in
+    let tells = works.tells in
+    omega (arith, steady, tells, failed)
+
+-- the count of faults was the same between them
+same_count : (a b c : ℕ) → a ≤ b → b ≤ c → c ≡ a → b ≡ a
+same_count a b c up more same = omega (arith, up, more, same)
+
+pub works_first : (old mid new : Life) → Works old new → (IsTrue new.obeys → IsTrue mid.obeys) → old.faults ≤ mid.faults → mid.faults ≤ new.faults → Works old mid
+works_first old mid new works obeyed up more =
+    let same : mid.faults ≡ old.faults = same_count old.faults mid.faults new.faults up more works.steady in
+    let tells = works.tells in
+    let steady = works.steady in
+    record { obeys = obeyed works.obeys; steady = same; tells = omega (arith, same, steady, tells) }
+
+pub works_then : (old mid new : Life) → Works old new → old.faults ≤ mid.faults → mid.faults ≤ new.faults → Works mid new
+works_then old mid new works up more =
+    let same : mid.faults ≡ old.faults = same_count old.faults mid.faults new.faults up more works.steady in
+    let steady = works.steady in
+    record { obeys = works.obeys; steady = omega (arith, same, steady); tells = works.tells }
