@@ -1,6 +1,6 @@
 -- Calls one after another.
 use Rattle.std.proofs.Common.{◌≡◌, ◌∙◌, ◌++◌, ◌+◌, ◌<◌, ◌≤◌, inl, inr, sym, ap, subst, refl, ℕ, List, [], ◌∷◌, length, take, get_or, add-one, cond, IsTrue, arith}
-use Rattle.std.proofs.lemmas.List.{length-append, length-take-le, take_all}
+use Rattle.std.proofs.lemmas.List.{append-nil, append_assoc, length-append, length-take-le, take_all}
 use Rattle.std.proofs.lemmas.List.Sums.{sum_by-append}
 use Rattle.std.proofs.Math.Seq.{take-suc}
 use Rattle.std.specs.Prelude.{Result, Ok, Err}
@@ -46,19 +46,11 @@ run_more : (a b c : Archive) (calls : List Call) (call : Call) → Run a calls b
 run_more a b c [] call run ends = (c, subst (λ (x : Archive). CallEnds x call.0 (Unit {0}) call.1 c) run ends, refl)
 run_more a b c (first ∷ calls) call run ends = (run.0, run.1, run_more run.0 b c calls call run.2 ends)
 
-append_more : {X : Type 0} (xs ys zs : List X) → (xs ++ ys) ++ zs ≡ xs ++ (ys ++ zs)
-append_more [] ys zs = refl
-append_more (x ∷ xs) ys zs = ap (λ (l : List _). x ∷ l) (append_more xs ys zs)
-
-append_none : {X : Type 0} (xs : List X) → xs ≡ xs ++ []
-append_none [] = refl
-append_none (x ∷ xs) = ap (λ (l : List _). x ∷ l) (append_none xs)
-
 stood_more : (a : Archive) (calls more : List Call) (x : State) → Stood a calls x → Stood a (calls ++ more) x
 stood_more a calls more x stood = record {
   front = stood.front;
   back = stood.back ++ more;
-  split = ap (λ (l : List Call). l ++ more) stood.split ∙ append_more stood.front stood.back more;
+  split = ap (λ (l : List Call). l ++ more) stood.split ∙ append_assoc stood.front stood.back more;
   mid = stood.mid;
   run = stood.run;
   stands = stood.stands;
@@ -66,7 +58,7 @@ stood_more a calls more x stood = record {
 
 -- a state that stood after all of them
 stood_last : (a b : Archive) (calls : List Call) (x : State) → Run a calls b → MayStand b x → Stood a calls x
-stood_last a b calls x run stands = record { front = calls; back = []; split = append_none calls; mid = b; run = run; stands = stands }
+stood_last a b calls x run stands = record { front = calls; back = []; split = sym (append-nil calls); mid = b; run = run; stands = stands }
 
 pub ran_more : (old mid new : Life) (log new_log : LogState) (desk new_desk : DeskState) (a : Archive) (calls : List Call) (event : Event) (outcome : Result Reply Refusal) → Ran old mid log desk a calls
     → ((b : Archive) → IsConsistent mid log desk b → Ended mid new new_log new_desk b (λ c. CallEnds b event (Unit {0}) outcome c)) → Ran old new new_log new_desk a (calls ++ (event, outcome) ∷ [])

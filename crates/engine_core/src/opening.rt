@@ -17,26 +17,19 @@ ghost use Rattle.control_core.specs.Desk.{opened_desk};
 ghost use Rattle.engine_core.specs.Orderly.{IsOrderly};
 ghost use Rattle.engine_core.specs.Recovery.{Folds, IsSound, Recovers};
 
-use archive_model::Register;
 use catalogue_log::{Entry, Log, register_from};
 use control_core::Desk;
 use disk_core::{Disk, FileId};
 use frame_core::Refusal;
 use std::alloc::Global;
 
-/// What the files of an archive give but for frames: the catalogue's log, and the register of the recordings.
-#[derive(Drop)]
-struct Parts {
-    log: Log,
-    register: Register,
-}
-
 /// Syncs the files of an archive and reads its catalogue: the log, and the desk, at which nobody calls yet.
 ///
 /// Where the disk's files recover to a state, the archive is sound for it from then on, and the desk has that state's
 /// recordings; and then it refuses by `DeviceFault` and `NoMemory` alone. Else `NotCatalogue`, `NewerVersion` and
 /// `Damaged`, as `catalogue_log::open`. `NoMemory` also where 2^32 entries count or more, which no desk takes. In every
-/// case each file reads as before. docs/STORAGE.md, "Opening". Costs what `read_parts` costs.
+/// case each file reads as before. docs/STORAGE.md, "Opening". Costs a call of the disk for each file and for each 64 KiB
+/// of the catalogue, and the memory of the listing, the entries and the recordings.
 pub(crate) fn read_desk<D: Disk>(alloc: Global, disk: &mut D) -> Result<(Log, Desk), Refusal>
     ensures sound { IfOk result (λ opened. IsTrue (D.life disk.new).obeys → (x : State) →
         Recovers (reads (D.life disk.old).now) x → IsSound (D.life disk.new).now opened.0 x
@@ -54,11 +47,12 @@ pub(crate) fn read_desk<D: Disk>(alloc: Global, disk: &mut D) -> Result<(Log, De
     ensures before { ReadsAsBefore (D.life disk.old) (D.life disk.new) }
     ensures cause { IsErrOf result DeviceFault → HasFailed (D.life disk.old) (D.life disk.new) }
 {
-    let parts = read_parts(alloc, disk)?;
-    let counted = counted_by(&parts.log).ok_or(Refusal::NoMemory)?;
-    let limit = parts.log.limit();
-    let desk = Desk::opened(alloc, parts.register, counted, limit);
-    Ok((parts.log, desk))
+    let (log, entries) = open_files(alloc, disk)?;
+    let register = register_from(alloc, &entries)?;
+    let counted = counted_by(&log).ok_or(Refusal::NoMemory)?;
+    let limit = log.limit();
+    let desk = Desk::opened(alloc, register, counted, limit);
+    Ok((log, desk))
 }
 
 /// How many entries of a log count, unless these are 2^32 or more.
@@ -67,34 +61,6 @@ fn counted_by(log: &Log) -> Option<u32>
     ensures none { IfNone result (2 ^ 32 ≤ log.now.counted) }
 {
     u32::try_from(log.counted()).ok()
-}
-
-/// Syncs the files of an archive, and reads its catalogue: the log, and the register that its entries make.
-///
-/// Where the disk's files recover to a state, the archive is sound for it from then on, and the register is that state's;
-/// and then it refuses by `DeviceFault` and `NoMemory` alone. Else `NotCatalogue`, `NewerVersion` and `Damaged`, as
-/// `catalogue_log::open`. In every case each file reads as before. docs/STORAGE.md, "Opening". Costs a call of the disk
-/// for each file and for each 64 KiB of the catalogue, and the memory of the listing, the entries and the recordings.
-fn read_parts<D: Disk>(alloc: Global, disk: &mut D) -> Result<Parts, Refusal>
-    ensures sound { IfOk result (λ parts. IsTrue (D.life disk.new).obeys → (x : State) →
-        Recovers (reads (D.life disk.old).now) x →
-        IsSound (D.life disk.new).now parts.log x × (parts.register.state ≡ register_of x)) }
-    // Whatever the disk does, a desk of the register is orderly.
-    ensures orderly { IfOk result (λ parts. (counted limit : ℕ) →
-        IsOrderly (opened_desk parts.register.state counted limit)) }
-    ensures log { IfOk result (λ parts. IsTrue (D.life disk.new).obeys →
-        (entries : List Entry) × IsLogOf (bank_in_use (reads (D.life disk.old).now)) parts.log entries
-        × (parts.register.state ≡ after_entries no_recordings entries)) }
-    ensures refused { IfErr result (λ refusal. IsTrue (D.life disk.new).obeys →
-        RefusesCatalogue (reads (D.life disk.old).now) refusal) }
-    ensures whole { IfErr result (λ refusal. IsTrue (D.life disk.new).obeys → (x : State) →
-        Recovers (reads (D.life disk.old).now) x → (refusal ≡ DeviceFault) ⊎ (refusal ≡ NoMemory)) }
-    ensures before { ReadsAsBefore (D.life disk.old) (D.life disk.new) }
-    ensures cause { IsErrOf result DeviceFault → HasFailed (D.life disk.old) (D.life disk.new) }
-{
-    let (log, entries) = open_files(alloc, disk)?;
-    let register = register_from(alloc, &entries)?;
-    Ok(Parts { log, register })
 }
 
 /// The log of the catalogue and its entries in order, once the files of the archive are synced.

@@ -10,10 +10,8 @@ ghost use Rattle.control_core.specs.Exact.{Archive};
 ghost use Rattle.engine_core.specs.Calls.{Ended, EndsAs, HasFailedOften, Ran, calls_of, faults_in, is_cut};
 ghost use Rattle.engine_core.specs.Consistent.{IsConsistent};
 ghost use Rattle.engine_core.specs.Moves.{registered_keeps};
-ghost use Rattle.engine_core.specs.Orderly.{IsOrderly};
 
 use crate::Engine;
-use crate::parts::Parts;
 use archive_model::Reply;
 use control_core::Event;
 use disk_core::Disk;
@@ -44,7 +42,20 @@ impl<D: Disk> Engine<D> {
             (D.life self.new.parts.storage.disk) removed }
         ensures restarted { self.new.restarted ≡ self.old.restarted }
     {
-        self.parts.step(alloc, event)
+        match event {
+            Event::Ask(request) => self.parts.ask(alloc, request),
+            Event::Write { session, block } => self.parts.write(session, block),
+            Event::Settle { session } => self.parts.settle(session),
+            Event::ReplayOpen {
+                recording,
+                position,
+                length,
+            } => self.parts.open_replay(recording, position, length),
+            Event::ReplayPoll { replay, max } => self.parts.poll(alloc, replay, max),
+            Event::ReplayClose { replay } => self.parts.close(replay),
+            Event::Sweep => self.parts.sweep(alloc),
+            Event::Verify { recording } => self.parts.verify(alloc, recording),
+        }
     }
 
     /// Answers events, one after another. A crash at any moment of it leaves a state that stood after the first of them.
@@ -74,41 +85,5 @@ impl<D: Disk> Engine<D> {
             outcomes.push_reserved(outcome);
         }
         Ok(outcomes)
-    }
-}
-
-impl<D: Disk> Parts<D> {
-    /// Answers an event, as `Engine::step` does.
-    fn step(&mut self, alloc: Global, event: &Event) -> Result<Reply, Refusal>
-        requires orderly { IsOrderly self.old.desk.state }
-        ensures orderly { IsOrderly self.new.desk.state }
-        ensures obeyed { IsTrue (D.life self.new.storage.disk).obeys → IsTrue (D.life self.old.storage.disk).obeys }
-        ensures faults { (D.life self.old.storage.disk).faults ≤ (D.life self.new.storage.disk).faults }
-        ensures cause { IsErrOf result DeviceFault →
-            HasFailed (D.life self.old.storage.disk) (D.life self.new.storage.disk) }
-        ensures stepped { (a : Archive) →
-            IsConsistent (D.life self.old.storage.disk) self.old.storage.log self.old.desk.state a →
-            (IsTrue (is_cut event.now) → IsTrue (D.life self.new.storage.disk).obeys) →
-            Ended (D.life self.old.storage.disk) (D.life self.new.storage.disk) self.new.storage.log self.new.desk.state a
-            (EndsAs (D.life self.old.storage.disk) (D.life self.new.storage.disk) event.now a result) }
-        // What a sweep answers tells what became of the files.
-        ensures swept { (removed : Bool) → event.now ≡ events.Sweep → result ≡ Ok (Swept removed) →
-            HasSwept (registered_keeps self.old.desk.state.register) (D.life self.old.storage.disk)
-            (D.life self.new.storage.disk) removed }
-    {
-        match event {
-            Event::Ask(request) => self.ask(alloc, request),
-            Event::Write { session, block } => self.write(session, block),
-            Event::Settle { session } => self.settle(session),
-            Event::ReplayOpen {
-                recording,
-                position,
-                length,
-            } => self.open_replay(recording, position, length),
-            Event::ReplayPoll { replay, max } => self.poll(alloc, replay, max),
-            Event::ReplayClose { replay } => self.close(replay),
-            Event::Sweep => self.sweep(alloc),
-            Event::Verify { recording } => self.verify(alloc, recording),
-        }
     }
 }

@@ -1,36 +1,44 @@
 use Rattle.std.proofs.Common.{rules, ◌≡◌, ◌∙◌, subst, sym}
 use Rattle.std.specs.Prelude.{Err, IfSome, Some}
+use Rattle.disk_core.specs.DiskImage.{reads}
 use Rattle.archive_model.specs.State.{register_of}
 use Rattle.archive_model.specs.Register.{no_recordings}
 use Rattle.catalogue_log.specs.Fold.{after_entries}
+use Rattle.control_core.specs.Desk.{opened_desk}
 use Rattle.engine_core.specs.Orderly.{IsOrderly}
+use Rattle.engine_core.proofs.OpeningLemmas.{whole_refused}
+use Rattle.engine_core.proofs.OrderlyCallLemmas.{orderly_opened}
 use Rattle.engine_core.proofs.ReopenLemmas.{same_desk}
 use Rattle.engine_core.proofs.opening.read_desk.Goals as goal
 
-pub returns-in_err-parts-clause-whole : goal.returns-in_err-parts-clause-whole
-returns-in_err-parts-clause-whole g c =
-    let refused : c.from_residual.result ≡ Err c.in_err-parts.field-0.0 = search rules in
-    rw refused c.in_err-parts.ensures.whole
+pub returns-in_err-log-clause-whole : goal.returns-in_err-log-clause-whole
+returns-in_err-log-clause-whole g c =
+    let refused : c.from_residual.result ≡ Err c.in_err-log.field-0.0 = search rules in
+    rw refused (λ obeys x recovers. whole_refused (reads (g.D.Disk.life c.args.disk.now).now) x c.in_err-log.field-0.0 recovers (c.in_err-log.ensures.refused obeys))
 
 pub returns-clause-sound : goal.returns-clause-sound
 returns-clause-sound g c obeys x recovers =
-    let log = c.in_ok-parts.parts.log in
+    let log = c.in_ok-log.log in
     let counted = c.in_ok-counted.counted in
     let is : counted ≡ log.counted = subst (λ o. IfSome o (λ n. n ≡ log.counted)) {y = Some counted} c.in_ok-counted.ensures.ok_part c.counted_by.ensures.some in
-    let found = c.in_ok-parts.ensures.sound obeys x recovers in
-    (found.0, c.opened-desk.ensures ∙ same_desk c.in_ok-parts.parts.register.state (register_of x) counted log.counted c.limit-limit.result log.header.history_limit found.1 is c.limit-limit.ensures)
+    let made : c.in_ok-register.register.state ≡ after_entries no_recordings c.in_ok-log.entries.items = search rules in
+    let found = c.in_ok-log.ensures.sound obeys x recovers in
+    (found.0, c.opened-desk.ensures ∙ same_desk c.in_ok-register.register.state (register_of x) counted log.counted c.limit-limit.result log.header.history_limit (made ∙ found.1) is c.limit-limit.ensures)
 
 pub returns-clause-log : goal.returns-clause-log
 returns-clause-log g c obeys =
-    let log = c.in_ok-parts.parts.log in
+    let log = c.in_ok-log.log in
+    let entries = c.in_ok-log.entries.items in
     let counted = c.in_ok-counted.counted in
     let is : counted ≡ log.counted = subst (λ o. IfSome o (λ n. n ≡ log.counted)) {y = Some counted} c.in_ok-counted.ensures.ok_part c.counted_by.ensures.some in
-    let read = c.in_ok-parts.ensures.log obeys in (
-      read.0,
-      read.1,
-      c.opened-desk.ensures
-          ∙ same_desk c.in_ok-parts.parts.register.state (after_entries no_recordings read.0) counted log.counted c.limit-limit.result log.header.history_limit read.2 is c.limit-limit.ensures,
+    let made : c.in_ok-register.register.state ≡ after_entries no_recordings entries = search rules in (
+      entries,
+      c.in_ok-log.ensures.log obeys,
+      c.opened-desk.ensures ∙ same_desk c.in_ok-register.register.state (after_entries no_recordings entries) counted log.counted c.limit-limit.result log.header.history_limit made is c.limit-limit.ensures,
     )
 
 pub returns-clause-orderly : goal.returns-clause-orderly
-returns-clause-orderly g c = subst IsOrderly (sym c.opened-desk.ensures) (c.in_ok-parts.ensures.orderly c.in_ok-counted.counted c.limit-limit.result)
+returns-clause-orderly g c =
+    let made : c.in_ok-register.register.state ≡ after_entries no_recordings c.in_ok-log.entries.items = search rules in
+    let orderly = subst (λ r. IsOrderly (opened_desk r c.in_ok-counted.counted c.limit-limit.result)) (sym made) (orderly_opened c.in_ok-log.entries.items c.in_ok-counted.counted c.limit-limit.result c.in_ok-log.ensures.admitted) in
+    subst IsOrderly (sym c.opened-desk.ensures) orderly
