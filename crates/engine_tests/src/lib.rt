@@ -2,7 +2,7 @@
 #![tactic(auto)]
 
 #[cfg(test)]
-mod acts;
+mod calls;
 #[cfg(test)]
 mod crashes;
 #[cfg(test)]

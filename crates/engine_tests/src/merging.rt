@@ -1,7 +1,8 @@
 //! A replay of what is recorded, merged with the frames of an image of the live stream.
 
-use crate::acts::{Act, answer, block, made};
-use archive_model::Reply;
+use crate::calls::{answer, made, run};
+use archive_model::{PolledFrame, Reply};
+use control_core::Event;
 use disk_core::MemoryDisk;
 use engine_core::Engine;
 use frame_core::{Frame, Geometry, Refusal, Setup};
@@ -30,50 +31,43 @@ const SETUP: Setup = Setup {
     ttl: 0,
 };
 
+// `hello` as a datagram, term 42, offset 64.
+const HELLO_AT_64: &[u8] =
+    b"\x25\0\0\0\0\xc0\x01\0\x40\0\0\0\x07\0\0\0\xe9\x03\0\0\x2a\0\0\0\0\0\0\0\0\0\0\0hello";
+
+// The same at offset 128.
+const HELLO_AT_128: &[u8] =
+    b"\x25\0\0\0\0\xc0\x01\0\x80\0\0\0\x07\0\0\0\xe9\x03\0\0\x2a\0\0\0\0\0\0\0\0\0\0\0hello";
+
 /// An archive that has recorded `hello` at 0 and 64, and replays it.
 fn recorded(alloc: Global) -> Result<Engine<MemoryDisk>, Refusal> {
     let mut engine = made(alloc, MemoryDisk::new(alloc), 16)?;
-    for act in [
-        Act::Start(0),
-        Act::Write(0, 0),
-        Act::Settle(0),
-        Act::Write(0, 64),
-        Act::Settle(0),
-        Act::Replay(0, 0, -1),
-    ] {
-        answer(alloc, &mut engine, act)?;
-    }
+    let script = "start 0\nwrite 0 0\nsettle 0\nwrite 0 64\nsettle 0\nreplay 0 0 -1";
+    run(alloc, &mut engine, script)?;
     Ok(engine)
 }
 
 /// The frames that the replay gives.
 fn replayed(alloc: Global, engine: &mut Engine<MemoryDisk>) -> Result<Vec<Frame>, Refusal> {
-    let Reply::Polled { frames, .. } = answer(alloc, engine, Act::Poll(0, 10))? else {
-        return Err(Refusal::BadLine);
-    };
-    let mut given = Vec::new(alloc);
-    for polled in frames.into_vec() {
-        given.push(polled.frame)?;
+    match answer(alloc, engine, &Event::ReplayPoll { replay: 0, max: 10 })? {
+        Reply::Polled { frames, .. } => frames_of(alloc, frames.into_vec()),
+        _ => Err(Refusal::BadLine),
     }
-    Ok(given)
 }
 
-/// `hello` at a position as a datagram.
-fn datagram(alloc: Global, position: i64) -> Result<Vec<u8>, Refusal> {
-    let mut bytes = Vec::new(alloc);
-    for frame in block(alloc, position, false)?.frames.as_slice() {
-        bytes.extend_from_slice(&frame.header())?;
-        bytes.extend_from_slice(frame.payload.as_slice())?;
+fn frames_of(alloc: Global, polled: Vec<PolledFrame>) -> Result<Vec<Frame>, Refusal> {
+    let mut frames = Vec::new(alloc);
+    for given in polled {
+        frames.push(given.frame)?;
     }
-    Ok(bytes)
+    Ok(frames)
 }
 
 /// The live frames at 64 and 128.
 fn live(alloc: Global) -> Result<Vec<Frame>, Refusal> {
     let mut image = Image::from_setup(alloc, &SETUP)?;
-    for position in [64, 128] {
-        image.insert(datagram(alloc, position)?.as_slice())?;
-    }
+    image.insert(HELLO_AT_64)?;
+    image.insert(HELLO_AT_128)?;
     match image.take_block()? {
         Some(block) => Ok(block.frames.into_vec()),
         None => Err(Refusal::BadBlock),

@@ -1,9 +1,10 @@
 //! 200 calls by chance, with a stop after each change of the disk, three crashes and an opening each: what is opened is
 //! what the plain book makes of the calls that were accepted, or of these and the one in flight.
 
-use crate::acts::{Act, TERM, answer, made, opened};
-use crate::reference::{LIMIT, Session, Story, text_after, text_of};
-use archive_model::Command;
+use crate::calls::{TERM, answer, event_of, made, opened, told};
+use crate::reference::{LIMIT, Story, text_after, text_of, text_of_book};
+use archive_model::{Command, Reply};
+use control_core::Event;
 use disk_core::MemoryDisk;
 use engine_core::Engine;
 use frame_core::Refusal;
@@ -29,44 +30,58 @@ impl Dice {
 }
 
 /// One of the last two sessions.
-fn session_by_chance(dice: &mut Dice, story: &Story) -> (i64, Session) {
+fn session_by_chance(dice: &mut Dice, story: &Story) -> i64 {
     let count = i64::try_from(story.sessions.len()).unwrap_or(0);
-    let number = count
-        .wrapping_sub(1)
-        .wrapping_sub(dice.below(8).wrapping_div(5));
-    let nobody = Session {
-        recording: 0,
-        written: None,
-    };
-    (number, story.session(number).unwrap_or(nobody))
+    let back = dice.below(8).wrapping_div(5);
+    count.wrapping_sub(1).wrapping_sub(back)
 }
 
+/// The word of a call, what it is of, and its position.
+type Call = (&'static str, i64, i64);
+
 /// The next call.
-fn act_by_chance(dice: &mut Dice, story: &Story) -> Act {
-    let (number, session) = session_by_chance(dice, story);
-    let recording = session.recording;
+fn call_by_chance(dice: &mut Dice, story: &Story) -> Call {
+    let number = session_by_chance(dice, story);
+    let recording = story.session(number).map_or(0, |found| found.recording);
     let end = story
         .book
         .recording(&recording)
         .map_or(0, |found| found.recorded_position());
     match dice.below(32) {
-        0..=1 if story.book.recordings().len() < 4 => { Act::Start(dice.below(8).wrapping_mul(64)) }
-        2..=10 => Act::Write(number, end),
-        11..=13 => Act::Pad(number, end),
-        14..=22 => Act::Settle(number),
-        23 => Act::Stop(recording),
-        24..=25 => Act::Extend(recording, end),
-        26..=27 => Act::Truncate(recording, end.wrapping_sub(dice.below(3).wrapping_mul(64))),
-        28..=29 => Act::PurgeSegments(recording, end.wrapping_sub(end.wrapping_rem_euclid(TERM))),
-        30 => Act::Purge(recording),
-        _ => Act::Sweep,
+        0..=1 if story.book.recordings().len() < 4 => ("start", dice.below(8).wrapping_mul(64), 0),
+        2..=10 => ("write", number, end),
+        11..=13 => ("pad", number, end),
+        14..=22 => ("settle", number, 0),
+        throw => call_of_recording(dice, throw, recording, end),
     }
 }
 
-// A run: what was accepted, the command that was in flight as the disk stopped, and the archive.
+/// A call on a recording that ends there.
+fn call_of_recording(dice: &mut Dice, throw: i64, recording: i64, end: i64) -> Call {
+    match throw {
+        23 => ("stop", recording, 2_000),
+        24..=25 => ("extend", recording, end),
+        26..=27 => (
+            "truncate",
+            recording,
+            end.wrapping_sub(dice.below(3).wrapping_mul(64)),
+        ),
+        28..=29 => (
+            "purge-segments",
+            recording,
+            end.wrapping_sub(end.wrapping_rem_euclid(TERM)),
+        ),
+        30 => ("purge", recording, 0),
+        _ => ("sweep", 0, 0),
+    }
+}
+
+// A run: the book of what was accepted, what that was answered, the command that was in flight as the disk stopped, and
+// the archive.
 #[derive(Drop)]
 struct Run {
     story: Story,
+    answers: Vec<u8>,
     doubt: Option<Command>,
     has_stopped: bool,
     engine: Engine<MemoryDisk>,
@@ -78,6 +93,7 @@ impl Run {
         disk.stop_after(changes.wrapping_add(6));
         Ok(Run {
             story: Story::new(alloc),
+            answers: Vec::new(alloc),
             doubt: None,
             has_stopped: false,
             engine: made(alloc, disk, LIMIT)?,
@@ -85,66 +101,124 @@ impl Run {
     }
 
     /// Makes a call.
-    fn make(&mut self, alloc: Global, act: Act) -> Result<(), Refusal> {
-        match answer(alloc, &mut self.engine, act) {
-            Ok(_) => self.story.note(alloc, act),
-            Err(Refusal::DeviceFault) => {
-                self.doubt = self.story.command(alloc, act)?;
-                self.has_stopped = true;
-                Ok(())
-            }
+    fn make(&mut self, alloc: Global, event: Event) -> Result<(), Refusal> {
+        match answer(alloc, &mut self.engine, &event) {
+            Ok(reply) => self.accept(alloc, event, reply),
+            Err(Refusal::DeviceFault) => self.stop(alloc, event),
             Err(_) => Ok(()),
         }
+    }
+
+    fn accept(&mut self, alloc: Global, event: Event, reply: Reply) -> Result<(), Refusal> {
+        let mut lines = told(alloc, &Ok(reply))?;
+        self.answers.append(&mut lines)?;
+        self.story.note(alloc, event)
+    }
+
+    fn stop(&mut self, alloc: Global, event: Event) -> Result<(), Refusal> {
+        self.doubt = self.story.command(alloc, event)?;
+        self.has_stopped = true;
+        Ok(())
     }
 }
 
 fn played(alloc: Global, changes: u64) -> Result<Run, Refusal> {
     let mut run = Run::new(alloc, changes)?;
-    let mut dice = Dice { thrown: 7 };
+    let mut dice = Dice { thrown: 1 };
     for _ in 0..200 {
         if run.has_stopped {
             break;
         }
-        let act = act_by_chance(&mut dice, &run.story);
-        run.make(alloc, act)?;
+        let (word, of, at) = call_by_chance(&mut dice, &run.story);
+        run.make(alloc, event_of(alloc, word, of, at, 0)?)?;
     }
     Ok(run)
 }
 
-/// What became of a run whose disk stopped after so many changes: how many commands were accepted, whether it stopped, and
-/// whether each of three crashes left what it may.
-fn survived(alloc: Global, changes: u64) -> Result<(usize, bool, bool), Refusal> {
+/// What a crash leaves, as text.
+fn text_left(alloc: Global, disk: &MemoryDisk, choice: u8) -> Result<Vec<u8>, Refusal> {
+    let mut engine = opened(alloc, disk.crash(&[choice])?)?;
+    text_of(alloc, &mut engine)
+}
+
+/// Whether each of three crashes leaves one of two texts.
+fn leaves(alloc: Global, disk: &MemoryDisk, before: &[u8], after: &[u8]) -> Result<bool, Refusal> {
+    for choice in [0, 1, 255] {
+        let text = text_left(alloc, disk, choice)?;
+        if text.as_slice() != before && text.as_slice() != after {
+            return Ok(false);
+        }
+    }
+    Ok(true)
+}
+
+/// The text of the book before the command that was in flight, and the one after it and a restart.
+fn texts(
+    alloc: Global,
+    story: Story,
+    doubt: Option<Command>,
+) -> Result<(Vec<u8>, Vec<u8>), Refusal> {
+    let mut book = story.book;
+    let before = text_of_book(alloc, &book)?;
+    let after = text_after(alloc, &mut book, doubt.as_ref())?;
+    Ok((before, after))
+}
+
+/// Whether a run whose disk stops after so many changes leaves what it may, and whether it stopped.
+fn survived(alloc: Global, changes: u64) -> Result<(bool, bool), Refusal> {
     let Run {
         story,
         doubt,
         has_stopped,
         engine,
+        ..
     } = played(alloc, changes)?;
-    let commands = story.commands.as_slice();
-    let before = text_after(alloc, commands, None)?;
-    let after = text_after(alloc, commands, doubt.as_ref())?;
+    let (before, after) = texts(alloc, story, doubt)?;
     let disk = engine.into_disk();
-    let mut survives = true;
-    for choice in [0, 1, 255] {
-        let mut engine = opened(alloc, disk.crash(&[choice])?)?;
-        let text = text_of(alloc, &mut engine)?;
-        survives = survives
-            && (text.as_slice() == before.as_slice() || text.as_slice() == after.as_slice());
+    let survives = leaves(alloc, &disk, before.as_slice(), after.as_slice())?;
+    Ok((survives, has_stopped))
+}
+
+// The lines that commands are answered by, and of a sweep that removes a file.
+const WORDS: [&str; 8] = [
+    "started ",
+    "extended ",
+    "settled ",
+    "stopped ",
+    "truncated ",
+    "purged ",
+    "purged-recording",
+    "swept 1",
+];
+
+/// What the commands of a run that does not stop are answered.
+fn answers_by_chance(alloc: Global) -> Result<Vec<u8>, Refusal> {
+    let Run { answers, .. } = played(alloc, 1_000)?;
+    Ok(answers)
+}
+
+/// Each of the lines is there.
+fn has_all(rt: &impl Abort, text: &str) {
+    for word in WORDS {
+        assert!(rt; text.contains(word), "{word}");
     }
-    Ok((commands.len(), has_stopped, survives))
+}
+
+#[test]
+fn each_command_comes_by_chance(rt: HostRuntime) -> Result<(), Fail> {
+    let answers = String::from_utf8(answers_by_chance(rt.alloc())?)?;
+    has_all(&rt, answers.as_str());
+    Ok(())
 }
 
 #[test]
 fn each_stop_leaves_a_beginning_of_the_calls(rt: HostRuntime) -> Result<(), Fail> {
-    let mut most = 0;
     for changes in 0..1_000 {
-        let (commands, has_stopped, survives) = survived(rt.alloc(), changes)?;
-        assert!(rt; survives);
-        most = commands;
+        let (survives, has_stopped) = survived(rt.alloc(), changes)?;
+        assert!(rt; survives, "{changes}");
         if !has_stopped {
             break;
         }
     }
-    assert!(rt; most > 30, "{most} commands");
     Ok(())
 }

@@ -1,28 +1,26 @@
-//! The plain book beside an archive: what it makes of the same calls, and both as text.
+//! The plain book beside an archive: what it makes of the same events, and both as text.
 
-use crate::acts::{Act, answer, block, extension, fields};
-use archive_model::{Book, Command, Descriptor, Reply};
-use control_core::print_reply;
+use crate::calls::{answer, told};
+use archive_model::{Book, Command, Descriptor, Recording, Reply};
+use control_core::{Event, Request, print_reply};
 use disk_core::MemoryDisk;
 use engine_core::Engine;
 use frame_core::limits::LAST_NUMBER;
-use frame_core::{Items, Refusal};
-use std::alloc::Global;
+use frame_core::{Block, Items, Refusal};
+use std::alloc::{AllocError, Global};
 
-/// A recorder session: its recording, and where the block begins that it wrote and did not settle, and whether it is a pad.
-#[derive(Clone, Copy)]
+/// A recorder session: its recording, and the block that it wrote and did not settle.
+#[derive(Drop)]
 pub struct Session {
     /// The recording.
     pub recording: i64,
     /// What it wrote.
-    pub written: Option<(i64, bool)>,
+    pub written: Option<Block>,
 }
 
-/// The commands that were accepted, the book of them, and the recorder sessions by number.
+/// The book of the commands that were accepted, and the recorder sessions by number.
 #[derive(Drop)]
 pub struct Story {
-    /// The commands.
-    pub commands: Vec<Command>,
     /// The book.
     pub book: Book,
     /// The sessions.
@@ -32,76 +30,112 @@ pub struct Story {
 /// How many entries the history takes.
 pub const LIMIT: u32 = 1_000;
 
+/// The command that an accepted request is, where it is one.
+fn command_of(request: Request) -> Option<Command> {
+    match request {
+        Request::Start(fields) => Some(Command::Start(fields)),
+        Request::Stop {
+            recording,
+            timestamp,
+        } => Some(Command::Stop {
+            recording,
+            timestamp,
+        }),
+        Request::Extend(fields) => Some(Command::Extend(fields)),
+        Request::Truncate {
+            recording,
+            position,
+        } => Some(Command::Truncate {
+            recording,
+            position,
+        }),
+        Request::PurgeSegments {
+            recording,
+            position,
+        } => Some(Command::PurgeSegments {
+            recording,
+            position,
+        }),
+        Request::PurgeRecording { recording } => Some(Command::PurgeRecording { recording }),
+        _ => None,
+    }
+}
+
+/// The command that records a block.
+fn append(alloc: Global, recording: i64, block: Block) -> Result<Command, AllocError> {
+    let mut blocks = Items::new(alloc);
+    blocks.push(block)?;
+    Ok(Command::Append { recording, blocks })
+}
+
 impl Story {
     /// Nothing yet.
     pub fn new(alloc: Global) -> Story {
         Story {
-            commands: Vec::new(alloc),
             book: Book::new(alloc, LIMIT),
             sessions: Vec::new(alloc),
         }
     }
 
-    /// The command that an accepted act is, where it is one.
-    pub fn command(&self, alloc: Global, act: Act) -> Result<Option<Command>, Refusal> {
-        Ok(match act {
-            Act::Start(position) => Some(Command::Start(fields(alloc, position)?)),
-            Act::Settle(session) => self.append(alloc, session)?,
-            Act::Stop(recording) => Some(Command::Stop {
-                recording,
-                timestamp: 2_000,
-            }),
-            Act::Extend(recording, position) => {
-                Some(Command::Extend(extension(recording, position)))
-            }
-            Act::Truncate(recording, position) => Some(Command::Truncate {
-                recording,
-                position,
-            }),
-            Act::PurgeSegments(recording, position) => Some(Command::PurgeSegments {
-                recording,
-                position,
-            }),
-            Act::Purge(recording) => Some(Command::PurgeRecording { recording }),
-            _ => None,
-        })
-    }
-
-    /// The settled block of a session.
-    fn append(&self, alloc: Global, number: i64) -> Result<Option<Command>, Refusal> {
-        let Some(session) = self.session(number) else {
-            return Ok(None);
-        };
-        let Some((position, is_pad)) = session.written else {
-            return Ok(None);
-        };
-        let mut blocks = Items::new(alloc);
-        blocks.push(block(alloc, position, is_pad)?)?;
-        Ok(Some(Command::Append {
-            recording: session.recording,
-            blocks,
-        }))
-    }
-
     /// The session of a number.
-    pub fn session(&self, number: i64) -> Option<Session> {
+    pub fn session(&self, number: i64) -> Option<&Session> {
         let index = usize::try_from(number).ok()?;
-        self.sessions.as_slice().get(index).copied()
+        self.sessions.as_slice().get(index)
     }
 
-    /// Notes an accepted act.
-    pub fn note(&mut self, alloc: Global, act: Act) -> Result<(), Refusal> {
-        let next = self.book.next_recording();
-        if let Some(command) = self.command(alloc, act)? {
-            self.book.apply(&command)?;
-            self.commands.push(command)?;
+    /// The command that an accepted event is, where it is one: a settle records what its session wrote.
+    pub fn command(&mut self, alloc: Global, event: Event) -> Result<Option<Command>, Refusal> {
+        match event {
+            Event::Ask(request) => Ok(command_of(request)),
+            Event::Settle { session } => self.settled(alloc, session),
+            _ => Ok(None),
         }
-        match act {
-            Act::Start(_) => self.begin(next),
-            Act::Extend(recording, _) => self.begin(recording),
-            Act::Write(session, position) => Ok(self.write(session, Some((position, false)))),
-            Act::Pad(session, position) => Ok(self.write(session, Some((position, true)))),
-            Act::Settle(session) => Ok(self.write(session, None)),
+    }
+
+    fn settled(&mut self, alloc: Global, number: i64) -> Result<Option<Command>, Refusal> {
+        let Some((recording, block)) = self.taken(number) else {
+            return Ok(None);
+        };
+        Ok(Some(append(alloc, recording, block)?))
+    }
+
+    /// The recording of a session and the block that it wrote, which is no longer its own.
+    fn taken(&mut self, number: i64) -> Option<(i64, Block)> {
+        let index = usize::try_from(number).ok()?;
+        let session = self.sessions.as_mut_slice().get_mut(index)?;
+        let block = session.written.take()?;
+        Some((session.recording, block))
+    }
+
+    /// Notes an accepted event.
+    pub fn note(&mut self, alloc: Global, event: Event) -> Result<(), Refusal> {
+        match event {
+            Event::Write { session, block } => {
+                self.write(session, block);
+                Ok(())
+            }
+            event => match self.command(alloc, event)? {
+                Some(command) => self.accept(&command),
+                None => Ok(()),
+            },
+        }
+    }
+
+    fn write(&mut self, number: i64, block: Block) {
+        let Ok(index) = usize::try_from(number) else {
+            return;
+        };
+        if let Some(session) = self.sessions.as_mut_slice().get_mut(index) {
+            session.written = Some(block);
+        }
+    }
+
+    fn accept(&mut self, command: &Command) -> Result<(), Refusal> {
+        let next = self.book.next_recording();
+        self.book.apply(command)?;
+        match command {
+            Command::Start(_) => self.begin(next),
+            Command::Extend(fields) => self.begin(fields.recording),
             _ => Ok(()),
         }
     }
@@ -113,62 +147,73 @@ impl Story {
         })?;
         Ok(())
     }
-
-    fn write(&mut self, number: i64, written: Option<(i64, bool)>) {
-        let Ok(index) = usize::try_from(number) else {
-            return;
-        };
-        if let Some(session) = self.sessions.as_mut_slice().get_mut(index) {
-            session.written = written;
-        }
-    }
 }
 
-/// The text of the book that these commands and perhaps one more make, once each recording has stopped.
-pub fn text_after(
-    alloc: Global,
-    commands: &[Command],
-    doubt: Option<&Command>,
-) -> Result<Vec<u8>, Refusal> {
-    let mut book = Book::new(alloc, LIMIT);
-    for command in commands {
-        book.apply(command)?;
-    }
-    if let Some(command) = doubt {
-        book.apply(command)?;
-    }
-    book.apply(&Command::Restart)?;
-    text_of_book(alloc, &book)
+/// A recording's descriptor as soon as it has stopped.
+fn stopped(alloc: Global, recording: &Recording) -> Result<Descriptor, AllocError> {
+    let mut descriptor = recording.descriptor().copy(alloc)?;
+    descriptor.stop_position = recording.recorded_position();
+    Ok(descriptor)
 }
 
-/// The descriptors, and behind them the frames of each recording.
-fn text_of_book(alloc: Global, book: &Book) -> Result<Vec<u8>, Refusal> {
+fn listed(alloc: Global, book: &Book) -> Result<Vec<u8>, Refusal> {
     let mut descriptors = Items::new(alloc);
     for recording in book.recordings() {
-        descriptors.push(recording.descriptor().copy(alloc)?)?;
+        descriptors.push(stopped(alloc, recording)?)?;
     }
-    let mut text = print_reply(alloc, &Reply::Recordings(descriptors))?;
+    print_reply(alloc, &Reply::Recordings(descriptors))
+}
+
+fn polled(alloc: Global, recording: &Recording) -> Result<Vec<u8>, Refusal> {
+    let start = recording.descriptor().start_position;
+    let frames = recording.poll(alloc, &start, &LAST_NUMBER, 4_096)?;
+    print_reply(alloc, &Reply::Polled { frames, next: None })
+}
+
+/// The descriptors of a book once each recording has stopped, and behind them the frames of each.
+pub fn text_of_book(alloc: Global, book: &Book) -> Result<Vec<u8>, Refusal> {
+    let mut text = listed(alloc, book)?;
     for recording in book.recordings() {
-        let start = recording.descriptor().start_position;
-        let frames = recording.poll(alloc, &start, &LAST_NUMBER, 4_096)?;
-        let mut told = print_reply(alloc, &Reply::Polled { frames, next: None })?;
-        text.append(&mut told)?;
+        let mut frames = polled(alloc, recording)?;
+        text.append(&mut frames)?;
     }
     Ok(text)
 }
 
-/// The same of an archive.
+/// The text of the book after perhaps one more command and a restart.
+pub fn text_after(
+    alloc: Global,
+    book: &mut Book,
+    doubt: Option<&Command>,
+) -> Result<Vec<u8>, Refusal> {
+    if let Some(command) = doubt {
+        book.apply(command)?;
+    }
+    book.apply(&Command::Restart)?;
+    text_of_book(alloc, book)
+}
+
+/// The descriptors and the frames of an archive.
 pub fn text_of(alloc: Global, engine: &mut Engine<MemoryDisk>) -> Result<Vec<u8>, Refusal> {
-    let listed = answer(alloc, engine, Act::List)?;
-    let mut text = print_reply(alloc, &listed)?;
-    match &listed {
-        Reply::Recordings(descriptors) => {
-            let mut told = frames_of_each(alloc, engine, descriptors.as_slice())?;
-            text.append(&mut told)?;
-            Ok(text)
-        }
+    let all = Event::Ask(Request::List {
+        from: 0,
+        count: 1_000,
+    });
+    match answer(alloc, engine, &all)? {
+        Reply::Recordings(descriptors) => text_of_each(alloc, engine, descriptors),
         _ => Err(Refusal::BadLine),
     }
+}
+
+fn text_of_each(
+    alloc: Global,
+    engine: &mut Engine<MemoryDisk>,
+    descriptors: Items<Descriptor>,
+) -> Result<Vec<u8>, Refusal> {
+    let mut frames = frames_of_each(alloc, engine, descriptors.as_slice())?;
+    let mut text = print_reply(alloc, &Reply::Recordings(descriptors))?;
+    text.append(&mut frames)?;
+    Ok(text)
 }
 
 fn frames_of_each(
@@ -178,22 +223,34 @@ fn frames_of_each(
 ) -> Result<Vec<u8>, Refusal> {
     let mut text = Vec::new(alloc);
     for descriptor in descriptors {
-        let mut told = frames_of(alloc, engine, descriptor)?;
-        text.append(&mut told)?;
+        let mut frames = frames_of(alloc, engine, descriptor.recording)?;
+        text.append(&mut frames)?;
     }
     Ok(text)
 }
 
+/// The frames of a whole recording.
 fn frames_of(
     alloc: Global,
     engine: &mut Engine<MemoryDisk>,
-    descriptor: &Descriptor,
+    recording: i64,
 ) -> Result<Vec<u8>, Refusal> {
-    let opened = answer(alloc, engine, Act::Replay(descriptor.recording, -1, -1))?;
-    let Reply::ReplayOpened { replay } = opened else {
-        return Err(Refusal::BadLine);
+    let event = Event::ReplayOpen {
+        recording,
+        position: -1,
+        length: -1,
     };
-    let polled = answer(alloc, engine, Act::Poll(replay, 4_096))?;
-    answer(alloc, engine, Act::Close(replay))?;
-    print_reply(alloc, &polled)
+    match answer(alloc, engine, &event)? {
+        Reply::ReplayOpened { replay } => frames_in(alloc, engine, replay),
+        _ => Err(Refusal::BadLine),
+    }
+}
+
+fn frames_in(
+    alloc: Global,
+    engine: &mut Engine<MemoryDisk>,
+    replay: i64,
+) -> Result<Vec<u8>, Refusal> {
+    let polled = answer(alloc, engine, &Event::ReplayPoll { replay, max: 4_096 });
+    told(alloc, &polled)
 }
