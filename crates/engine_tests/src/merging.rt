@@ -48,8 +48,13 @@ fn recorded(alloc: Global) -> Result<Engine<MemoryDisk>, Refusal> {
 }
 
 /// The frames that the replay gives.
-fn replayed(alloc: Global, engine: &mut Engine<MemoryDisk>) -> Result<Vec<Frame>, Refusal> {
-    match answer(alloc, engine, &Event::ReplayPoll { replay: 0, max: 10 })? {
+fn replayed(alloc: Global) -> Result<Vec<Frame>, Refusal> {
+    let mut engine = recorded(alloc)?;
+    match answer(
+        alloc,
+        &mut engine,
+        &Event::ReplayPoll { replay: 0, max: 10 },
+    )? {
         Reply::Polled { frames, .. } => frames_of(alloc, frames.into_vec()),
         _ => Err(Refusal::BadLine),
     }
@@ -86,18 +91,36 @@ fn output(alloc: Global, merge: &mut Merge) -> Result<Vec<i32>, Refusal> {
     Ok(offsets)
 }
 
-#[test]
-fn a_replay_is_merged_with_the_live_stream(rt: HostRuntime) -> Result<(), Fail> {
-    let alloc = rt.alloc();
-    let mut engine = recorded(alloc)?;
-    let mut merge = Merge::new(alloc, TERMS, 0);
-    for frame in live(alloc)? {
-        assert!(rt; merge.live_frame(frame)? == Offered::Held);
+/// Whether each of these live frames is held.
+fn are_held(merge: &mut Merge, frames: Vec<Frame>) -> Result<bool, Refusal> {
+    let mut are_held = true;
+    for frame in frames {
+        are_held = merge.live_frame(frame)? == Offered::Held && are_held;
     }
-    for frame in replayed(alloc, &mut engine)? {
+    Ok(are_held)
+}
+
+fn replay(merge: &mut Merge, frames: Vec<Frame>) -> Result<(), Refusal> {
+    for frame in frames {
         merge.replay_frame(frame)?;
     }
-    assert!(rt; output(alloc, &mut merge)?.as_slice() == [0, 64, 128].as_slice());
-    assert!(rt; merge.is_merged());
+    Ok(())
+}
+
+/// Whether the live frames are held, where the frames of the output begin, and whether it is merged then.
+fn merged(alloc: Global) -> Result<(bool, Vec<i32>, bool), Refusal> {
+    let mut merge = Merge::new(alloc, TERMS, 0);
+    let are_held = are_held(&mut merge, live(alloc)?)?;
+    replay(&mut merge, replayed(alloc)?)?;
+    let offsets = output(alloc, &mut merge)?;
+    Ok((are_held, offsets, merge.is_merged()))
+}
+
+#[test]
+fn a_replay_is_merged_with_the_live_stream(rt: HostRuntime) -> Result<(), Fail> {
+    let (are_held, offsets, is_merged) = merged(rt.alloc())?;
+    assert!(rt; are_held);
+    assert!(rt; offsets.as_slice() == [0, 64, 128].as_slice());
+    assert!(rt; is_merged);
     Ok(())
 }
