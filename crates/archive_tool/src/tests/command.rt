@@ -2,7 +2,7 @@
 //! told.
 
 use crate::command::{ToolCommand, command_of, unreadable_words};
-use crate::fault::ScriptFault;
+use crate::fault::EarlyEnd;
 use crate::status::Ending;
 use crate::{concluded, told};
 use clap::Error;
@@ -157,9 +157,9 @@ fn a_word_alone_is_its_command(rt: HostRuntime) -> Result<(), Fail> {
 fn a_fault_is_told_by_its_line(rt: HostRuntime) {
     for (ending, line, status) in [
         (Ending::Done, "", 0),
-        (Ending::Cut(ScriptFault::Read), "error 17 DeviceFault\n", 3),
-        (Ending::Cut(ScriptFault::Write), "error 17 DeviceFault\n", 3),
-        (Ending::Cut(ScriptFault::Memory), "error 18 NoMemory\n", 1),
+        (Ending::Cut(EarlyEnd::Read), "error 17 DeviceFault\n", 3),
+        (Ending::Cut(EarlyEnd::Write), "error 17 DeviceFault\n", 3),
+        (Ending::Cut(EarlyEnd::Memory), "error 18 NoMemory\n", 1),
         (
             Ending::Failed(io::ErrorKind::OutOfMemory),
             "error 18 NoMemory\n",

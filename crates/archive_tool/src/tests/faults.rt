@@ -1,8 +1,8 @@
 //! Readers and writers that fail, and requests for memory that are refused.
 
-use super::scenarios::check;
 use crate::fault::ScriptFault;
 use crate::script::run_script;
+use disk_core::MemoryDisk;
 use std::io::{Error, ErrorKind, Read, Write};
 use std::test::*;
 
@@ -61,8 +61,8 @@ fn a_failing_reader_loses_no_reply(rt: HostRuntime) {
             at_once,
         };
         let mut out = Vec::new(rt.alloc());
-        let outcome = run_script(rt.alloc(), reader, &mut out);
-        assert!(rt; outcome == Err(ScriptFault::Read), "{at_once}");
+        let outcome = run_script(rt.alloc(), reader, &mut out, MemoryDisk::new(rt.alloc()));
+        assert!(rt; matches!(outcome, Err(ScriptFault::Read(_))), "{at_once}");
         assert!(rt;
             out.as_slice() == b"end 0\nerror 22 BadLine\n".as_slice(),
             "{at_once}"
@@ -78,8 +78,15 @@ fn a_failing_writer_ends_the_script(rt: HostRuntime) {
             taken: 0,
             holds: false,
         };
-        let outcome = run_script(rt.alloc(), b"list 0 0\nlist 0 0\n".as_slice(), &mut writer);
-        assert!(rt; outcome == Err(ScriptFault::Write), "room for {room} bytes");
+        let (lines, disk) = (
+            b"list 0 0\nlist 0 0\n".as_slice(),
+            MemoryDisk::new(rt.alloc()),
+        );
+        let outcome = run_script(rt.alloc(), lines, &mut writer, disk);
+        assert!(rt;
+            matches!(outcome, Err(ScriptFault::Write(_))),
+            "room for {room} bytes"
+        );
     }
 }
 
@@ -97,15 +104,20 @@ fn a_reply_is_handed_on_before_the_next_read(rt: HostRuntime) {
             bytes,
             at_once: 100,
         };
-        let outcome = run_script(rt.alloc(), reader, &mut writer);
-        assert!(rt; outcome == Err(ScriptFault::Write), "{bytes:?}");
+        let outcome = run_script(rt.alloc(), reader, &mut writer, MemoryDisk::new(rt.alloc()));
+        assert!(rt; matches!(outcome, Err(ScriptFault::Write(_))), "{bytes:?}");
     }
 }
 
 #[test]
 fn what_was_written_before_stays(rt: HostRuntime) -> Result<(), Fail> {
     let mut out = b"before\n".to_vec(rt.alloc())?;
-    run_script(rt.alloc(), b"quit\n".as_slice(), &mut out)?;
-    assert!(rt; out.as_slice() == b"before\nbye\n".as_slice());
+    let outcome = run_script(
+        rt.alloc(),
+        b"quit\n".as_slice(),
+        &mut out,
+        MemoryDisk::new(rt.alloc()),
+    );
+    assert!(rt; outcome.is_ok() && out.as_slice() == b"before\nbye\n".as_slice());
     Ok(())
 }

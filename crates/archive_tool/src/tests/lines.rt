@@ -1,6 +1,6 @@
 //! What no clause says: that lines are read while there is memory, and what a failing input leads to.
 
-use crate::fault::ScriptFault;
+use crate::fault::EarlyEnd;
 use crate::lines::{LineBuffer, MAX_READS, read_line};
 use std::alloc::Global;
 use std::io::{BufReader, Error, ErrorKind, Read};
@@ -107,7 +107,7 @@ fn an_input_that_fails(rt: HostRuntime) -> Result<(), Fail> {
             assert!(rt; found == Ok(true) && reads == 18);
         }
         let found = read_line(&mut reader, &mut reads, &mut line);
-        assert!(rt; found == Err(ScriptFault::Read), "{fails_at}");
+        assert!(rt; found == Err(EarlyEnd::Read), "{fails_at}");
     }
     Ok(())
 }
@@ -118,6 +118,6 @@ fn an_input_that_was_looked_at_too_often(rt: HostRuntime) {
     let mut input = b"quit\nquit\n".as_slice();
     let mut reads = MAX_READS - 1;
     assert!(rt; read_line(&mut input, &mut reads, &mut line) == Ok(true));
-    assert!(rt; read_line(&mut input, &mut reads, &mut line) == Err(ScriptFault::Read));
+    assert!(rt; read_line(&mut input, &mut reads, &mut line) == Err(EarlyEnd::Read));
     assert!(rt; reads == MAX_READS);
 }

@@ -1,0 +1,231 @@
+//! Scripts over disks that are not empty, that fail, or whose archive is refused: docs/SCENARIOS.md.
+
+use super::scenarios::{check, check_on};
+use disk_core::{Disk, FileId, MemoryDisk};
+use engine_core::Engine;
+use std::alloc::Global;
+use std::test::*;
+
+/// The disk behind a script that recorded a frame and did not stop its recording.
+fn recorded(alloc: Global, disk: MemoryDisk) -> Result<MemoryDisk, Fail> {
+    check_on(
+        alloc,
+        disk,
+        "start 1001 7 42 65536 1408 131072 0 1000 c; block 0 HELLO_AT_0",
+        "started 0 0; settled 64",
+    )
+}
+
+#[test]
+fn a_second_script_goes_on(rt: HostRuntime) -> Result<(), Fail> {
+    check_on(
+        rt.alloc(),
+        recorded(rt.alloc(), MemoryDisk::new(rt.alloc()))?,
+        "merge-state; list 0 10; replay 0 0 -1; poll 0 10; block 0 HELLO_AT_64; extend 0 1001 7 42 65536 1408 64; \
+        block 0 HELLO_AT_64; start 1001 7 42 65536 1408 131072 0 1000 c",
+        "error 9 UnknownReplay; recording 0 1000 -1 0 64 42 131072 65536 1408 7 1001 c; end 1; replay 0; \
+        frame 0 HELLO_AT_0; done; error 12 StaleSession; extended 0; settled 128; started 1 1",
+    )?;
+    Ok(())
+}
+
+#[test]
+fn reopened_twice(rt: HostRuntime) -> Result<(), Fail> {
+    check(
+        rt.alloc(),
+        "start 1001 7 42 65536 1408 131072 0 1000 c; start 1001 7 42 65536 1408 131072 0 1000 d; block 0 HELLO_AT_0; \
+        write 1 HELLO_AT_0; replay 0 0 -1; merge 42 65536 64; reopen; reopen; positions 0; positions 1; settle 1; \
+        poll 0 1; merge-state; start 1001 7 42 65536 1408 131072 0 1000 c; replay 0 0 -1; reopen; quit",
+        "started 0 0; started 1 1; settled 64; written 64; replay 0; merge 64; reopened 2; reopened 0; \
+        positions 0 64 64; positions 0 0 0; error 12 StaleSession; error 9 UnknownReplay; merged no 64; \
+        started 2 0; replay 0; reopened 1; bye",
+    )
+}
+
+/// The first byte of the first recording's first file is 0, and synced.
+fn damaged(disk: MemoryDisk) -> Result<MemoryDisk, Fail> {
+    let mut disk = disk;
+    let file = FileId::Segment {
+        recording: 0,
+        base: 0,
+    };
+    disk.write_at(file, 0, &[0])?;
+    disk.sync(file)?;
+    Ok(disk)
+}
+
+#[test]
+fn damaged_frame(rt: HostRuntime) -> Result<(), Fail> {
+    check_on(
+        rt.alloc(),
+        damaged(recorded(rt.alloc(), MemoryDisk::new(rt.alloc()))?)?,
+        "verify 0; replay 0 0 -1; poll 0 1; poll 0 1",
+        "error 15 Damaged 0 0; replay 0; error 15 Damaged 0 0; error 15 Damaged 0 0",
+    )?;
+    Ok(())
+}
+
+/// A disk with a new archive, whose history may have three entries.
+fn with_short_history(alloc: Global) -> Result<MemoryDisk, Fail> {
+    match Engine::create(alloc, MemoryDisk::new(alloc), 3) {
+        Ok(engine) => Ok(engine.into_disk()),
+        Err(_) => Err(Fail::new("no archive was made")),
+    }
+}
+
+#[test]
+fn full_history(rt: HostRuntime) -> Result<(), Fail> {
+    check_on(
+        rt.alloc(),
+        with_short_history(rt.alloc())?,
+        "start 1001 7 42 65536 1408 131072 0 1000 c; block 0 HELLO_AT_0; block 0 HELLO_AT_64; stop 0 2000; reopen; \
+        list 0 1; truncate 0 64",
+        "started 0 0; settled 64; settled 128; error 11 HistoryFull; reopened 1; \
+        recording 0 1000 -1 0 128 42 131072 65536 1408 7 1001 c; end 1; error 11 HistoryFull",
+    )?;
+    Ok(())
+}
+
+/// A block whose settling has no room stays written, and is what the session settles next.
+#[test]
+fn a_block_that_is_not_settled_stays_written(rt: HostRuntime) -> Result<(), Fail> {
+    check_on(
+        rt.alloc(),
+        with_short_history(rt.alloc())?,
+        "start 1001 7 42 65536 1408 131072 0 1000 c; start 1001 7 42 65536 1408 131072 0 1000 d; block 0 HELLO_AT_0; \
+        block 1 HELLO_AT_0; block 1 HELLO_AT_0; block 1 HELLO_AT_64; positions 1; settle 1; reopen; positions 0; \
+        positions 1",
+        "started 0 0; started 1 1; settled 64; error 11 HistoryFull; error 13 BadBlock; error 14 NeedSettle; \
+        positions 0 0 -1; error 11 HistoryFull; reopened 2; positions 0 64 64; positions 0 0 0",
+    )?;
+    Ok(())
+}
+
+/// A disk whose catalogue is none.
+fn without_catalogue(alloc: Global) -> Result<MemoryDisk, Fail> {
+    let mut disk = MemoryDisk::new(alloc);
+    disk.write_at(FileId::BankA, 0, &[0; 32])?;
+    disk.sync(FileId::BankA)?;
+    Ok(disk)
+}
+
+#[test]
+fn an_archive_that_is_refused(rt: HostRuntime) -> Result<(), Fail> {
+    check_on(
+        rt.alloc(),
+        without_catalogue(rt.alloc())?,
+        "list 0 1; list -1 1; start 1001 7 42 65536 1408 131072 0 1000 c; write 0 00; block 0 00; settle 0; sweep; verify 0; \
+        reopen; list 0 1; compact; list 0; merge-take; merge 42 65536 0; merge-state; quit",
+        "error 16 Broken; error 16 Broken; error 16 Broken; error 16 Broken; error 16 Broken; error 16 Broken; \
+        error 16 Broken; error 16 Broken; error 19 NotCatalogue; error 16 Broken; error 22 BadLine; error 22 BadLine; \
+        error 9 UnknownReplay; merge 0; merged no 0; bye",
+    )?;
+    Ok(())
+}
+
+/// A call of the disk fails once while a block is settled: the archive takes nothing more until it is opened again.
+#[test]
+fn a_fault_and_a_reopening(rt: HostRuntime) -> Result<(), Fail> {
+    let mut disk = MemoryDisk::new(rt.alloc());
+    disk.fail_at(13);
+    check_on(
+        rt.alloc(),
+        disk,
+        "start 1001 7 42 65536 1408 131072 0 1000 c; block 0 HELLO_AT_0; block 0 HELLO_AT_0; stop 0 2000; verify 0; \
+        reopen; extend 0 1001 7 42 65536 1408 0; block 0 HELLO_AT_0; verify 0",
+        "started 0 0; error 17 DeviceFault; error 16 Broken; error 16 Broken; verified 0; reopened 1; extended 0; \
+        settled 64; verified 1",
+    )?;
+    Ok(())
+}
+
+/// The disk stops while a block is settled, and goes on behind the script: opening is refused meanwhile.
+#[test]
+fn a_stop_and_another_script(rt: HostRuntime) -> Result<(), Fail> {
+    let mut disk = MemoryDisk::new(rt.alloc());
+    disk.stop_after(12);
+    let mut disk = check_on(
+        rt.alloc(),
+        disk,
+        "start 1001 7 42 65536 1408 131072 0 1000 c; block 0 HELLO_AT_0; reopen; list 0 1; reopen; merge 42 65536 0",
+        "started 0 0; error 17 DeviceFault; error 17 DeviceFault; error 16 Broken; error 17 DeviceFault; merge 0",
+    )?;
+    disk.stop_after(100);
+    check_on(
+        rt.alloc(),
+        disk,
+        "positions 0; truncate 0 0; verify 0",
+        "positions 0 0 0; truncated 0; verified 0",
+    )?;
+    Ok(())
+}
+
+/// A disk that stops before it lists its files, while an archive is opened: the script is answered, and its archive is
+/// opened by another script.
+#[test]
+fn a_stop_at_the_first_opening(rt: HostRuntime) -> Result<(), Fail> {
+    let mut disk = recorded(rt.alloc(), MemoryDisk::new(rt.alloc()))?;
+    disk.stop_after(0);
+    let mut disk = check_on(
+        rt.alloc(),
+        disk,
+        "list 0 1; reopen",
+        "error 16 Broken; error 17 DeviceFault",
+    )?;
+    disk.stop_after(100);
+    check_on(
+        rt.alloc(),
+        disk,
+        "positions 0; replay 0 0 -1; poll 0 1",
+        "positions 0 64 64; replay 0; frame 0 HELLO_AT_0; done",
+    )?;
+    Ok(())
+}
+
+// After how many changes the disk stops, the replies until then, the choice of the crash, and what is recorded behind it.
+const CRASHES: [(u64, &str, u8, &str); 6] = [
+    (
+        14,
+        "started 0 0; error 17 DeviceFault",
+        1,
+        "positions 0 0 0",
+    ),
+    (
+        15,
+        "started 0 0; error 17 DeviceFault",
+        0,
+        "positions 0 0 0",
+    ),
+    (
+        15,
+        "started 0 0; error 17 DeviceFault",
+        1,
+        "positions 0 64 64",
+    ),
+    (
+        15,
+        "started 0 0; error 17 DeviceFault",
+        255,
+        "positions 0 0 0",
+    ),
+    (16, "started 0 0; settled 64", 0, "positions 0 64 64"),
+    (16, "started 0 0; settled 64", 255, "positions 0 64 64"),
+];
+
+/// The disk that a crash leaves behind a script in which the disk stops.
+fn crashed(alloc: Global, changes: u64, told: &str, choice: u8) -> Result<MemoryDisk, Fail> {
+    let mut disk = MemoryDisk::new(alloc);
+    disk.stop_after(changes);
+    let lines = "start 1001 7 42 65536 1408 131072 0 1000 c; block 0 HELLO_AT_0";
+    Ok(check_on(alloc, disk, lines, told)?.crash(&[choice])?)
+}
+
+/// A crash while a block is settled leaves it recorded or not, and once that is told, recorded.
+#[test]
+fn a_crash_and_another_script(rt: HostRuntime) -> Result<(), Fail> {
+    for (changes, told, choice, recorded) in CRASHES {
+        let disk = crashed(rt.alloc(), changes, told, choice)?;
+        check_on(rt.alloc(), disk, "positions 0", recorded)?;
+    }
+    Ok(())
+}
