@@ -34,17 +34,3 @@ module _ {X : Type 0} (number : X → ℤ) where
             let later = find-change n f ys x keeps (sym (find-later n y ys other) ∙ found) in
             ap (find number n) (change-later n f y ys other) ∙ find-later n y (change number n f ys) other ∙ later
       ]
-
-  -- a value that is changed and changed back
-  pub changed_back : (n : ℤ) (f g : X → X) (xs : List X) (x : X) → ((y : X) → number (f y) ≡ number y) → g (f x) ≡ x → find number n xs ≡ Some x → change number n g (change number n f xs) ≡ xs
-  changed_back n f g [] x keeps back found = refl
-  changed_back n f g (y ∷ ys) x keeps back found =
-      elim (test_cases (int_eq n (number y))) [
-        | inl this ↦
-            let still : int_eq n (number (f y)) ≡ true = ap (int_eq n) (keeps y) ∙ this in
-            let same = find-first n y ys x this found in
-            ap (change number n g) (change-first n f y ys this) ∙ change-first n g (f y) ys still ∙ ap (λ z. z ∷ ys) (ap (λ z. g (f z)) same ∙ back ∙ sym same)
-        | inr other ↦
-            let later = changed_back n f g ys x keeps back (sym (find-later n y ys other) ∙ found) in
-            ap (change number n g) (change-later n f y ys other) ∙ change-later n g y (change number n f ys) other ∙ ap (λ zs. y ∷ zs) later
-      ]

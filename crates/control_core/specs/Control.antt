@@ -1,31 +1,8 @@
--- The control state of an archive: docs/CONTROL.md, "Control state".
-use Rattle.std.specs.Prelude.{ℕ, ℤ, pos, Bool, false, List, [], Option, Some, None}
-use Rattle.archive_model.specs.State.{empty}
-use Rattle.archive_model.specs.Acceptance.{BookState}
+-- What an archive keeps of its callers: recorder sessions and open replays. docs/CONTROL.md, "Control state".
+use Rattle.std.specs.Prelude.{ℤ, pos, List, [], Option, Some, None}
 use Rattle.control_core.specs.declared.callers.RecorderSession.{RecorderSession}
 use Rattle.control_core.specs.declared.callers.OpenReplay.{OpenReplay}
 use Rattle.control_core.specs.declared.callers.Written.{Written}
-
--- The recordings with the next id and the history's count and limit, the recorder sessions and the open replays by
--- rising number, the next numbers of both, and whether a write has failed.
-pub record Control : Type 0 where
-  pub book : BookState
-  pub sessions : List RecorderSession
-  pub replays : List OpenReplay
-  pub next_session : ℤ
-  pub next_replay : ℤ
-  pub is_broken : Bool
-
--- an archive without recordings, whose history may have so many entries
-abbrev pub new_archive : ℕ → Control
-new_archive limit = record {
-  book = record { state = empty; counted = 0; limit = limit };
-  sessions = [];
-  replays = [];
-  next_session = pos 0;
-  next_replay = pos 0;
-  is_broken = false;
-}
 
 -- ids and numbers stop here
 abbrev pub last_number : ℤ

@@ -1,4 +1,4 @@
--- What a reader has to believe: numbers and lines as text, the text of replies and refusals, the control state, and what
+-- What a reader has to believe: numbers and lines as text, the text of replies and refusals, what an archive keeps, and what
 -- each call is answered.
 pub mod Numbers
 pub mod Table
@@ -17,6 +17,3 @@ pub mod Agreement
 pub mod Exact
 pub mod Bytes
 pub mod Consistent
-pub mod Rules
-pub mod Calls
-pub mod Answers
