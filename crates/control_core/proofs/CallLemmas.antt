@@ -27,7 +27,7 @@ use Rattle.control_core.specs.declared.turns.OpeningDecision.{OpeningDecision}
 use Rattle.control_core.specs.declared.turns.OpeningDecision.TheVariants as opening
 use Rattle.control_core.specs.declared.turns.Settling.{Settling}
 use Rattle.control_core.specs.declared.turns.Settling.TheVariants as settling
-use Rattle.control_core.specs.Control.{last_number}
+use Rattle.control_core.specs.Callers.{last_number}
 use Rattle.control_core.specs.Desk.{DeskState}
 use Rattle.control_core.specs.Changes.{desk_after, settled, settled_by}
 use Rattle.control_core.specs.Decisions.{decision_of}

@@ -17,7 +17,7 @@ use Rattle.archive_model.proofs.RegisterLemmas.{each_push, found_number}
 use Rattle.archive_model.proofs.StateLemmas.{base_of_purge, each_found, purged_ends, well_after}
 use Rattle.control_core.specs.declared.callers.OpenReplay.{OpenReplay}
 use Rattle.control_core.specs.declared.callers.RecorderSession.{RecorderSession}
-use Rattle.control_core.specs.Control.{session_number}
+use Rattle.control_core.specs.Callers.{session_number}
 use Rattle.control_core.specs.Desk.{DeskState, is_replay_before, is_replay_of, is_replayed}
 use Rattle.control_core.specs.Changes.{begun_session, desk_after, is_session_of}
 use Rattle.control_core.specs.Decisions.{Allows}

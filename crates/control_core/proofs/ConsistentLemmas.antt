@@ -34,7 +34,7 @@ use Rattle.control_core.specs.declared.turns.OpeningDecision.{OpeningDecision}
 use Rattle.control_core.specs.declared.turns.OpeningDecision.TheVariants as opening
 use Rattle.control_core.specs.declared.turns.Settling.{Settling}
 use Rattle.control_core.specs.declared.turns.Settling.TheVariants as settling
-use Rattle.control_core.specs.Control.{moved_to, replay_number, session_number, with_written}
+use Rattle.control_core.specs.Callers.{moved_to, replay_number, session_number, with_written}
 use Rattle.control_core.specs.Desk.{DeskState}
 use Rattle.control_core.specs.Changes.{after_close, after_open, after_poll, settled, settled_by}
 use Rattle.control_core.specs.Decisions.{decision_of}

@@ -29,7 +29,7 @@ use Rattle.control_core.specs.declared.decision.Decision.TheVariants as decision
 use Rattle.control_core.specs.declared.request.Request.{Request}
 use Rattle.control_core.specs.declared.request.Request.TheVariants as requests
 use Rattle.control_core.specs.declared.turns.Settling.TheVariants as settling
-use Rattle.control_core.specs.Control.{session_number}
+use Rattle.control_core.specs.Callers.{session_number}
 use Rattle.control_core.specs.Desk.{DeskState, has_room, has_session_number, is_replay_before, is_replayed}
 use Rattle.control_core.specs.Changes.{settled, writer_of}
 use Rattle.control_core.specs.Decisions.{Allows, accepted, answered, command_in, command_tests, decided, decision_of, if_boundary, truncate_tests}

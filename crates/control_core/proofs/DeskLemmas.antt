@@ -16,7 +16,7 @@ use Rattle.archive_model.proofs.RegisterLemmas.{each_push, id_kept, rise_push}
 use Rattle.control_core.specs.declared.callers.RecorderSession.{RecorderSession}
 use Rattle.control_core.specs.declared.callers.OpenReplay.{OpenReplay}
 use Rattle.control_core.specs.declared.callers.Written.{Written}
-use Rattle.control_core.specs.Control.{CallersState, moved_to, no_callers, replay_number, session_number, with_written}
+use Rattle.control_core.specs.Callers.{CallersState, moved_to, no_callers, replay_number, session_number, with_written}
 use Rattle.control_core.specs.Desk.{is_replay_of}
 use Rattle.control_core.specs.Changes.{begun_session, is_session_of, with_blocks, with_session, without_callers, without_sessions}
 use Rattle.control_core.specs.Seats.{AreApart, IsReading, IsWriting, KeepsReplays, KeepsSeats, KeepsSessions}

@@ -27,7 +27,7 @@ use Rattle.control_core.specs.declared.event.Event.TheVariants as events
 use Rattle.control_core.specs.declared.turns.Opening.{Opening}
 use Rattle.control_core.specs.declared.turns.OpeningDecision.{OpeningDecision}
 use Rattle.control_core.specs.declared.turns.OpeningDecision.TheVariants as opening
-use Rattle.control_core.specs.Control.{replay_number, written_to}
+use Rattle.control_core.specs.Callers.{replay_number, written_to}
 use Rattle.control_core.specs.Desk.{DeskState}
 use Rattle.control_core.specs.Changes.{after_close, after_open, after_poll, after_write, bound_from, recorded_of, settled, settled_by, settled_position}
 use Rattle.control_core.specs.Decisions.{decision_of}

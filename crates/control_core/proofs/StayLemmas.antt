@@ -18,7 +18,7 @@ use Rattle.archive_model.proofs.CommandsLemmas.{find_changed}
 use Rattle.control_core.specs.declared.callers.OpenReplay.{OpenReplay}
 use Rattle.control_core.specs.declared.callers.RecorderSession.{RecorderSession}
 use Rattle.control_core.specs.declared.callers.Written.{Written}
-use Rattle.control_core.specs.Control.{session_number}
+use Rattle.control_core.specs.Callers.{session_number}
 use Rattle.control_core.specs.Desk.{DeskState}
 use Rattle.control_core.specs.Turns.{session_in}
 use Rattle.control_core.specs.Exact.{Archive, blocks_of_open, recording_at}

@@ -17,7 +17,7 @@ use Rattle.archive_model.proofs.StateLemmas.{each_found, found_registration}
 use Rattle.archive_model.proofs.WellLemmas.{both}
 use Rattle.control_core.specs.declared.callers.RecorderSession.{RecorderSession}
 use Rattle.control_core.specs.declared.callers.Written.{Written}
-use Rattle.control_core.specs.Control.{session_number, with_written}
+use Rattle.control_core.specs.Callers.{session_number, with_written}
 use Rattle.control_core.specs.Changes.{next_position}
 use Rattle.control_core.specs.Turns.{continues, has_written, session_in, write_decision, write_tests}
 use Rattle.control_core.specs.Agreement.{Agrees}

@@ -12,7 +12,7 @@ use Rattle.archive_model.specs.Keyed.{find, change, without}
 use Rattle.archive_model.specs.Register.{RegisterState, active_count, all_stopped, changed, registered, registration_in, segments_before, with_one, with_out}
 use Rattle.control_core.specs.declared.callers.RecorderSession.{RecorderSession}
 use Rattle.control_core.specs.declared.callers.Written.{Written}
-use Rattle.control_core.specs.Control.{CallersState, last_number, moved_to, no_callers, replay_number, session_number, with_written, written_to}
+use Rattle.control_core.specs.Callers.{CallersState, last_number, moved_to, no_callers, replay_number, session_number, with_written, written_to}
 use Rattle.control_core.specs.Desk.{DeskState, is_replay_of}
 
 -- ---- sessions and replays

@@ -4,7 +4,7 @@ use Rattle.std.specs.List.{list_any}
 use Rattle.std.specs.Ordering.{int_eq}
 use Rattle.archive_model.specs.Register.{RegisterState, no_recordings}
 use Rattle.control_core.specs.declared.callers.OpenReplay.{OpenReplay}
-use Rattle.control_core.specs.Control.{CallersState, no_callers, last_number}
+use Rattle.control_core.specs.Callers.{CallersState, no_callers, last_number}
 
 -- the recordings without their frames, the callers, how many entries of the history count and may, and whether a write
 -- has failed

@@ -6,7 +6,7 @@ pub mod Lines
 pub mod LineText
 pub mod ReplyText
 pub mod RefusalText
-pub mod Control
+pub mod Callers
 pub mod Desk
 pub mod Seats
 pub mod Changes

@@ -7,7 +7,7 @@ use Rattle.archive_model.specs.Register.{RegisterState, id_of, is_active, regist
 use Rattle.archive_model.specs.Checks.{is_of}
 use Rattle.control_core.specs.declared.callers.RecorderSession.{RecorderSession}
 use Rattle.control_core.specs.declared.callers.OpenReplay.{OpenReplay}
-use Rattle.control_core.specs.Control.{CallersState, replay_number, session_number}
+use Rattle.control_core.specs.Callers.{CallersState, replay_number, session_number}
 use Rattle.control_core.specs.Desk.{DeskState}
 
 -- the open sessions by rising number, the next number, and how many more there is memory for

@@ -18,7 +18,7 @@ use Rattle.control_core.specs.declared.turns.OpeningDecision.{OpeningDecision}
 use Rattle.control_core.specs.declared.turns.OpeningDecision.TheVariants as opening
 use Rattle.control_core.specs.declared.turns.Settling.{Settling}
 use Rattle.control_core.specs.declared.turns.Settling.TheVariants as settling
-use Rattle.control_core.specs.Control.{last_number, replay_number, session_number}
+use Rattle.control_core.specs.Callers.{last_number, replay_number, session_number}
 use Rattle.control_core.specs.Desk.{DeskState, has_room}
 use Rattle.control_core.specs.Changes.{bound_from, next_position, recorded_of}
 

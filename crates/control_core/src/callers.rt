@@ -1,7 +1,7 @@
 //! What an archive keeps of its callers: recorder sessions and open replays.
 
 ghost use Rattle.std.specs.Prelude.{◌≡◌};
-ghost use Rattle.control_core.specs.Control.{moved_to};
+ghost use Rattle.control_core.specs.Callers.{moved_to};
 ghost use Rattle.control_core.specs.Desk.{is_replay_before};
 
 use archive_model::Numbered;

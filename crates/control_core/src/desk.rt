@@ -3,7 +3,7 @@
 ghost use Rattle.std.specs.Prelude.{◌≡◌, length, option_copied, IfSome, ◌&&◌};
 ghost use Rattle.std.specs.List.{list_any};
 ghost use Rattle.archive_model.specs.Register.{HasLayout, may_begin, may_record, registration_in, no_recordings};
-ghost use Rattle.control_core.specs.Control.{no_callers};
+ghost use Rattle.control_core.specs.Callers.{no_callers};
 ghost use Rattle.control_core.specs.Changes.{next_position, recorded_of};
 ghost use Rattle.control_core.specs.Turns.{replay_in, session_in};
 ghost use Rattle.control_core.specs.Seats.{KeepsSeats};
@@ -31,7 +31,7 @@ pub struct Desk {
 }
 
 impl Model for Desk {
-    ghost use Rattle.control_core.specs.Control.{CallersState};
+    ghost use Rattle.control_core.specs.Callers.{CallersState};
     ghost use Rattle.control_core.specs.Seats.{DeskView, KeepsSeats};
 
     ghost Value = { DeskView };

@@ -4,7 +4,7 @@ ghost use Rattle.std.specs.Prelude.{◌≡◌, ◌+ℤ◌, ◌++◌, ◌∷◌, 
 ghost use Rattle.std.specs.List.{list_any};
 ghost use Rattle.frame_core.specs.declared.refusal.Refusal.TheVariants.{NoMemory};
 ghost use Rattle.archive_model.specs.Keyed.{find, change, without, Rise};
-ghost use Rattle.control_core.specs.Control.{last_number, moved_to, replay_number};
+ghost use Rattle.control_core.specs.Callers.{last_number, moved_to, replay_number};
 ghost use Rattle.control_core.specs.Desk.{is_replay_of, is_replay_before};
 
 use crate::callers::OpenReplay;

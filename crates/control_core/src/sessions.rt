@@ -3,7 +3,7 @@
 ghost use Rattle.std.specs.Prelude.{◌≡◌, ◌+ℤ◌, ◌++◌, ◌∷◌, [], ◌<◌, ◌≢◌, not, pos, filter, IfErr, OnOk};
 ghost use Rattle.frame_core.specs.declared.refusal.Refusal.TheVariants.{NoMemory};
 ghost use Rattle.archive_model.specs.Keyed.{find, change};
-ghost use Rattle.control_core.specs.Control.{last_number, session_number, with_written};
+ghost use Rattle.control_core.specs.Callers.{last_number, session_number, with_written};
 ghost use Rattle.control_core.specs.Changes.{begun_session, is_session_of};
 
 use crate::callers::{RecorderSession, Written};

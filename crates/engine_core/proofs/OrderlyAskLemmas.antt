@@ -16,7 +16,7 @@ use Rattle.archive_model.proofs.StateLemmas.{each_found}
 use Rattle.control_core.specs.declared.callers.OpenReplay.{OpenReplay}
 use Rattle.control_core.specs.declared.callers.RecorderSession.{RecorderSession}
 use Rattle.control_core.specs.declared.callers.Written.{Written}
-use Rattle.control_core.specs.Control.{replay_number, session_number}
+use Rattle.control_core.specs.Callers.{replay_number, session_number}
 use Rattle.control_core.specs.Desk.{DeskState}
 use Rattle.control_core.specs.Seats.{IsWriting, KeepsSeats}
 use Rattle.control_core.specs.Turns.{continues, replay_in, session_in}

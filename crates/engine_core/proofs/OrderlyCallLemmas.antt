@@ -31,7 +31,7 @@ use Rattle.control_core.specs.declared.callers.RecorderSession.{RecorderSession}
 use Rattle.control_core.specs.declared.callers.Written.{Written}
 use Rattle.control_core.specs.declared.turns.Opening.{Opening}
 use Rattle.control_core.specs.Changes.{after_close, after_open, after_poll, after_write, broken_desk, next_position, recorded_of, with_blocks, with_replay}
-use Rattle.control_core.specs.Control.{CallersState, moved_to, replay_number, session_number, with_written, written_to}
+use Rattle.control_core.specs.Callers.{CallersState, moved_to, replay_number, session_number, with_written, written_to}
 use Rattle.control_core.specs.Desk.{DeskState, opened_desk}
 use Rattle.control_core.specs.Exact.{span_of}
 use Rattle.control_core.specs.Seats.{IsWriting, KeepsSeats}

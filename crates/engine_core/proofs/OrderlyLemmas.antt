@@ -23,7 +23,7 @@ use Rattle.control_core.specs.declared.callers.OpenReplay.{OpenReplay}
 use Rattle.control_core.specs.declared.callers.RecorderSession.{RecorderSession}
 use Rattle.control_core.specs.declared.callers.Written.{Written}
 use Rattle.control_core.specs.Changes.{begun_session, desk_after, is_session_of, settled, settled_by, with_blocks, with_session, without_callers, without_sessions, writer_of}
-use Rattle.control_core.specs.Control.{CallersState, no_callers, session_number, with_written}
+use Rattle.control_core.specs.Callers.{CallersState, no_callers, session_number, with_written}
 use Rattle.control_core.specs.Decisions.{Allows, command_tests}
 use Rattle.control_core.specs.Desk.{DeskState, is_replay_before, is_replay_of}
 use Rattle.control_core.specs.Seats.{AreApart, KeepsSeats}

@@ -18,7 +18,7 @@ use Rattle.control_core.specs.declared.callers.OpenReplay.{OpenReplay}
 use Rattle.control_core.specs.declared.event.Event.{Event}
 use Rattle.control_core.specs.declared.event.Event.TheVariants as events
 use Rattle.control_core.specs.Changes.{after_poll}
-use Rattle.control_core.specs.Control.{moved_to, replay_number}
+use Rattle.control_core.specs.Callers.{moved_to, replay_number}
 use Rattle.control_core.specs.Desk.{DeskState}
 use Rattle.control_core.specs.Exact.{Archive, ArchiveEnds, CallEnds, Leaves, PolledEnds, PollingEnds, frames_end, goes_on, recording_at, with_desk}
 use Rattle.control_core.specs.Turns.{poll_decision, poll_tests, replay_in, replay_of}

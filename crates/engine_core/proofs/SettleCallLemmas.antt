@@ -32,7 +32,7 @@ use Rattle.control_core.specs.declared.turns.Settling.TheVariants as settling
 use Rattle.control_core.specs.Agreement.{Agrees}
 use Rattle.control_core.specs.Changes.{entered, settled, settled_by, with_blocks}
 use Rattle.control_core.specs.Consistent.{SettlesByAppend}
-use Rattle.control_core.specs.Control.{session_number}
+use Rattle.control_core.specs.Callers.{session_number}
 use Rattle.control_core.specs.Desk.{DeskState}
 use Rattle.control_core.specs.Exact.{Archive, book_of, settled_archive, with_session_blocks}
 use Rattle.control_core.specs.Seats.{KeepsSeats}

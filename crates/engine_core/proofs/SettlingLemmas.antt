@@ -25,7 +25,7 @@ use Rattle.control_core.specs.declared.turns.Settling.{Settling}
 use Rattle.control_core.specs.declared.turns.Settling.TheVariants as settling
 use Rattle.control_core.specs.Changes.{with_blocks}
 use Rattle.control_core.specs.Consistent.{HasBlocks}
-use Rattle.control_core.specs.Control.{CallersState, session_number, with_written}
+use Rattle.control_core.specs.Callers.{CallersState, session_number, with_written}
 use Rattle.control_core.specs.Desk.{DeskState}
 use Rattle.control_core.specs.Exact.{Archive, ArchiveEnds, CallEnds, SettlingEnds, settled_archive, with_session_blocks}
 use Rattle.control_core.specs.Seats.{AreApart, KeepsSeats}

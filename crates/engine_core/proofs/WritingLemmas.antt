@@ -19,7 +19,7 @@ use Rattle.archive_model.proofs.StateLemmas.{each_found}
 use Rattle.control_core.specs.declared.callers.RecorderSession.{RecorderSession}
 use Rattle.control_core.specs.declared.callers.Written.{Written}
 use Rattle.control_core.specs.Changes.{with_blocks}
-use Rattle.control_core.specs.Control.{CallersState, session_number, with_written}
+use Rattle.control_core.specs.Callers.{CallersState, session_number, with_written}
 use Rattle.control_core.specs.Exact.{span_of, with_session_blocks}
 use Rattle.control_core.specs.Seats.{AreApart}
 use Rattle.engine_core.specs.Consistent.{AreWritten, HasWritten}

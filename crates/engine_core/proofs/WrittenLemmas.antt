@@ -30,7 +30,7 @@ use Rattle.control_core.proofs.ChangeLemmas.{find-change}
 use Rattle.archive_model.specs.State.{register_of, registration_of, Recording, State, id_of, recorded_position}
 use Rattle.control_core.specs.declared.callers.RecorderSession.{RecorderSession}
 use Rattle.control_core.specs.declared.callers.Written.{Written}
-use Rattle.control_core.specs.Control.{CallersState, session_number}
+use Rattle.control_core.specs.Callers.{CallersState, session_number}
 use Rattle.control_core.specs.Desk.{DeskState}
 use Rattle.catalogue_log.specs.History.{IsRequested}
 use Rattle.control_core.specs.Agreement.{Agrees}

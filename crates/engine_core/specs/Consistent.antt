@@ -12,7 +12,7 @@ use Rattle.catalogue_log.specs.LogState.{LogState}
 use Rattle.control_core.specs.declared.callers.RecorderSession.{RecorderSession}
 use Rattle.control_core.specs.declared.callers.Written.{Written}
 use Rattle.control_core.specs.Agreement.{Agrees}
-use Rattle.control_core.specs.Control.{CallersState}
+use Rattle.control_core.specs.Callers.{CallersState}
 use Rattle.control_core.specs.Desk.{DeskState}
 use Rattle.control_core.specs.Exact.{Archive, span_of}
 use Rattle.engine_core.specs.Recovery.{IsDurable, IsSound, RecoversTo, last_of, layout_of}

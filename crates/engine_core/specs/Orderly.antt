@@ -7,7 +7,7 @@ use Rattle.archive_model.specs.Register.{RegisterState, id_of, registration_in}
 use Rattle.control_core.specs.declared.callers.OpenReplay.{OpenReplay}
 use Rattle.control_core.specs.declared.callers.RecorderSession.{RecorderSession}
 use Rattle.control_core.specs.declared.callers.Written.{Written}
-use Rattle.control_core.specs.Control.{CallersState}
+use Rattle.control_core.specs.Callers.{CallersState}
 use Rattle.control_core.specs.Desk.{DeskState}
 use Rattle.engine_core.specs.Reading.{IsLaidOut}
 

@@ -1,6 +1,6 @@
 use Rattle.std.proofs.Common.{pos, sym, ◌∙◌}
 use Rattle.archive_model.specs.Keyed.{Rise}
-use Rattle.control_core.specs.Control.{replay_number}
+use Rattle.control_core.specs.Callers.{replay_number}
 use Rattle.archive_model.proofs.RegisterLemmas.{without_none}
 use Rattle.control_core.proofs.SeatLemmas.{remove_is_without}
 use Rattle.control_core.proofs.replays.Replays.close.Goals as goal

@@ -1,4 +1,4 @@
-use Rattle.control_core.specs.Control.{replay_number, moved_to}
+use Rattle.control_core.specs.Callers.{replay_number, moved_to}
 use Rattle.control_core.proofs.SeatLemmas.{set_is_change}
 use Rattle.control_core.proofs.replays.Replays.set_next.Goals as goal
 

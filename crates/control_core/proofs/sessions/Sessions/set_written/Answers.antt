@@ -1,5 +1,5 @@
 use Rattle.std.proofs.Common.{refl}
-use Rattle.control_core.specs.Control.{session_number, with_written}
+use Rattle.control_core.specs.Callers.{session_number, with_written}
 use Rattle.control_core.proofs.SeatLemmas.{set_is_change}
 use Rattle.control_core.proofs.sessions.Sessions.set_written.Goals as goal
 

@@ -4,7 +4,7 @@ use Rattle.archive_model.specs.Keyed.{without}
 use Rattle.archive_model.proofs.StateLemmas.{each_without}
 use Rattle.control_core.specs.declared.event.Event.TheVariants as events
 use Rattle.control_core.specs.Changes.{after_close}
-use Rattle.control_core.specs.Control.{replay_number}
+use Rattle.control_core.specs.Callers.{replay_number}
 use Rattle.control_core.specs.Exact.{CallEnds, with_desk}
 use Rattle.control_core.specs.Turns.{close_decision}
 use Rattle.engine_core.specs.Orderly.{IsOrderly}

@@ -6,7 +6,7 @@ use Rattle.archive_model.specs.Register.{registration_in}
 use Rattle.archive_model.specs.Replay.{is_boundary, polled}
 use Rattle.control_core.specs.declared.event.Event.TheVariants as events
 use Rattle.control_core.specs.Changes.{after_poll}
-use Rattle.control_core.specs.Control.{moved_to, replay_number}
+use Rattle.control_core.specs.Callers.{moved_to, replay_number}
 use Rattle.control_core.specs.Exact.{CallEnds, goes_on}
 use Rattle.control_core.specs.Turns.{is_done_at, poll_decision}
 use Rattle.std.specs.Prelude.{if◌then◌else◌, unsigned_abs}
