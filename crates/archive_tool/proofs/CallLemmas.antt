@@ -26,7 +26,7 @@ use Rattle.archive_tool.specs.Script.{Works}
 use Rattle.engine_core.specs.declared.engine.Engine.{Engine}
 use Rattle.archive_tool.specs.declared.archive.ScriptArchive.{ScriptArchive}
 use Rattle.archive_tool.specs.declared.archive.ScriptArchive.TheVariants.{Open}
-use Rattle.archive_tool.specs.ScriptLines.{Calls, Standing, WhereOpen, opened, closed}
+use Rattle.archive_tool.specs.ScriptLines.{Calls, Standing, WhereOpen, opened, closed, refused}
 use Rattle.archive_tool.specs.Tie.{IsStanding, life_of}
 use Rattle.archive_tool.proofs.WorksLemmas.{not_failed}
 
@@ -113,6 +113,7 @@ called life archive old new event outcome s is step stands works =
   where
     by : (s : Standing) → IsStanding life (Open old) s → Works (life old.parts.storage.disk) (life new.parts.storage.disk) → (t : Standing) × IsStanding life (Open new) t × WhereOpen (Calls event) s outcome t
     by (closed a) stands works = absurd stands
+    by (refused why) stands works = absurd stands
     by (opened a) stands works =
         let done = stepped (life old.parts.storage.disk) (life new.parts.storage.disk) new.parts.storage.log new.parts.desk.state a event outcome works stands.1 (step a stands.0 (λ cut. works.obeys)) in
         (opened done.after, (done.consistent, done.certain), done.ends)

@@ -5,7 +5,6 @@ use Rattle.std.proofs.KnownBytes.{Appends-kept, Keeps-refl}
 use Rattle.std.specs.Prelude.{IfErr, IfSome, OnOk}
 use Rattle.disk_core.specs.DiskImage.{MayLeave, reads}
 use Rattle.disk_core.specs.Life.{Life}
-use Rattle.control_core.specs.Exact.{Archive}
 use Rattle.archive_tool.specs.declared.archive.ScriptArchive.{ScriptArchive}
 use Rattle.archive_tool.specs.declared.fault.EarlyEnd.{EarlyEnd}
 use Rattle.archive_tool.specs.declared.fault.EarlyEnd.TheVariants as ends
@@ -13,15 +12,15 @@ use Rattle.archive_tool.specs.declared.fault.ScriptFault.{ScriptFault}
 use Rattle.archive_tool.specs.declared.state.ScriptState.{ScriptState}
 use Rattle.archive_tool.specs.InputLines.{lines_of}
 use Rattle.archive_tool.specs.Script.{Answers, Begins, EndsEarly, IsTranscript, IsTranscriptOfFirst, IsUnopened, LeavesScene, Works, disk_of, end_of, ended_by, quits}
-use Rattle.archive_tool.specs.ScriptLines.{Scene, begun_with, opened}
+use Rattle.archive_tool.specs.ScriptLines.{Scene, Standing, begun_with}
 use Rattle.archive_tool.specs.Tie.{GoesOn, IsScene, IsStanding, life_of}
 use Rattle.archive_tool.specs.Transcript.{LeftNear, Writes, until_quit}
-use Rattle.archive_tool.proofs.OpeningLemmas.{reads_as_before, standing_kept}
+use Rattle.archive_tool.proofs.OpeningLemmas.{reads_as_before, standing_left}
 use Rattle.archive_tool.proofs.WorksLemmas.{works_first, works_then}
 
 -- ---- what is left, told by another word
 
-module _ (a : Archive) (Left Right : Scene → Type 0) (follows : (s : Scene) → Left s → Right s) where
+module _ (a : Standing) (Left Right : Scene → Type 0) (follows : (s : Scene) → Left s → Right s) where
   near_as : (s : Scene) (lines : List (List ℕ)) → LeftNear (begun_with a) Left quits Answers s lines → LeftNear (begun_with a) Right quits Answers s lines
   near_as s [] left = follows s left
   near_as s (line ∷ lines) (inl left) = inl (follows s left)
@@ -77,33 +76,33 @@ module _ (a : Archive) (Left Right : Scene → Type 0) (follows : (s : Scene) �
 -- the disk of a script leaves its scene
 pub scene_left : {D : Type 0} (life : D → Life) (state : ScriptState D) (disk : D) → ((d : D) → MayLeave (life d).now (reads (life d).now)) → life disk ≡ life_of life state.archive → (s : Scene) → IsScene life state s → LeavesScene (life disk) s
 scene_left life state disk may same s is =
-    subst (λ (l : Life). LeavesScene l s) (sym same) (standing_kept life state.archive s.archive may is.0).leaves
+    subst (λ (l : Life). LeavesScene l s) (sym same) (standing_left life state.archive s.archive may is.0)
 
 -- what a script does from its opening to its last line
 pub record Ran {D : Type 0} (life : D → Life) (start : Life) (archive : ScriptArchive D) (old new : ScriptState D) (input contents written : Option (List ℕ)) (result : Result (Unit {0}) EarlyEnd) : Type 0 where
   pub faults : start.faults ≤ (life_of life archive).faults
-  pub begun : (a : Archive) → Begins start a → Works start (life_of life archive) → IsStanding life archive (opened a)
+  pub begun : (a : Standing) → Begins start a → Works start (life_of life archive) → IsStanding life archive a
   pub goes_on : GoesOn (life_of life archive) (life_of life new.archive)
-  pub of : (a : Archive) → IsStanding life archive (opened a) → IsScene life old (begun_with a)
-  pub whole : OnOk result ((a : Archive) → IsScene life old (begun_with a) → Works (life_of life archive) (life_of life new.archive) → Writes input contents written (IsTranscript a (IsScene life new)))
-  pub early : IfErr result (λ end. (a : Archive) → IsScene life old (begun_with a) → Works (life_of life archive) (life_of life new.archive) → EndsEarly end a (IsScene life new) input contents written)
+  pub of : (a : Standing) → IsStanding life archive a → IsScene life old (begun_with a)
+  pub whole : OnOk result ((a : Standing) → IsScene life old (begun_with a) → Works (life_of life archive) (life_of life new.archive) → Writes input contents written (IsTranscript a (IsScene life new)))
+  pub early : IfErr result (λ end. (a : Standing) → IsScene life old (begun_with a) → Works (life_of life archive) (life_of life new.archive) → EndsEarly end a (IsScene life new) input contents written)
 
 pub ran_of : {D : Type 0} (life : D → Life) (start : Life) (archive : ScriptArchive D) (old new : ScriptState D) (input as_input contents written : Option (List ℕ)) (result : Result (Unit {0}) EarlyEnd) → as_input ≡ input
-    → start.faults ≤ (life_of life archive).faults → ((a : Archive) → Begins start a → Works start (life_of life archive) → IsStanding life archive (opened a)) → GoesOn (life_of life archive) (life_of life new.archive)
-    → ((a : Archive) → IsStanding life archive (opened a) → IsScene life old (begun_with a))
-    → OnOk result ((a : Archive) → IsScene life old (begun_with a) → Works (life_of life archive) (life_of life new.archive) → Writes as_input contents written (IsTranscript a (IsScene life new)))
-    → IfErr result (λ end. (a : Archive) → IsScene life old (begun_with a) → Works (life_of life archive) (life_of life new.archive) → EndsEarly end a (IsScene life new) as_input contents written)
+    → start.faults ≤ (life_of life archive).faults → ((a : Standing) → Begins start a → Works start (life_of life archive) → IsStanding life archive a) → GoesOn (life_of life archive) (life_of life new.archive)
+    → ((a : Standing) → IsStanding life archive a → IsScene life old (begun_with a))
+    → OnOk result ((a : Standing) → IsScene life old (begun_with a) → Works (life_of life archive) (life_of life new.archive) → Writes as_input contents written (IsTranscript a (IsScene life new)))
+    → IfErr result (λ end. (a : Standing) → IsScene life old (begun_with a) → Works (life_of life archive) (life_of life new.archive) → EndsEarly end a (IsScene life new) as_input contents written)
     → Ran life start archive old new input contents written result
 ran_of life start archive old new input as_input contents written result same faults begun goes_on of whole early =
     subst (λ (i : Option (List ℕ)). Ran life start archive old new i contents written result) same (record { faults = faults; begun = begun; goes_on = goes_on; of = of; whole = whole; early = early })
 
 -- the archive is open, and no call fails behind it
-record From {D : Type 0} (life : D → Life) (archive : ScriptArchive D) (old new : ScriptState D) (a : Archive) : Type 0 where
+record From {D : Type 0} (life : D → Life) (archive : ScriptArchive D) (old new : ScriptState D) (a : Standing) : Type 0 where
   pub scene : IsScene life old (begun_with a)
   pub works : Works (life_of life archive) (life_of life new.archive)
 
 from : {D : Type 0} (life : D → Life) (start : Life) (archive : ScriptArchive D) (old new : ScriptState D) (disk : D) (input contents written : Option (List ℕ)) (result : Result (Unit {0}) EarlyEnd) → Ran life start archive old new input contents written result
-    → life disk ≡ life_of life new.archive → (a : Archive) → Begins start a → Works start (life disk) → From life archive old new a
+    → life disk ≡ life_of life new.archive → (a : Standing) → Begins start a → Works start (life disk) → From life archive old new a
 from life start archive old new disk input contents written result ran same a begins works =
     let all : Works start (life_of life new.archive) = subst (λ (l : Life). Works start l) same works in
     let first = works_first start (life_of life archive) (life_of life new.archive) all ran.goes_on.obeyed ran.faults ran.goes_on.faults in
@@ -112,7 +111,7 @@ from life start archive old new disk input contents written result ran same a be
 -- it was read to its end, and handed on
 pub ends_well : {D : Type 0} (life : D → Life) (start : Life) (archive : ScriptArchive D) (old new : ScriptState D) (disk : D) (input contents written flushed : Option (List ℕ)) (result : Result (Unit {0}) EarlyEnd) (is_flushed : Bool)
     → Ran life start archive old new input contents written result → Ok tt ≡ ended_by result is_flushed → ((d : D) → MayLeave (life d).now (reads (life d).now)) → life disk ≡ life_of life new.archive → Keeps written flushed
-    → (a : Archive) → Begins start a → Works start (life disk) → Writes input contents flushed (IsTranscript a (LeavesScene (life disk)))
+    → (a : Standing) → Begins start a → Works start (life disk) → Writes input contents flushed (IsTranscript a (LeavesScene (life disk)))
 ends_well life start archive old new disk input contents written flushed (Ok done) is_flushed ran is may same keeps a begins works =
     let here = from life start archive old new disk input contents written (Ok done) ran same a begins works in
     whole_as a (IsScene life new) (LeavesScene (life disk)) (scene_left life new disk may same) input contents written flushed keeps (ran.whole a here.scene here.works)
@@ -121,7 +120,7 @@ ends_well life start archive old new disk input contents written flushed (Err en
 -- or not
 pub ends_early : {D : Type 0} (life : D → Life) (start : Life) (archive : ScriptArchive D) (old new : ScriptState D) (disk : D) (input contents written flushed : Option (List ℕ)) (result : Result (Unit {0}) EarlyEnd) (is_flushed : Bool) (end : EarlyEnd)
     → Ran life start archive old new input contents written result → Err end ≡ ended_by result is_flushed → ((d : D) → MayLeave (life d).now (reads (life d).now)) → life disk ≡ life_of life new.archive → Keeps written flushed
-    → (a : Archive) → Begins start a → Works start (life disk) → EndsEarly end a (LeavesScene (life disk)) input contents flushed
+    → (a : Standing) → Begins start a → Works start (life disk) → EndsEarly end a (LeavesScene (life disk)) input contents flushed
 ends_early life start archive old new disk input contents written flushed (Ok done) true end ran is may same keeps a begins works = let wrong : Err end ≡ Ok done = is in absurd cc
 ends_early life start archive old new disk input contents written flushed (Ok done) false end ran is may same keeps a begins works =
     let here = from life start archive old new disk input contents written (Ok done) ran same a begins works in
@@ -138,11 +137,11 @@ ends_early life start archive old new disk input contents written flushed (Err e
 
 -- as its fault has it
 pub fault_as : {D : Type 0} (life : D → Life) (start : Life) (fault : ScriptFault D) (end : EarlyEnd) (disk : D) (input contents flushed : Option (List ℕ)) → end_of fault ≡ end → disk_of fault ≡ disk
-    → ((a : Archive) → Begins start a → Works start (life disk) → EndsEarly end a (LeavesScene (life disk)) input contents flushed)
-    → (a : Archive) → Begins start a → Works start (life (disk_of fault)) → EndsEarly (end_of fault) a (LeavesScene (life (disk_of fault))) input contents flushed ⊎ IsUnopened start (life (disk_of fault)) contents flushed (end_of fault)
+    → ((a : Standing) → Begins start a → Works start (life disk) → EndsEarly end a (LeavesScene (life disk)) input contents flushed)
+    → (a : Standing) → Begins start a → Works start (life (disk_of fault)) → EndsEarly (end_of fault) a (LeavesScene (life (disk_of fault))) input contents flushed ⊎ IsUnopened start (life (disk_of fault)) contents flushed (end_of fault)
 fault_as life start fault end disk input contents flushed one two early =
-    subst (λ (e : EarlyEnd). (a : Archive) → Begins start a → Works start (life (disk_of fault)) → EndsEarly e a (LeavesScene (life (disk_of fault))) input contents flushed ⊎ IsUnopened start (life (disk_of fault)) contents flushed e) (sym one)
-    (subst (λ (d : _). (a : Archive) → Begins start a → Works start (life d) → EndsEarly end a (LeavesScene (life d)) input contents flushed ⊎ IsUnopened start (life d) contents flushed end) (sym two) (λ a begins works. inl (early a begins works)))
+    subst (λ (e : EarlyEnd). (a : Standing) → Begins start a → Works start (life (disk_of fault)) → EndsEarly e a (LeavesScene (life (disk_of fault))) input contents flushed ⊎ IsUnopened start (life (disk_of fault)) contents flushed e) (sym one)
+    (subst (λ (d : _). (a : Standing) → Begins start a → Works start (life d) → EndsEarly end a (LeavesScene (life d)) input contents flushed ⊎ IsUnopened start (life d) contents flushed end) (sym two) (λ a begins works. inl (early a begins works)))
 
 -- before an archive is opened there was no memory
 pub unbegun : (life : Life) (contents : Option (List ℕ)) → IsUnopened life life contents contents ends.Memory

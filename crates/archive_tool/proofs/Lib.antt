@@ -6,4 +6,5 @@ mod LineLemmas
 mod ProgressLemmas
 mod ScriptLemmas
 mod EndLemmas
+mod GoingOnLemmas
 mod CommandLineLemmas

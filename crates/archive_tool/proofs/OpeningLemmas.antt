@@ -1,11 +1,11 @@
 -- Archives that are begun, closed and opened again.
-use Rattle.std.proofs.Common.{◌≡◌, ◌≢◌, ◌<◌, ◌≤◌, ◌⊎◌, ◌∙◌, ap, refl, inl, inr, sym, subst, ℕ, ℤ, pos, List, [], IsTrue, arith}
+use Rattle.std.proofs.Common.{◌≡◌, ◌≢◌, ◌<◌, ◌≤◌, ◌⊎◌, ◌∙◌, ap, refl, inl, inr, sym, subst, ℕ, ℤ, pos, List, IsTrue, arith}
 use Rattle.std.specs.Prelude.{Option, None, Result, Ok, Err, IfErr, IfOk, IsSome, count_by}
 use Rattle.frame_core.specs.declared.refusal.Refusal.{Refusal}
 use Rattle.disk_core.specs.declared.file_id.FileId.{FileId}
 use Rattle.disk_core.specs.declared.file_id.FileId.TheVariants.{BankA}
 use Rattle.disk_core.specs.DiskImage.{DiskImage, Files, MayLeave, bytes_of, reads}
-use Rattle.frame_core.specs.declared.refusal.Refusal.TheVariants.{BadParameter, DeviceFault, NoMemory}
+use Rattle.frame_core.specs.declared.refusal.Refusal.TheVariants.{BadParameter, Damaged, DeviceFault, NewerVersion, NoMemory, NotCatalogue}
 use Rattle.disk_core.specs.Life.{HasFailed, IsQuiet, Life}
 use Rattle.disk_core.proofs.CallerLemmas.{goes_on_part, goes_quiet, now_leaves, started}
 use Rattle.archive_model.specs.declared.command.Command.TheVariants.{Restart}
@@ -16,15 +16,15 @@ use Rattle.archive_model.specs.State.{State, active_count}
 use Rattle.catalogue_log.specs.declared.bank.BankHeader.{BankHeader}
 use Rattle.catalogue_log.specs.declared.entry.Entry.{Entry}
 use Rattle.catalogue_log.specs.Bank.{IsBank}
-use Rattle.catalogue_log.specs.Catalogue.{IsCatalogue}
+use Rattle.catalogue_log.specs.Catalogue.{IsCatalogue, RefusesBank, RefusesCatalogue}
 use Rattle.catalogue_log.specs.Fold.{counts}
 use Rattle.catalogue_log.specs.LogState.{LogState}
 use Rattle.catalogue_log.proofs.AppendLemmas.{rest_left}
-use Rattle.catalogue_log.proofs.OneLemmas.{one_bank}
+use Rattle.catalogue_log.proofs.OneLemmas.{bank_is_newer, bank_is_none, damaged_is_newer, damaged_is_none, not_damaged, one_bank, one_damage}
 use Rattle.control_core.specs.Desk.{DeskState}
 use Rattle.control_core.specs.Exact.{Archive, opened_archive}
 use Rattle.engine_core.specs.Consistent.{IsConsistent}
-use Rattle.engine_core.specs.Opened.{IsFresh, IsNotOpened, IsOpened, LeavesEither}
+use Rattle.engine_core.specs.Opened.{IsDeskOf, IsFresh, IsNotOpened, IsOpened, LeavesEither}
 use Rattle.engine_core.specs.Engine.{new_archive}
 use Rattle.engine_core.specs.Opening.{IsMadeIn, ReadsAsBefore, RefusesNew}
 use Rattle.engine_core.specs.Recovery.{Recovers}
@@ -32,8 +32,8 @@ use Rattle.engine_core.proofs.RecoveryLemmas.{one_state, sound_recovers}
 use Rattle.engine_core.specs.declared.engine.Engine.{Engine}
 use Rattle.archive_tool.specs.declared.archive.ScriptArchive.{ScriptArchive}
 use Rattle.archive_tool.specs.declared.archive.ScriptArchive.TheVariants.{Open, Closed}
-use Rattle.archive_tool.specs.Script.{Begins, IsBlank, Restarts, Works}
-use Rattle.archive_tool.specs.ScriptLines.{Reopens, Standing, archive_of, closed, opened, reopened}
+use Rattle.archive_tool.specs.Script.{Begins, IsRefusedBy, LeavesStanding, Opens, Restarts, Works}
+use Rattle.archive_tool.specs.ScriptLines.{Reopens, ReopensAs, Standing, closed, opened, refused, reopened}
 use Rattle.archive_tool.specs.Tie.{IsKept, IsStanding, closed_by, life_of}
 use Rattle.archive_tool.proofs.WorksLemmas.{not_failed, works_then}
 
@@ -71,14 +71,6 @@ at_fresh life log desk image s a b consistent fresh same = record {
 }
 
 -- ---- beginning
-
--- a disk without files has no catalogue
-no_bank : (h : BankHeader) (es : List Entry) → IsBank [] h es → ⊥
-no_bank h es bank = let is = bank.holds.is in absurd cc
-
-pub blank_reads_as_none : (life : Life) (a : Archive) → IsBlank life → Restarts life a → ⊥
-blank_reads_as_none life a blank restarts =
-    no_bank restarts.recovers.header restarts.recovers.entries (subst (λ (bank : Option (List ℕ)). IsBank (bytes_of bank) restarts.recovers.header restarts.recovers.entries) (blank BankA) restarts.recovers.catalogue)
 
 -- the archive of a disk that recovers to a state is opened
 pub begun : (old new : Life) (log : LogState) (desk : DeskState) (count : ℤ) (a : Archive) (restarts : Restarts old a) → IsOpened old new log desk count restarts.state restarts.other → IsAt new log desk a
@@ -148,24 +140,106 @@ stays_closed old new a was before = record {
   limit = was.limit;
 }
 
+-- ---- a refused catalogue
+
+-- it is the same by what the bank reads as
+refused_as : (old new : Life) (why : Refusal) → reads new.now BankA ≡ reads old.now BankA → IsRefusedBy old why → IsRefusedBy new why
+refused_as old new NoMemory same is = absurd is
+refused_as old new DeviceFault same is = absurd is
+refused_as old new (Damaged recording at) same is = subst (λ (bank : Option (List ℕ)). RefusesBank (bytes_of bank) (Damaged recording at)) (sym same) is
+refused_as old new NotCatalogue same is = subst (λ (bank : Option (List ℕ)). RefusesBank (bytes_of bank) NotCatalogue) (sym same) is
+refused_as old new NewerVersion same is = subst (λ (bank : Option (List ℕ)). RefusesBank (bytes_of bank) NewerVersion) (sym same) is
+refused_as old new why same is = absurd is
+
+-- there is no catalogue then
+no_catalogue : (life : Life) (why : Refusal) (h : BankHeader) (es : List Entry) → IsRefusedBy life why → IsCatalogue (reads life.now) h es → ⊥
+no_catalogue life NoMemory h es is catalogue = is
+no_catalogue life DeviceFault h es is catalogue = is
+no_catalogue life (Damaged recording at) h es is catalogue = not_damaged _ h es at catalogue is.1
+no_catalogue life NotCatalogue h es is catalogue = bank_is_none _ h es is catalogue
+no_catalogue life NewerVersion h es is catalogue = bank_is_newer _ h es is catalogue
+no_catalogue life why h es is catalogue = is
+
+-- a bank is refused by one refusal, but for want of memory and a fault
+abbrev OneOf : Refusal → Refusal → Type 0
+OneOf why refusal = (refusal ≡ why) ⊎ ((refusal ≡ NoMemory) ⊎ (refusal ≡ DeviceFault))
+
+as_damaged : (life : Life) (why : Refusal) (recording at : ℤ) → IsRefusedBy life why → RefusesCatalogue (reads life.now) (Damaged recording at) → OneOf why (Damaged recording at)
+as_damaged life NoMemory recording at is refuses = absurd is
+as_damaged life DeviceFault recording at is refuses = absurd is
+as_damaged life (Damaged other from) recording at is refuses =
+    inl (ap (λ (n : ℤ). Damaged n at) (refuses.0 ∙ sym is.0) ∙ ap (λ (n : ℤ). Damaged other n) (one_damage _ at from refuses.1 is.1))
+as_damaged life NotCatalogue recording at is refuses = absurd (damaged_is_none _ at is refuses.1)
+as_damaged life NewerVersion recording at is refuses = absurd (damaged_is_newer _ at is refuses.1)
+as_damaged life why recording at is refuses = absurd is
+
+as_none : (life : Life) (why : Refusal) → IsRefusedBy life why → RefusesCatalogue (reads life.now) NotCatalogue → OneOf why NotCatalogue
+as_none life NoMemory is refuses = absurd is
+as_none life DeviceFault is refuses = absurd is
+as_none life (Damaged recording at) is refuses = absurd (damaged_is_none _ at refuses is.1)
+as_none life NotCatalogue is refuses = inl refl
+as_none life NewerVersion is refuses = absurd (refuses.0 is)
+as_none life why is refuses = absurd is
+
+as_newer : (life : Life) (why : Refusal) → IsRefusedBy life why → RefusesCatalogue (reads life.now) NewerVersion → OneOf why NewerVersion
+as_newer life NoMemory is refuses = absurd is
+as_newer life DeviceFault is refuses = absurd is
+as_newer life (Damaged recording at) is refuses = absurd (damaged_is_newer _ at refuses is.1)
+as_newer life NotCatalogue is refuses = absurd (is.0 refuses)
+as_newer life NewerVersion is refuses = inl refl
+as_newer life why is refuses = absurd is
+
+refused_once : (life : Life) (why refusal : Refusal) → IsRefusedBy life why → RefusesCatalogue (reads life.now) refusal → OneOf why refusal
+refused_once life why NoMemory is refuses = inr (inl refl)
+refused_once life why DeviceFault is refuses = inr (inr refl)
+refused_once life why (Damaged recording at) is refuses = as_damaged life why recording at is refuses
+refused_once life why NotCatalogue is refuses = as_none life why is refuses
+refused_once life why NewerVersion is refuses = as_newer life why is refuses
+refused_once life why refusal is refuses = absurd refuses
+
+-- ---- an opening
+
+-- what `Engine::open` answers for a disk
+pub record Opened {D : Type 0} (life : D → Life) (old : Life) (engine : Engine D) : Type 0 where
+  pub opened_as : (s u : State) → LeavesEither old s u → IsTrue (life engine.parts.storage.disk).obeys → IsOpened old (life engine.parts.storage.disk) engine.parts.storage.log engine.parts.desk.state engine.restarted s u
+  pub desk : IsTrue (life engine.parts.storage.disk).obeys → IsDeskOf (reads old.now) engine.parts.desk.state engine.restarted
+
+pub record Refused {D : Type 0} (life : D → Life) (old : Life) (refusal : Refusal) (disk : D) : Type 0 where
+  pub whole : (s u : State) → LeavesEither old s u → IsTrue (life disk).obeys → IsNotOpened old (life disk) s u × ((refusal ≡ DeviceFault) ⊎ (refusal ≡ NoMemory))
+  pub other : IsTrue (life disk).obeys → RefusesCatalogue (reads old.now) refusal
+  pub cause : refusal ≡ DeviceFault → HasFailed old (life disk)
+  pub kept : (refusal ≡ DeviceFault) ⊎ ReadsAsBefore old (life disk)
+
+-- no call failed: each file reads as before
+unfailed : {D : Type 0} (life : D → Life) (old : Life) (refusal : Refusal) (disk : D) → Refused life old refusal disk → Works old (life disk) → ReadsAsBefore old (life disk)
+unfailed life old refusal disk answer works = elim answer.kept [ inl fault ↦ absurd (not_failed old (life disk) works (answer.cause fault)) | inr before ↦ before ]
+
 -- ---- a script's archive
 
--- opened for a disk that recovers to a state
-pub opened_is : {D : Type 0} (life : D → Life) (old : Life) (engine : Engine D) (a : Archive)
-    → ((s u : State) → LeavesEither old s u → IsTrue (life engine.parts.storage.disk).obeys → IsOpened old (life engine.parts.storage.disk) engine.parts.storage.log engine.parts.desk.state engine.restarted s u)
-    → Restarts old a → Works old (life engine.parts.storage.disk) → IsStanding life (Open engine) (opened a)
-opened_is life old engine a opens restarts works =
-    let at = begun old (life engine.parts.storage.disk) engine.parts.storage.log engine.parts.desk.state engine.restarted a restarts (opens restarts.state restarts.other restarts.leaves works.obeys) in
+-- opened for what the disk has
+pub opened_is : {D : Type 0} (life : D → Life) (old : Life) (engine : Engine D) → Opened life old engine → (first : Standing) → Opens old first → Works old (life engine.parts.storage.disk) → IsStanding life (Open engine) first
+opened_is life old engine answer (opened a) restarts works =
+    let at = begun old (life engine.parts.storage.disk) engine.parts.storage.log engine.parts.desk.state engine.restarted a restarts (answer.opened_as restarts.state restarts.other restarts.leaves works.obeys) in
     (at.consistent, at.certain)
+opened_is life old engine answer (closed a) opens works = absurd opens
+opened_is life old engine answer (refused why) opens works = let desk = answer.desk works.obeys in absurd (no_catalogue old why desk.header desk.entries opens desk.catalogue)
 
--- where it was refused and none is open, a call has failed
-pub not_closed_then : {D : Type 0} (life : D → Life) (old : Life) (refusal : Refusal) (disk : D) (result : Result (ScriptArchive D) D) → result ≡ closed_by refusal disk
-    → ((s u : State) → LeavesEither old s u → IsTrue (life disk).obeys → IsNotOpened old (life disk) s u × ((refusal ≡ DeviceFault) ⊎ (refusal ≡ NoMemory)))
-    → (refusal ≡ DeviceFault → HasFailed old (life disk)) → IfOk result (λ archive. (a : Archive) → Restarts old a → Works old (life_of life archive) → IsStanding life archive (opened a))
-not_closed_then life old NoMemory disk result is refused cause = subst (λ (r : Result (ScriptArchive _) _). IfOk r (λ archive. (a : Archive) → Restarts old a → Works old (life_of life archive) → IsStanding life archive (opened a))) (sym is) tt
-not_closed_then life old refusal disk result is refused cause =
-    subst (λ (r : Result (ScriptArchive _) _). IfOk r (λ archive. (a : Archive) → Restarts old a → Works old (life_of life archive) → IsStanding life archive (opened a))) (sym is)
-    (λ a restarts works. elim (refused restarts.state restarts.other restarts.leaves works.obeys).1 [ inl fault ↦ absurd (not_failed old (life disk) works (cause fault)) | inr memory ↦ absurd cc ])
+-- where it was refused by anything but want of memory, the disk's catalogue is refused
+abbrev Begun : {D : Type 0} → (D → Life) → Life → ScriptArchive D → Type 0
+Begun life old archive = (first : Standing) → Opens old first → Works old (life_of life archive) → IsStanding life archive first
+
+still_refused : {D : Type 0} (life : D → Life) (old : Life) (refusal : Refusal) (disk : D) → Refused life old refusal disk → refusal ≢ NoMemory → Begun life old (Closed disk)
+still_refused life old refusal disk answer other (opened a) restarts works =
+    elim (answer.whole restarts.state restarts.other restarts.leaves works.obeys).1 [ inl fault ↦ absurd (not_failed old (life disk) works (answer.cause fault)) | inr memory ↦ absurd (other memory) ]
+still_refused life old refusal disk answer other (closed a) opens works = absurd opens
+still_refused life old refusal disk answer other (refused why) opens works = refused_as old (life disk) why ((unfailed life old refusal disk answer works).same BankA) opens
+
+pub not_closed_then : {D : Type 0} (life : D → Life) (old : Life) (refusal : Refusal) (disk : D) (result : Result (ScriptArchive D) D) → result ≡ closed_by refusal disk → Refused life old refusal disk → IfOk result (Begun life old)
+not_closed_then life old refusal disk result is answer = subst (λ (r : Result (ScriptArchive _) _). IfOk r (Begun life old)) (sym is) (by refusal refl)
+  where
+    by : (r : Refusal) → refusal ≡ r → IfOk (closed_by r disk) (Begun life old)
+    by NoMemory same = tt
+    by r same = still_refused life old refusal disk answer (λ memory. let wrong : r ≡ NoMemory = sym same ∙ memory in absurd cc)
 
 -- for want of memory the disk goes back as it was
 pub closed_before : {D : Type 0} (life : D → Life) (old : Life) (refusal : Refusal) (disk : D) (result : Result (ScriptArchive D) D) → result ≡ closed_by refusal disk
@@ -179,77 +253,99 @@ closed_before life old refusal disk result is same = subst (λ (r : Result (Scri
 
 -- ---- closing a script's archive, and opening it again
 
--- what the disk of a script's archive keeps
-pub standing_kept : {D : Type 0} (life : D → Life) (archive : ScriptArchive D) (s : Standing) → ((disk : D) → MayLeave (life disk).now (reads (life disk).now)) → IsStanding life archive s → IsKept (life_of life archive) (archive_of s)
+-- what the disk of a script's archive leaves
+pub standing_left : {D : Type 0} (life : D → Life) (archive : ScriptArchive D) (s : Standing) → ((disk : D) → MayLeave (life disk).now (reads (life disk).now)) → IsStanding life archive s → LeavesStanding (life_of life archive) s
+standing_left life (Open engine) (opened a) may stands = (kept (life engine.parts.storage.disk) engine.parts.storage.log engine.parts.desk.state a stands.0 stands.1 (may engine.parts.storage.disk)).leaves
+standing_left life (Open engine) (closed a) may stands = absurd stands
+standing_left life (Open engine) (refused why) may stands = absurd stands
+standing_left life (Closed disk) (opened a) may stands = absurd stands
+standing_left life (Closed disk) (closed a) may stands = stands.leaves
+standing_left life (Closed disk) (refused why) may stands = stands
+
+-- what is known of it as it is closed
+abbrev Keeps : Life → Standing → Type 0
+Keeps life (opened a) = IsKept life a
+Keeps life (closed a) = IsKept life a
+Keeps life (refused why) = IsRefusedBy life why
+
+standing_kept : {D : Type 0} (life : D → Life) (archive : ScriptArchive D) (s : Standing) → ((disk : D) → MayLeave (life disk).now (reads (life disk).now)) → IsStanding life archive s → Keeps (life_of life archive) s
 standing_kept life (Open engine) (opened a) may stands = kept (life engine.parts.storage.disk) engine.parts.storage.log engine.parts.desk.state a stands.0 stands.1 (may engine.parts.storage.disk)
 standing_kept life (Open engine) (closed a) may stands = absurd stands
+standing_kept life (Open engine) (refused why) may stands = absurd stands
 standing_kept life (Closed disk) (opened a) may stands = absurd stands
 standing_kept life (Closed disk) (closed a) may stands = stands
+standing_kept life (Closed disk) (refused why) may stands = stands
 
 -- it is open again
-pub reopened_open : {D : Type 0} (life : D → Life) (old : Life) (engine : Engine D) (s : Standing) → IsKept old (archive_of s)
-    → ((s u : State) → LeavesEither old s u → IsTrue (life engine.parts.storage.disk).obeys → IsOpened old (life engine.parts.storage.disk) engine.parts.storage.log engine.parts.desk.state engine.restarted s u)
-    → Works old (life engine.parts.storage.disk) → (t : Standing) × IsStanding life (Open engine) t × Reopens s (Ok (Reopened engine.restarted)) t
-reopened_open life old engine s was opens works =
-    let a : Archive = archive_of s in
-    let done = opened_again old (life engine.parts.storage.disk) engine.parts.storage.log engine.parts.desk.state engine.restarted a was (opens a.state a.state (leaves_one old a was) works.obeys) in
+open_as : {D : Type 0} (life : D → Life) (old : Life) (engine : Engine D) (a : Archive) → IsKept old a → Opened life old engine → Works old (life engine.parts.storage.disk)
+    → (t : Standing) × IsStanding life (Open engine) t × ReopensAs a (Ok (Reopened engine.restarted)) t
+open_as life old engine a was answer works =
+    let done = opened_again old (life engine.parts.storage.disk) engine.parts.storage.log engine.parts.desk.state engine.restarted a was (answer.opened_as a.state a.state (leaves_one old a was) works.obeys) in
     (opened (reopened a), (done.0.consistent, done.0.certain), (ap (λ (n : ℤ). Reopened n) done.1, refl))
 
+open_again : {D : Type 0} (life : D → Life) (old : Life) (engine : Engine D) (s : Standing) → Keeps old s → Opened life old engine → Works old (life engine.parts.storage.disk) → (t : Standing) × IsStanding life (Open engine) t × Reopens s (Ok (Reopened engine.restarted)) t
+open_again life old engine (opened a) was answer works = open_as life old engine a was answer works
+open_again life old engine (closed a) was answer works = open_as life old engine a was answer works
+open_again life old engine (refused why) was answer works = let desk = answer.desk works.obeys in absurd (no_catalogue old why desk.header desk.entries was desk.catalogue)
+
 -- there was no memory for it
-pub reopened_closed : {D : Type 0} (life : D → Life) (old : Life) (refusal : Refusal) (disk : D) (s : Standing) → IsKept old (archive_of s)
-    → ((s u : State) → LeavesEither old s u → IsTrue (life disk).obeys → IsNotOpened old (life disk) s u × ((refusal ≡ DeviceFault) ⊎ (refusal ≡ NoMemory)))
-    → (refusal ≡ DeviceFault → HasFailed old (life disk)) → (refusal ≡ DeviceFault) ⊎ ReadsAsBefore old (life disk) → Works old (life disk)
-    → (t : Standing) × IsStanding life (Closed disk) t × Reopens s (Err refusal) t
-reopened_closed life old refusal disk s was refused cause same works = by (refused a.state a.state (leaves_one old a was) works.obeys).1
-  where
-    a : Archive
-    a = archive_of s
+closed_as : {D : Type 0} (life : D → Life) (old : Life) (refusal : Refusal) (disk : D) (a : Archive) → IsKept old a → Refused life old refusal disk → Works old (life disk) → (t : Standing) × IsStanding life (Closed disk) t × ReopensAs a (Err refusal) t
+closed_as life old refusal disk a was answer works = elim (answer.whole a.state a.state (leaves_one old a was) works.obeys).1 [
+  | inl fault ↦ absurd (not_failed old (life disk) works (answer.cause fault))
+  | inr memory ↦ (closed a, stays_closed old (life disk) a was (unfailed life old refusal disk answer works), subst (λ (r : Refusal). ReopensAs a (Err r) (closed a)) (sym memory) refl)
+]
 
-    before : (refusal ≡ NoMemory) → (refusal ≡ DeviceFault) ⊎ ReadsAsBefore old (life disk) → ReadsAsBefore old (life disk)
-    before memory (inl fault) = absurd (not_failed old (life disk) works (cause fault))
-    before memory (inr reads) = reads
-
-    by : (refusal ≡ DeviceFault) ⊎ (refusal ≡ NoMemory) → (t : Standing) × IsStanding life (Closed disk) t × Reopens s (Err refusal) t
-    by (inl fault) = absurd (not_failed old (life disk) works (cause fault))
-    by (inr memory) = (closed a, stays_closed old (life disk) a was (before memory same), subst (λ (r : Refusal). Reopens s (Err r) (closed a)) (sym memory) refl)
+-- or it is refused again
+refused_again : {D : Type 0} (life : D → Life) (old : Life) (refusal : Refusal) (disk : D) (s : Standing) → Keeps old s → Refused life old refusal disk → Works old (life disk) → (t : Standing) × IsStanding life (Closed disk) t × Reopens s (Err refusal) t
+refused_again life old refusal disk (opened a) was answer works = closed_as life old refusal disk a was answer works
+refused_again life old refusal disk (closed a) was answer works = closed_as life old refusal disk a was answer works
+refused_again life old refusal disk (refused why) was answer works =
+    let stays : IsStanding life (Closed disk) (refused why) = refused_as old (life disk) why ((unfailed life old refusal disk answer works).same BankA) was in
+    elim (refused_once old why refusal was (answer.other works.obeys)) [
+      | inl same ↦ (refused why, stays, (inl (ap (λ (r : Refusal). Err r) same), refl))
+      | inr (inl memory) ↦ (refused why, stays, (inr (ap (λ (r : Refusal). Err r) memory), refl))
+      | inr (inr fault) ↦ absurd (not_failed old (life disk) works (answer.cause fault))
+    ]
 
 -- the same of the disk that was handed on
-pub reopened_again : {D : Type 0} (life : D → Life) (archive : ScriptArchive D) (old : D) (engine : Engine D) → ((disk : D) → MayLeave (life disk).now (reads (life disk).now)) → life old ≡ life_of life archive
-    → ((s u : State) → LeavesEither (life old) s u → IsTrue (life engine.parts.storage.disk).obeys → IsOpened (life old) (life engine.parts.storage.disk) engine.parts.storage.log engine.parts.desk.state engine.restarted s u)
+pub reopened_again : {D : Type 0} (life : D → Life) (archive : ScriptArchive D) (old : D) (engine : Engine D) → ((disk : D) → MayLeave (life disk).now (reads (life disk).now)) → life old ≡ life_of life archive → Opened life (life old) engine
     → (reply : Reply) → reply ≡ Reopened engine.restarted → (s : Standing) → IsStanding life archive s → Works (life_of life archive) (life engine.parts.storage.disk)
     → (t : Standing) × IsStanding life (Open engine) t × Reopens s (Ok reply) t
-reopened_again life archive old engine may same opens reply is s stands works =
+reopened_again life archive old engine may same answer reply is s stands works =
     subst (λ (r : Reply). (t : Standing) × IsStanding life (Open engine) t × Reopens s (Ok r) t) (sym is)
-    (reopened_open life (life old) engine s (subst (λ (l : Life). IsKept l (archive_of s)) (sym same) (standing_kept life archive s may stands)) opens (subst (λ (l : Life). Works l (life engine.parts.storage.disk)) (sym same) works))
+    (open_again life (life old) engine s (subst (λ (l : Life). Keeps l s) (sym same) (standing_kept life archive s may stands)) answer (subst (λ (l : Life). Works l (life engine.parts.storage.disk)) (sym same) works))
 
-pub reopened_not : {D : Type 0} (life : D → Life) (archive : ScriptArchive D) (old : D) (refusal : Refusal) (disk : D) → ((disk : D) → MayLeave (life disk).now (reads (life disk).now)) → life old ≡ life_of life archive
-    → ((s u : State) → LeavesEither (life old) s u → IsTrue (life disk).obeys → IsNotOpened (life old) (life disk) s u × ((refusal ≡ DeviceFault) ⊎ (refusal ≡ NoMemory)))
-    → (refusal ≡ DeviceFault → HasFailed (life old) (life disk)) → (refusal ≡ DeviceFault) ⊎ ReadsAsBefore (life old) (life disk)
+pub reopened_not : {D : Type 0} (life : D → Life) (archive : ScriptArchive D) (old : D) (refusal : Refusal) (disk : D) → ((disk : D) → MayLeave (life disk).now (reads (life disk).now)) → life old ≡ life_of life archive → Refused life (life old) refusal disk
     → (s : Standing) → IsStanding life archive s → Works (life_of life archive) (life disk) → (t : Standing) × IsStanding life (Closed disk) t × Reopens s (Err refusal) t
-reopened_not life archive old refusal disk may same refused cause kept s stands works =
-    reopened_closed life (life old) refusal disk s (subst (λ (l : Life). IsKept l (archive_of s)) (sym same) (standing_kept life archive s may stands)) refused cause kept (subst (λ (l : Life). Works l (life disk)) (sym same) works)
+reopened_not life archive old refusal disk may same answer s stands works =
+    refused_again life (life old) refusal disk s (subst (λ (l : Life). Keeps l s) (sym same) (standing_kept life archive s may stands)) answer (subst (λ (l : Life). Works l (life disk)) (sym same) works)
 
 -- ---- beginning
 
+-- one file at least is not absent
+some_file : {x : Option (List ℕ)} → x ≡ None → IsSome x → ⊥
+some_file is some = let wrong : IsSome {T = List ℕ} None = subst IsSome is some in absurd cc
+
 -- no file was there, and an archive was made
-pub made : {D : Type 0} (life : D → Life) (old : Life) (engine : Engine D) (a : Archive) → IsMadeIn old (life engine.parts.storage.disk) 1048576
-    → IsConsistent (life engine.parts.storage.disk) engine.parts.storage.log engine.parts.desk.state (new_archive 1048576) → Begins old a → Works old (life engine.parts.storage.disk) → IsStanding life (Open engine) (opened a)
-made life old engine a is consistent (inl blank) works =
-    (subst (λ (x : Archive). IsConsistent (life engine.parts.storage.disk) engine.parts.storage.log engine.parts.desk.state x) (sym blank.1) consistent, ap (λ (x : Archive). x.doubt) blank.1)
-made life old engine a is consistent (inr restarts) works = absurd (blank_reads_as_none old a (is.empty works.obeys) restarts)
+pub made : {D : Type 0} (life : D → Life) (old : Life) (engine : Engine D) → IsMadeIn old (life engine.parts.storage.disk) 1048576
+    → IsConsistent (life engine.parts.storage.disk) engine.parts.storage.log engine.parts.desk.state (new_archive 1048576) → (first : Standing) → Begins old first → Works old (life engine.parts.storage.disk) → IsStanding life (Open engine) first
+made life old engine is consistent first (inl blank) works = subst (λ (s : Standing). IsStanding life (Open engine) s) (sym blank.1) (consistent, refl)
+made life old engine is consistent first (inr files) works = absurd (some_file (is.empty works.obeys files.0.0) files.0.1)
 
--- a file is there, so that it recovers to a state
-pub not_blank : (old new : Life) (a : Archive) → RefusesNew old new 1048576 BadParameter → IsTrue new.obeys → Begins old a → Restarts new a
-not_blank old new a refused obeys (inl blank) = absurd (by refused.1)
+-- a file is there, and the disk is as it was
+quiet_opens : (old new : Life) (first : Standing) → IsQuiet old new → Opens old first → Opens new first
+quiet_opens old new (opened a) quiet opens = quiet_restarts old new a quiet opens
+quiet_opens old new (closed a) quiet opens = absurd opens
+quiet_opens old new (refused why) quiet opens = refused_as old new why (ap (λ (files : Files). reads files BankA) quiet.now) opens
+
+not_blank : (old new : Life) (first : Standing) → RefusesNew old new 1048576 BadParameter → IsTrue new.obeys → Begins old first → Opens new first
+not_blank old new first no_archive obeys (inl blank) = absurd (by no_archive.1)
   where
-    none : {x : Option (List ℕ)} → x ≡ None → IsSome x → ⊥
-    none is some = let wrong : IsSome {T = List ℕ} None = subst IsSome is some in absurd cc
-
     by : (1048576 < 1) ⊎ ((16777216 < 1048576) ⊎ (IsTrue new.obeys → (file : FileId) × IsSome (reads old.now file))) → ⊥
     by (inl few) = omega (arith, few)
     by (inr (inl many)) = omega (arith, many)
-    by (inr (inr there)) = none (blank.0 (there obeys).0) (there obeys).1
-not_blank old new a refused obeys (inr restarts) = quiet_restarts old new a refused.0 restarts
+    by (inr (inr there)) = some_file (blank.0 (there obeys).0) (there obeys).1
+not_blank old new first no_archive obeys (inr files) = quiet_opens old new first no_archive.0 files.1
 
 quiet_before : (old new : Life) → IsQuiet old new → ReadsAsBefore old new
 quiet_before old new quiet = record {
@@ -268,29 +364,31 @@ before_then old mid new quiet before = record {
 }
 
 pub before_with_files : {D : Type 0} (life : D → Life) (old mid : Life) (result : Result (ScriptArchive D) D) → RefusesNew old mid 1048576 BadParameter → IfErr result (λ back. ReadsAsBefore mid (life back)) → IfErr result (λ back. ReadsAsBefore old (life back))
-before_with_files life old mid (Ok archive) refused before = tt
-before_with_files life old mid (Err back) refused before = before_then old mid (life back) refused.0 before
+before_with_files life old mid (Ok archive) no_archive before = tt
+before_with_files life old mid (Err back) no_archive before = before_then old mid (life back) no_archive.0 before
 
 pub begun_with_files : {D : Type 0} (life : D → Life) (old mid : Life) (result : Result (ScriptArchive D) D) → RefusesNew old mid 1048576 BadParameter
     → IfOk result (λ archive. IsTrue (life_of life archive).obeys → IsTrue mid.obeys) → IfOk result (λ archive. mid.faults ≤ (life_of life archive).faults)
-    → IfOk result (λ archive. (a : Archive) → Restarts mid a → Works mid (life_of life archive) → IsStanding life archive (opened a))
-    → IfOk result (λ archive. (a : Archive) → Begins old a → Works old (life_of life archive) → IsStanding life archive (opened a))
-begun_with_files life old mid (Err back) refused obeyed faults begins = tt
-begun_with_files life old mid (Ok archive) refused obeyed faults begins = λ a from works. begins a (not_blank old mid a refused (obeyed works.obeys) from) (works_then old mid (life_of life archive) works refused.0.faults faults)
+    → IfOk result (λ archive. (first : Standing) → Opens mid first → Works mid (life_of life archive) → IsStanding life archive first)
+    → IfOk result (λ archive. (first : Standing) → Begins old first → Works old (life_of life archive) → IsStanding life archive first)
+begun_with_files life old mid (Err back) no_archive obeyed faults begins = tt
+begun_with_files life old mid (Ok archive) no_archive obeyed faults begins =
+    λ first from works. begins first (not_blank old mid first no_archive (obeyed works.obeys) from) (works_then old mid (life_of life archive) works no_archive.0.faults faults)
 
 pub unmade_then : {D : Type 0} (life : D → Life) (old : Life) (refusal : Refusal) (disk : D) (result : Result (ScriptArchive D) D) → result ≡ closed_by refusal disk → RefusesNew old (life disk) 1048576 refusal → refusal ≢ BadParameter
-    → IfOk result (λ archive. (a : Archive) → Begins old a → Works old (life_of life archive) → IsStanding life archive (opened a))
-unmade_then life old refusal disk result is refused other = subst (λ (r : Result (ScriptArchive _) _). IfOk r (λ archive. (a : Archive) → Begins old a → Works old (life_of life archive) → IsStanding life archive (opened a))) (sym is) (by refusal refused other)
+    → IfOk result (λ archive. (first : Standing) → Begins old first → Works old (life_of life archive) → IsStanding life archive first)
+unmade_then life old refusal disk result is no_archive other =
+    subst (λ (r : Result (ScriptArchive _) _). IfOk r (λ archive. (first : Standing) → Begins old first → Works old (life_of life archive) → IsStanding life archive first)) (sym is) (by refusal no_archive other)
   where
-    by : (r : Refusal) → RefusesNew old (life disk) 1048576 r → r ≢ BadParameter → IfOk (closed_by r disk) (λ archive. (a : Archive) → Begins old a → Works old (life_of life archive) → IsStanding life archive (opened a))
-    by DeviceFault refused other = λ a begun works. absurd (not_failed old (life disk) works refused)
-    by NoMemory refused other = tt
-    by BadParameter refused other = absurd (other refl)
-    by r refused other = absurd refused
+    by : (r : Refusal) → RefusesNew old (life disk) 1048576 r → r ≢ BadParameter → IfOk (closed_by r disk) (λ archive. (first : Standing) → Begins old first → Works old (life_of life archive) → IsStanding life archive first)
+    by DeviceFault no_archive other = λ first from works. absurd (not_failed old (life disk) works no_archive)
+    by NoMemory no_archive other = tt
+    by BadParameter no_archive other = absurd (other refl)
+    by r no_archive other = absurd no_archive
 
 pub unmade_before : {D : Type 0} (life : D → Life) (old : Life) (refusal : Refusal) (disk : D) (result : Result (ScriptArchive D) D) → result ≡ closed_by refusal disk → RefusesNew old (life disk) 1048576 refusal → IfErr result (λ back. ReadsAsBefore old (life back))
-unmade_before life old refusal disk result is refused = subst (λ (r : Result (ScriptArchive _) _). IfErr r (λ back. ReadsAsBefore old (life back))) (sym is) (by refusal refused)
+unmade_before life old refusal disk result is no_archive = subst (λ (r : Result (ScriptArchive _) _). IfErr r (λ back. ReadsAsBefore old (life back))) (sym is) (by refusal no_archive)
   where
     by : (r : Refusal) → RefusesNew old (life disk) 1048576 r → IfErr (closed_by r disk) (λ back. ReadsAsBefore old (life back))
-    by NoMemory refused = quiet_before old (life disk) refused
-    by r refused = tt
+    by NoMemory no_archive = quiet_before old (life disk) no_archive
+    by r no_archive = tt

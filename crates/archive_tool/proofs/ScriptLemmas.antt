@@ -5,13 +5,12 @@ use Rattle.std.specs.Prelude.{IfErr, MatchResult, OnOk}
 use Rattle.frame_core.specs.declared.refusal.Refusal.{Refusal}
 use Rattle.archive_model.specs.declared.reply.Reply.{Reply}
 use Rattle.disk_core.specs.Life.{Life}
-use Rattle.control_core.specs.Exact.{Archive}
 use Rattle.archive_tool.specs.declared.fault.EarlyEnd.{EarlyEnd}
 use Rattle.archive_tool.specs.declared.fault.EarlyEnd.TheVariants as ends
 use Rattle.archive_tool.specs.declared.state.ScriptState.{ScriptState}
 use Rattle.archive_tool.specs.InputLines.{ReadsLine}
 use Rattle.archive_tool.specs.Script.{Answers, EndsEarly, FailsToAnswer, IsTranscript, Replied, Works, asked, outcome_text, quits}
-use Rattle.archive_tool.specs.ScriptLines.{Answered, Scene, begun_with}
+use Rattle.archive_tool.specs.ScriptLines.{Answered, Scene, Standing, begun_with}
 use Rattle.archive_tool.specs.Tie.{IsScene, life_of}
 use Rattle.archive_tool.specs.Transcript.{Writes}
 use Rattle.archive_tool.proofs.ProgressLemmas.{Near, Progress, near-here, near-next, progress-cut, progress-early, progress-end, progress-kept, progress-last, progress-more, progress-start}
@@ -32,36 +31,36 @@ replied contents written line old new outcome result answered appended fails =
 
 -- ---- lines one after another
 
-abbrev pub Came : Archive → Option (List ℕ) → Option (List ℕ) → Option (List ℕ) → Option (List ℕ) → Scene → Type 0
+abbrev pub Came : Standing → Option (List ℕ) → Option (List ℕ) → Option (List ℕ) → Option (List ℕ) → Scene → Type 0
 Came a = Progress (begun_with a) quits Answers
 
 -- a line is answered, and the next one is read
-goes_on : (a : Archive) (before now later contents written then line : Option (List ℕ)) (state new : Scene) → Came a before now contents written state → ReadsLine now later line → Replied written then line state new (Ok tt) → quits line ≡ false
+goes_on : (a : Standing) (before now later contents written then line : Option (List ℕ)) (state new : Scene) → Came a before now contents written state → ReadsLine now later line → Replied written then line state new (Ok tt) → quits line ≡ false
     → Came a before later contents then new
 goes_on a before now later contents written then line state new so_far read replied more =
     progress-more (begun_with a) quits Answers before now later contents written then read.line replied.reply state new so_far read.next replied.told
     (subst (λ l. Answers state l replied.reply new) read.is_kept replied.answers) (ap quits (sym read.is_kept) ∙ more)
 
 -- the line that quits is answered
-at_quit : (a : Archive) (Left : Scene → Type 0) (before now later contents written then line : Option (List ℕ)) (state new : Scene) → Came a before now contents written state → ReadsLine now later line → Replied written then line state new (Ok tt)
+at_quit : (a : Standing) (Left : Scene → Type 0) (before now later contents written then line : Option (List ℕ)) (state new : Scene) → Came a before now contents written state → ReadsLine now later line → Replied written then line state new (Ok tt)
     → quits line ≡ true → Left new → Writes before contents then (IsTranscript a Left)
 at_quit a Left before now later contents written then line state new so_far read replied quit left =
     progress-last (begun_with a) quits Answers Left before now later contents written then read.line replied.reply state new so_far read.next replied.told
     (subst (λ l. Answers state l replied.reply new) read.is_kept replied.answers) (ap quits (sym read.is_kept) ∙ quit) left
 
 -- a script that ends early, wherever it is
-early : (a : Archive) (Left : Scene → Type 0) (before now contents written : Option (List ℕ)) (state : Scene) (end : EarlyEnd) → Came a before now contents written state → Near (begun_with a) quits Answers Left now state
+early : (a : Standing) (Left : Scene → Type 0) (before now contents written : Option (List ℕ)) (state : Scene) (end : EarlyEnd) → Came a before now contents written state → Near (begun_with a) quits Answers Left now state
     → EndsEarly end a Left before contents written
 early a Left before now contents written state ends.Write so_far near = progress-cut (begun_with a) quits Answers Left before now contents written state so_far near
 early a Left before now contents written state ends.Read so_far near = progress-early (begun_with a) quits Answers Left before now contents written state so_far near
 early a Left before now contents written state ends.Memory so_far near = progress-early (begun_with a) quits Answers Left before now contents written state so_far near
 
 -- before a line is answered
-early_here : (a : Archive) (Left : Scene → Type 0) (before now contents written : Option (List ℕ)) (state : Scene) (end : EarlyEnd) → Came a before now contents written state → Left state → EndsEarly end a Left before contents written
+early_here : (a : Standing) (Left : Scene → Type 0) (before now contents written : Option (List ℕ)) (state : Scene) (end : EarlyEnd) → Came a before now contents written state → Left state → EndsEarly end a Left before contents written
 early_here a Left before now contents written state end so_far left = early a Left before now contents written state end so_far (near-here (begun_with a) quits Answers Left now state left)
 
 -- behind one whose answer was not written
-early_unsaid : (a : Archive) (Left : Scene → Type 0) (before now later contents written then line : Option (List ℕ)) (state new : Scene) (end : EarlyEnd) → Came a before now contents written state → ReadsLine now later line
+early_unsaid : (a : Standing) (Left : Scene → Type 0) (before now later contents written then line : Option (List ℕ)) (state new : Scene) (end : EarlyEnd) → Came a before now contents written state → ReadsLine now later line
     → Replied written then line state new (Err end) → Left new → EndsEarly end a Left before contents then
 early_unsaid a Left before now later contents written then line state new end so_far read replied left = by end replied
   where
@@ -79,7 +78,7 @@ early_unsaid a Left before now later contents written then line state new end so
 pub record HasCome {D : Type 0} (life : D → Life) (old new : ScriptState D) (before now contents written : Option (List ℕ)) : Type 0 where
   pub obeyed : IsTrue (life_of life new.archive).obeys → IsTrue (life_of life old.archive).obeys
   pub faults : (life_of life old.archive).faults ≤ (life_of life new.archive).faults
-  pub so_far : (a : Archive) → IsScene life old (begun_with a) → Works (life_of life old.archive) (life_of life new.archive) → (s : Scene) × IsScene life new s × Came a before now contents written s
+  pub so_far : (a : Standing) → IsScene life old (begun_with a) → Works (life_of life old.archive) (life_of life new.archive) → (s : Scene) × IsScene life new s × Came a before now contents written s
 
 pub none_yet : {D : Type 0} (life : D → Life) (state : ScriptState D) (before contents : Option (List ℕ)) → HasCome life state state before before contents contents
 none_yet life state before contents = record {
@@ -102,14 +101,14 @@ pub record AnswersLine {D : Type 0} (life : D → Life) (old new : ScriptState D
   pub replied : (s : Scene) → IsScene life old s → Works (life_of life old.archive) (life_of life new.archive) → (t : Scene) × IsScene life new t × Replied contents written line s t result
 
 -- before the line, after it, and its answer
-record Next {D : Type 0} (life : D → Life) (new : ScriptState D) (a : Archive) (before now contents written then line : Option (List ℕ)) (result : Result (Unit {0}) EarlyEnd) : Type 0 where
+record Next {D : Type 0} (life : D → Life) (new : ScriptState D) (a : Standing) (before now contents written then line : Option (List ℕ)) (result : Result (Unit {0}) EarlyEnd) : Type 0 where
   pub here : Scene
   pub come : Came a before now contents written here
   pub there : Scene
   pub is : IsScene life new there
   pub replied : Replied written then line here there result
 
-next : {D : Type 0} (life : D → Life) (old mid new : ScriptState D) (a : Archive) (before now contents written then line : Option (List ℕ)) (result : Result (Unit {0}) EarlyEnd) → HasCome life old mid before now contents written
+next : {D : Type 0} (life : D → Life) (old mid new : ScriptState D) (a : Standing) (before now contents written then line : Option (List ℕ)) (result : Result (Unit {0}) EarlyEnd) → HasCome life old mid before now contents written
     → AnswersLine life mid new written then line result → IsScene life old (begun_with a) → Works (life_of life old.archive) (life_of life new.archive) → Next life new a before now contents written then line result
 next life old mid new a before now contents written then line result come line_of begun works =
     let first = works_first (life_of life old.archive) (life_of life mid.archive) (life_of life new.archive) works line_of.obeyed come.faults line_of.faults in
@@ -129,27 +128,27 @@ one_more life old mid new before now later contents written then line come read 
 }
 
 pub whole_at_end : {D : Type 0} (life : D → Life) (old new : ScriptState D) (before now contents written : Option (List ℕ)) → HasCome life old new before now contents written → IsAtEnd now
-    → (a : Archive) → IsScene life old (begun_with a) → Works (life_of life old.archive) (life_of life new.archive) → Writes before contents written (IsTranscript a (IsScene life new))
+    → (a : Standing) → IsScene life old (begun_with a) → Works (life_of life old.archive) (life_of life new.archive) → Writes before contents written (IsTranscript a (IsScene life new))
 whole_at_end life old new before now contents written come end a begun works =
     let here = come.so_far a begun works in
     progress-end (begun_with a) quits Answers (IsScene life new) before now contents written here.0 here.2 end here.1
 
 pub whole_at_quit : {D : Type 0} (life : D → Life) (old mid new : ScriptState D) (before now later contents written then line : Option (List ℕ)) → HasCome life old mid before now contents written → ReadsLine now later line
     → AnswersLine life mid new written then line (Ok tt) → quits line ≡ true
-    → (a : Archive) → IsScene life old (begun_with a) → Works (life_of life old.archive) (life_of life new.archive) → Writes before contents then (IsTranscript a (IsScene life new))
+    → (a : Standing) → IsScene life old (begun_with a) → Works (life_of life old.archive) (life_of life new.archive) → Writes before contents then (IsTranscript a (IsScene life new))
 whole_at_quit life old mid new before now later contents written then line come read line_of quit a begun works =
     let n = next life old mid new a before now contents written then line (Ok tt) come line_of begun works in
     at_quit a (IsScene life new) before now later contents written then line n.here n.there n.come read n.replied quit n.is
 
 pub early_at_line : {D : Type 0} (life : D → Life) (old new : ScriptState D) (before now contents written : Option (List ℕ)) (end : EarlyEnd) → HasCome life old new before now contents written
-    → (a : Archive) → IsScene life old (begun_with a) → Works (life_of life old.archive) (life_of life new.archive) → EndsEarly end a (IsScene life new) before contents written
+    → (a : Standing) → IsScene life old (begun_with a) → Works (life_of life old.archive) (life_of life new.archive) → EndsEarly end a (IsScene life new) before contents written
 early_at_line life old new before now contents written end come a begun works =
     let here = come.so_far a begun works in
     early_here a (IsScene life new) before now contents written here.0 end here.2 here.1
 
 pub early_behind_line : {D : Type 0} (life : D → Life) (old mid new : ScriptState D) (before now later contents written then line : Option (List ℕ)) (end : EarlyEnd) → HasCome life old mid before now contents written → ReadsLine now later line
     → AnswersLine life mid new written then line (Err end)
-    → (a : Archive) → IsScene life old (begun_with a) → Works (life_of life old.archive) (life_of life new.archive) → EndsEarly end a (IsScene life new) before contents then
+    → (a : Standing) → IsScene life old (begun_with a) → Works (life_of life old.archive) (life_of life new.archive) → EndsEarly end a (IsScene life new) before contents then
 early_behind_line life old mid new before now later contents written then line end come read line_of a begun works =
     let n = next life old mid new a before now contents written then line (Err end) come line_of begun works in
     early_unsaid a (IsScene life new) before now later contents written then line n.here n.there end n.come read n.replied n.is

@@ -1,8 +1,8 @@
 -- A script's output is the transcript of its lines. docs/CONTROL.md, "Scripts".
-use Rattle.std.specs.Prelude.{◌≡◌, ◌⊎◌, ◌<◌, ◌-◌, ◌^◌, ℕ, Bool, true, false, IsTrue, List, Option, Some, None, Result, Ok, Err, IfSome, MatchResult, bytes_eq, codes}
+use Rattle.std.specs.Prelude.{◌≡◌, ◌⊎◌, ◌<◌, ◌-◌, ◌^◌, ℕ, Bool, true, false, IsTrue, List, Option, Some, None, Result, Ok, Err, IfSome, IsSome, MatchResult, bytes_eq, codes}
 use Rattle.std.specs.Io.KnownBytes.{Appends, Keeps}
 use Rattle.frame_core.specs.declared.refusal.Refusal.{Refusal}
-use Rattle.frame_core.specs.declared.refusal.Refusal.TheVariants.{BadLine}
+use Rattle.frame_core.specs.declared.refusal.Refusal.TheVariants.{BadLine, DeviceFault, NoMemory}
 use Rattle.disk_core.specs.declared.file_id.FileId.{FileId}
 use Rattle.disk_core.specs.DiskImage.{DiskImage, MayLeave, reads}
 use Rattle.disk_core.specs.Life.{Life}
@@ -10,6 +10,7 @@ use Rattle.archive_model.specs.declared.command.Command.TheVariants.{Restart}
 use Rattle.archive_model.specs.declared.reply.Reply.{Reply}
 use Rattle.archive_model.specs.Commands.{after}
 use Rattle.archive_model.specs.State.{State}
+use Rattle.catalogue_log.specs.Catalogue.{RefusesCatalogue}
 use Rattle.control_core.specs.declared.line.Line.{Line}
 use Rattle.control_core.specs.Exact.{Archive}
 use Rattle.control_core.specs.Lines.{line_of}
@@ -24,7 +25,7 @@ use Rattle.archive_tool.specs.declared.fault.EarlyEnd.TheVariants as ends
 use Rattle.archive_tool.specs.declared.fault.ScriptFault.{ScriptFault}
 use Rattle.archive_tool.specs.declared.fault.ScriptFault.TheVariants as faults
 use Rattle.archive_tool.specs.InputLines.{lines_of}
-use Rattle.archive_tool.specs.ScriptLines.{Answered, Scene, archive_of, begun_with}
+use Rattle.archive_tool.specs.ScriptLines.{Answered, Scene, Standing, begun_with, closed, opened, refused}
 use Rattle.archive_tool.specs.Transcript.{AnswersAll, AnswersSome, Writes}
 
 -- ---- answers
@@ -69,29 +70,56 @@ pub record Restarts (life : Life) (a : Archive) : Type 0 where
   pub recovers : Recovers (reads life.now) state
   pub fresh : IsFresh (reads life.now) (after state Restart) a
 
--- what a script begins with: a new archive where no file is there, else the restart of what the disk recovers to
-abbrev pub Begins : Life → Archive → Type 0
-Begins life a = (IsBlank life × (a ≡ new_archive 1048576)) ⊎ Restarts life a
+-- a file is there
+abbrev pub HasFile : Life → Type 0
+HasFile life = (file : FileId) × IsSome (reads life.now file)
 
--- every image that a crash now may leave recovers to the state of the scene's archive
+-- why the disk's catalogue is refused; a fault and want of memory say nothing of it
+abbrev pub IsRefusedBy : Life → Refusal → Type 0
+IsRefusedBy life DeviceFault = ⊥
+IsRefusedBy life NoMemory = ⊥
+IsRefusedBy life refusal = RefusesCatalogue (reads life.now) refusal
+
+-- what is opened of a disk: the restart of what it recovers to, or why there is no archive
+abbrev pub Opens : Life → Standing → Type 0
+Opens life (opened a) = Restarts life a
+Opens life (closed a) = ⊥
+Opens life (refused why) = IsRefusedBy life why
+
+-- what a script begins with: a new archive where no file is there, else what is opened
+abbrev pub Begins : Life → Standing → Type 0
+Begins life first = (IsBlank life × (first ≡ opened (new_archive 1048576))) ⊎ (HasFile life × Opens life first)
+
+-- a script begins with the restart of an archive
+pub record GoesOnFrom (a : Archive) (life : Life) : Type 0 where
+  pub archive : Archive
+  pub begins : Begins life (opened archive)
+  pub restarted : archive.state ≡ after a.state Restart
+
+-- every image that a crash now may leave recovers to the state of the archive; or there is none
+abbrev pub LeavesStanding : Life → Standing → Type 0
+LeavesStanding life (opened a) = (image : DiskImage) → MayLeave life.now image → Recovers image a.state
+LeavesStanding life (closed a) = (image : DiskImage) → MayLeave life.now image → Recovers image a.state
+LeavesStanding life (refused why) = IsRefusedBy life why
+
 abbrev pub LeavesScene : Life → Scene → Type 0
-LeavesScene life s = (image : DiskImage) → MayLeave life.now image → Recovers image (archive_of s.archive).state
+LeavesScene life s = LeavesStanding life s.archive
 
 -- ---- scripts
 
--- the text answers all lines up to the one that quits, from this archive on
-abbrev pub IsTranscript : Archive → (Scene → Type 0) → List (List ℕ) → List ℕ → Type 0
-IsTranscript a Left = AnswersAll (begun_with a) Left quits Answers
+-- the text answers all lines up to the one that quits, from this beginning on
+abbrev pub IsTranscript : Standing → (Scene → Type 0) → List (List ℕ) → List ℕ → Type 0
+IsTranscript first Left = AnswersAll (begun_with first) Left quits Answers
 
 -- the same of the first of these lines
-abbrev pub IsTranscriptOfFirst : Archive → (Scene → Type 0) → List (List ℕ) → List ℕ → Type 0
-IsTranscriptOfFirst a Left = AnswersSome (begun_with a) Left quits Answers
+abbrev pub IsTranscriptOfFirst : Standing → (Scene → Type 0) → List (List ℕ) → List ℕ → Type 0
+IsTranscriptOfFirst first Left = AnswersSome (begun_with first) Left quits Answers
 
 -- what a script that ended early has written, and left; of one that could not write, what it left
-abbrev pub EndsEarly : EarlyEnd → Archive → (Scene → Type 0) → Option (List ℕ) → Option (List ℕ) → Option (List ℕ) → Type 0
-EndsEarly ends.Write a Left input contents written = IfSome input (λ bytes. (text : List ℕ) × IsTranscriptOfFirst a Left (lines_of bytes) text)
-EndsEarly ends.Read a Left input contents written = Writes input contents written (IsTranscriptOfFirst a Left)
-EndsEarly ends.Memory a Left input contents written = Writes input contents written (IsTranscriptOfFirst a Left)
+abbrev pub EndsEarly : EarlyEnd → Standing → (Scene → Type 0) → Option (List ℕ) → Option (List ℕ) → Option (List ℕ) → Type 0
+EndsEarly ends.Write first Left input contents written = IfSome input (λ bytes. (text : List ℕ) × IsTranscriptOfFirst first Left (lines_of bytes) text)
+EndsEarly ends.Read first Left input contents written = Writes input contents written (IsTranscriptOfFirst first Left)
+EndsEarly ends.Memory first Left input contents written = Writes input contents written (IsTranscriptOfFirst first Left)
 
 -- the archive was not opened, for want of memory: nothing is written, and the disk reads and leaves what it did before
 pub record IsUnopened (old new : Life) (contents written : Option (List ℕ)) (end : EarlyEnd) : Type 0 where

@@ -22,20 +22,19 @@ OrWant old Made outcome new = Made outcome new ⊎ ((outcome ≡ Err NoMemory) �
 
 -- ---- the archive of a script
 
--- an archive that is open, or one that could not be opened again, as it was last
+-- an archive that is open, one that could not be opened again, as it was last, or none: why the disk's catalogue is refused
 pub data Standing : Type 0 where
   opened : Archive → Standing
   closed : Archive → Standing
-
-abbrev pub archive_of : Standing → Archive
-archive_of (opened a) = a
-archive_of (closed a) = a
+  refused : Refusal → Standing
 
 -- a call of the archive where it is open; else it is Broken
 abbrev pub WhereOpen : (Archive → ArchiveEnd) → Standing → Ends Standing
 WhereOpen Made (opened a) outcome (opened b) = Made a outcome b
 WhereOpen Made (opened a) outcome (closed b) = ⊥
+WhereOpen Made (opened a) outcome (refused why) = ⊥
 WhereOpen Made (closed a) outcome new = (outcome ≡ Err Broken) × (new ≡ closed a)
+WhereOpen Made (refused why) outcome new = (outcome ≡ Err Broken) × (new ≡ refused why)
 
 -- a call, where no device fails
 abbrev pub Calls : Event → Archive → ArchiveEnd
@@ -59,10 +58,16 @@ abbrev pub reopened : Archive → Archive
 reopened a = opened_archive (after a.state Restart) a.desk.counted a.desk.limit
 
 -- it is closed and opened again; where there is no memory for that it stays closed
+abbrev pub ReopensAs : Archive → Ends Standing
+ReopensAs a (Ok reply) new = (reply ≡ Reopened (pos (active_count a.state))) × (new ≡ opened (reopened a))
+ReopensAs a (Err NoMemory) new = new ≡ closed a
+ReopensAs a (Err refusal) new = ⊥
+
+-- what reopening does; where there is no archive it is refused again
 abbrev pub Reopens : Standing → Ends Standing
-Reopens old (Ok reply) new = (reply ≡ Reopened (pos (active_count (archive_of old).state))) × (new ≡ opened (reopened (archive_of old)))
-Reopens old (Err NoMemory) new = new ≡ closed (archive_of old)
-Reopens old (Err refusal) new = ⊥
+Reopens (opened a) outcome new = ReopensAs a outcome new
+Reopens (closed a) outcome new = ReopensAs a outcome new
+Reopens (refused why) outcome new = ((outcome ≡ Err why) ⊎ (outcome ≡ Err NoMemory)) × (new ≡ refused why)
 
 -- ---- lines
 
@@ -71,9 +76,9 @@ pub record Scene : Type 0 where
   pub archive : Standing
   pub merge : Option Merging
 
--- a script begins with an open archive and no merge
-abbrev pub begun_with : Archive → Scene
-begun_with a = record { archive = opened a; merge = None }
+-- a script begins without a merge
+abbrev pub begun_with : Standing → Scene
+begun_with first = record { archive = first; merge = None }
 
 -- the line is the archive's, and the merge stays
 abbrev pub OfArchive : Scene → Ends Standing → Ends Scene

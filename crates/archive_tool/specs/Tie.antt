@@ -16,7 +16,8 @@ use Rattle.engine_core.specs.Recovery.{Recovers}
 use Rattle.archive_tool.specs.declared.archive.ScriptArchive.{ScriptArchive}
 use Rattle.archive_tool.specs.declared.archive.ScriptArchive.TheVariants.{Open, Closed}
 use Rattle.archive_tool.specs.declared.state.ScriptState.{ScriptState}
-use Rattle.archive_tool.specs.ScriptLines.{Scene, Standing, opened, closed}
+use Rattle.archive_tool.specs.Script.{IsRefusedBy}
+use Rattle.archive_tool.specs.ScriptLines.{Scene, Standing, closed, opened, refused}
 
 -- the disk leaves an archive's state, and its catalogue has the archive's history
 pub record IsKept (life : Life) (a : Archive) : Type 0 where
@@ -33,12 +34,15 @@ module _ {D : Type 0} (life : D → Life) where
   life_of (Open engine) = life engine.parts.storage.disk
   life_of (Closed disk) = life disk
 
-  -- an open archive is crash-consistent, and none of its writes has failed; a closed one is kept by its disk
+  -- an open archive is crash-consistent, and none of its writes has failed; a closed one is kept by its disk; where there is none,
+  -- the disk's catalogue is refused
   abbrev pub IsStanding : ScriptArchive D → Standing → Type 0
   IsStanding (Open engine) (opened a) = IsConsistent (life engine.parts.storage.disk) engine.parts.storage.log engine.parts.desk.state a × (a.doubt ≡ None)
   IsStanding (Open engine) (closed a) = ⊥
+  IsStanding (Open engine) (refused why) = ⊥
   IsStanding (Closed disk) (opened a) = ⊥
   IsStanding (Closed disk) (closed a) = IsKept (life disk) a
+  IsStanding (Closed disk) (refused why) = IsRefusedBy (life disk) why
 
   abbrev pub IsScene : ScriptState D → Scene → Type 0
   IsScene state s = IsStanding state.archive s.archive × (state.merge ≡ s.merge)
@@ -58,3 +62,4 @@ abbrev pub ReadsBlock : Standing → ℤ → List ℕ → Result Block Refusal �
 ReadsBlock s session bytes (Err NoMemory) = Unit {0}
 ReadsBlock (opened a) session bytes read = IsReadBy (terms_in a.desk session) bytes read
 ReadsBlock (closed a) session bytes read = read ≡ Err Broken
+ReadsBlock (refused why) session bytes read = read ≡ Err Broken

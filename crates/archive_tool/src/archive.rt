@@ -2,10 +2,9 @@
 
 ghost use Rattle.std.specs.Prelude.{◌≡◌, ◌≤◌, IfErr, IfOk, IsTrue};
 ghost use Rattle.archive_model.specs.declared.reply.Reply.TheVariants.{Reopened};
-ghost use Rattle.control_core.specs.Exact.{Archive};
 ghost use Rattle.engine_core.specs.Opening.{ReadsAsBefore};
-ghost use Rattle.archive_tool.specs.Script.{Begins, Restarts, Works};
-ghost use Rattle.archive_tool.specs.ScriptLines.{Calls, OrWant, Records, Reopens, Standing, WhereOpen, Writes, opened};
+ghost use Rattle.archive_tool.specs.Script.{Begins, Opens, Works};
+ghost use Rattle.archive_tool.specs.ScriptLines.{Calls, OrWant, Records, Reopens, Standing, WhereOpen, Writes};
 ghost use Rattle.archive_tool.specs.Tie.{IsStanding, ReadsBlock, closed_by, life_of};
 
 use archive_model::Reply;
@@ -32,8 +31,8 @@ impl<D: Disk> ScriptArchive<D> {
     /// is opened. Where it is refused none is open. Want of memory hands the disk back, and has changed nothing that is
     /// read. Costs what `Engine::create` or `Engine::open` costs.
     pub fn of_disk(alloc: Global, disk: D) -> Result<ScriptArchive<D>, D>
-        ensures begun { IfOk result (λ archive. (a : Archive) → Begins (D.life disk) a →
-            Works (D.life disk) (life_of D.life archive) → IsStanding D.life archive (opened a)) }
+        ensures begun { IfOk result (λ archive. (first : Standing) → Begins (D.life disk) first →
+            Works (D.life disk) (life_of D.life archive) → IsStanding D.life archive first) }
         ensures faults { IfOk result (λ archive. (D.life disk).faults ≤ (life_of D.life archive).faults) }
         ensures unopened { IfErr result (λ back. ReadsAsBefore (D.life disk) (D.life back)) }
     {
@@ -131,8 +130,8 @@ impl<D: Disk> ScriptArchive<D> {
 
 /// The archive of a disk with files, opened; none where that is refused. The disk again for want of memory.
 fn opened<D: Disk>(alloc: Global, disk: D) -> Result<ScriptArchive<D>, D>
-    ensures begun { IfOk result (λ archive. (a : Archive) → Restarts (D.life disk) a →
-        Works (D.life disk) (life_of D.life archive) → IsStanding D.life archive (opened a)) }
+    ensures begun { IfOk result (λ archive. (first : Standing) → Opens (D.life disk) first →
+        Works (D.life disk) (life_of D.life archive) → IsStanding D.life archive first) }
     ensures obeyed { IfOk result (λ archive. IsTrue (life_of D.life archive).obeys → IsTrue (D.life disk).obeys) }
     ensures faults { IfOk result (λ archive. (D.life disk).faults ≤ (life_of D.life archive).faults) }
     ensures unopened { IfErr result (λ back. ReadsAsBefore (D.life disk) (D.life back)) }

@@ -8,6 +8,7 @@ ghost use Rattle.archive_tool.specs.CommandLine.{IsStatus, IsTold, status_of};
 mod archive;
 mod command;
 mod fault;
+mod laws;
 mod lines;
 mod merging;
 mod script;

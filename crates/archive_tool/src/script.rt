@@ -3,11 +3,10 @@
 ghost use Rattle.std.specs.Prelude.{◌≡◌, ◌⊎◌, ◌≤◌, ◌↔◌, Contains, IfErr, IfOk, IsTrue, OnOk, bytes_eq, codes};
 ghost use Rattle.std.specs.Io.KnownBytes.{Appends, Keeps};
 ghost use Rattle.std.specs.Io.Buffered.{reader_remaining};
-ghost use Rattle.control_core.specs.Exact.{Archive};
 ghost use Rattle.control_core.specs.ReplyText.{reply_text};
 ghost use Rattle.control_core.specs.RefusalText.{refusal_text};
 ghost use Rattle.archive_tool.specs.Transcript.{Writes};
-ghost use Rattle.archive_tool.specs.ScriptLines.{Answered, Scene, begun_with};
+ghost use Rattle.archive_tool.specs.ScriptLines.{Answered, Scene, Standing, begun_with};
 ghost use Rattle.archive_tool.specs.Script.{Begins, EndsEarly, FailsToAnswer, IsTranscript, IsUnopened, LeavesScene, Replied, Works, asked, disk_of, end_of, ended_by, outcome_text, quits};
 ghost use Rattle.archive_tool.specs.Tie.{GoesOn, IsScene, life_of};
 
@@ -148,13 +147,13 @@ fn run_lines<R: Read + Drop, W: Write, D: Disk>(
     writer: &mut W,
 ) -> (ScriptState<D>, Result<(), EarlyEnd>)
     ensures goes_on { GoesOn (life_of D.life state.archive) (life_of D.life result.0.archive) }
-    ensures whole { OnOk result.1 ((a : Archive) → IsScene D.life state (begun_with a) →
+    ensures whole { OnOk result.1 ((first : Standing) → IsScene D.life state (begun_with first) →
         Works (life_of D.life state.archive) (life_of D.life result.0.archive) →
         Writes (reader_remaining R.remaining reader.old) (W.contents writer.old) (W.contents writer.new)
-        (IsTranscript a (IsScene D.life result.0))) }
-    ensures early { IfErr result.1 (λ end. (a : Archive) → IsScene D.life state (begun_with a) →
+        (IsTranscript first (IsScene D.life result.0))) }
+    ensures early { IfErr result.1 (λ end. (first : Standing) → IsScene D.life state (begun_with first) →
         Works (life_of D.life state.archive) (life_of D.life result.0.archive) →
-        EndsEarly end a (IsScene D.life result.0) (reader_remaining R.remaining reader.old)
+        EndsEarly end first (IsScene D.life result.0) (reader_remaining R.remaining reader.old)
         (W.contents writer.old) (W.contents writer.new)) }
 {
     let mut state = state;
@@ -195,11 +194,11 @@ pub fn run_script<R: Read + Drop, W: Write, D: Disk>(
     writer: &mut W,
     disk: D,
 ) -> Result<D, ScriptFault<D>>
-    ensures whole { IfOk result (λ back. (a : Archive) → Begins (D.life disk) a → Works (D.life disk) (D.life back) →
+    ensures whole { IfOk result (λ back. (first : Standing) → Begins (D.life disk) first → Works (D.life disk) (D.life back) →
         Writes (R.remaining reader) (W.contents writer.old) (W.contents writer.new)
-        (IsTranscript a (LeavesScene (D.life back)))) }
-    ensures early { IfErr result (λ fault. (a : Archive) → Begins (D.life disk) a → Works (D.life disk) (D.life (disk_of fault)) →
-        EndsEarly (end_of fault) a (LeavesScene (D.life (disk_of fault))) (R.remaining reader)
+        (IsTranscript first (LeavesScene (D.life back)))) }
+    ensures early { IfErr result (λ fault. (first : Standing) → Begins (D.life disk) first → Works (D.life disk) (D.life (disk_of fault)) →
+        EndsEarly (end_of fault) first (LeavesScene (D.life (disk_of fault))) (R.remaining reader)
         (W.contents writer.old) (W.contents writer.new)
         ⊎ IsUnopened (D.life disk) (D.life (disk_of fault)) (W.contents writer.old) (W.contents writer.new) (end_of fault)) }
 {
