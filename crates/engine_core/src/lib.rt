@@ -1,17 +1,22 @@
 //! The archive on one thread, with its crash promise.
 #![tactic(auto)]
 
-mod checking;
+mod ask;
 mod engine;
 pub mod laws;
 mod opening;
 mod order;
 mod parts;
 mod reading;
-mod replaying;
+mod replay_close;
+mod replay_open;
+mod replay_poll;
+mod settle;
 mod stepping;
 mod storage;
-mod writing;
+mod sweep;
+mod verify;
+mod write;
 
 pub use engine::{Engine, OpenRefusal};
 pub use storage::Storage;

@@ -3,7 +3,7 @@ use Rattle.std.proofs.Common.{to_z, of_z, w64}
 use Rattle.frame_core.specs.declared.refusal.Refusal.TheVariants.{BadPosition}
 use Rattle.engine_core.proofs.InsideLemmas.{laid_found}
 use Rattle.engine_core.proofs.ReplayOpenLemmas.{asked_alone, asked_read, leads_inside, leads_to, opens_inside, read_known}
-use Rattle.engine_core.proofs.replaying.decided_opening.Goals as goal
+use Rattle.engine_core.proofs.replay_open.decided_opening.Goals as goal
 
 pub returns-in-Decided-clause-decided : goal.returns-in-Decided-clause-decided
 returns-in-Decided-clause-decided g c log a was obeys = inl (sym (asked_alone a c.args.desk.now.state c.args.recording.now c.args.position.now c.args.length.now c.in-Decided.decided was.desk_is c.in-Decided.ensures))

@@ -1,12 +1,12 @@
-//! Calls of replays. docs/CONTROL.md, "Replays".
+//! A replay is opened. docs/CONTROL.md, "Replays".
 
-ghost use Rattle.std.specs.Prelude.{◌≡◌, ◌≤◌, IfOk, IsErrOf, IsTrue, None, Some, if◌then◌else◌};
+ghost use Rattle.std.specs.Prelude.{◌≡◌, ◌≤◌, IfOk, IsErrOf, IsTrue, Some};
 ghost use Rattle.frame_core.specs.declared.refusal.Refusal.TheVariants.{DeviceFault};
 ghost use Rattle.disk_core.specs.Life.{HasFailed, IsQuiet};
 ghost use Rattle.catalogue_log.specs.LogState.{LogState};
 ghost use Rattle.control_core.specs.declared.event.Event.TheVariants as events;
 ghost use Rattle.control_core.specs.Exact.{Archive, asked_opening};
-ghost use Rattle.control_core.specs.Turns.{is_done_at, open_decision, opening_in};
+ghost use Rattle.control_core.specs.Turns.{open_decision, opening_in};
 ghost use Rattle.engine_core.specs.Calls.{Ended, EndsAs};
 ghost use Rattle.engine_core.specs.Consistent.{IsConsistent};
 ghost use Rattle.engine_core.specs.Orderly.{IsOrderly};
@@ -14,11 +14,10 @@ ghost use Rattle.engine_core.specs.Replaying.{IsDecided};
 
 use crate::parts::Parts;
 use crate::reading;
-use archive_model::{Registration, Reply};
-use control_core::{Desk, Opening, OpeningDecision, decide_close, decide_open, decide_poll};
+use archive_model::Reply;
+use control_core::{Desk, Opening, OpeningDecision, decide_open};
 use disk_core::Disk;
 use frame_core::Refusal;
-use std::alloc::Global;
 
 impl<D: Disk> Parts<D> {
     /// Opens a replay of a recording, from a position of its stream on and over so many bytes: position -1 means the start,
@@ -58,55 +57,6 @@ impl<D: Disk> Parts<D> {
         self.desk.open_replay(&opening);
         Ok(Reply::ReplayOpened { replay })
     }
-
-    /// Closes a replay: `UnknownReplay` where none of the number is open. The disk is not asked; does not allocate. Costs
-    /// the open replays.
-    pub fn close(&mut self, replay: &i64) -> Result<Reply, Refusal>
-        requires orderly { IsOrderly self.old.desk.state }
-        ensures orderly { IsOrderly self.new.desk.state }
-        ensures obeyed { IsTrue (D.life self.new.storage.disk).obeys → IsTrue (D.life self.old.storage.disk).obeys }
-        ensures faults { (D.life self.old.storage.disk).faults ≤ (D.life self.new.storage.disk).faults }
-        ensures cause { IsErrOf result DeviceFault →
-            HasFailed (D.life self.old.storage.disk) (D.life self.new.storage.disk) }
-        ensures closed { (a : Archive) →
-            IsConsistent (D.life self.old.storage.disk) self.old.storage.log self.old.desk.state a →
-            Ended (D.life self.old.storage.disk) (D.life self.new.storage.disk) self.new.storage.log self.new.desk.state a
-            (EndsAs (D.life self.old.storage.disk) (D.life self.new.storage.disk) (events.ReplayClose replay.now) a result) }
-    {
-        let reply = decide_close(&self.desk, replay)?;
-        self.desk.close_replay(replay);
-        Ok(reply)
-    }
-
-    /// Takes the next frames of a replay, at most so many, and where it goes on, or that it is done: at its bound, or at the
-    /// end of a recording that isn't active. What is written and not settled is not given.
-    ///
-    /// `BadParameter` where `most` is not from 1 to 4,096; `UnknownReplay`; `Damaged` where the frames break off;
-    /// `DeviceFault`; `NoMemory`. Each leaves the replay where it was. Costs what the frames that are given cost.
-    pub fn poll(&mut self, alloc: Global, replay: &i64, most: &i64) -> Result<Reply, Refusal>
-        requires orderly { IsOrderly self.old.desk.state }
-        ensures orderly { IsOrderly self.new.desk.state }
-        ensures obeyed { IsTrue (D.life self.new.storage.disk).obeys → IsTrue (D.life self.old.storage.disk).obeys }
-        ensures faults { (D.life self.old.storage.disk).faults ≤ (D.life self.new.storage.disk).faults }
-        ensures cause { IsErrOf result DeviceFault →
-            HasFailed (D.life self.old.storage.disk) (D.life self.new.storage.disk) }
-        ensures polled { (a : Archive) →
-            IsConsistent (D.life self.old.storage.disk) self.old.storage.log self.old.desk.state a →
-            Ended (D.life self.old.storage.disk) (D.life self.new.storage.disk) self.new.storage.log self.new.desk.state a
-            (EndsAs (D.life self.old.storage.disk) (D.life self.new.storage.disk) (events.ReplayPoll replay.now most.now) a result) }
-    {
-        let found = decide_poll(&self.desk, replay, most)?;
-        let Some(known) = self.desk.recording(&found.recording) else {
-            return Err(Refusal::UnknownRecording);
-        };
-        let given = reading::poll(alloc, &mut self.storage.disk, known, &found, *most)?;
-        let next = goes_on(known, &found.bound, given.next);
-        self.desk.move_replay(replay, &given.next);
-        Ok(Reply::Polled {
-            frames: given.frames,
-            next,
-        })
-    }
 }
 
 /// The replay that is to be opened, by what the desk decides and, where its position lies strictly inside the recording, by
@@ -142,15 +92,4 @@ fn decided_opening<D: Disk>(
             decided
         }
     }
-}
-
-/// Where a replay goes on that has come to a position, or none where it is done.
-fn goes_on(known: &Registration, bound: &i64, next: i64) -> Option<i64>
-    ensures { result ≡ (if is_done_at known.now bound.now next then None else Some next) }
-{
-    let at_end = !known.is_active() && next == known.recorded;
-    if *bound <= next || at_end {
-        return None;
-    }
-    Some(next)
 }

@@ -1,0 +1,88 @@
+//! A recorder session writes a block. docs/CONTROL.md, "Recorder sessions"; docs/STORAGE.md, "Segments".
+
+ghost use Rattle.std.specs.Prelude.{◌≤◌, IsErrOf, IsTrue, MatchOption, Ok};
+ghost use Rattle.frame_core.specs.declared.refusal.Refusal.TheVariants.{DeviceFault};
+ghost use Rattle.disk_core.specs.Life.{HasFailed};
+ghost use Rattle.control_core.specs.declared.event.Event.TheVariants as events;
+ghost use Rattle.control_core.specs.Exact.{Archive};
+ghost use Rattle.engine_core.specs.Calls.{Ended, EndsAs};
+ghost use Rattle.engine_core.specs.Consistent.{IsConsistent};
+ghost use Rattle.engine_core.specs.Orderly.{IsOrderly};
+ghost use Rattle.engine_core.specs.Writing.{HasNoTarget, IsTarget};
+
+use crate::parts::{Parts, failed};
+use crate::reading::layout_of;
+use archive_model::Reply;
+use control_core::{Desk, Written, decide_write};
+use disk_core::Disk;
+use frame_core::{Block, Refusal, block_end};
+use segment_store::Layout;
+
+// Where a session's block is written, and where it ends, in bytes of the stream.
+#[derive(Drop)]
+struct Target {
+    layout: Layout,
+    end: i64,
+}
+
+impl<D: Disk> Parts<D> {
+    /// Writes a recorder session's block behind what is recorded, by one call of the disk, and answers where it ends, in
+    /// bytes of the stream. It is durable once it is settled.
+    ///
+    /// The refusals of docs/CONTROL.md, "Refusals"; `DeviceFault` where the disk fails, with the archive broken. Does not
+    /// allocate. Costs the block's bytes and a lookup at each session and recording.
+    pub fn write(&mut self, session: &i64, block: &Block) -> Result<Reply, Refusal>
+        requires orderly { IsOrderly self.old.desk.state }
+        ensures orderly { IsOrderly self.new.desk.state }
+        ensures obeyed { IsTrue (D.life self.new.storage.disk).obeys → IsTrue (D.life self.old.storage.disk).obeys }
+        ensures faults { (D.life self.old.storage.disk).faults ≤ (D.life self.new.storage.disk).faults }
+        ensures cause { IsErrOf result DeviceFault →
+            HasFailed (D.life self.old.storage.disk) (D.life self.new.storage.disk) }
+        ensures written { (a : Archive) →
+            IsConsistent (D.life self.old.storage.disk) self.old.storage.log self.old.desk.state a →
+            Ended (D.life self.old.storage.disk) (D.life self.new.storage.disk) self.new.storage.log self.new.desk.state a
+            (EndsAs (D.life self.old.storage.disk) (D.life self.new.storage.disk) (events.Write session.now block.now) a
+            result) }
+    {
+        let Some(target) = target_of(&self.desk, session, block) else {
+            let nothing = Written {
+                first: block.position,
+                last: block.position,
+            };
+            return decide_write(&self.desk, session, &nothing, false);
+        };
+        let span = Written {
+            first: block.position,
+            last: target.end,
+        };
+        let reply = decide_write(&self.desk, session, &span, true)?;
+        match self.storage.write(&target.layout, block) {
+            Ok(()) => {
+                self.desk.note_written(session, &span);
+                Ok(reply)
+            }
+            Err(refusal) => Err(failed(&mut self.desk, refusal)),
+        }
+    }
+}
+
+/// None where the number is no session's, or the block isn't one of the terms, session and stream of its recording.
+fn target_of(desk: &Desk, session: &i64, block: &Block) -> Option<Target>
+    ensures { MatchOption result (HasNoTarget desk.now.state session.now block.now)
+        (λ target. IsTarget desk.now.state session.now block.now target.layout target.end) }
+{
+    let Some(found) = desk.session(session) else {
+        return None;
+    };
+    let Some(known) = desk.recording(&found.recording) else {
+        return None;
+    };
+    let descriptor = &known.descriptor;
+    let Some(end) = block_end(&descriptor.geometry(), &descriptor.publication(), block) else {
+        return None;
+    };
+    Some(Target {
+        layout: layout_of(descriptor),
+        end,
+    })
+}
