@@ -38,6 +38,10 @@ message_fits f encodable is = ((by_kind f.kind f encodable.length refl).1 is).0
 pub length_message : (f : Frame) → IsEncodable f → f.kind ≡ Message → length (stored f) ≡ aligned_length f
 length_message f encodable is = ((by_kind f.kind f encodable.length refl).1 is).1
 
+-- a pad is stored as its header
+pub length_pad : (f : Frame) → f.kind ≡ Pad → length (stored f) ≡ 32
+length_pad f is = ap (λ (kind : FrameKind). length (stored_as kind f)) is ∙ length-header_of f
+
 -- a data frame covers a header at least
 pub message_some : (f : Frame) → IsEncodable f → f.kind ≡ Message → 32 ≤ aligned_length f
 message_some f encodable is = omega (arith, message_fits f encodable is, length-encoded f)
