@@ -63,7 +63,7 @@ impl Desk {
             },
             Command::PurgeRecording { .. } => Reply::PurgedRecording,
             Command::Restart => Reply::Reopened {
-                recordings: self.register.active_count() as i64,
+                recordings: self.active_count() as i64,
             },
         }
     }

@@ -1,8 +1,8 @@
 //! All that an archive knows but its frames. docs/CONTROL.md, "Control state".
 
-ghost use Rattle.std.specs.Prelude.{◌≡◌, length, option_copied, IfSome, ◌&&◌};
+ghost use Rattle.std.specs.Prelude.{◌≡◌, ◌<◌, ◌^◌, length, option_copied, IfSome, ◌&&◌};
 ghost use Rattle.std.specs.List.{list_any};
-ghost use Rattle.archive_model.specs.Register.{HasLayout, may_begin, may_record, registration_in, no_recordings};
+ghost use Rattle.archive_model.specs.Register.{HasLayout, active_count, may_begin, may_record, registration_in, no_recordings};
 ghost use Rattle.control_core.specs.Callers.{no_callers};
 ghost use Rattle.control_core.specs.Changes.{next_position, recorded_of};
 ghost use Rattle.control_core.specs.Turns.{replay_in, session_in};
@@ -128,6 +128,14 @@ impl Desk {
         ensures { result ≡ (may_record self.now.state.register && has_session_number self.now.state) }
     {
         self.register.may_record() && self.sessions.next() != LAST_NUMBER
+    }
+
+    /// How many recordings are active: fewer than there are ids. Costs a lookup at each recording.
+    pub fn active_count(&self) -> usize
+        ensures count { result ≡ active_count self.now.state.register }
+        ensures few { result < 2 ^ 63 }
+    {
+        self.register.active_count()
     }
 
     /// Whether a replay of a recording is open. Costs a lookup at each open replay.
