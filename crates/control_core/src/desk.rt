@@ -134,6 +134,7 @@ impl Desk {
     pub fn active_count(&self) -> usize
         ensures count { result ≡ active_count self.now.state.register }
         ensures few { result < 2 ^ 63 }
+        ensures seats { KeepsSeats self.now.state.register self.now.state.callers }
     {
         self.register.active_count()
     }

@@ -214,10 +214,7 @@ open_done old mid new read log desk restarted s u leaves before may to sound don
     header = read.header;
     entries = sound.entries;
     catalogue = subst (λ (bank : Option (List ℕ)). IsBank (bytes_of bank) read.header sound.entries) (before.same BankA) (rest_left mid.now read sound.entries (reads mid.now) sound.rests may);
-    state = refl;
-    desk = ap (λ (n : ℕ). opened_desk (register_of (after to.state Restart)) n read.header.history_limit) sound.rests.is_log.counted;
-    blocks = λ number. refl;
-    doubt = refl;
+    is = ap (λ (n : ℕ). opened_archive (after to.state Restart) n read.header.history_limit) sound.rests.is_log.counted;
   };
   consistent = done.0;
   any_moment = all_moments old mid new s u to.state leaves before to.is done.1;

@@ -1,8 +1,8 @@
 -- Opening an archive after a crash: docs/STORAGE.md, "Recovery".
-use Rattle.std.specs.Prelude.{◌≡◌, ◌⊎◌, ◌<◌, ◌^◌, ℤ, pos, List, [], None, count_by}
+use Rattle.std.specs.Prelude.{◌≡◌, ◌⊎◌, ◌<◌, ◌^◌, ℤ, pos, List, count_by}
 use Rattle.disk_core.specs.DiskImage.{DiskImage, MayLeave, reads}
 use Rattle.disk_core.specs.Life.{Life, LeavesOnly}
-use Rattle.archive_model.specs.State.{State, active_count, register_of}
+use Rattle.archive_model.specs.State.{State, active_count}
 use Rattle.archive_model.specs.declared.command.Command.TheVariants.{Restart}
 use Rattle.archive_model.specs.Commands.{after}
 use Rattle.archive_model.specs.Register as register
@@ -13,7 +13,7 @@ use Rattle.catalogue_log.specs.Catalogue.{IsCatalogue}
 use Rattle.catalogue_log.specs.Fold.{after_entries, counts}
 use Rattle.catalogue_log.specs.LogState.{LogState}
 use Rattle.control_core.specs.Desk.{DeskState, opened_desk}
-use Rattle.control_core.specs.Exact.{Archive}
+use Rattle.control_core.specs.Exact.{Archive, opened_archive}
 use Rattle.engine_core.specs.Recovery.{IsEither, Recovers, RecoversTo}
 use Rattle.engine_core.specs.Consistent.{IsConsistent}
 
@@ -30,10 +30,7 @@ pub record IsFresh (image : DiskImage) (s : State) (a : Archive) : Type 0 where
   pub header : BankHeader
   pub entries : List Entry
   pub catalogue : IsCatalogue image header entries
-  pub state : a.state ≡ s
-  pub desk : a.desk ≡ opened_desk (register_of s) (count_by counts entries) header.history_limit
-  pub blocks : (number : ℤ) → a.blocks number ≡ []
-  pub doubt : a.doubt ≡ None
+  pub is : a ≡ opened_archive s (count_by counts entries) header.history_limit
 
 -- An archive is open: it is the restart of the state that the disk read as, which had so many active recordings, and a
 -- crash at any moment of the opening leaves one of the states before it or a restart of one of them.

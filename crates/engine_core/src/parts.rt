@@ -67,7 +67,7 @@ impl<D: Disk> Parts<D> {
         ensures cause { IsErrOf result DeviceFault →
             HasFailed (D.life self.old.storage.disk) (D.life self.new.storage.disk) }
     {
-        let stopped = active_count(&self.desk);
+        let stopped = self.desk.active_count() as i64;
         if stopped > 0 {
             let reply = Reply::Reopened {
                 recordings: stopped,
@@ -122,15 +122,4 @@ pub fn failed(desk: &mut Desk, refusal: Refusal) -> Refusal
         desk.break_down();
     }
     refusal
-}
-
-/// How many recordings are active. Costs a lookup at each recording.
-fn active_count(desk: &Desk) -> i64
-    ensures count { result ≡ pos (active_count desk.now.state.register) }
-    ensures seats { KeepsSeats desk.now.state.register desk.now.state.callers }
-{
-    desk.recordings()
-        .iter()
-        .filter(|known| known.is_active())
-        .count() as i64
 }

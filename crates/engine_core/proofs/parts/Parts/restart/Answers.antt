@@ -1,4 +1,4 @@
-use Rattle.std.proofs.Common.{◌≡◌, ◌∙◌, true, refl, sym, ap, arith}
+use Rattle.std.proofs.Common.{◌≡◌, ◌∙◌, pos, true, refl, sym, ap, arith}
 use Rattle.std.proofs.lemmas.Int.{ints}
 use Rattle.std.proofs.lemmas.Bool.Decides.{nat_tests}
 use Rattle.archive_model.specs.Register.{active_count}
@@ -13,7 +13,7 @@ pub returns-in_err-enter-clause-any_moment : goal.returns-in_err-enter-clause-an
 returns-in_err-enter-clause-any_moment g c s counted limit was =
     let old = g.D.Disk.life c.args.self.now.storage.disk in
     let new = g.D.Disk.life c.enter.new.self.storage.disk in
-    restart_refused c.in_err-enter.field-0.0 old new c.args.self.now.storage.log c.enter.new.self.storage.log c.args.self.now.desk.state c.enter.new.self.desk.state s counted limit (Reopened c.active_count-stopped.result) (HasFailed old new) was
+    restart_refused c.in_err-enter.field-0.0 old new c.args.self.now.storage.log c.enter.new.self.storage.log c.args.self.now.desk.state c.enter.new.self.desk.state s counted limit (Reopened (pos c.active_count-stopped.result)) (HasFailed old new) was
     (c.in_err-enter.ensures.entered (opened_archive s counted limit) was refl (true, refl, refl) refl)
 
 pub returns-in_ok-enter-clause-restarted : goal.returns-in_ok-enter-clause-restarted
