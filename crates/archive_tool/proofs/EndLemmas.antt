@@ -105,8 +105,8 @@ from : {D : Type 0} (life : D → Life) (start : Life) (archive : ScriptArchive 
     → life disk ≡ life_of life new.archive → (a : Standing) → Begins start a → Works start (life disk) → From life archive old new a
 from life start archive old new disk input contents written result ran same a begins works =
     let all : Works start (life_of life new.archive) = subst (λ (l : Life). Works start l) same works in
-    let first = works_first start (life_of life archive) (life_of life new.archive) all ran.goes_on.obeyed ran.faults ran.goes_on.faults in
-    record { scene = ran.of a (ran.begun a begins first); works = works_then start (life_of life archive) (life_of life new.archive) all ran.faults ran.goes_on.faults }
+    let first = works_first start (life_of life archive) (life_of life new.archive) all ran.faults ran.goes_on in
+    record { scene = ran.of a (ran.begun a begins first); works = works_then start (life_of life archive) (life_of life new.archive) all ran.faults ran.goes_on }
 
 -- it was read to its end, and handed on
 pub ends_well : {D : Type 0} (life : D → Life) (start : Life) (archive : ScriptArchive D) (old new : ScriptState D) (disk : D) (input contents written flushed : Option (List ℕ)) (result : Result (Unit {0}) EarlyEnd) (is_flushed : Bool)

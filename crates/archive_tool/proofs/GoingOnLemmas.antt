@@ -32,7 +32,7 @@ goes_on life a leaves was = record {
       other = a.state;
       leaves = λ image may. record { state = a.state; is = inl refl; recovers = leaves image may };
       recovers = was;
-      fresh = record { header = was.header; entries = was.entries; catalogue = was.catalogue; state = refl; desk = refl; blocks = λ number. refl; doubt = refl };
+      fresh = record { header = was.header; entries = was.entries; catalogue = was.catalogue; is = refl };
     },
   );
   restarted = refl;

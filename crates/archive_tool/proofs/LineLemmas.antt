@@ -46,9 +46,7 @@ module _ {D : Type 0} (life : D → Life) where
 
   pub by_call : (state : ScriptState D) (new : ScriptArchive D) (Of : Standing → Ends Standing) (outcome : Result Reply Refusal) → Made state.archive new Of outcome
       → (s : Scene) → IsScene life state s → Works (life_of life state.archive) (life_of life new) → (x : Scene) × (IsStanding life new x.archive × (state.merge ≡ x.merge)) × OrWant s (OfArchive s (Of s.archive)) outcome x
-  by_call state new Of outcome made s is works =
-      let t = made s.archive is.0 works in
-      (record { archive = t.0; merge = s.merge }, (t.1, is.1), inl (t.2, refl))
+  by_call state new Of outcome made = by_want state new Of outcome (λ s stands works. let t = made s stands works in (t.0, t.1, inl t.2))
 
   -- ---- the merge
 

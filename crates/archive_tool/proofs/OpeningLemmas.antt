@@ -34,7 +34,7 @@ use Rattle.archive_tool.specs.declared.archive.ScriptArchive.{ScriptArchive}
 use Rattle.archive_tool.specs.declared.archive.ScriptArchive.TheVariants.{Open, Closed}
 use Rattle.archive_tool.specs.Script.{Begins, IsRefusedBy, LeavesStanding, Opens, Restarts, Works}
 use Rattle.archive_tool.specs.ScriptLines.{Reopens, ReopensAs, Standing, closed, opened, refused, reopened}
-use Rattle.archive_tool.specs.Tie.{IsKept, IsStanding, closed_by, life_of}
+use Rattle.archive_tool.specs.Tie.{GoesOn, IsKept, IsStanding, closed_by, life_of}
 use Rattle.archive_tool.proofs.WorksLemmas.{not_failed, works_then}
 
 -- ---- an archive at which nobody calls yet
@@ -43,15 +43,7 @@ use Rattle.archive_tool.proofs.WorksLemmas.{not_failed, works_then}
 fresh_is : (image : DiskImage) (s : State) (a : Archive) (h : BankHeader) (es : List Entry) → IsFresh image s a → IsCatalogue image h es → a ≡ opened_archive s (count_by counts es) h.history_limit
 fresh_is image s a h es fresh catalogue =
     let one = one_bank _ fresh.header h fresh.entries es fresh.catalogue catalogue in
-    made fresh ∙ ap (λ (ks : List Entry). opened_archive s (count_by counts ks) fresh.header.history_limit) one.1 ∙ ap (λ (k : BankHeader). opened_archive s (count_by counts es) k.history_limit) one.0
-  where
-    made : (fresh : IsFresh image s a) → a ≡ opened_archive s (count_by counts fresh.entries) fresh.header.history_limit
-    made fresh = λ i. record {
-      state = fresh.state i;
-      desk = fresh.desk i;
-      blocks = λ number. fresh.blocks number i;
-      doubt = fresh.doubt i;
-    }
+    fresh.is ∙ ap (λ (ks : List Entry). opened_archive s (count_by counts ks) fresh.header.history_limit) one.1 ∙ ap (λ (k : BankHeader). opened_archive s (count_by counts es) k.history_limit) one.0
 
 one_fresh : (image : DiskImage) (s u : State) (a b : Archive) → IsFresh image s a → IsFresh image u b → s ≡ u → a ≡ b
 one_fresh image s u a b first second same =
@@ -67,7 +59,7 @@ pub record IsAt (life : Life) (log : LogState) (desk : DeskState) (a : Archive) 
 at_fresh : (life : Life) (log : LogState) (desk : DeskState) (image : DiskImage) (s : State) (a b : Archive) → IsConsistent life log desk b → IsFresh image s b → b ≡ a → IsAt life log desk a
 at_fresh life log desk image s a b consistent fresh same = record {
   consistent = subst (λ (x : Archive). IsConsistent life log desk x) same consistent;
-  certain = subst (λ (x : Archive). x.doubt ≡ None) same fresh.doubt;
+  certain = ap (λ (x : Archive). x.doubt) (sym same ∙ fresh.is);
 }
 
 -- ---- beginning
@@ -368,12 +360,12 @@ before_with_files life old mid (Ok archive) no_archive before = tt
 before_with_files life old mid (Err back) no_archive before = before_then old mid (life back) no_archive.0 before
 
 pub begun_with_files : {D : Type 0} (life : D → Life) (old mid : Life) (result : Result (ScriptArchive D) D) → RefusesNew old mid 1048576 BadParameter
-    → IfOk result (λ archive. IsTrue (life_of life archive).obeys → IsTrue mid.obeys) → IfOk result (λ archive. mid.faults ≤ (life_of life archive).faults)
+    → IfOk result (λ archive. GoesOn mid (life_of life archive))
     → IfOk result (λ archive. (first : Standing) → Opens mid first → Works mid (life_of life archive) → IsStanding life archive first)
     → IfOk result (λ archive. (first : Standing) → Begins old first → Works old (life_of life archive) → IsStanding life archive first)
-begun_with_files life old mid (Err back) no_archive obeyed faults begins = tt
-begun_with_files life old mid (Ok archive) no_archive obeyed faults begins =
-    λ first from works. begins first (not_blank old mid first no_archive (obeyed works.obeys) from) (works_then old mid (life_of life archive) works no_archive.0.faults faults)
+begun_with_files life old mid (Err back) no_archive goes_on begins = tt
+begun_with_files life old mid (Ok archive) no_archive goes_on begins =
+    λ first from works. begins first (not_blank old mid first no_archive (goes_on.obeyed works.obeys) from) (works_then old mid (life_of life archive) works no_archive.0.faults goes_on)
 
 pub unmade_then : {D : Type 0} (life : D → Life) (old : Life) (refusal : Refusal) (disk : D) (result : Result (ScriptArchive D) D) → result ≡ closed_by refusal disk → RefusesNew old (life disk) 1048576 refusal → refusal ≢ BadParameter
     → IfOk result (λ archive. (first : Standing) → Begins old first → Works old (life_of life archive) → IsStanding life archive first)

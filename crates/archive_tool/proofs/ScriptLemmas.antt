@@ -11,10 +11,10 @@ use Rattle.archive_tool.specs.declared.state.ScriptState.{ScriptState}
 use Rattle.archive_tool.specs.InputLines.{ReadsLine}
 use Rattle.archive_tool.specs.Script.{Answers, EndsEarly, FailsToAnswer, IsTranscript, Replied, Works, asked, outcome_text, quits}
 use Rattle.archive_tool.specs.ScriptLines.{Answered, Scene, Standing, begun_with}
-use Rattle.archive_tool.specs.Tie.{IsScene, life_of}
+use Rattle.archive_tool.specs.Tie.{GoesOn, IsScene, life_of}
 use Rattle.archive_tool.specs.Transcript.{Writes}
 use Rattle.archive_tool.proofs.ProgressLemmas.{Near, Progress, near-here, near-next, progress-cut, progress-early, progress-end, progress-kept, progress-last, progress-more, progress-start}
-use Rattle.archive_tool.proofs.WorksLemmas.{works_first, works_then}
+use Rattle.archive_tool.proofs.WorksLemmas.{goes_further, no_calls, works_first, works_then}
 
 -- ---- one line
 
@@ -76,28 +76,24 @@ early_unsaid a Left before now later contents written then line state new end so
 
 -- how far the script has come, where no call of its disk has failed
 pub record HasCome {D : Type 0} (life : D → Life) (old new : ScriptState D) (before now contents written : Option (List ℕ)) : Type 0 where
-  pub obeyed : IsTrue (life_of life new.archive).obeys → IsTrue (life_of life old.archive).obeys
-  pub faults : (life_of life old.archive).faults ≤ (life_of life new.archive).faults
+  pub goes_on : GoesOn (life_of life old.archive) (life_of life new.archive)
   pub so_far : (a : Standing) → IsScene life old (begun_with a) → Works (life_of life old.archive) (life_of life new.archive) → (s : Scene) × IsScene life new s × Came a before now contents written s
 
 pub none_yet : {D : Type 0} (life : D → Life) (state : ScriptState D) (before contents : Option (List ℕ)) → HasCome life state state before before contents contents
 none_yet life state before contents = record {
-  obeyed = λ obeys. obeys;
-  faults = omega arith;
+  goes_on = no_calls (life_of life state.archive);
   so_far = λ a begun works. (begun_with a, begun, progress-start (begun_with a) quits Answers before contents);
 }
 
 pub still : {D : Type 0} (life : D → Life) (old new : ScriptState D) (before now contents written then : Option (List ℕ)) → HasCome life old new before now contents written → Keeps written then → HasCome life old new before now contents then
 still life old new before now contents written then come keeps = record {
-  obeyed = come.obeyed;
-  faults = come.faults;
+  goes_on = come.goes_on;
   so_far = λ a begun works. let here = come.so_far a begun works in (here.0, here.1, progress-kept (begun_with a) quits Answers before now contents written then here.0 here.2 keeps);
 }
 
 -- what a line does
 pub record AnswersLine {D : Type 0} (life : D → Life) (old new : ScriptState D) (contents written line : Option (List ℕ)) (result : Result (Unit {0}) EarlyEnd) : Type 0 where
-  pub obeyed : IsTrue (life_of life new.archive).obeys → IsTrue (life_of life old.archive).obeys
-  pub faults : (life_of life old.archive).faults ≤ (life_of life new.archive).faults
+  pub goes_on : GoesOn (life_of life old.archive) (life_of life new.archive)
   pub replied : (s : Scene) → IsScene life old s → Works (life_of life old.archive) (life_of life new.archive) → (t : Scene) × IsScene life new t × Replied contents written line s t result
 
 -- before the line, after it, and its answer
@@ -111,8 +107,8 @@ record Next {D : Type 0} (life : D → Life) (new : ScriptState D) (a : Standing
 next : {D : Type 0} (life : D → Life) (old mid new : ScriptState D) (a : Standing) (before now contents written then line : Option (List ℕ)) (result : Result (Unit {0}) EarlyEnd) → HasCome life old mid before now contents written
     → AnswersLine life mid new written then line result → IsScene life old (begun_with a) → Works (life_of life old.archive) (life_of life new.archive) → Next life new a before now contents written then line result
 next life old mid new a before now contents written then line result come line_of begun works =
-    let first = works_first (life_of life old.archive) (life_of life mid.archive) (life_of life new.archive) works line_of.obeyed come.faults line_of.faults in
-    let later = works_then (life_of life old.archive) (life_of life mid.archive) (life_of life new.archive) works come.faults line_of.faults in
+    let first = works_first (life_of life old.archive) (life_of life mid.archive) (life_of life new.archive) works come.goes_on.faults line_of.goes_on in
+    let later = works_then (life_of life old.archive) (life_of life mid.archive) (life_of life new.archive) works come.goes_on.faults line_of.goes_on in
     let here = come.so_far a begun first in
     let there = line_of.replied here.0 here.1 later in
     record { here = here.0; come = here.2; there = there.0; is = there.1; replied = there.2 }
@@ -120,8 +116,7 @@ next life old mid new a before now contents written then line result come line_o
 pub one_more : {D : Type 0} (life : D → Life) (old mid new : ScriptState D) (before now later contents written then line : Option (List ℕ)) → HasCome life old mid before now contents written → ReadsLine now later line
     → AnswersLine life mid new written then line (Ok tt) → quits line ≡ false → HasCome life old new before later contents then
 one_more life old mid new before now later contents written then line come read line_of more = record {
-  obeyed = λ obeys. come.obeyed (line_of.obeyed obeys);
-  faults = let first = come.faults in let behind = line_of.faults in omega (arith, first, behind);
+  goes_on = goes_further (life_of life old.archive) (life_of life mid.archive) (life_of life new.archive) come.goes_on line_of.goes_on;
   so_far = λ a begun works.
       let n = next life old mid new a before now contents written then line (Ok tt) come line_of begun works in
       (n.there, n.is, goes_on a before now later contents written then line n.here n.there n.come read n.replied more);
@@ -155,8 +150,8 @@ early_behind_line life old mid new before now later contents written then line e
 
 -- what a line does, as its answer is looked at
 pub as_answered : {D : Type 0} (life : D → Life) (old new : ScriptState D) (contents written line : Option (List ℕ)) (result as_result : Result (Unit {0}) EarlyEnd) → result ≡ as_result
-    → (IsTrue (life_of life new.archive).obeys → IsTrue (life_of life old.archive).obeys) → (life_of life old.archive).faults ≤ (life_of life new.archive).faults
+    → GoesOn (life_of life old.archive) (life_of life new.archive)
     → ((s : Scene) → IsScene life old s → Works (life_of life old.archive) (life_of life new.archive) → (t : Scene) × IsScene life new t × Replied contents written line s t result)
     → AnswersLine life old new contents written line as_result
-as_answered life old new contents written line result as_result is obeyed faults replied =
-    subst (λ (r : Result (Unit {0}) EarlyEnd). AnswersLine life old new contents written line r) is (record { obeyed = obeyed; faults = faults; replied = replied })
+as_answered life old new contents written line result as_result is goes_on replied =
+    subst (λ (r : Result (Unit {0}) EarlyEnd). AnswersLine life old new contents written line r) is (record { goes_on = goes_on; replied = replied })

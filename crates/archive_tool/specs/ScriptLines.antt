@@ -41,8 +41,8 @@ abbrev pub Calls : Event → Archive → ArchiveEnd
 Calls event a = CallEnds a event ⊥
 
 -- a block's bytes are read by the terms of the session's recording, and then it is written
-abbrev pub Writes : ℤ → List ℕ → Archive → ArchiveEnd
-Writes session bytes a = BytesEnd a session bytes (λ block. Calls (events.Write session block) a)
+abbrev pub WritesBytes : ℤ → List ℕ → Archive → ArchiveEnd
+WritesBytes session bytes a = BytesEnd a session bytes (λ block. Calls (events.Write session block) a)
 
 -- what was written is settled; a refusal is the answer
 abbrev pub ThenSettles : ℤ → Result Reply Refusal → Archive → ArchiveEnd
@@ -51,7 +51,7 @@ ThenSettles session (Err refusal) a = Is (Err refusal) a
 
 -- A block is written and then settled: the first refusal. Where settling is refused it stays written.
 abbrev pub Records : ℤ → List ℕ → Archive → ArchiveEnd
-Records session bytes a outcome b = (first : Result Reply Refusal) × (mid : Archive) × Writes session bytes a first mid × ThenSettles session first mid outcome b
+Records session bytes a outcome b = (first : Result Reply Refusal) × (mid : Archive) × WritesBytes session bytes a first mid × ThenSettles session first mid outcome b
 
 -- the archive once it is opened again: each active recording has stopped, and nobody calls yet
 abbrev pub reopened : Archive → Archive
@@ -94,7 +94,7 @@ Stays s answer outcome new = (outcome ≡ answer) × (new ≡ s)
 
 abbrev pub LineEnds : Scene → Line → Ends Scene
 LineEnds s (lines.Event event) = OfArchive s (WhereOpen (Calls event) s.archive)
-LineEnds s (lines.Write session bytes) = OfArchive s (WhereOpen (Writes session bytes) s.archive)
+LineEnds s (lines.Write session bytes) = OfArchive s (WhereOpen (WritesBytes session bytes) s.archive)
 LineEnds s (lines.Block session bytes) = OfArchive s (WhereOpen (Records session bytes) s.archive)
 LineEnds s lines.Reopen = OfArchive s (Reopens s.archive)
 LineEnds s (lines.Merge line) = OfMerge s (MergeEnds s.merge line)

@@ -1,11 +1,11 @@
 //! The archive that a script works on. docs/CONTROL.md, "Lines".
 
-ghost use Rattle.std.specs.Prelude.{◌≡◌, ◌≤◌, IfErr, IfOk, IsTrue};
+ghost use Rattle.std.specs.Prelude.{◌≡◌, ◌≤◌, IfErr, IfOk};
 ghost use Rattle.archive_model.specs.declared.reply.Reply.TheVariants.{Reopened};
 ghost use Rattle.engine_core.specs.Opening.{ReadsAsBefore};
 ghost use Rattle.archive_tool.specs.Script.{Begins, Opens, Works};
-ghost use Rattle.archive_tool.specs.ScriptLines.{Calls, OrWant, Records, Reopens, Standing, WhereOpen, Writes};
-ghost use Rattle.archive_tool.specs.Tie.{IsStanding, ReadsBlock, closed_by, life_of};
+ghost use Rattle.archive_tool.specs.ScriptLines.{Calls, OrWant, Records, Reopens, Standing, WhereOpen, WritesBytes};
+ghost use Rattle.archive_tool.specs.Tie.{GoesOn, IsStanding, ReadsBlock, closed_by, life_of};
 
 use archive_model::Reply;
 use control_core::{Event, read_terms};
@@ -60,8 +60,7 @@ impl<D: Disk> ScriptArchive<D> {
 
     /// Answers a call: `Broken` where no archive is open, else as `Engine::step`.
     pub fn call(&mut self, alloc: Global, event: &Event) -> Result<Reply, Refusal>
-        ensures obeyed { IsTrue (life_of D.life self.new).obeys → IsTrue (life_of D.life self.old).obeys }
-        ensures faults { (life_of D.life self.old).faults ≤ (life_of D.life self.new).faults }
+        ensures goes_on { GoesOn (life_of D.life self.old) (life_of D.life self.new) }
         ensures called { (s : Standing) → IsStanding D.life self.old s → Works (life_of D.life self.old) (life_of D.life self.new) →
             (t : Standing) × IsStanding D.life self.new t × WhereOpen (Calls event.now) s result t }
     {
@@ -73,10 +72,9 @@ impl<D: Disk> ScriptArchive<D> {
 
     /// Writes the bytes of a block, read by the terms of the recording that a session writes.
     pub fn write(&mut self, alloc: Global, session: &i64, bytes: &[u8]) -> Result<Reply, Refusal>
-        ensures obeyed { IsTrue (life_of D.life self.new).obeys → IsTrue (life_of D.life self.old).obeys }
-        ensures faults { (life_of D.life self.old).faults ≤ (life_of D.life self.new).faults }
+        ensures goes_on { GoesOn (life_of D.life self.old) (life_of D.life self.new) }
         ensures written { (s : Standing) → IsStanding D.life self.old s → Works (life_of D.life self.old) (life_of D.life self.new) →
-            (t : Standing) × IsStanding D.life self.new t × OrWant s (WhereOpen (Writes session.now bytes.now) s) result t }
+            (t : Standing) × IsStanding D.life self.new t × OrWant s (WhereOpen (WritesBytes session.now bytes.now) s) result t }
     {
         let block = self.read(alloc, session, bytes)?;
         let event = Event::Write {
@@ -102,8 +100,7 @@ impl<D: Disk> ScriptArchive<D> {
 
     /// Writes the bytes of a block, and settles it. Where settling is refused it stays written.
     pub fn record(&mut self, alloc: Global, session: &i64, bytes: &[u8]) -> Result<Reply, Refusal>
-        ensures obeyed { IsTrue (life_of D.life self.new).obeys → IsTrue (life_of D.life self.old).obeys }
-        ensures faults { (life_of D.life self.old).faults ≤ (life_of D.life self.new).faults }
+        ensures goes_on { GoesOn (life_of D.life self.old) (life_of D.life self.new) }
         ensures recorded { (s : Standing) → IsStanding D.life self.old s → Works (life_of D.life self.old) (life_of D.life self.new) →
             (t : Standing) × IsStanding D.life self.new t × OrWant s (WhereOpen (Records session.now bytes.now) s) result t }
     {
@@ -113,8 +110,7 @@ impl<D: Disk> ScriptArchive<D> {
 
     /// Closes the archive and opens it again: how many recordings that stopped. Where it is refused none is open.
     pub fn reopen(self, alloc: Global) -> (ScriptArchive<D>, Result<Reply, Refusal>)
-        ensures obeyed { IsTrue (life_of D.life result.0).obeys → IsTrue (life_of D.life self).obeys }
-        ensures faults { (life_of D.life self).faults ≤ (life_of D.life result.0).faults }
+        ensures goes_on { GoesOn (life_of D.life self) (life_of D.life result.0) }
         ensures reopened { (s : Standing) → IsStanding D.life self s → Works (life_of D.life self) (life_of D.life result.0) →
             (t : Standing) × IsStanding D.life result.0 t × Reopens s result.1 t }
     {
@@ -132,8 +128,7 @@ impl<D: Disk> ScriptArchive<D> {
 fn opened<D: Disk>(alloc: Global, disk: D) -> Result<ScriptArchive<D>, D>
     ensures begun { IfOk result (λ archive. (first : Standing) → Opens (D.life disk) first →
         Works (D.life disk) (life_of D.life archive) → IsStanding D.life archive first) }
-    ensures obeyed { IfOk result (λ archive. IsTrue (life_of D.life archive).obeys → IsTrue (D.life disk).obeys) }
-    ensures faults { IfOk result (λ archive. (D.life disk).faults ≤ (life_of D.life archive).faults) }
+    ensures goes_on { IfOk result (λ archive. GoesOn (D.life disk) (life_of D.life archive)) }
     ensures unopened { IfErr result (λ back. ReadsAsBefore (D.life disk) (D.life back)) }
 {
     match Engine::open(alloc, disk) {

@@ -1,6 +1,6 @@
 //! A script of control lines, from a reader to a writer. docs/CONTROL.md, "Scripts".
 
-ghost use Rattle.std.specs.Prelude.{◌≡◌, ◌⊎◌, ◌≤◌, ◌↔◌, Contains, IfErr, IfOk, IsTrue, OnOk, bytes_eq, codes};
+ghost use Rattle.std.specs.Prelude.{◌≡◌, ◌⊎◌, ◌↔◌, Contains, IfErr, IfOk, IsTrue, OnOk, bytes_eq, codes};
 ghost use Rattle.std.specs.Io.KnownBytes.{Appends, Keeps};
 ghost use Rattle.std.specs.Io.Buffered.{reader_remaining};
 ghost use Rattle.control_core.specs.ReplyText.{reply_text};
@@ -40,8 +40,7 @@ fn outcome_of<D: Disk>(
     state: ScriptState<D>,
     line: &LineBuffer,
 ) -> (ScriptState<D>, Result<Reply, Refusal>)
-    ensures obeyed { IsTrue (life_of D.life result.0.archive).obeys → IsTrue (life_of D.life state.archive).obeys }
-    ensures faults { (life_of D.life state.archive).faults ≤ (life_of D.life result.0.archive).faults }
+    ensures goes_on { GoesOn (life_of D.life state.archive) (life_of D.life result.0.archive) }
     ensures answered { (s : Scene) → IsScene D.life state s → Works (life_of D.life state.archive) (life_of D.life result.0.archive) →
         (t : Scene) × IsScene D.life result.0 t × Answered s (asked line.now) result.1 t }
 {
@@ -105,8 +104,7 @@ fn answer_line<W: Write, D: Disk>(
     line: &LineBuffer,
     writer: &mut W,
 ) -> (ScriptState<D>, Result<(), EarlyEnd>)
-    ensures obeyed { IsTrue (life_of D.life result.0.archive).obeys → IsTrue (life_of D.life state.archive).obeys }
-    ensures faults { (life_of D.life state.archive).faults ≤ (life_of D.life result.0.archive).faults }
+    ensures goes_on { GoesOn (life_of D.life state.archive) (life_of D.life result.0.archive) }
     ensures replied { (s : Scene) → IsScene D.life state s → Works (life_of D.life state.archive) (life_of D.life result.0.archive) →
         (t : Scene) × IsScene D.life result.0 t
         × Replied (W.contents writer.old) (W.contents writer.new) line.now s t result.1 }

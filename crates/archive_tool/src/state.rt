@@ -1,9 +1,9 @@
 //! What the lines of a script are answered by: an archive, and a merge of a replay and the live stream.
 
-ghost use Rattle.std.specs.Prelude.{◌≡◌, ◌≤◌, IsTrue, Ok};
+ghost use Rattle.std.specs.Prelude.{◌≡◌, Ok};
 ghost use Rattle.archive_tool.specs.Script.{Works};
 ghost use Rattle.archive_tool.specs.ScriptLines.{LineEnds, OrWant, Scene};
-ghost use Rattle.archive_tool.specs.Tie.{IsScene, life_of};
+ghost use Rattle.archive_tool.specs.Tie.{GoesOn, IsScene, life_of};
 
 use crate::archive::ScriptArchive;
 use crate::merging::answer_merge;
@@ -25,8 +25,7 @@ impl<D: Disk> ScriptState<D> {
     /// Answers a line that was read, and hands back how the script stands then. `compact` is `BadLine` until something
     /// answers it. Costs what the line asks for.
     pub fn answer(self, alloc: Global, line: &Line) -> (ScriptState<D>, Result<Reply, Refusal>)
-        ensures obeyed { IsTrue (life_of D.life result.0.archive).obeys → IsTrue (life_of D.life self.archive).obeys }
-        ensures faults { (life_of D.life self.archive).faults ≤ (life_of D.life result.0.archive).faults }
+        ensures goes_on { GoesOn (life_of D.life self.archive) (life_of D.life result.0.archive) }
         ensures answered { (s : Scene) → IsScene D.life self s → Works (life_of D.life self.archive) (life_of D.life result.0.archive) →
             (t : Scene) × IsScene D.life result.0 t × OrWant s (LineEnds s line.now) result.1 t }
     {

@@ -27,19 +27,19 @@ returns-in-Err-read_line-clause-early g c =
 pub returns-in-Err-answered-clause-early : goal.returns-in-Err-answered-clause-early
 returns-in-Err-answered-clause-early g c =
     let read = subst (λ b. MatchBool b (ReadsLine (reader_remaining g.R.Read.remaining c.lines.reader) (reader_remaining g.R.Read.remaining c.read_line.new.reader) c.read_line.new.line) (IsAtEnd (reader_remaining g.R.Read.remaining c.lines.reader))) c.in-Ok-true.field-0-test c.in-Ok-true.ensures.found in
-    let done = as_answered g.D.Disk.life _ _ _ _ _ _ _ c.in-Err-answered.is c.answer_line-next.ensures.obeyed c.answer_line-next.ensures.faults c.answer_line-next.ensures.replied in
+    let done = as_answered g.D.Disk.life _ _ _ _ _ _ _ c.in-Err-answered.is c.answer_line-next.ensures.goes_on c.answer_line-next.ensures.replied in
     early_behind_line g.D.Disk.life _ _ _ _ _ _ _ _ _ _ c.in-Err-answered.end (still g.D.Disk.life _ _ _ _ _ _ _ c.lines.invariant c.flush_if_waiting.ensures.kept) read done
 
 pub returns-then-is_quit-clause-whole : goal.returns-then-is_quit-clause-whole
 returns-then-is_quit-clause-whole g c =
     let read = subst (λ b. MatchBool b (ReadsLine (reader_remaining g.R.Read.remaining c.lines.reader) (reader_remaining g.R.Read.remaining c.read_line.new.reader) c.read_line.new.line) (IsAtEnd (reader_remaining g.R.Read.remaining c.lines.reader))) c.in-Ok-true.field-0-test c.in-Ok-true.ensures.found in
-    let done = as_answered g.D.Disk.life _ _ _ _ _ _ _ c.in-Ok.is c.answer_line-next.ensures.obeyed c.answer_line-next.ensures.faults c.answer_line-next.ensures.replied in
+    let done = as_answered g.D.Disk.life _ _ _ _ _ _ _ c.in-Ok.is c.answer_line-next.ensures.goes_on c.answer_line-next.ensures.replied in
     let quit : quits c.read_line.new.line ≡ true = search rules in
     whole_at_quit g.D.Disk.life _ _ _ _ _ _ _ _ _ _ (still g.D.Disk.life _ _ _ _ _ _ _ c.lines.invariant c.flush_if_waiting.ensures.kept) read done quit
 
 pub lines-preserved : goal.lines-preserved
 lines-preserved g c =
     let read = subst (λ b. MatchBool b (ReadsLine (reader_remaining g.R.Read.remaining c.lines.reader) (reader_remaining g.R.Read.remaining c.read_line.new.reader) c.read_line.new.line) (IsAtEnd (reader_remaining g.R.Read.remaining c.lines.reader))) c.in-Ok-true.field-0-test c.in-Ok-true.ensures.found in
-    let done = as_answered g.D.Disk.life _ _ _ _ _ _ _ c.in-Ok.is c.answer_line-next.ensures.obeyed c.answer_line-next.ensures.faults c.answer_line-next.ensures.replied in
+    let done = as_answered g.D.Disk.life _ _ _ _ _ _ _ c.in-Ok.is c.answer_line-next.ensures.goes_on c.answer_line-next.ensures.replied in
     let more : quits c.read_line.new.line ≡ false = search rules in
     one_more g.D.Disk.life _ _ _ _ _ _ _ _ _ _ (still g.D.Disk.life _ _ _ _ _ _ _ c.lines.invariant c.flush_if_waiting.ensures.kept) read done more

@@ -11,7 +11,7 @@ returns-then-eq-clause-begun g c =
     let old = g.D.Disk.life c.args.disk in
     let mid = g.D.Disk.life c.in-Err.field-0.disk in
     let there : c.in-Err.field-0.refusal ≡ BadParameter = search rules in
-    begun_with_files g.D.Disk.life old mid c.opened.result (subst (λ (r : Refusal). RefusesNew old mid 1048576 r) there c.in-Err.ensures.refused) c.opened.ensures.obeyed c.opened.ensures.faults c.opened.ensures.begun
+    begun_with_files g.D.Disk.life old mid c.opened.result (subst (λ (r : Refusal). RefusesNew old mid 1048576 r) there c.in-Err.ensures.refused) c.opened.ensures.goes_on c.opened.ensures.begun
 
 pub returns-then-eq-clause-unopened : goal.returns-then-eq-clause-unopened
 returns-then-eq-clause-unopened g c =
