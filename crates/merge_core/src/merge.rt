@@ -120,10 +120,10 @@ impl Merge {
         ensures answer { Gives (λ offered. offered) result (answer_to frame self.old) }
         ensures ok { OnOk result (self.new ≡ after_live_frame frame self.old) }
         ensures err { OnErr result (self.new ≡ self.old) }
-        // Want of memory is answered only where the frame would be held, or the live stream isn't
-        // joined.
+        // Want of memory is answered only where the frame would be held, or is ignored before the live stream is joined.
         ensures memory { IfErr result (λ refusal. refusal ≡ NoMemory
-            → (answer_to frame self.old ≡ Ok Offered.Held) ⊎ (self.old.is_merged ≡ false)) }
+            → (answer_to frame self.old ≡ Ok Offered.Held)
+            ⊎ ((answer_to frame self.old ≡ Ok Offered.Ignored) × (self.old.is_merged ≡ false))) }
     {
         let position = position_of(&self.geometry, &frame)?;
         let end = position + frame.aligned_length();
