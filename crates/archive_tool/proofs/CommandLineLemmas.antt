@@ -1,52 +1,119 @@
--- Which command words ask for that are a command's word alone.
-use Rattle.std.proofs.Common.{◌≡◌, ◌∙◌, inl, inr, refl, ap, subst, ℕ, true, List, [], ◌∷◌, Option, Some, None, Result, Ok, Err, option_map, codes}
-use Rattle.std.specs.Prelude.{IfErr}
-use Rattle.clap.specs.Words.{App, FailsBy, HasKind, HasMatchesOf, Kinds, Row, fault_of, is_simple_and_free, kind_of, Text, is_simple, subcommand_name_of, subcommand_of, subcommand_rows_of, takes}
+-- Which command the words ask for.
+use Rattle.std.proofs.Common.{◌≡◌, ◌≢◌, ◌∙◌, inl, inr, refl, sym, ap, ap₂, subst, arith, ℕ, true, List, [], ◌∷◌, Option, Some, None, Result, Ok, Err, option_map, codes, Bor, slice_index}
+use Rattle.std.specs.Prelude.{IfErr, IsSomeAnd}
+use Rattle.std.specs.Str.Parse.{ParsesUnsigned}
+use Rattle.clap.specs.Words.{AddsSubcommand, App, FailsBy, HasKind, HasMatchesOf, Kinds, ReadsOne, Row, Text, app_of, fault_of, first_of, first_value, is_simple, is_simple_and_free, kind_of, one_of, one_text, rows_of, subcommand_of, subcommand_rows_of, with_subcommand}
+use Rattle.clap.specs.declared.builder.command.Command.{Command}
 use Rattle.clap.specs.declared.error.Error.{Error}
 use Rattle.clap.specs.declared.error.ErrorKind.TheVariants.{OutOfMemory}
 use Rattle.clap.specs.declared.parser.matches.ArgMatches.{ArgMatches}
 use Rattle.clap.proofs.OnLiterals.{clap_on_literals}
+use Rattle.clap.specs.declared.parser.matches.Found.{Found}
+use Rattle.clap.proofs.WalkLemmas.{first_value-rows, one_text-rows}
 use Rattle.archive_tool.specs.declared.command.ToolCommand.{ToolCommand}
-use Rattle.archive_tool.specs.declared.command.ToolCommand.TheVariants.{Run}
-use Rattle.archive_tool.specs.CommandLine.{IsWordsFault, name_of, tool_app}
+use Rattle.archive_tool.specs.declared.command.ToolCommand.TheVariants.{Create, Run, List as AskList, Verify, Frames}
+use Rattle.archive_tool.specs.CommandLine.{IsAsked, IsCommand, IsHeld, IsMet, IsNumber, IsWordsFault, tool_app}
 
+-- what a getter gave is what the rows hold
+pub text_given : (f : Found) (id : Text) (given got : Option (Bor Text)) → option_map (λ s. s.now) given ≡ first_value f id → given ≡ got → first_of id (rows_of f) ≡ option_map (λ s. s.now) got
+text_given f id given got is same = sym (first_value-rows f id) ∙ sym is ∙ ap (option_map (λ s. s.now)) same
+
+-- a number that was read is that of the text that the rows hold, and where none was read they hold none
+module _ {E : Type 0} (gives : List ℕ → Result ℕ E → Type 0) (reads : (text : List ℕ) (x : Result ℕ E) → gives text x → ParsesUnsigned 32 10 text x) where
+  given_number : (n : ℕ) (text : Option Text) (got : Option ℕ) → (text ≡ None → got ≡ None) → ((t : List ℕ) → text ≡ Some t → ReadsOne gives t got) → got ≡ Some n → IsSomeAnd text (IsNumber n)
+  given_number n None got none value is = let bad = sym (none refl) ∙ is in cc
+  given_number n (Some t) got none value is =
+      let read : gives t (Ok n) = subst (ReadsOne gives t) is (value t refl) in
+      let parsed = reads t (Ok n) read in
+      (parsed.0.0, parsed.1, omega (arith, parsed.0.1, parsed.1))
+
+  pub number_given : (f : Found) (id : Text) (n : ℕ) (got : Option ℕ) → (one_text f id ≡ None → got ≡ None) → ((t : List ℕ) → one_text f id ≡ Some t → ReadsOne gives t got) → got ≡ Some n → IsSomeAnd (one_of id (rows_of f)) (IsNumber n)
+  number_given f id n got none value is = subst (λ text. IsSomeAnd text (IsNumber n)) (one_text-rows f id) (given_number n (one_text f id) got none value is)
+
+  lacks_number : (n : ℕ) (text : Option Text) → ((t : List ℕ) → text ≡ Some t → ReadsOne gives t None) → IsSomeAnd text (IsNumber n) → ⊥
+  lacks_number n None value number = absurd number
+  lacks_number n (Some t) value number =
+      let unread = value t refl in
+      reads t (Err unread.0) unread.1 (number.0, omega (arith, number.1, number.1))
+
+  pub number_lacks : (f : Found) (id : Text) (n : ℕ) (got : Option ℕ) → ((t : List ℕ) → one_text f id ≡ Some t → ReadsOne gives t got) → got ≡ None → IsSomeAnd (one_of id (rows_of f)) (IsNumber n) → ⊥
+  number_lacks f id n got value is number =
+      lacks_number n (one_text f id) (λ t e. subst (ReadsOne gives t) is (value t e)) (subst (λ text. IsSomeAnd text (IsNumber n)) (sym (one_text-rows f id)) number)
+
+-- texts that begin with different letters are two
+differ : (a b : Text) → slice_index a 0 ≢ slice_index b 0 → a ≢ b
+differ a b letters same = letters (ap (λ t. slice_index t 0) same)
+
+-- a command of each name has its words in the rows
+pub no_create : (name : Text) (rows : List Row) → name ≡ codes "create" → ((n : ℕ) → first_of (codes "folder") rows ≢ None → IsSomeAnd (one_of (codes "history") rows) (IsNumber n) → ⊥) → (command : ToolCommand) → IsAsked name rows command → ⊥
+no_create name rows is none (Create folder history) asked = none history (λ e. let bad = sym e ∙ asked.words.0 in cc) asked.words.1
+no_create name rows is none (Run folder) asked = absurd (differ (codes "create") (codes "run") (λ e. omega arith) (sym is ∙ asked.named))
+no_create name rows is none (AskList folder) asked = absurd (differ (codes "create") (codes "list") (λ e. omega arith) (sym is ∙ asked.named))
+no_create name rows is none (Verify folder) asked = absurd (differ (codes "create") (codes "verify") (λ e. omega arith) (sym is ∙ asked.named))
+no_create name rows is none (Frames file) asked = absurd (differ (codes "create") (codes "frames") (λ e. omega arith) (sym is ∙ asked.named))
+
+pub no_list : (name : Text) (rows : List Row) → name ≡ codes "list" → first_of (codes "folder") rows ≡ None → (command : ToolCommand) → IsAsked name rows command → ⊥
+no_list name rows is none (Create folder history) asked = absurd (differ (codes "list") (codes "create") (λ e. omega arith) (sym is ∙ asked.named))
+no_list name rows is none (Run folder) asked = absurd (differ (codes "list") (codes "run") (λ e. omega arith) (sym is ∙ asked.named))
+no_list name rows is none (AskList folder) asked = let bad = sym none ∙ asked.words in cc
+no_list name rows is none (Verify folder) asked = absurd (differ (codes "list") (codes "verify") (λ e. omega arith) (sym is ∙ asked.named))
+no_list name rows is none (Frames file) asked = absurd (differ (codes "list") (codes "frames") (λ e. omega arith) (sym is ∙ asked.named))
+
+pub no_verify : (name : Text) (rows : List Row) → name ≡ codes "verify" → first_of (codes "folder") rows ≡ None → (command : ToolCommand) → IsAsked name rows command → ⊥
+no_verify name rows is none (Create folder history) asked = absurd (differ (codes "verify") (codes "create") (λ e. omega arith) (sym is ∙ asked.named))
+no_verify name rows is none (Run folder) asked = absurd (differ (codes "verify") (codes "run") (λ e. omega arith) (sym is ∙ asked.named))
+no_verify name rows is none (AskList folder) asked = absurd (differ (codes "verify") (codes "list") (λ e. omega arith) (sym is ∙ asked.named))
+no_verify name rows is none (Verify folder) asked = let bad = sym none ∙ asked.words in cc
+no_verify name rows is none (Frames file) asked = absurd (differ (codes "verify") (codes "frames") (λ e. omega arith) (sym is ∙ asked.named))
+
+pub no_frames : (name : Text) (rows : List Row) → name ≡ codes "frames" → first_of (codes "file") rows ≡ None → (command : ToolCommand) → IsAsked name rows command → ⊥
+no_frames name rows is none (Create folder history) asked = absurd (differ (codes "frames") (codes "create") (λ e. omega arith) (sym is ∙ asked.named))
+no_frames name rows is none (Run folder) asked = absurd (differ (codes "frames") (codes "run") (λ e. omega arith) (sym is ∙ asked.named))
+no_frames name rows is none (AskList folder) asked = absurd (differ (codes "frames") (codes "list") (λ e. omega arith) (sym is ∙ asked.named))
+no_frames name rows is none (Verify folder) asked = absurd (differ (codes "frames") (codes "verify") (λ e. omega arith) (sym is ∙ asked.named))
+no_frames name rows is none (Frames file) asked = let bad = sym none ∙ asked.words in cc
+
+-- the program's command after one more subcommand
+pub adds : (old sub new : Command) (a s : App) → AddsSubcommand old sub new → app_of old ≡ a → IsCommand s sub → app_of new ≡ with_subcommand a s.top
+adds old sub new a s added is is_sub = added.shape is_sub.local ∙ ap₂ with_subcommand is (ap (λ (x : App). x.top) is_sub.app_is)
+
+-- the program is one of which clap gives matches and faults
 tool_is_simple : is_simple tool_app ≡ true
 unfolding clap_on_literals
 tool_is_simple = refl
 
--- such words are taken
-takes_run : (program : List ℕ) → takes tool_app (program ∷ codes "run" ∷ []) ≡ true
-unfolding clap_on_literals
-takes_run program = refl
-
-pub takes_alone : (words : List (List ℕ)) (program : List ℕ) (command : ToolCommand) → words ≡ program ∷ name_of command ∷ [] → takes tool_app words ≡ true
-takes_alone words program Run is = ap (takes tool_app) is ∙ takes_run program
-
--- and their matches hold the command
-abbrev name_in : Option (Text × List Row) → Option Text
-name_in = option_map (λ p. p.0)
-
-finds_run : (program : List ℕ) → name_in (subcommand_of tool_app (program ∷ codes "run" ∷ [])) ≡ Some (codes "run")
-unfolding clap_on_literals
-finds_run program = refl
-
-first_of_both : {A B C : Type 0} (f : A → B) (g : A → C) (found : Option A) → option_map f found ≡ option_map (λ (p : B × C). p.0) (option_map (λ (x : A). (f x, g x)) found)
-first_of_both f g None = refl
-first_of_both f g (Some x) = refl
-
-name_is : (m : ArgMatches) → subcommand_name_of m ≡ name_in (subcommand_rows_of m)
-name_is m = first_of_both _ _ _
-
-pub holds_alone : (words : List (List ℕ)) (m : ArgMatches) (program : List ℕ) (command : ToolCommand) → HasMatchesOf tool_app words m
-    → words ≡ program ∷ name_of command ∷ [] → subcommand_name_of m ≡ Some (name_of command)
-holds_alone words m program Run parsed is =
-    name_is m ∙ ap name_in ((parsed tool_is_simple).1 ∙ ap (subcommand_of tool_app) is) ∙ finds_run program
-
--- the kind of a fault in the words
 tool_is_free : is_simple_and_free tool_app ≡ true
 unfolding clap_on_literals
 tool_is_free = refl
 
+-- the word `run` alone is held
+run_is_taken : (program : Text) → fault_of tool_app (program ∷ codes "run" ∷ []) ≡ []
+unfolding clap_on_literals
+run_is_taken program = refl
+
+run_is_met : (program : Text) → subcommand_of tool_app (program ∷ codes "run" ∷ []) ≡ Some (codes "run", [])
+unfolding clap_on_literals
+run_is_met program = refl
+
+pub run_is_held : (words : List Text) (program : Text) → words ≡ program ∷ codes "run" ∷ [] → IsHeld words (Run None)
+run_is_held words program is = subst (λ given. IsHeld given (Run None)) (sym is) (record {
+  taken = run_is_taken program;
+  met = subst (λ met. IsMet met (Run None)) (sym (run_is_met program)) (record { named = refl; words = refl });
+})
+
+-- words hold the command that clap's matches of them hold, and none where these hold none
+met_is : (words : List Text) (app : App) (m : ArgMatches) → app ≡ tool_app → HasMatchesOf app words m → subcommand_rows_of m ≡ subcommand_of tool_app words
+met_is words app m is parsed = (subst (λ (a : App). HasMatchesOf a words m) is parsed tool_is_simple).1
+
+pub holds : (words : List Text) (app : App) (m : ArgMatches) (command : ToolCommand) → app ≡ tool_app → HasMatchesOf app words m
+    → IsMet (subcommand_rows_of m) command → IsMet (subcommand_of tool_app words) command
+holds words app m command is parsed = subst (λ met. IsMet met command) (met_is words app m is parsed)
+
+pub holds_none : (words : List Text) (app : App) (m : ArgMatches) → app ≡ tool_app → HasMatchesOf app words m
+    → ((command : ToolCommand) → IsMet (subcommand_rows_of m) command → ⊥) → (command : ToolCommand) → IsHeld words command → ⊥
+holds_none words app m is parsed none command held = none command (subst (λ met. IsMet met command) (sym (met_is words app m is parsed)) held.met)
+
+-- the kind of a fault in the words
 pub words_fault : (kinds : Kinds) (e : Error) → HasKind kinds e → IsWordsFault kinds (kind_of e)
 words_fault [] e (inl memory) = inr memory
 words_fault [] e (inr none) = absurd none
@@ -57,6 +124,12 @@ pub memory_fault : {A : Type 0} (kinds : Kinds) (r : Result A Error) → IfErr r
 memory_fault kinds (Ok x) h = tt
 memory_fault kinds (Err e) h = words_fault kinds e (inl h)
 
-pub fails_by : {A : Type 0} (app : App) (words : List (List ℕ)) (r : Result A Error) → app ≡ tool_app
+pub fails_by : {A : Type 0} (app : App) (words : List Text) (r : Result A Error) → app ≡ tool_app
     → (is_simple_and_free app ≡ true → FailsBy (fault_of app words) r) → FailsBy (fault_of tool_app words) r
 fails_by app words r is kinds = subst (λ (a : App). FailsBy (fault_of a words) r) is (kinds (ap is_simple_and_free is ∙ tool_is_free))
+
+-- words without a fault are refused for want of memory
+pub only_memory : (kinds : Kinds) (e : Error) → HasKind kinds e → kinds ≡ [] → kind_of e ≡ OutOfMemory
+only_memory kinds e (inl memory) none = memory
+only_memory [] e (inr among) none = absurd among
+only_memory (k ∷ ks) e (inr among) none = cc

@@ -1,9 +1,12 @@
 -- The program's command line, and how it ends: docs/CONTROL.md, "The program".
-use Rattle.std.specs.Prelude.{◌≡◌, ◌⊎◌, ℕ, true, List, [], ◌∷◌, Option, Some, None, codes}
+use Rattle.std.specs.Prelude.{◌≡◌, ◌⊎◌, ◌<◌, ◌^◌, ℕ, pos, true, false, List, [], ◌∷◌, Option, Some, None, IsSomeAnd, codes, option_map}
 use Rattle.std.specs.declared.io.ErrorKind.TheVariants as io
+use Rattle.std.specs.Str.Parse.{IsNumeral, digits_value, without_leading_plus}
 use Rattle.clap.specs.Simple.{on_top}
-use Rattle.clap.specs.Words.{App, HasMatchesOf, IsAmong, Kinds, fault_of, new_app, subcommand_name_of, with_subcommand}
-use Rattle.clap.specs.declared.parser.matches.ArgMatches.{ArgMatches}
+use Rattle.clap.specs.Words.{App, IsAmong, Kinds, Row, Rule, Text, app_of, fault_of, first_of, new_app, new_rule, one_of, subcommand_of, with_rule, with_subcommand}
+use Rattle.clap.specs.declared.builder.command.Command.{Command}
+use Rattle.clap.specs.declared.builder.command.Command.TheViews.{out-Command as fields_of}
+use Rattle.clap.specs.declared.builder.value_parser.ValueParser.TheVariants as parser
 use Rattle.clap.specs.declared.error.ErrorKind.{ErrorKind}
 use Rattle.clap.specs.declared.error.ErrorKind.TheVariants as kinds
 use Rattle.frame_core.specs.declared.refusal.Refusal.{Refusal}
@@ -12,11 +15,30 @@ use Rattle.archive_tool.specs.declared.fault.EarlyEnd.TheVariants as faults
 use Rattle.archive_tool.specs.declared.status.Ending.{Ending}
 use Rattle.archive_tool.specs.declared.status.Ending.TheVariants.{Done, Cut, NoCommand, Failed}
 use Rattle.archive_tool.specs.declared.command.ToolCommand.{ToolCommand}
-use Rattle.archive_tool.specs.declared.command.ToolCommand.TheVariants.{Run}
+use Rattle.archive_tool.specs.declared.command.ToolCommand.TheVariants.{Create, Run, List as AskList, Verify, Frames}
 
--- the word that asks for a command
-abbrev pub name_of : ToolCommand → List ℕ
-name_of Run = codes "run"
+-- a word that has to be given
+abbrev pub required_word : Text → Rule
+required_word id = record (new_rule id) { required = true }
+
+-- `--history`, a u32, which is 1048576 where it is not given
+abbrev pub history_option : Rule
+history_option = record (new_rule (codes "history")) {
+  long = Some (codes "history");
+  value_names = 1;
+  defaults = codes "1048576" ∷ [];
+  parser = Some (parser.Signed (pos 0) (pos 4294967295));
+}
+
+-- a command of one word, which has to be given
+abbrev pub word_app : Text → Text → App
+word_app name id = with_rule (new_app name) (required_word id)
+
+abbrev pub create_app : App
+create_app = with_rule (word_app (codes "create") (codes "folder")) history_option
+
+abbrev pub run_app : App
+run_app = with_rule (new_app (codes "run")) (new_rule (codes "folder"))
 
 -- the program, of which one command has to be asked for
 abbrev pub named_tool : App
@@ -24,14 +46,48 @@ named_tool = on_top (λ s. record s { subcommand_required = true; arg_required_e
 
 -- and its commands
 abbrev pub tool_app : App
-tool_app = with_subcommand named_tool (new_app (name_of Run)).top
+tool_app = with_subcommand (with_subcommand (with_subcommand (with_subcommand (with_subcommand named_tool create_app.top) run_app.top)
+    (word_app (codes "list") (codes "folder")).top) (word_app (codes "verify") (codes "folder")).top)
+    (word_app (codes "frames") (codes "file")).top
 
--- clap takes the words, and its matches of them hold the command
-pub record IsHeld (words : List (List ℕ)) (command : ToolCommand) : Type 0 where
+-- the command is that one, and has no argument that its subcommands have too
+pub record IsCommand (app : App) (command : Command) : Type 0 where
+  pub app_is : app_of command ≡ app
+  pub local : (fields_of command).has_globals ≡ false
+
+-- the word that asks for a command
+abbrev pub name_of : ToolCommand → Text
+name_of (Create folder history) = codes "create"
+name_of (Run folder) = codes "run"
+name_of (AskList folder) = codes "list"
+name_of (Verify folder) = codes "verify"
+name_of (Frames file) = codes "frames"
+
+-- the text is a u32 in decimal, and this number
+abbrev pub IsNumber : ℕ → Text → Type 0
+IsNumber n text = IsNumeral 10 (without_leading_plus text) × (n ≡ digits_value 10 (without_leading_plus text)) × (n < 2 ^ 32)
+
+-- the words of a command are those that its subcommand's entries hold
+abbrev pub HasWords : List Row → ToolCommand → Type 0
+HasWords rows (Create folder history) = (first_of (codes "folder") rows ≡ Some folder.now) × IsSomeAnd (one_of (codes "history") rows) (IsNumber history)
+HasWords rows (Run folder) = first_of (codes "folder") rows ≡ option_map (λ f. f.now) folder
+HasWords rows (AskList folder) = first_of (codes "folder") rows ≡ Some folder.now
+HasWords rows (Verify folder) = first_of (codes "folder") rows ≡ Some folder.now
+HasWords rows (Frames file) = first_of (codes "file") rows ≡ Some file.now
+
+-- a subcommand of that name, with those entries, is the command
+pub record IsAsked (name : Text) (rows : List Row) (command : ToolCommand) : Type 0 where
+  pub named : name ≡ name_of command
+  pub words : HasWords rows command
+
+-- the subcommand that was met, if there is one, is the command
+abbrev pub IsMet : Option (Text × List Row) → ToolCommand → Type 0
+IsMet met command = IsSomeAnd met (λ p. IsAsked p.0 p.1 command)
+
+-- clap takes the words, and the subcommand that its matches of them hold is the command
+pub record IsHeld (words : List Text) (command : ToolCommand) : Type 0 where
   pub taken : fault_of tool_app words ≡ []
-  pub matches : ArgMatches
-  pub parsed : HasMatchesOf tool_app words matches
-  pub name : subcommand_name_of matches ≡ Some (name_of command)
+  pub met : IsMet (subcommand_of tool_app words) command
 
 -- The kind of the error: one of those that clap gives to the words, or none that a command is missing where it takes
 -- them; else memory ran out.

@@ -1,66 +1,222 @@
 //! The program's command line: docs/CONTROL.md, "The program".
 
-ghost use Rattle.std.specs.Prelude.{◌≡◌, ◌∷◌, [], ℕ, List, Some, IfOk, IfErr, MatchOption, map, string_bytes};
-ghost use Rattle.clap.specs.Words.{app_of, fault_of, kind_of, subcommand_name_of};
-ghost use Rattle.archive_tool.specs.CommandLine.{IsHeld, IsWordsFault, name_of, tool_app};
+ghost use Rattle.std.specs.Prelude.{◌≡◌, ◌∷◌, [], ℕ, List, IfOk, IfErr, MatchOption, codes, false, map, string_bytes};
+ghost use Rattle.clap.specs.Words.{app_of, fault_of, found_of, kind_of, rows_of, rule_of, subcommand_rows_of};
+ghost use Rattle.archive_tool.specs.CommandLine.{IsAsked, IsCommand, IsHeld, IsMet, IsWordsFault, create_app, history_option, required_word, run_app, tool_app, word_app};
 
 use clap::error::ErrorKind;
-use clap::{ArgMatches, Command, Error};
+use clap::{Arg, ArgMatches, Command, Error, value_parser};
 use std::alloc::{AllocError, Global};
 
-/// What the program is asked to do.
+/// What the program is asked to do. Folders and files are words of the command line, as they were given.
 #[derive(Clone, Copy, Debug, PartialEq, Eq)]
-pub enum ToolCommand {
-    /// Answer control lines from standard input on standard output.
-    Run,
+pub enum ToolCommand<'a> {
+    /// Make an empty archive in a folder, with a history of at most so many entries.
+    Create { folder: &'a str, history: u32 },
+    /// Answer control lines from standard input on standard output, over the archive of a folder or over memory.
+    Run { folder: Option<&'a str> },
+    /// Print the recordings of the archive of a folder.
+    List { folder: &'a str },
+    /// Read each recorded frame of the archive of a folder.
+    Verify { folder: &'a str },
+    /// Print the frames of a segment file.
+    Frames { file: &'a str },
 }
 
-const RUN_HELP: &str =
-    "Reads control lines from standard input, one a line, until its end or the line `quit`, \
-and writes the reply of each to standard output before it waits for the next. The archive lies in memory, and is \
-gone when the program ends. A line that is refused is answered by a line `error <number> <name>`.";
+const TOOL_HELP: &str =
+    "Records Aeron streams and replays them. An archive lies in a folder, which has to be on a local file system, and \
+which one process may have open at a time. Positions, offsets and lengths are in bytes.";
 
 const STATUSES: &str =
-    "Statuses: 0 done, 1 refused (a want of memory), 2 a wrong command line, 3 standard input or \
+    "Statuses: 0 done, 1 refused, 2 a wrong command line, 3 a device fault or damage, or standard input or output \
+failed. Why a command was refused is told on standard error by a line `error <number> <name>`.";
+
+const CREATE_HELP: &str =
+    "Makes an archive without recordings in a folder, and prints `created`. The folder is made where it is not there. \
+It has to be on a local file system, and one process may have it open at a time.";
+
+const CREATE_EXAMPLE: &str = "Example: archive_tool create /var/lib/recorder --history 4096
+
+Statuses: 0 done, 1 refused, 2 a wrong command line, 3 a device fault or damage.";
+
+const RUN_HELP: &str =
+    "Reads control lines from standard input, one a line, until its end or the line `quit`, and writes the reply of \
+each to standard output before it waits for the next. A line that is refused is answered by a line \
+`error <number> <name>`. The archive is that of the folder, which has to be on a local file system, and which one \
+process may have open at a time. Without a folder it lies in memory, and is gone when the program ends.";
+
+const RUN_EXAMPLE: &str = "Example: archive_tool run /var/lib/recorder
+
+Statuses: 0 done, refused lines too, 1 refused, 2 a wrong command line, 3 a device fault or damage, or standard input \
+or output failed.";
+
+const LIST_HELP: &str =
+    "Prints a line `recording ..` for each recording of the archive in a folder, by rising id and for at most 1024 of \
+them, and then `end <count>`. Positions and lengths are in bytes, timestamps in milliseconds. The folder has to be on \
+a local file system, and one process may have it open at a time.";
+
+const LIST_EXAMPLE: &str = "Example: archive_tool list /var/lib/recorder
+
+Statuses: 0 done, 1 refused, 2 a wrong command line, 3 a device fault or damage, or standard output failed.";
+
+const VERIFY_HELP: &str =
+    "Reads each recorded frame of the archive in a folder, and prints for each recording, by rising id, a line \
+`verified <frames>`, or a line `error <number> <name>`. The folder has to be on a local file system, and one process \
+may have it open at a time.";
+
+const VERIFY_EXAMPLE: &str = "Example: archive_tool verify /var/lib/recorder
+
+Statuses: 0 done, 1 refused, 2 a wrong command line, 3 a device fault, a line `error ..` or other damage, or standard \
 output failed.";
+
+const FRAMES_HELP: &str =
+    "Prints a line `frame <term id> <term offset> <type> <length> <flags>` for each frame of a segment file, from its \
+beginning until a length of 0 or its end, and then `end <count>`. Offsets and lengths are in bytes, the flags are two \
+hexadecimal digits. Where the bytes begin with no frame the last line is `error 21 BadFrame <offset>`.";
+
+const FRAMES_EXAMPLE: &str = "Example: archive_tool frames /var/lib/recorder/0-0.rec
+
+Statuses: 0 done, 2 a wrong command line, 3 a device fault or a line `error ..`, or standard output failed.";
+
+const FOLDER_HELP: &str = "The archive's folder, on a local file system";
+
+/// The word `name` of a command, which has to be given.
+fn required<'a>(alloc: Global, name: &'a str, help: &'a str) -> Arg<'a>
+    ensures rule { rule_of result ≡ required_word name.entry.now }
+    ensures local { result.global ≡ false }
+{
+    Arg::new(alloc, name).required(true).help(help)
+}
+
+/// The option `--history`, in entries.
+fn history<'a>(alloc: Global) -> Arg<'a>
+    ensures rule { rule_of result ≡ history_option }
+    ensures local { result.global ≡ false }
+{
+    Arg::new(alloc, "history")
+        .long("history")
+        .value_name("entries")
+        .value_parser(value_parser!(u32))
+        .default_value("1048576")
+        .help("How many entries the archive's history may have, from 1 to 16777216")
+}
+
+fn create<'a>(alloc: Global) -> Result<Command<'a>, AllocError>
+    ensures { IfOk result (IsCommand create_app) }
+{
+    Command::new(alloc, "create")
+        .about("Makes an empty archive in a folder")
+        .long_about(CREATE_HELP)
+        .after_help(CREATE_EXAMPLE)
+        .arg(required(alloc, "folder", FOLDER_HELP))?
+        .arg(history(alloc))
+}
+
+fn run<'a>(alloc: Global) -> Result<Command<'a>, AllocError>
+    ensures { IfOk result (IsCommand run_app) }
+{
+    Command::new(alloc, "run")
+        .about("Answers control lines from standard input on standard output")
+        .long_about(RUN_HELP)
+        .after_help(RUN_EXAMPLE)
+        .arg(Arg::new(alloc, "folder").help(FOLDER_HELP))
+}
+
+fn list<'a>(alloc: Global) -> Result<Command<'a>, AllocError>
+    ensures { IfOk result (IsCommand (word_app (codes "list") (codes "folder"))) }
+{
+    Command::new(alloc, "list")
+        .about("Prints the recordings of an archive")
+        .long_about(LIST_HELP)
+        .after_help(LIST_EXAMPLE)
+        .arg(required(alloc, "folder", FOLDER_HELP))
+}
+
+fn verify<'a>(alloc: Global) -> Result<Command<'a>, AllocError>
+    ensures { IfOk result (IsCommand (word_app (codes "verify") (codes "folder"))) }
+{
+    Command::new(alloc, "verify")
+        .about("Reads each recorded frame of an archive")
+        .long_about(VERIFY_HELP)
+        .after_help(VERIFY_EXAMPLE)
+        .arg(required(alloc, "folder", FOLDER_HELP))
+}
+
+fn frames<'a>(alloc: Global) -> Result<Command<'a>, AllocError>
+    ensures { IfOk result (IsCommand (word_app (codes "frames") (codes "file"))) }
+{
+    Command::new(alloc, "frames")
+        .about("Prints the frames of a segment file")
+        .long_about(FRAMES_HELP)
+        .after_help(FRAMES_EXAMPLE)
+        .arg(required(alloc, "file", "A segment file of an archive"))
+}
 
 fn tool<'a>(alloc: Global) -> Result<Command<'a>, AllocError>
     ensures { IfOk result (λ tool. app_of tool ≡ tool_app) }
 {
-    let run = Command::new(alloc, "run")
-        .about("Answers control lines from standard input on standard output")
-        .long_about(RUN_HELP)
-        .after_help(STATUSES);
     Command::new(alloc, "archive_tool")
         .about("Records Aeron streams and replays them")
+        .long_about(TOOL_HELP)
         .after_help(STATUSES)
         .subcommand_required(true)
         .arg_required_else_help(true)
-        .subcommand(run)
+        .subcommand(create(alloc)?)?
+        .subcommand(run(alloc)?)?
+        .subcommand(list(alloc)?)?
+        .subcommand(verify(alloc)?)?
+        .subcommand(frames(alloc)?)
+}
+
+/// The command that a subcommand's name and matches hold, if it is one of the program's.
+fn asked<'a>(name: &str, own: &ArgMatches<'a>) -> Option<ToolCommand<'a>>
+    ensures { MatchOption result
+        ((command : ToolCommand) → IsAsked name.now (rows_of (found_of own.now)) command → ⊥)
+        (IsAsked name.now (rows_of (found_of own.now))) }
+{
+    match name {
+        "create" => Some(ToolCommand::Create {
+            folder: own.get_str("folder")?,
+            history: own.get_one::<u32>("history")?,
+        }),
+        "run" => Some(ToolCommand::Run {
+            folder: own.get_str("folder"),
+        }),
+        "list" => Some(ToolCommand::List {
+            folder: own.get_str("folder")?,
+        }),
+        "verify" => Some(ToolCommand::Verify {
+            folder: own.get_str("folder")?,
+        }),
+        "frames" => Some(ToolCommand::Frames {
+            file: own.get_str("file")?,
+        }),
+        _ => None,
+    }
 }
 
 /// The command that matches hold, if it is one of the program's.
-fn held(matches: &ArgMatches<'_>) -> Option<ToolCommand>
+fn held<'a>(matches: &ArgMatches<'a>) -> Option<ToolCommand<'a>>
     ensures { MatchOption result
-        ((command : ToolCommand) → subcommand_name_of matches.now ≡ Some (name_of command) → ⊥)
-        (λ command. subcommand_name_of matches.now ≡ Some (name_of command)) }
+        ((command : ToolCommand) → IsMet (subcommand_rows_of matches.now) command → ⊥)
+        (IsMet (subcommand_rows_of matches.now)) }
 {
-    if matches.subcommand_matches("run").is_some() {
-        return Some(ToolCommand::Run);
-    }
-    None
+    let (name, own) = matches.subcommand()?;
+    asked(name, own)
 }
 
 /// What the words of a command line ask for, the program's name first.
 ///
 /// An error says what is wrong with the words, or is the help that they ask for; its kind is the one that clap gives to
-/// these words. A command's word alone is its command, unless memory runs out.
-pub fn command_of(alloc: Global, words: &[String]) -> Result<ToolCommand, Error>
+/// these words. Words that hold a command, as `run` alone does, are refused for want of memory alone.
+pub fn command_of<'a>(alloc: Global, words: &'a [String]) -> Result<ToolCommand<'a>, Error>
     ensures held { IfOk result (IsHeld (map string_bytes words.now)) }
     ensures kind { IfErr result (λ e.
         IsWordsFault (fault_of tool_app (map string_bytes words.now)) (kind_of e)) }
-    ensures alone { IfErr result (λ e. (program : List ℕ) (command : ToolCommand)
-        → map string_bytes words.now ≡ program ∷ name_of command ∷ []
+    ensures refused { IfErr result (λ e. (command : ToolCommand)
+        → IsHeld (map string_bytes words.now) command → kind_of e ≡ ErrorKind.OutOfMemory) }
+    ensures alone { IfErr result (λ e. (program : List ℕ)
+        → map string_bytes words.now ≡ program ∷ codes "run" ∷ []
         → kind_of e ≡ ErrorKind.OutOfMemory) }
 {
     let mut tool = tool(alloc)?;

@@ -14,13 +14,28 @@ use std::io;
 use std::process::Abort;
 use std::test::*;
 
-/// What the words between blanks ask for.
-fn asked(alloc: Global, line: &str) -> Result<Result<ToolCommand, Error>, Fail> {
+/// The words between blanks.
+fn words(alloc: Global, line: &str) -> Result<Vec<String>, Fail> {
     let mut words = Vec::new(alloc);
     for word in line.split(' ') {
         words.push(String::from_str(alloc, word)?)?;
     }
-    Ok(command_of(alloc, words.as_slice()))
+    Ok(words)
+}
+
+/// Whether the words between blanks ask for the command.
+fn asks_for(alloc: Global, line: &str, command: ToolCommand<'_>) -> Result<bool, Fail> {
+    let words = words(alloc, line)?;
+    Ok(match command_of(alloc, words.as_slice()) {
+        Ok(asked) => asked == command,
+        Err(_) => false,
+    })
+}
+
+/// Why the words between blanks ask for no command.
+fn refused(alloc: Global, line: &str) -> Result<Option<Error>, Fail> {
+    let words = words(alloc, line)?;
+    Ok(command_of(alloc, words.as_slice()).err())
 }
 
 // Counts what is told on the one stream and on the other, and whether it was the text that is awaited; or fails to tell it.
@@ -106,40 +121,84 @@ fn check_told(
     Ok(())
 }
 
+/// The line asks for no command: the error is of that kind and begins so, and the program ends with that status.
+fn check_refused(
+    rt: &impl Abort,
+    alloc: Global,
+    line: &str,
+    kind: ErrorKind,
+    text: &str,
+    status: u8,
+) -> Result<(), Fail> {
+    match refused(alloc, line)? {
+        Some(error) => check_told(rt, alloc, &error, kind, text, status),
+        None => Err(Fail::new(line)),
+    }
+}
+
+#[test]
+fn help(rt: HostRuntime) -> Result<(), Fail> {
+    for (line, text) in [
+        (
+            "archive_tool --help",
+            "Records Aeron streams and replays them. An archive lies in a folder,",
+        ),
+        (
+            "archive_tool create --help",
+            "Makes an archive without recordings in a folder, and prints `created`.",
+        ),
+        (
+            "archive_tool run --help",
+            "Reads control lines from standard input, one a line,",
+        ),
+        (
+            "archive_tool list --help",
+            "Prints a line `recording ..` for each recording",
+        ),
+        (
+            "archive_tool verify --help",
+            "Reads each recorded frame of the archive in a folder,",
+        ),
+        (
+            "archive_tool frames --help",
+            "Prints a line `frame <term id> <term offset> <type> <length> <flags>` for each frame",
+        ),
+    ] {
+        check_refused(&rt, rt.alloc(), line, ErrorKind::DisplayHelp, text, 0)?;
+    }
+    Ok(())
+}
+
 #[test]
 fn words_that_ask_for_no_command(rt: HostRuntime) -> Result<(), Fail> {
-    let tool = "Records Aeron streams and replays them\n\nUsage: archive_tool <COMMAND>\n";
-    for (line, kind, text, status) in [
+    for (line, kind, text) in [
         (
             "archive_tool",
             ErrorKind::DisplayHelpOnMissingArgumentOrSubcommand,
-            tool,
-            2,
-        ),
-        ("archive_tool --help", ErrorKind::DisplayHelp, tool, 0),
-        (
-            "archive_tool run --help",
-            ErrorKind::DisplayHelp,
-            "Reads control lines from standard input, one a line,",
-            0,
+            "Records Aeron streams and replays them\n\nUsage: archive_tool <COMMAND>\n",
         ),
         (
             "archive_tool walk",
             ErrorKind::InvalidSubcommand,
             "error: unrecognized subcommand 'walk'\n",
-            2,
         ),
         (
-            "archive_tool run fast",
+            "archive_tool run a fast",
             ErrorKind::UnknownArgument,
             "error: unexpected argument 'fast' found\n",
-            2,
+        ),
+        (
+            "archive_tool create a b",
+            ErrorKind::UnknownArgument,
+            "error: unexpected argument 'b' found\n",
+        ),
+        (
+            "archive_tool list a --history 7",
+            ErrorKind::UnknownArgument,
+            "error: unexpected argument '--history' found\n",
         ),
     ] {
-        match asked(rt.alloc(), line)? {
-            Err(error) => check_told(&rt, rt.alloc(), &error, kind, text, status)?,
-            Ok(_) => return Err(Fail::new(line)),
-        }
+        check_refused(&rt, rt.alloc(), line, kind, text, 2)?;
     }
     let error = unreadable_words(rt.alloc());
     let text = "error: a word of the command line is not UTF-8\n";
@@ -147,9 +206,104 @@ fn words_that_ask_for_no_command(rt: HostRuntime) -> Result<(), Fail> {
 }
 
 #[test]
-fn a_word_alone_is_its_command(rt: HostRuntime) -> Result<(), Fail> {
-    let command = asked(rt.alloc(), "archive_tool run")?;
-    assert!(rt; matches!(command, Ok(ToolCommand::Run)));
+fn a_missing_folder_or_file(rt: HostRuntime) -> Result<(), Fail> {
+    let missing = "error: the following required arguments were not provided:\n  ";
+    for (line, word) in [
+        ("archive_tool create", "<folder>"),
+        ("archive_tool create --history 7", "<folder>"),
+        ("archive_tool list", "<folder>"),
+        ("archive_tool verify", "<folder>"),
+        ("archive_tool frames", "<file>"),
+    ] {
+        let text = format!(in rt.alloc(); "{missing}{word}\n")?;
+        let kind = ErrorKind::MissingRequiredArgument;
+        check_refused(&rt, rt.alloc(), line, kind, text.as_str(), 2)?;
+    }
+    Ok(())
+}
+
+#[test]
+fn a_history_that_is_no_number(rt: HostRuntime) -> Result<(), Fail> {
+    for (line, kind, text) in [
+        (
+            "archive_tool create a --history x",
+            ErrorKind::ValueValidation,
+            "error: invalid value 'x' for '--history <entries>': ",
+        ),
+        (
+            "archive_tool create a --history 4294967296",
+            ErrorKind::ValueValidation,
+            "error: invalid value '4294967296' for '--history <entries>': ",
+        ),
+        (
+            "archive_tool create a --history=-1",
+            ErrorKind::ValueValidation,
+            "error: invalid value '-1' for '--history <entries>': ",
+        ),
+        (
+            "archive_tool create a --history",
+            ErrorKind::InvalidValue,
+            "error: a value is required for '--history <entries>' but none was supplied\n",
+        ),
+        (
+            "archive_tool create a --history 7 --history 8",
+            ErrorKind::ArgumentConflict,
+            "error: the argument '--history <entries>' cannot be used multiple times\n",
+        ),
+    ] {
+        check_refused(&rt, rt.alloc(), line, kind, text, 2)?;
+    }
+    Ok(())
+}
+
+#[test]
+fn each_command_has_its_words(rt: HostRuntime) -> Result<(), Fail> {
+    for (line, command) in [
+        ("archive_tool run", ToolCommand::Run { folder: None }),
+        ("archive_tool run a", ToolCommand::Run { folder: Some("a") }),
+        ("archive_tool list a", ToolCommand::List { folder: "a" }),
+        (
+            "archive_tool verify a/b",
+            ToolCommand::Verify { folder: "a/b" },
+        ),
+        (
+            "archive_tool frames a/0-0.rec",
+            ToolCommand::Frames { file: "a/0-0.rec" },
+        ),
+        (
+            "archive_tool list -- -a",
+            ToolCommand::List { folder: "-a" },
+        ),
+        (
+            "archive_tool list list",
+            ToolCommand::List { folder: "list" },
+        ),
+    ] {
+        assert!(rt; asks_for(rt.alloc(), line, command)?, "{line}");
+    }
+    Ok(())
+}
+
+#[test]
+fn a_new_archive_has_its_history(rt: HostRuntime) -> Result<(), Fail> {
+    for (line, folder, history) in [
+        (
+            "archive_tool create /var/lib/recorder",
+            "/var/lib/recorder",
+            1_048_576,
+        ),
+        ("archive_tool create a --history 7", "a", 7),
+        ("archive_tool create --history=7 a", "a", 7),
+        ("archive_tool create a --history 0", "a", 0),
+        (
+            "archive_tool create a --history 4294967295",
+            "a",
+            4_294_967_295,
+        ),
+    ] {
+        let command = ToolCommand::Create { folder, history };
+        assert!(rt; asks_for(rt.alloc(), line, command)?, "{line}");
+    }
     Ok(())
 }
 

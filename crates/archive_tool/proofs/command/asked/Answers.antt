@@ -1,0 +1,59 @@
+-- A subcommand's name and its entries are the command that is answered, and no command where none is.
+use Rattle.std.proofs.Common.{rules, refl, codes}
+use Rattle.std.specs.Str.Parse.{ParsesUnsigned, ExplainsUnsignedError, HasUnsignedDigitsIfOk}
+use Rattle.clap.specs.Words.{found_of}
+use Rattle.archive_tool.proofs.CommandLineLemmas.{text_given, number_given, number_lacks, no_create, no_list, no_verify, no_frames}
+use Rattle.archive_tool.proofs.command.asked.Goals as goal
+
+pub returns-in_err-get_str-in-create : goal.returns-in_err-get_str-in-create
+returns-in_err-get_str-in-create c = rw c.from_residual.ensures
+    (no_create _ _ (search rules) (λ n some number. some (text_given (found_of c.args.own.now) (codes "folder") _ _ c.get_str.ensures c.in_err-get_str-in-create.was)))
+
+pub returns-in_err-get_one-in-create : goal.returns-in_err-get_one-in-create
+returns-in_err-get_one-in-create c = rw c.from_residual-in_err-get_one-in-create.ensures
+    (no_create _ _ (search rules)
+    (λ n some number. number_lacks (λ text x. ParsesUnsigned 32 10 text x × ExplainsUnsignedError 10 text x × HasUnsignedDigitsIfOk text x) (λ text x read. read.0)
+    (found_of c.args.own.now) (codes "history") n _ c.get_one.ensures.value c.in_err-get_one-in-create.was number))
+
+pub returns-in_ok-get_one-in-create : goal.returns-in_ok-get_one-in-create
+returns-in_ok-get_one-in-create c = record {
+  named = search rules;
+  words = (
+    text_given (found_of c.args.own.now) (codes "folder") _ _ c.get_str.ensures c.in_ok-get_str-in-create.was,
+    number_given (λ text x. ParsesUnsigned 32 10 text x × ExplainsUnsignedError 10 text x × HasUnsignedDigitsIfOk text x) (λ text x read. read.0)
+        (found_of c.args.own.now) (codes "history") _ _ c.get_one.ensures.none c.get_one.ensures.value c.in_ok-get_one-in-create.was,
+  );
+}
+
+pub returns-in-run : goal.returns-in-run
+returns-in-run c = record { named = search rules; words = text_given (found_of c.args.own.now) (codes "folder") _ _ c.get_str-in-run.ensures refl }
+
+pub returns-in_err-get_str-in-list : goal.returns-in_err-get_str-in-list
+returns-in_err-get_str-in-list c = rw c.from_residual-in_err-get_str-in-list.ensures
+    (no_list _ _ (search rules) (text_given (found_of c.args.own.now) (codes "folder") _ _ c.get_str-in-list.ensures c.in_err-get_str-in-list.was))
+
+pub returns-in_ok-get_str-in-list : goal.returns-in_ok-get_str-in-list
+returns-in_ok-get_str-in-list c = record {
+  named = search rules;
+  words = text_given (found_of c.args.own.now) (codes "folder") _ _ c.get_str-in-list.ensures c.in_ok-get_str-in-list.was;
+}
+
+pub returns-in_err-get_str-in-verify : goal.returns-in_err-get_str-in-verify
+returns-in_err-get_str-in-verify c = rw c.from_residual-in_err-get_str-in-verify.ensures
+    (no_verify _ _ (search rules) (text_given (found_of c.args.own.now) (codes "folder") _ _ c.get_str-in-verify.ensures c.in_err-get_str-in-verify.was))
+
+pub returns-in_ok-get_str-in-verify : goal.returns-in_ok-get_str-in-verify
+returns-in_ok-get_str-in-verify c = record {
+  named = search rules;
+  words = text_given (found_of c.args.own.now) (codes "folder") _ _ c.get_str-in-verify.ensures c.in_ok-get_str-in-verify.was;
+}
+
+pub returns-in_err-get_str-in-frames : goal.returns-in_err-get_str-in-frames
+returns-in_err-get_str-in-frames c = rw c.from_residual-in_err-get_str-in-frames.ensures
+    (no_frames _ _ (search rules) (text_given (found_of c.args.own.now) (codes "file") _ _ c.get_str-in-frames.ensures c.in_err-get_str-in-frames.was))
+
+pub returns-in_ok-get_str-in-frames : goal.returns-in_ok-get_str-in-frames
+returns-in_ok-get_str-in-frames c = record {
+  named = search rules;
+  words = text_given (found_of c.args.own.now) (codes "file") _ _ c.get_str-in-frames.ensures c.in_ok-get_str-in-frames.was;
+}
