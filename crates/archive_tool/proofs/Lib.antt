@@ -8,3 +8,6 @@ mod ScriptLemmas
 mod EndLemmas
 mod GoingOnLemmas
 mod CommandLineLemmas
+mod StoredLemmas
+mod FrameLinesLemmas
+mod ListingLemmas

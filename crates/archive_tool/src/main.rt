@@ -8,12 +8,14 @@ ghost use Rattle.archive_tool.specs.CommandLine.{IsStatus, IsTold, status_of};
 mod archive;
 mod command;
 mod fault;
+mod frames;
 mod laws;
 mod lines;
 mod merging;
 mod script;
 mod state;
 mod status;
+mod stored;
 
 use clap::Error;
 use clap::error::ErrorKind;

@@ -22,7 +22,7 @@ use std::alloc::Global;
 use std::io::{BufReader, Read, Write};
 
 /// Bytes that are read at once at most.
-const READ_AHEAD: usize = 65_536;
+pub(crate) const READ_AHEAD: usize = 65_536;
 
 /// The line behind which no further line is read.
 fn is_quit(line: &LineBuffer) -> bool
@@ -86,7 +86,8 @@ fn write_reply<W: Write>(alloc: Global, reply: &Reply, writer: &mut W) -> Result
     Ok(())
 }
 
-fn write_refusal<W: Write>(refusal: &Refusal, writer: &mut W) -> Result<(), EarlyEnd>
+/// Writes a refusal's line. `Write` where the writer fails.
+pub(crate) fn write_refusal<W: Write>(refusal: &Refusal, writer: &mut W) -> Result<(), EarlyEnd>
     ensures ok { OnOk result
         (Appends (W.contents writer.old) (W.contents writer.new) (refusal_text refusal.now)) }
     ensures err { IfErr result (λ fault. fault ≡ EarlyEnd.Write) }

@@ -1,7 +1,8 @@
-//! What no clause says: the worked scenarios, and what failing readers, writers and requests for memory lead to.
+//! What no clause says: the worked scenarios, listings of files, and what failing readers, writers and requests for memory lead to.
 
 mod command;
 mod disks;
 mod faults;
+mod frames;
 mod lines;
 mod scenarios;
