@@ -91,6 +91,18 @@ pub(crate) enum Part {
     AtEnd,
 }
 
+/// Counts a look at an input. `Read` where as many as may be were made.
+pub(crate) fn count_look(reads: &mut u64) -> Result<(), EarlyEnd>
+    ensures counted { OnOk result ((reads.old < MAX_READS) × (reads.new ≡ reads.old + 1)) }
+    ensures spent { IfErr result (λ end. end ≡ EarlyEnd.Read) }
+{
+    if *reads >= MAX_READS {
+        return Err(EarlyEnd::Read);
+    }
+    *reads += 1;
+    Ok(())
+}
+
 fn line_end(shown: &[u8]) -> Option<usize>
     ensures found { IfSome result (λ at. (at < length shown.now) × (slice_index shown.now at ≡ 10)
         × HasNoEnd (take at shown.now)) }
@@ -112,10 +124,7 @@ fn take_part<R: BufRead>(
     ensures spent { MAX_READS ≤ reads.old → IsSpent result (R.remaining reader.old) (R.remaining reader.new) }
     ensures faults { IfErr result (λ fault. fault ≢ EarlyEnd.Write) }
 {
-    if *reads >= MAX_READS {
-        return Err(EarlyEnd::Read);
-    }
-    *reads += 1;
+    count_look(reads)?;
     let shown = match reader.fill_buf() {
         Ok(shown) => shown,
         Err(e) => {

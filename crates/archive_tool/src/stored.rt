@@ -6,7 +6,7 @@ ghost use Rattle.archive_tool.specs.FrameLines.{EndsFrames, HasStored};
 ghost use Rattle.archive_tool.specs.Stored.{Fills, IsNext, LosesFirst, LosesHeader, Skips};
 
 use crate::fault::EarlyEnd;
-use crate::lines::MAX_READS;
+use crate::lines::{MAX_READS, count_look};
 use frame_core::limits::HEADER_LENGTH;
 use frame_core::{FrameKind, FrameRef, decode_header};
 use std::io::{BufRead, ErrorKind, Read};
@@ -29,18 +29,6 @@ pub(crate) enum Next<'a> {
     End,
     /// Neither.
     NoFrame,
-}
-
-/// Counts a look into the file. `Read` where as many as may be were made.
-fn count_look(reads: &mut u64) -> Result<(), EarlyEnd>
-    ensures counted { OnOk result ((reads.old < MAX_READS) × (reads.new ≡ reads.old + 1)) }
-    ensures spent { IfErr result (λ end. end ≡ EarlyEnd.Read) }
-{
-    if *reads >= MAX_READS {
-        return Err(EarlyEnd::Read);
-    }
-    *reads += 1;
-    Ok(())
 }
 
 /// Looks into the file once, for bytes that then come first in `out`. `Read` where the file cannot be read on, or was looked
