@@ -6,7 +6,7 @@ ghost use Rattle.archive_tool.specs.Script.{disk_of, end_of};
 
 use std::alloc::AllocError;
 
-/// Why a script ended before its last line.
+/// Why a script, or a listing of a file's frames, ended before its last line.
 #[derive(Clone, Copy, Debug, PartialEq, Eq)]
 pub enum EarlyEnd {
     /// Its input could not be read on, or was looked at as often as may be.
