@@ -6,6 +6,7 @@ mod LineLemmas
 mod ProgressLemmas
 mod ScriptLemmas
 mod EndLemmas
+mod ReportLemmas
 mod GoingOnLemmas
 mod CommandLineLemmas
 mod StoredLemmas

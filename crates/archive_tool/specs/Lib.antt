@@ -4,6 +4,7 @@ pub mod Transcript
 pub mod Merging
 pub mod ScriptLines
 pub mod Script
+pub mod Reports
 pub mod FrameLines
 pub mod CommandLine
 -- How a line is put together from parts.

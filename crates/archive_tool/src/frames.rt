@@ -6,9 +6,10 @@ ghost use Rattle.frame_core.specs.FrameEncoding.{frame_of, type_of};
 ghost use Rattle.archive_tool.specs.Stored.{FailsToList, ListsNext};
 ghost use Rattle.archive_tool.specs.FrameLines.{IsListing, Lists, ListsSome, end_text, frame_text};
 
+use crate::answers::write_refusal;
 use crate::fault::EarlyEnd;
 use crate::lines::MAX_READS;
-use crate::script::{READ_AHEAD, write_refusal};
+use crate::script::READ_AHEAD;
 use crate::stored::{Next, pass_next, read_header};
 use frame_core::limits::HEADER_LENGTH;
 use frame_core::{FrameKind, FrameRef, Refusal};

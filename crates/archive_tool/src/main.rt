@@ -5,6 +5,7 @@ ghost use Rattle.std.specs.Prelude.{◌≡◌};
 ghost use Rattle.clap.specs.Words.{kind_of};
 ghost use Rattle.archive_tool.specs.CommandLine.{IsStatus, IsTold, status_of};
 
+mod answers;
 mod archive;
 mod command;
 mod fault;
@@ -12,6 +13,7 @@ mod frames;
 mod laws;
 mod lines;
 mod merging;
+mod reports;
 mod script;
 mod state;
 mod status;

@@ -3,19 +3,18 @@
 ghost use Rattle.std.specs.Prelude.{◌≡◌, ◌⊎◌, ◌↔◌, Contains, IfErr, IfOk, IsTrue, OnOk, bytes_eq, codes};
 ghost use Rattle.std.specs.Io.KnownBytes.{Appends, Keeps};
 ghost use Rattle.std.specs.Io.Buffered.{reader_remaining};
-ghost use Rattle.control_core.specs.ReplyText.{reply_text};
-ghost use Rattle.control_core.specs.RefusalText.{refusal_text};
 ghost use Rattle.archive_tool.specs.Transcript.{Writes};
 ghost use Rattle.archive_tool.specs.ScriptLines.{Answered, Scene, Standing, begun_with};
 ghost use Rattle.archive_tool.specs.Script.{Begins, EndsEarly, FailsToAnswer, IsTranscript, IsUnopened, LeavesScene, Replied, Works, asked, disk_of, end_of, ended_by, outcome_text, quits};
 ghost use Rattle.archive_tool.specs.Tie.{GoesOn, IsScene, life_of};
 
+use crate::answers::write_outcome;
 use crate::archive::ScriptArchive;
 use crate::fault::{EarlyEnd, ScriptFault};
 use crate::lines::{LineBuffer, read_line};
 use crate::state::ScriptState;
 use archive_model::Reply;
-use control_core::{parse_line, print_refusal, print_reply};
+use control_core::parse_line;
 use disk_core::Disk;
 use frame_core::Refusal;
 use std::alloc::Global;
@@ -51,51 +50,6 @@ fn outcome_of<D: Disk>(
         Ok(line) => state.answer(alloc, &line),
         Err(refusal) => (state, Err(refusal)),
     }
-}
-
-/// Writes what was answered. `Memory` where a reply's text finds no memory, and then nothing is written; `Write`
-/// where the writer fails.
-fn write_outcome<W: Write>(
-    alloc: Global,
-    outcome: &Result<Reply, Refusal>,
-    writer: &mut W,
-) -> Result<(), EarlyEnd>
-    ensures ok { OnOk result
-        (Appends (W.contents writer.old) (W.contents writer.new) (outcome_text outcome.now)) }
-    ensures err { IfErr result
-        (λ fault. FailsToAnswer fault (W.contents writer.old) (W.contents writer.new)) }
-{
-    match outcome {
-        Ok(reply) => write_reply(alloc, reply, writer),
-        Err(refusal) => write_refusal(refusal, writer),
-    }
-}
-
-fn write_reply<W: Write>(alloc: Global, reply: &Reply, writer: &mut W) -> Result<(), EarlyEnd>
-    ensures ok { OnOk result
-        (Appends (W.contents writer.old) (W.contents writer.new) (reply_text reply.now)) }
-    ensures err { IfErr result
-        (λ fault. FailsToAnswer fault (W.contents writer.old) (W.contents writer.new)) }
-{
-    let Ok(text) = print_reply(alloc, reply) else {
-        return Err(EarlyEnd::Memory);
-    };
-    if writer.write_all(text.as_slice()).is_err() {
-        return Err(EarlyEnd::Write);
-    }
-    Ok(())
-}
-
-/// Writes a refusal's line. `Write` where the writer fails.
-pub(crate) fn write_refusal<W: Write>(refusal: &Refusal, writer: &mut W) -> Result<(), EarlyEnd>
-    ensures ok { OnOk result
-        (Appends (W.contents writer.old) (W.contents writer.new) (refusal_text refusal.now)) }
-    ensures err { IfErr result (λ fault. fault ≡ EarlyEnd.Write) }
-{
-    if writer.write_all(print_refusal(refusal).as_bytes()).is_err() {
-        return Err(EarlyEnd::Write);
-    }
-    Ok(())
 }
 
 /// Answers a line.

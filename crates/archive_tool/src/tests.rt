@@ -5,4 +5,5 @@ mod disks;
 mod faults;
 mod frames;
 mod lines;
+mod reports;
 mod scenarios;
