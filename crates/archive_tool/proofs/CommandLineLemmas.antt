@@ -1,5 +1,5 @@
 -- Which command the words ask for.
-use Rattle.std.proofs.Common.{◌≡◌, ◌≢◌, ◌∙◌, inl, inr, refl, sym, ap, ap₂, subst, arith, ℕ, true, List, [], ◌∷◌, Option, Some, None, Result, Ok, Err, option_map, codes, Bor, slice_index}
+use Rattle.std.proofs.Common.{◌≡◌, ◌≢◌, ◌∙◌, inl, inr, refl, sym, ap, ap₂, subst, arith, ℕ, true, List, [], ◌∷◌, Option, Some, None, Result, Ok, Err, option_map, codes, Bor, slice_index, rules, ne_eqb}
 use Rattle.std.specs.Prelude.{IfErr, IsSomeAnd}
 use Rattle.std.specs.Str.Parse.{ParsesUnsigned}
 use Rattle.clap.specs.Words.{AddsSubcommand, App, FailsBy, HasKind, HasMatchesOf, Kinds, ReadsOne, Row, Text, app_of, fault_of, first_of, first_value, is_simple, is_simple_and_free, kind_of, one_of, one_text, rows_of, subcommand_of, subcommand_rows_of, with_subcommand}
@@ -12,7 +12,7 @@ use Rattle.clap.specs.declared.parser.matches.Found.{Found}
 use Rattle.clap.proofs.WalkLemmas.{first_value-rows, one_text-rows}
 use Rattle.archive_tool.specs.declared.command.ToolCommand.{ToolCommand}
 use Rattle.archive_tool.specs.declared.command.ToolCommand.TheVariants.{Create, Run, List as AskList, Verify, Frames}
-use Rattle.archive_tool.specs.CommandLine.{IsAsked, IsCommand, IsHeld, IsMet, IsNumber, IsWordsFault, tool_app}
+use Rattle.archive_tool.specs.CommandLine.{IsAsked, IsCommand, IsHeld, IsMet, IsNumber, IsPlain, IsPlainWord, IsWordsFault, tool_app, words_of}
 
 -- what a getter gave is what the rows hold
 pub text_given : (f : Found) (id : Text) (given got : Option (Bor Text)) → option_map (λ s. s.now) given ≡ first_value f id → given ≡ got → first_of id (rows_of f) ≡ option_map (λ s. s.now) got
@@ -86,20 +86,79 @@ tool_is_free : is_simple_and_free tool_app ≡ true
 unfolding clap_on_literals
 tool_is_free = refl
 
--- the word `run` alone is held
-run_is_taken : (program : Text) → fault_of tool_app (program ∷ codes "run" ∷ []) ≡ []
+-- the word of a command with its folder or file is taken, and its matches hold the command
+run_alone_taken : (program : Text) → fault_of tool_app (program ∷ codes "run" ∷ []) ≡ []
 unfolding clap_on_literals
-run_is_taken program = refl
+run_alone_taken program = refl
 
-run_is_met : (program : Text) → subcommand_of tool_app (program ∷ codes "run" ∷ []) ≡ Some (codes "run", [])
+run_alone_met : (program : Text) → IsMet (subcommand_of tool_app (program ∷ codes "run" ∷ [])) (Run None)
 unfolding clap_on_literals
-run_is_met program = refl
+run_alone_met program = record { named = refl; words = refl }
 
-pub run_is_held : (words : List Text) (program : Text) → words ≡ program ∷ codes "run" ∷ [] → IsHeld words (Run None)
-run_is_held words program is = subst (λ given. IsHeld given (Run None)) (sym is) (record {
-  taken = run_is_taken program;
-  met = subst (λ met. IsMet met (Run None)) (sym (run_is_met program)) (record { named = refl; words = refl });
-})
+usual_history : IsNumber 1048576 (codes "1048576")
+usual_history = (search rules, refl, omega arith)
+
+create_taken : (program text : Text) → IsPlainWord text → fault_of tool_app (program ∷ codes "create" ∷ text ∷ []) ≡ []
+unfolding clap_on_literals
+create_taken program [] plain = absurd plain
+create_taken program (byte ∷ bytes) plain = simp (ne_eqb byte 45 plain) refl
+
+create_met : (program text : Text) (folder : Bor Text) → IsPlainWord text → folder.now ≡ text → IsMet (subcommand_of tool_app (program ∷ codes "create" ∷ text ∷ [])) (Create folder 1048576)
+unfolding clap_on_literals
+create_met program [] folder plain is = absurd plain
+create_met program (byte ∷ bytes) folder plain is = simp (ne_eqb byte 45 plain) (record { named = refl; words = (ap (λ t. Some t) (sym is), usual_history) })
+
+run_taken : (program text : Text) → IsPlainWord text → fault_of tool_app (program ∷ codes "run" ∷ text ∷ []) ≡ []
+unfolding clap_on_literals
+run_taken program [] plain = absurd plain
+run_taken program (byte ∷ bytes) plain = simp (ne_eqb byte 45 plain) refl
+
+run_met : (program text : Text) (folder : Bor Text) → IsPlainWord text → folder.now ≡ text → IsMet (subcommand_of tool_app (program ∷ codes "run" ∷ text ∷ [])) (Run (Some folder))
+unfolding clap_on_literals
+run_met program [] folder plain is = absurd plain
+run_met program (byte ∷ bytes) folder plain is = simp (ne_eqb byte 45 plain) (record { named = refl; words = ap (λ t. Some t) (sym is) })
+
+list_taken : (program text : Text) → IsPlainWord text → fault_of tool_app (program ∷ codes "list" ∷ text ∷ []) ≡ []
+unfolding clap_on_literals
+list_taken program [] plain = absurd plain
+list_taken program (byte ∷ bytes) plain = simp (ne_eqb byte 45 plain) refl
+
+list_met : (program text : Text) (folder : Bor Text) → IsPlainWord text → folder.now ≡ text → IsMet (subcommand_of tool_app (program ∷ codes "list" ∷ text ∷ [])) (AskList folder)
+unfolding clap_on_literals
+list_met program [] folder plain is = absurd plain
+list_met program (byte ∷ bytes) folder plain is = simp (ne_eqb byte 45 plain) (record { named = refl; words = ap (λ t. Some t) (sym is) })
+
+verify_taken : (program text : Text) → IsPlainWord text → fault_of tool_app (program ∷ codes "verify" ∷ text ∷ []) ≡ []
+unfolding clap_on_literals
+verify_taken program [] plain = absurd plain
+verify_taken program (byte ∷ bytes) plain = simp (ne_eqb byte 45 plain) refl
+
+verify_met : (program text : Text) (folder : Bor Text) → IsPlainWord text → folder.now ≡ text → IsMet (subcommand_of tool_app (program ∷ codes "verify" ∷ text ∷ [])) (Verify folder)
+unfolding clap_on_literals
+verify_met program [] folder plain is = absurd plain
+verify_met program (byte ∷ bytes) folder plain is = simp (ne_eqb byte 45 plain) (record { named = refl; words = ap (λ t. Some t) (sym is) })
+
+frames_taken : (program text : Text) → IsPlainWord text → fault_of tool_app (program ∷ codes "frames" ∷ text ∷ []) ≡ []
+unfolding clap_on_literals
+frames_taken program [] plain = absurd plain
+frames_taken program (byte ∷ bytes) plain = simp (ne_eqb byte 45 plain) refl
+
+frames_met : (program text : Text) (folder : Bor Text) → IsPlainWord text → folder.now ≡ text → IsMet (subcommand_of tool_app (program ∷ codes "frames" ∷ text ∷ [])) (Frames folder)
+unfolding clap_on_literals
+frames_met program [] folder plain is = absurd plain
+frames_met program (byte ∷ bytes) folder plain is = simp (ne_eqb byte 45 plain) (record { named = refl; words = ap (λ t. Some t) (sym is) })
+
+held_alone : (program : Text) (command : ToolCommand) → IsPlain command → IsHeld (program ∷ words_of command) command
+held_alone program (Create folder history) plain = subst (λ n. IsHeld (program ∷ codes "create" ∷ folder.now ∷ []) (Create folder n)) (sym plain.1)
+    (record { taken = create_taken program folder.now plain.0; met = create_met program folder.now folder plain.0 refl })
+held_alone program (Run None) plain = record { taken = run_alone_taken program; met = run_alone_met program }
+held_alone program (Run (Some folder)) plain = record { taken = run_taken program folder.now plain; met = run_met program folder.now folder plain refl }
+held_alone program (AskList folder) plain = record { taken = list_taken program folder.now plain; met = list_met program folder.now folder plain refl }
+held_alone program (Verify folder) plain = record { taken = verify_taken program folder.now plain; met = verify_met program folder.now folder plain refl }
+held_alone program (Frames file) plain = record { taken = frames_taken program file.now plain; met = frames_met program file.now file plain refl }
+
+pub plain_is_held : (words : List Text) (program : Text) (command : ToolCommand) → IsPlain command → words ≡ program ∷ words_of command → IsHeld words command
+plain_is_held words program command plain is = subst (λ given. IsHeld given command) (sym is) (held_alone program command plain)
 
 -- words hold the command that clap's matches of them hold, and none where these hold none
 met_is : (words : List Text) (app : App) (m : ArgMatches) → app ≡ tool_app → HasMatchesOf app words m → subcommand_rows_of m ≡ subcommand_of tool_app words

@@ -1,5 +1,5 @@
 -- The program's command line, and how it ends: docs/CONTROL.md, "The program".
-use Rattle.std.specs.Prelude.{◌≡◌, ◌⊎◌, ◌<◌, ◌^◌, ℕ, pos, true, false, List, [], ◌∷◌, Option, Some, None, IsSomeAnd, codes, option_map}
+use Rattle.std.specs.Prelude.{◌≡◌, ◌≢◌, ◌⊎◌, ◌<◌, ◌^◌, ℕ, pos, true, false, List, [], ◌∷◌, Option, Some, None, IsSomeAnd, codes, option_map}
 use Rattle.std.specs.declared.io.ErrorKind.TheVariants as io
 use Rattle.std.specs.Str.Parse.{IsNumeral, digits_value, without_leading_plus}
 use Rattle.clap.specs.Simple.{on_top}
@@ -88,6 +88,29 @@ IsMet met command = IsSomeAnd met (λ p. IsAsked p.0 p.1 command)
 pub record IsHeld (words : List Text) (command : ToolCommand) : Type 0 where
   pub taken : fault_of tool_app words ≡ []
   pub met : IsMet (subcommand_of tool_app words) command
+
+-- a word that is there, and begins with no hyphen
+abbrev pub IsPlainWord : Text → Type 0
+IsPlainWord [] = ⊥
+IsPlainWord (byte ∷ bytes) = byte ≢ 45
+
+-- the folder or file of a command is such a word, and its history is the one of which no word is said
+abbrev pub IsPlain : ToolCommand → Type 0
+IsPlain (Create folder history) = IsPlainWord folder.now × (history ≡ 1048576)
+IsPlain (Run None) = Unit {0}
+IsPlain (Run (Some folder)) = IsPlainWord folder.now
+IsPlain (AskList folder) = IsPlainWord folder.now
+IsPlain (Verify folder) = IsPlainWord folder.now
+IsPlain (Frames file) = IsPlainWord file.now
+
+-- the word of a command, and its folder or file where it has one
+abbrev pub words_of : ToolCommand → List Text
+words_of (Create folder history) = codes "create" ∷ folder.now ∷ []
+words_of (Run None) = codes "run" ∷ []
+words_of (Run (Some folder)) = codes "run" ∷ folder.now ∷ []
+words_of (AskList folder) = codes "list" ∷ folder.now ∷ []
+words_of (Verify folder) = codes "verify" ∷ folder.now ∷ []
+words_of (Frames file) = codes "frames" ∷ file.now ∷ []
 
 -- The kind of the error: one of those that clap gives to the words, or none that a command is missing where it takes
 -- them; else memory ran out.

@@ -2,7 +2,7 @@
 
 ghost use Rattle.std.specs.Prelude.{◌≡◌, ◌∷◌, [], ℕ, List, IfOk, IfErr, MatchOption, codes, false, map, string_bytes};
 ghost use Rattle.clap.specs.Words.{app_of, fault_of, found_of, kind_of, rows_of, rule_of, subcommand_rows_of};
-ghost use Rattle.archive_tool.specs.CommandLine.{IsAsked, IsCommand, IsHeld, IsMet, IsWordsFault, create_app, history_option, required_word, run_app, tool_app, word_app};
+ghost use Rattle.archive_tool.specs.CommandLine.{IsAsked, IsCommand, IsHeld, IsMet, IsPlain, IsWordsFault, create_app, history_option, required_word, run_app, tool_app, word_app, words_of};
 
 use clap::error::ErrorKind;
 use clap::{Arg, ArgMatches, Command, Error, value_parser};
@@ -208,15 +208,16 @@ fn held<'a>(matches: &ArgMatches<'a>) -> Option<ToolCommand<'a>>
 /// What the words of a command line ask for, the program's name first.
 ///
 /// An error says what is wrong with the words, or is the help that they ask for; its kind is the one that clap gives to
-/// these words. Words that hold a command, as `run` alone does, are refused for want of memory alone.
+/// these words. Words that hold a command are refused for want of memory alone, as are a command's word and its folder
+/// or file, where this begins with no hyphen.
 pub fn command_of<'a>(alloc: Global, words: &'a [String]) -> Result<ToolCommand<'a>, Error>
     ensures held { IfOk result (IsHeld (map string_bytes words.now)) }
     ensures kind { IfErr result (λ e.
         IsWordsFault (fault_of tool_app (map string_bytes words.now)) (kind_of e)) }
     ensures refused { IfErr result (λ e. (command : ToolCommand)
         → IsHeld (map string_bytes words.now) command → kind_of e ≡ ErrorKind.OutOfMemory) }
-    ensures alone { IfErr result (λ e. (program : List ℕ)
-        → map string_bytes words.now ≡ program ∷ codes "run" ∷ []
+    ensures alone { IfErr result (λ e. (program : List ℕ) (command : ToolCommand)
+        → IsPlain command → map string_bytes words.now ≡ program ∷ words_of command
         → kind_of e ≡ ErrorKind.OutOfMemory) }
 {
     let mut tool = tool(alloc)?;

@@ -1,9 +1,8 @@
 -- Words that hold a command are refused for want of memory alone.
-use Rattle.std.proofs.Common.{map, Result, Ok, Err, None, rules}
+use Rattle.std.proofs.Common.{map, Result, Ok, Err, rules}
 use Rattle.std.specs.Prelude.{string_bytes, IfErr}
 use Rattle.clap.specs.declared.parser.matches.ArgMatches.{ArgMatches}
-use Rattle.archive_tool.specs.declared.command.ToolCommand.TheVariants.{Run}
-use Rattle.archive_tool.proofs.CommandLineLemmas.{fails_by, memory_fault, holds, holds_none, only_memory, run_is_held, words_fault}
+use Rattle.archive_tool.proofs.CommandLineLemmas.{fails_by, memory_fault, holds, holds_none, only_memory, plain_is_held, words_fault}
 use Rattle.archive_tool.proofs.command.command_of.Goals as goal
 
 -- a fact of every error is one of the error that is answered
@@ -22,9 +21,9 @@ returns-in-Err-clause-refused c = λ command held.
     only_memory _ c.in-Err.error (fails_by {A = ArgMatches} _ (map string_bytes c.args.words.now) (Err c.in-Err.error) c.in_ok-tool.ensures c.in-Err.ensures.kinds) held.taken
 
 pub returns-in-Err-clause-alone : goal.returns-in-Err-clause-alone
-returns-in-Err-clause-alone c = λ program is.
+returns-in-Err-clause-alone c = λ program command plain is.
     only_memory _ c.in-Err.error (fails_by {A = ArgMatches} _ (map string_bytes c.args.words.now) (Err c.in-Err.error) c.in_ok-tool.ensures c.in-Err.ensures.kinds)
-    (run_is_held _ program is).taken
+    (plain_is_held _ program command plain is).taken
 
 pub returns-in-Some-clause-held : goal.returns-in-Some-clause-held
 returns-in-Some-clause-held c = record {
@@ -40,12 +39,12 @@ returns-in_err-error-in-None-clause-refused c =
 pub returns-in_err-error-in-None-clause-alone : goal.returns-in_err-error-in-None-clause-alone
 returns-in_err-error-in-None-clause-alone c =
     let none = holds_none (map string_bytes c.args.words.now) _ c.in-Ok.matches c.in_ok-tool.ensures c.in-Ok.ensures.ok.2 c.in-None.ensures in
-    of_any _ c.from_residual-in_err-error-in-None.result (λ e program is. absurd (none (Run None) (run_is_held _ program is)))
+    of_any _ c.from_residual-in_err-error-in-None.result (λ e program command plain is. absurd (none command (plain_is_held _ program command plain is)))
 
 pub returns-clause-refused : goal.returns-clause-refused
 returns-clause-refused c = λ command held.
     absurd (holds_none (map string_bytes c.args.words.now) _ c.in-Ok.matches c.in_ok-tool.ensures c.in-Ok.ensures.ok.2 c.in-None.ensures command held)
 
 pub returns-clause-alone : goal.returns-clause-alone
-returns-clause-alone c = λ program is.
-    absurd (holds_none (map string_bytes c.args.words.now) _ c.in-Ok.matches c.in_ok-tool.ensures c.in-Ok.ensures.ok.2 c.in-None.ensures (Run None) (run_is_held _ program is))
+returns-clause-alone c = λ program command plain is.
+    absurd (holds_none (map string_bytes c.args.words.now) _ c.in-Ok.matches c.in_ok-tool.ensures c.in-Ok.ensures.ok.2 c.in-None.ensures command (plain_is_held _ program command plain is))
