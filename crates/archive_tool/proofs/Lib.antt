@@ -7,6 +7,7 @@ mod ProgressLemmas
 mod ScriptLemmas
 mod EndLemmas
 mod ReportLemmas
+mod QuietLemmas
 mod GoingOnLemmas
 mod CommandLineLemmas
 mod StoredLemmas

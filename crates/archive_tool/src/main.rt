@@ -13,6 +13,7 @@ mod frames;
 mod laws;
 mod lines;
 mod merging;
+mod progress;
 mod reports;
 mod script;
 mod state;

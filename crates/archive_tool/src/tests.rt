@@ -5,5 +5,6 @@ mod disks;
 mod faults;
 mod frames;
 mod lines;
+mod progress;
 mod reports;
 mod scenarios;
