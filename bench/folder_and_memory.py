@@ -34,6 +34,7 @@ STORED = HELLO.ljust(64, b"\x00")
 RECORDED = f"{START}\nblock 0 {HELLO.hex()}\n"
 STOPPED = STREAM.descriptor(0, -1, 64, "c") + "\n"
 BAD_PARAMETER, DAMAGED, DEVICE_FAULT = "error 10 BadParameter\n", "error 15 Damaged", "error 17 DeviceFault\n"
+UNOPENED, BUSY = DEVICE_FAULT + "the folder cannot be opened\n", DEVICE_FAULT + "the folder is in use\n"
 NOT_CATALOGUE, NEWER_VERSION, BAD_FRAME = "error 19 NotCatalogue\n", "error 20 NewerVersion\n", "error 21 BadFrame"
 
 Ended = tuple[int, str, str]
@@ -163,16 +164,20 @@ def try_creation(trial: Trial) -> None:
 
 
 def try_absence(trial: Trial) -> None:
-    """A folder or a file that is not there, and a folder without an archive."""
+    """A folder or a file that is not there, which `create` alone makes, and a folder without an archive."""
     with trial.folder() as folder:
-        for command in ("create", "run", "list", "verify", "frames"):
-            trial.expect(f"{command} of nothing", trial.ended(command, folder / "gone"), (3, "", DEVICE_FAULT))
+        for command in ("run", "list", "verify"):
+            trial.expect(f"{command} of nothing", trial.ended(command, folder / "gone"), (3, "", UNOPENED))
+        trial.expect("frames of nothing", trial.ended("frames", folder / "gone"), (3, "", DEVICE_FAULT))
+        trial.expect("create of nothing in nothing", trial.ended("create", folder / "gone" / "new"), (3, "", DEVICE_FAULT))
         for command in ("list", "verify"):
             trial.expect(f"{command} without an archive", trial.ended(command, folder), (1, "", NOT_CATALOGUE))
         trial.expect("nothing is made", list(folder.iterdir()), [])
+        trial.expect("create of nothing", trial.ended("create", folder / "new"), (0, "created\n", ""))
+        trial.expect("list of what was made", trial.ended("list", folder / "new"), (0, "end 0\n", ""))
         (folder / "file").touch()
         for command in ("create", "run", "list", "verify"):
-            trial.expect(f"{command} of a file", trial.ended(command, folder / "file"), (3, "", DEVICE_FAULT))
+            trial.expect(f"{command} of a file", trial.ended(command, folder / "file"), (3, "", UNOPENED))
         trial.expect("frames of a folder", trial.ended("frames", folder), (3, "", DEVICE_FAULT))
         trial.expect("create beside another file", trial.ended("create", folder), (0, "created\n", ""))
 
@@ -183,7 +188,7 @@ def try_use_by_two(trial: Trial) -> None:
         first = Session(trial.tool, folder)
         trial.expect("the first process", first.ask("positions 0"), ["positions 0 64 64"])
         for command in ("create", "run", "list", "verify"):
-            trial.expect(f"{command} in use", trial.ended(command, folder), (3, "", DEVICE_FAULT))
+            trial.expect(f"{command} in use", trial.ended(command, folder), (3, "", BUSY))
         trial.expect("frames in use", trial.ended("frames", folder / "0-0.rec"), (0, "frame 42 0 1 37 c0\nend 1\n", ""))
         trial.expect("the first process goes on", first.ask("verify 0"), ["verified 1"])
         trial.expect("its status", first.end(), 0)
