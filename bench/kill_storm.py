@@ -22,7 +22,7 @@ from pathlib import Path
 from tool import MTU, Fault, Stream, aligned, file_system, program, room, run
 
 STREAM = Stream(term_length=65_536, segment_length=131_072)
-LONGEST_LIFE = 0.3  # seconds from a writer's start to its kill
+LONGEST_LIFE = 0.3  # seconds from a writer's first answer, or one time in four from its start, to its kill
 LONGEST_OPENING = 0.02  # seconds from the start of an opening to its kill
 AHEAD = 0, 0, 2, 12  # lines that a writer is sent ahead of its answers, by chance one of these
 MOST_AT_ONCE = 4_096  # frames of a poll
@@ -97,13 +97,16 @@ class Storm:
         """A writer that is killed, and what its answers say is there. Up to so many lines are sent ahead of the answers."""
         writer = subprocess.Popen(self.script, stdin=subprocess.PIPE, stdout=subprocess.PIPE, text=True)
         killer = threading.Timer(self.chance.uniform(0, LONGEST_LIFE), writer.kill)
-        killer.start()
-        answers, ahead = [], self.chance.choice(AHEAD)
+        answers, ahead, is_early = [], self.chance.choice(AHEAD), self.chance.random() < 0.25
+        if is_early:
+            killer.start()
         with suppress(BrokenPipeError):
             for sent, line in enumerate(self.lines(recording), start=1):
                 print(line, file=writer.stdin, flush=True)
                 if sent - len(answers) > ahead:
                     answers.append(writer.stdout.readline())
+                    if len(answers) == 1 and not is_early:
+                        killer.start()
         with suppress(BrokenPipeError):
             writer.stdin.close()
         answers += writer.stdout
@@ -115,9 +118,10 @@ class Storm:
         """Takes each answered block as settled; no other answer may come."""
         first = "extended 0" if recording.is_known else f"started {recording.number} 0"
         behind = [end for end in recording.ends if end > recording.settled]
-        for answer, right in zip(answers, [first, *(f"settled {end}" for end in behind)], strict=False):
-            if answer != right:
-                raise Fault(f"recording {recording.number}: a writer was answered {answer}, and not {right}")
+        right = [first, *(f"settled {end}" for end in behind)]
+        for index, answer in enumerate(answers):
+            if [answer] != right[index : index + 1]:
+                raise Fault(f"recording {recording.number}: a writer was answered {answer} to its line {index}")
         if answers:
             recording.is_known = True
         if len(answers) > 1:
