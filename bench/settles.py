@@ -7,6 +7,7 @@ A run of settles is one `block` line each, read from a file. Runs come in turn a
 file system that grows slower does so for both; medians are compared. Answers are looked at, so that no line was refused.
 The folders of the replay and of the opening are written here, by docs/STORAGE.md.
 """
+import os
 import re
 import shutil
 import statistics
@@ -41,12 +42,14 @@ def seconds(words: Sequence[str | Path], given: Path | None = None, into: Path |
 
 
 def write_lines(path: Path, settles: int, frames: int, length: int) -> None:
-    """A script of a start and so many blocks, each of so many frames of a length."""
+    """A script of a start and so many blocks, each of so many frames of a length. No sync of a run has to write it."""
     with open(path, "w") as script:
         print(STREAM.start("c"), file=script)
         for begin in range(0, settles * frames * length, frames * length):
             places = range(begin, begin + frames * length, length)
             print("block 0 " + "".join(message(place, length).hex() for place in places), file=script)
+        script.flush()
+        os.fsync(script.fileno())
 
 
 class Trial:
@@ -66,8 +69,11 @@ class Trial:
         """Seconds of the script over a new archive; the words before the program's measure it."""
         folder = self.empty_folder()
         run([self.tool, "create", folder])
-        taken = seconds([*before, self.tool, "run", folder], self.script, self.answers)
-        last = self.answers.read_text().splitlines()[-1]
+        with open(self.script, "rb") as lines:
+            begin = time.monotonic()
+            told = subprocess.run([*before, self.tool, "run", folder], stdin=lines, stdout=subprocess.PIPE, check=True).stdout
+            taken = time.monotonic() - begin
+        last = told.decode().splitlines()[-1]
         if last != f"settled {settles * size}":
             raise Fault(f"the last of {settles} blocks of {size} bytes was answered {last}")
         return taken
