@@ -1,6 +1,5 @@
--- The program's command line, and how it ends: docs/CONTROL.md, "The program".
+-- The program's command line: docs/CONTROL.md, "The program".
 use Rattle.std.specs.Prelude.{◌≡◌, ◌≢◌, ◌⊎◌, ◌<◌, ◌^◌, ℕ, pos, true, false, List, [], ◌∷◌, Option, Some, None, IsSomeAnd, codes, option_map}
-use Rattle.std.specs.declared.io.ErrorKind.TheVariants as io
 use Rattle.std.specs.Str.Parse.{IsNumeral, digits_value, without_leading_plus}
 use Rattle.clap.specs.Simple.{on_top}
 use Rattle.clap.specs.Words.{App, IsAmong, Kinds, Row, Rule, Text, app_of, fault_of, first_of, new_app, new_rule, one_of, subcommand_of, with_rule, with_subcommand}
@@ -9,11 +8,6 @@ use Rattle.clap.specs.declared.builder.command.Command.TheViews.{out-Command as 
 use Rattle.clap.specs.declared.builder.value_parser.ValueParser.TheVariants as parser
 use Rattle.clap.specs.declared.error.ErrorKind.{ErrorKind}
 use Rattle.clap.specs.declared.error.ErrorKind.TheVariants as kinds
-use Rattle.frame_core.specs.declared.refusal.Refusal.{Refusal}
-use Rattle.frame_core.specs.declared.refusal.Refusal.TheVariants.{DeviceFault, NoMemory}
-use Rattle.archive_tool.specs.declared.fault.EarlyEnd.TheVariants as faults
-use Rattle.archive_tool.specs.declared.status.Ending.{Ending}
-use Rattle.archive_tool.specs.declared.status.Ending.TheVariants.{Done, Cut, NoCommand, Failed}
 use Rattle.archive_tool.specs.declared.command.ToolCommand.{ToolCommand}
 use Rattle.archive_tool.specs.declared.command.ToolCommand.TheVariants.{Create, Run, List as AskList, Verify, Frames}
 
@@ -117,39 +111,3 @@ words_of (Frames file) = codes "frames" ∷ file.now ∷ []
 abbrev pub IsWordsFault : Kinds → ErrorKind → Type 0
 IsWordsFault [] kind = (kind ≡ kinds.MissingSubcommand) ⊎ (kind ≡ kinds.OutOfMemory)
 IsWordsFault (k ∷ ks) kind = IsAmong kind (k ∷ ks) ⊎ (kind ≡ kinds.OutOfMemory)
-
--- the status with which the program ends: 0 done, 1 refused, 2 a wrong command line, 3 a stream failed
-abbrev pub status_of : Ending → ℕ
-status_of Done = 0
-status_of (Cut faults.Memory) = 1
-status_of (Cut faults.Read) = 3
-status_of (Cut faults.Write) = 3
-status_of (NoCommand kinds.DisplayHelp) = 0
-status_of (NoCommand kinds.DisplayVersion) = 0
-status_of (NoCommand kinds.OutOfMemory) = 1
-status_of (NoCommand kind) = 2
-status_of (Failed io.OutOfMemory) = 1
-status_of (Failed kind) = 3
-
--- the refusal that is told on standard error
-abbrev pub refusal_of : Ending → Option Refusal
-refusal_of Done = None
-refusal_of (Cut faults.Memory) = Some NoMemory
-refusal_of (Cut faults.Read) = Some DeviceFault
-refusal_of (Cut faults.Write) = Some DeviceFault
-refusal_of (NoCommand kinds.OutOfMemory) = Some NoMemory
-refusal_of (NoCommand kind) = None
-refusal_of (Failed io.OutOfMemory) = Some NoMemory
-refusal_of (Failed kind) = Some DeviceFault
-
--- some ending has that status
-abbrev pub IsStatus : ℕ → Type 0
-IsStatus status = (ending : Ending) × (status ≡ status_of ending)
-
--- an error of that kind was told, or could not be
-abbrev pub IsTold : ErrorKind → Ending → Type 0
-IsTold kind Done = ⊥
-IsTold kind (Cut fault) = ⊥
-IsTold kind (NoCommand told) = told ≡ kind
-IsTold kinds.OutOfMemory (Failed fault) = ⊥
-IsTold kind (Failed fault) = Unit {0}

@@ -7,6 +7,7 @@ pub mod Script
 pub mod Reports
 pub mod FrameLines
 pub mod CommandLine
+pub mod Status
 -- How a line is put together from parts.
 pub mod Parts
 -- What values in memory and a disk are to an archive.

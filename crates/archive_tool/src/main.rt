@@ -1,13 +1,14 @@
-//! The program of the archive: it answers control lines from standard input on standard output.
+//! The program of the archive: it records Aeron streams in a folder, and replays them.
 #![tactic(auto)]
 
 ghost use Rattle.std.specs.Prelude.{◌≡◌};
 ghost use Rattle.clap.specs.Words.{kind_of};
-ghost use Rattle.archive_tool.specs.CommandLine.{IsStatus, IsTold, status_of};
+ghost use Rattle.archive_tool.specs.Status.{IsStatus, IsTold, status_of};
 
 mod answers;
 mod archive;
 mod command;
+mod commands;
 mod fault;
 mod frames;
 mod laws;
@@ -22,12 +23,11 @@ mod stored;
 
 use clap::Error;
 use clap::error::ErrorKind;
-use command::{ToolCommand, command_of, unreadable_words};
+use command::{command_of, unreadable_words};
+use commands::obeyed;
 use control_core::print_refusal;
-use disk_core::MemoryDisk;
 use fault::EarlyEnd;
 use frame_core::Refusal;
-use script::run_script;
 use status::Ending;
 use std::env;
 use std::io::{self, BufWriter};
@@ -35,14 +35,14 @@ use std::process::ExitCode;
 use std::rt::Env;
 
 fn main(rt: HostRuntime) -> ExitCode {
-    ExitCode::from(ended(&rt))
+    ExitCode::from(ended(rt))
 }
 
 /// Does what the command line asks for, tells on standard error why it could not, and answers the status.
-fn ended<R: AllocGlobal + Env + Input + Print + Eprint>(rt: &R) -> u8
+fn ended(rt: HostRuntime) -> u8
     ensures { IsStatus result }
 {
-    concluded(rt, commanded(rt))
+    concluded(&rt, commanded(rt))
 }
 
 /// Tells on standard error why the program ended early, if it did, and answers its status.
@@ -52,25 +52,28 @@ fn concluded<R: Eprint>(rt: &R, ending: Ending) -> u8
     if let Some(refusal) = ending.refusal() {
         tell(rt, &refusal);
     }
+    if let Ending::Unopened(fault) = ending {
+        let _ = rt.eprintln(fault);
+    }
     ending.status()
 }
 
 /// Does what the command line asks for. A word that is no UTF-8 is a wrong one.
-fn commanded<R: AllocGlobal + Env + Input + Print + Eprint>(rt: &R) -> Ending {
-    let words = words_of(rt);
-    let asked = match &words {
-        Ok(words) => command_of(rt.alloc(), words.as_slice()),
+fn commanded(rt: HostRuntime) -> Ending {
+    let words = match words_of(&rt) {
+        Ok(words) => words,
         Err(error) if error.kind() == io::ErrorKind::InvalidData => {
-            Err(unreadable_words(rt.alloc()))
+            return told(&rt, &unreadable_words(rt.alloc()));
         }
         Err(error) => return Ending::Failed(error.kind()),
     };
-    match asked {
-        Ok(ToolCommand::Run) => match run(rt) {
-            Ok(()) => Ending::Done,
-            Err(end) => Ending::Cut(end),
-        },
-        Err(error) => told(rt, &error),
+    let command = match command_of(rt.alloc(), words.as_slice()) {
+        Ok(command) => command,
+        Err(error) => return told(&rt, &error),
+    };
+    match BufWriter::new(rt.alloc(), io::writer(&rt)) {
+        Ok(mut writer) => obeyed(rt, &command, &mut writer),
+        Err(_) => Ending::Cut(EarlyEnd::Memory),
     }
 }
 
@@ -96,18 +99,6 @@ fn told<R: Print + Eprint>(rt: &R, error: &Error) -> Ending
     match error.print(rt) {
         Ok(()) => Ending::NoCommand(kind),
         Err(fault) => Ending::Failed(fault.kind()),
-    }
-}
-
-/// Answers the control lines of standard input on standard output, over an archive in memory.
-fn run<R: AllocGlobal + Input + Print>(rt: &R) -> Result<(), EarlyEnd> {
-    let Ok(mut writer) = BufWriter::new(rt.alloc(), io::writer(rt)) else {
-        return Err(EarlyEnd::Memory);
-    };
-    let disk = MemoryDisk::new(rt.alloc());
-    match run_script(rt.alloc(), rt.reader(), &mut writer, disk) {
-        Ok(_) => Ok(()),
-        Err(fault) => Err(fault.end()),
     }
 }
 

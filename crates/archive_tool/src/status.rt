@@ -1,29 +1,37 @@
 //! How the program ends, and the status that says so: docs/CONTROL.md, "The program".
 
 ghost use Rattle.std.specs.Prelude.{◌≡◌};
-ghost use Rattle.archive_tool.specs.CommandLine.{refusal_of, status_of};
+ghost use Rattle.archive_tool.specs.declared.status.Ending.TheVariants.{Cut, Refused, Unopened};
+ghost use Rattle.archive_tool.specs.Status.{refusal_of, status_of, status_of_refusal};
 
 use crate::fault::EarlyEnd;
 use clap::error::ErrorKind;
 use frame_core::Refusal;
+use host_disk::OpenFault;
 use std::io;
 
 /// Done.
 const DONE: u8 = 0;
-/// Refused: a want of memory.
+/// Refused.
 const REFUSED: u8 = 1;
 /// The command line is none.
 const USAGE: u8 = 2;
-/// Standard input or output failed.
+/// A device fault or damage, or standard input or output failed.
 const DEVICE: u8 = 3;
 
 /// How the program ended.
 #[derive(Clone, Copy, Debug)]
 pub enum Ending {
-    /// A script was read to its end.
+    /// The command did what it was asked for; a script was read to its end.
     Done,
-    /// A script ended early.
+    /// The command ended early.
     Cut(EarlyEnd),
+    /// The command was refused.
+    Refused(Refusal),
+    /// Its folder was not opened.
+    Unopened(OpenFault),
+    /// It found damage, and its output says what.
+    FoundDamage,
     /// The words of the command line asked for no command; what is wrong with them, or the help, was told.
     NoCommand(ErrorKind),
     /// The words could not be read, or nothing could be told of them.
@@ -39,6 +47,10 @@ impl Ending {
             Ending::Done => DONE,
             Ending::Cut(EarlyEnd::Memory) => REFUSED,
             Ending::Cut(EarlyEnd::Read | EarlyEnd::Write) => DEVICE,
+            Ending::Refused(refusal) => status_of_refusal(refusal),
+            Ending::Unopened(OpenFault::NoMemory) => REFUSED,
+            Ending::Unopened(OpenFault::Device | OpenFault::Busy) => DEVICE,
+            Ending::FoundDamage => DEVICE,
             Ending::NoCommand(ErrorKind::DisplayHelp | ErrorKind::DisplayVersion) => DONE,
             Ending::NoCommand(ErrorKind::OutOfMemory) => REFUSED,
             Ending::NoCommand(_) => USAGE,
@@ -52,13 +64,50 @@ impl Ending {
         ensures { result ≡ refusal_of self }
     {
         match self {
-            Ending::Done => None,
+            Ending::Done | Ending::FoundDamage => None,
             Ending::Cut(EarlyEnd::Memory) => Some(Refusal::NoMemory),
             Ending::Cut(EarlyEnd::Read | EarlyEnd::Write) => Some(Refusal::DeviceFault),
+            Ending::Refused(refusal) => Some(refusal),
+            Ending::Unopened(OpenFault::NoMemory) => Some(Refusal::NoMemory),
+            Ending::Unopened(OpenFault::Device | OpenFault::Busy) => Some(Refusal::DeviceFault),
             Ending::NoCommand(ErrorKind::OutOfMemory) => Some(Refusal::NoMemory),
             Ending::NoCommand(_) => None,
             Ending::Failed(io::ErrorKind::OutOfMemory) => Some(Refusal::NoMemory),
             Ending::Failed(_) => Some(Refusal::DeviceFault),
         }
+    }
+}
+
+impl From<EarlyEnd> for Ending {
+    ghost from_gives = { λ end ending. ending ≡ Cut end };
+
+    fn from(end: EarlyEnd) -> Self {
+        Ending::Cut(end)
+    }
+}
+
+impl From<OpenFault> for Ending {
+    ghost from_gives = { λ fault ending. ending ≡ Unopened fault };
+
+    fn from(fault: OpenFault) -> Self {
+        Ending::Unopened(fault)
+    }
+}
+
+impl From<Refusal> for Ending {
+    ghost from_gives = { λ refusal ending. ending ≡ Refused refusal };
+
+    fn from(refusal: Refusal) -> Self {
+        Ending::Refused(refusal)
+    }
+}
+
+/// The status of a refused command.
+fn status_of_refusal(refusal: Refusal) -> u8
+    ensures { result ≡ status_of_refusal refusal }
+{
+    match refusal {
+        Refusal::Damaged { .. } | Refusal::Broken | Refusal::DeviceFault => DEVICE,
+        _ => REFUSED,
     }
 }

@@ -1,0 +1,67 @@
+-- How the program ends, and the status that says so: docs/CONTROL.md, "The program".
+use Rattle.std.specs.Prelude.{◌≡◌, ℕ, Bool, false, Option, Some, None}
+use Rattle.std.specs.declared.io.ErrorKind.TheVariants as io
+use Rattle.clap.specs.declared.error.ErrorKind.{ErrorKind}
+use Rattle.clap.specs.declared.error.ErrorKind.TheVariants as kinds
+use Rattle.frame_core.specs.declared.refusal.Refusal.{Refusal}
+use Rattle.frame_core.specs.declared.refusal.Refusal.TheVariants.{Broken, Damaged, DeviceFault, NoMemory}
+use Rattle.host_disk.specs.declared.open_fault.OpenFault.TheVariants as folders
+use Rattle.archive_tool.specs.declared.fault.EarlyEnd.TheVariants as faults
+use Rattle.archive_tool.specs.declared.status.Ending.{Ending}
+use Rattle.archive_tool.specs.declared.status.Ending.TheVariants.{Done, Cut, Refused, Unopened, FoundDamage, NoCommand, Failed}
+
+-- the status of a refused command: 1, or 3 for a device fault or damage
+abbrev pub status_of_refusal : Refusal → ℕ
+status_of_refusal (Damaged recording position) = 3
+status_of_refusal Broken = 3
+status_of_refusal DeviceFault = 3
+status_of_refusal refusal = 1
+
+-- the status with which the program ends: 0 done, 1 refused, 2 a wrong command line, 3 a fault, damage, or a stream failed
+abbrev pub status_of : Ending → ℕ
+status_of Done = 0
+status_of (Cut faults.Memory) = 1
+status_of (Cut faults.Read) = 3
+status_of (Cut faults.Write) = 3
+status_of (Refused refusal) = status_of_refusal refusal
+status_of (Unopened folders.NoMemory) = 1
+status_of (Unopened fault) = 3
+status_of FoundDamage = 3
+status_of (NoCommand kinds.DisplayHelp) = 0
+status_of (NoCommand kinds.DisplayVersion) = 0
+status_of (NoCommand kinds.OutOfMemory) = 1
+status_of (NoCommand kind) = 2
+status_of (Failed io.OutOfMemory) = 1
+status_of (Failed kind) = 3
+
+-- the refusal that is told on standard error
+abbrev pub refusal_of : Ending → Option Refusal
+refusal_of Done = None
+refusal_of (Cut faults.Memory) = Some NoMemory
+refusal_of (Cut faults.Read) = Some DeviceFault
+refusal_of (Cut faults.Write) = Some DeviceFault
+refusal_of (Refused refusal) = Some refusal
+refusal_of (Unopened folders.NoMemory) = Some NoMemory
+refusal_of (Unopened fault) = Some DeviceFault
+refusal_of FoundDamage = None
+refusal_of (NoCommand kinds.OutOfMemory) = Some NoMemory
+refusal_of (NoCommand kind) = None
+refusal_of (Failed io.OutOfMemory) = Some NoMemory
+refusal_of (Failed kind) = Some DeviceFault
+
+-- A command whose output could not be handed on ends by that, if it had not failed before.
+abbrev pub handed_on : Ending → Bool → Ending
+handed_on Done false = Cut faults.Write
+handed_on FoundDamage false = Cut faults.Write
+handed_on ending is_flushed = ending
+
+-- some ending has that status
+abbrev pub IsStatus : ℕ → Type 0
+IsStatus status = (ending : Ending) × (status ≡ status_of ending)
+
+-- an error of that kind was told, or could not be
+abbrev pub IsTold : ErrorKind → Ending → Type 0
+IsTold kind (NoCommand told) = told ≡ kind
+IsTold kinds.OutOfMemory (Failed fault) = ⊥
+IsTold kind (Failed fault) = Unit {0}
+IsTold kind ending = ⊥

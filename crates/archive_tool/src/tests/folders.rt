@@ -1,0 +1,128 @@
+//! The commands over a real folder, and how they end: docs/CONTROL.md, "The program". Each test has a folder of its own
+//! under the system's folder for temporary files.
+
+use crate::command::ToolCommand;
+use crate::commands::obeyed;
+use crate::script::run_script;
+use disk_core::{Disk, FileId};
+use host_disk::HostDisk;
+use std::test::Fail;
+use std::{env, fs};
+
+const SCRIPT: &str = "start 1001 7 42 65536 1408 131072 0 1000 c\n\
+    block 0 2500000000c001000000000007000000e90300002a000000000000000000000068656c6c6f\n";
+
+const SEGMENT: FileId = FileId::Segment {
+    recording: 0,
+    base: 0,
+};
+
+/// The path of a folder that is not there.
+fn unused(rt: HostRuntime, test: &str) -> Result<String, Fail> {
+    let path = format!(in rt.alloc(); "{}/archive_tool-{test}", env::temp_dir(&rt)?.display())?;
+    if fs::exists(&rt, path.as_str())? {
+        fs::remove_dir_all(&rt, path.as_str())?;
+    }
+    Ok(path)
+}
+
+fn within(rt: HostRuntime, folder: &str, name: &str) -> Result<String, Fail> {
+    Ok(format!(in rt.alloc(); "{folder}/{name}")?)
+}
+
+/// What a command writes has to be this, and its status that.
+fn check(rt: HostRuntime, command: ToolCommand<'_>, told: &str, status: u8) -> Result<(), Fail> {
+    let mut out = Vec::new(rt.alloc());
+    let ending = obeyed(rt, &command, &mut out);
+    if ending.status() == status && out.as_slice() == told.as_bytes() {
+        Ok(())
+    } else {
+        Err(Fail::new(told))
+    }
+}
+
+fn disk_of(rt: HostRuntime, folder: &str) -> Result<HostDisk, Fail> {
+    match HostDisk::open(rt, rt.alloc(), folder) {
+        Ok(disk) => Ok(disk),
+        Err(_) => Err(Fail::new(folder)),
+    }
+}
+
+/// Records a frame in the archive of a folder.
+fn record(rt: HostRuntime, folder: &str) -> Result<(), Fail> {
+    let mut out = Vec::new(rt.alloc());
+    let outcome = run_script(
+        rt.alloc(),
+        SCRIPT.as_bytes(),
+        &mut out,
+        disk_of(rt, folder)?,
+    );
+    if outcome.is_ok() && out.as_slice() == b"started 0 0\nsettled 64\n".as_slice() {
+        Ok(())
+    } else {
+        Err(Fail::new(folder))
+    }
+}
+
+#[test]
+fn an_archive_outlives_its_process(rt: HostRuntime) -> Result<(), Fail> {
+    let path = unused(rt, "whole")?;
+    let folder = path.as_str();
+    let history = 16;
+    check(rt, ToolCommand::Create { folder, history }, "created\n", 0)?;
+    check(rt, ToolCommand::Create { folder, history }, "", 1)?;
+    check(rt, ToolCommand::List { folder }, "end 0\n", 0)?;
+    check(rt, ToolCommand::Verify { folder }, "", 0)?;
+    record(rt, folder)?;
+    let listed = "recording 0 1000 -1 0 64 42 131072 65536 1408 7 1001 c\nend 1\n";
+    check(rt, ToolCommand::List { folder }, listed, 0)?;
+    check(rt, ToolCommand::Verify { folder }, "verified 1\n", 0)?;
+    let file = within(rt, folder, "0-0.rec")?;
+    let file = file.as_str();
+    check(rt, ToolCommand::Frames { file }, "frame 42 0 1 37 c0\nend 1\n", 0)?;
+    fs::remove_dir_all(&rt, folder)?;
+    Ok(())
+}
+
+#[test]
+fn damage_in_a_folder_is_told(rt: HostRuntime) -> Result<(), Fail> {
+    let path = unused(rt, "damaged")?;
+    let folder = path.as_str();
+    check(rt, ToolCommand::Create { folder, history: 16 }, "created\n", 0)?;
+    record(rt, folder)?;
+    let mut disk = disk_of(rt, folder)?;
+    disk.write_at(SEGMENT, 0, &[1])?;
+    disk.sync(SEGMENT)?;
+    drop(disk);
+    check(rt, ToolCommand::Verify { folder }, "error 15 Damaged 0 0\n", 3)?;
+    let file = within(rt, folder, "0-0.rec")?;
+    let file = file.as_str();
+    check(rt, ToolCommand::Frames { file }, "error 21 BadFrame 0\n", 3)?;
+    let mut disk = disk_of(rt, folder)?;
+    disk.cut(FileId::BankA, 40)?;
+    drop(disk);
+    check(rt, ToolCommand::List { folder }, "", 3)?;
+    let mut disk = disk_of(rt, folder)?;
+    disk.cut(FileId::BankA, 31)?;
+    drop(disk);
+    check(rt, ToolCommand::List { folder }, "", 1)?;
+    fs::remove_dir_all(&rt, folder)?;
+    Ok(())
+}
+
+#[test]
+fn folders_that_hold_no_archive(rt: HostRuntime) -> Result<(), Fail> {
+    let path = unused(rt, "empty")?;
+    let folder = path.as_str();
+    let file = folder;
+    check(rt, ToolCommand::List { folder }, "", 3)?;
+    check(rt, ToolCommand::Frames { file }, "", 3)?;
+    check(rt, ToolCommand::Create { folder, history: 0 }, "", 1)?;
+    check(rt, ToolCommand::List { folder }, "", 1)?;
+    check(rt, ToolCommand::Verify { folder }, "", 1)?;
+    let disk = disk_of(rt, folder)?;
+    check(rt, ToolCommand::List { folder }, "", 3)?;
+    drop(disk);
+    fs::remove_dir_all(&rt, folder)?;
+    Ok(())
+}
