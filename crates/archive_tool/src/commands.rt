@@ -18,7 +18,11 @@ use std::fs::{self, File};
 use std::io::{self, IsTerminal, Write};
 
 /// Does what a command asks for, hands on what it writes, and answers how that ended.
-pub(crate) fn obeyed<W: Write>(rt: HostRuntime, command: &ToolCommand<'_>, writer: &mut W) -> Ending {
+pub(crate) fn obeyed<W: Write>(
+    rt: HostRuntime,
+    command: &ToolCommand<'_>,
+    writer: &mut W,
+) -> Ending {
     let ending = match obey(rt, command, writer) {
         Ok(()) => Ending::Done,
         Err(ending) => ending,
@@ -26,7 +30,11 @@ pub(crate) fn obeyed<W: Write>(rt: HostRuntime, command: &ToolCommand<'_>, write
     handed_on(ending, writer.flush().is_ok())
 }
 
-fn obey<W: Write>(rt: HostRuntime, command: &ToolCommand<'_>, writer: &mut W) -> Result<(), Ending> {
+fn obey<W: Write>(
+    rt: HostRuntime,
+    command: &ToolCommand<'_>,
+    writer: &mut W,
+) -> Result<(), Ending> {
     match command {
         ToolCommand::Create { folder, history } => create(rt, folder, *history, writer),
         ToolCommand::Run { folder: None } => run(rt, MemoryDisk::new(rt.alloc()), writer),
@@ -50,7 +58,12 @@ fn handed_on(ending: Ending, is_flushed: bool) -> Ending
 }
 
 /// Makes an empty archive in a folder without one. The folder is made where it is not there.
-fn create<W: Write>(rt: HostRuntime, folder: &str, history: u32, writer: &mut W) -> Result<(), Ending> {
+fn create<W: Write>(
+    rt: HostRuntime,
+    folder: &str,
+    history: u32,
+    writer: &mut W,
+) -> Result<(), Ending> {
     if make_folder(rt, folder).is_err() {
         return Err(Ending::Refused(Refusal::DeviceFault));
     }

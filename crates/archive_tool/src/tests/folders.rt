@@ -79,7 +79,12 @@ fn an_archive_outlives_its_process(rt: HostRuntime) -> Result<(), Fail> {
     check(rt, ToolCommand::Verify { folder }, "verified 1\n", 0)?;
     let file = within(rt, folder, "0-0.rec")?;
     let file = file.as_str();
-    check(rt, ToolCommand::Frames { file }, "frame 42 0 1 37 c0\nend 1\n", 0)?;
+    check(
+        rt,
+        ToolCommand::Frames { file },
+        "frame 42 0 1 37 c0\nend 1\n",
+        0,
+    )?;
     fs::remove_dir_all(&rt, folder)?;
     Ok(())
 }
@@ -88,13 +93,26 @@ fn an_archive_outlives_its_process(rt: HostRuntime) -> Result<(), Fail> {
 fn damage_in_a_folder_is_told(rt: HostRuntime) -> Result<(), Fail> {
     let path = unused(rt, "damaged")?;
     let folder = path.as_str();
-    check(rt, ToolCommand::Create { folder, history: 16 }, "created\n", 0)?;
+    check(
+        rt,
+        ToolCommand::Create {
+            folder,
+            history: 16,
+        },
+        "created\n",
+        0,
+    )?;
     record(rt, folder)?;
     let mut disk = disk_of(rt, folder)?;
     disk.write_at(SEGMENT, 0, &[1])?;
     disk.sync(SEGMENT)?;
     drop(disk);
-    check(rt, ToolCommand::Verify { folder }, "error 15 Damaged 0 0\n", 3)?;
+    check(
+        rt,
+        ToolCommand::Verify { folder },
+        "error 15 Damaged 0 0\n",
+        3,
+    )?;
     let file = within(rt, folder, "0-0.rec")?;
     let file = file.as_str();
     check(rt, ToolCommand::Frames { file }, "error 21 BadFrame 0\n", 3)?;
