@@ -260,7 +260,7 @@ pub fn opened(alloc: Global, disk: MemoryDisk) -> Result<Engine<MemoryDisk>, Ref
 }
 
 /// Makes the calls of a script, which have to be answered as it says.
-fn answers(
+pub fn answers(
     rt: &impl Abort,
     alloc: Global,
     engine: &mut Engine<MemoryDisk>,

@@ -1,6 +1,6 @@
 //! Stops at each device call, and what a crash leaves: docs/SCENARIOS.md.
 
-use crate::calls::{answered, disk_behind, goes_on, made, opened, plays, run};
+use crate::calls::{answered, answers, disk_behind, goes_on, made, opened, run};
 use disk_core::MemoryDisk;
 use frame_core::Refusal;
 use std::alloc::Global;
@@ -88,7 +88,10 @@ verify 0: verified 0
 fn a_fault_breaks_the_archive(rt: HostRuntime) -> Result<(), Fail> {
     let mut disk = MemoryDisk::new(rt.alloc());
     disk.fail_at(13);
-    let disk = plays(&rt, rt.alloc(), disk, 3, BROKEN)?;
+    let mut engine = made(rt.alloc(), disk, 3)?;
+    answers(&rt, rt.alloc(), &mut engine, BROKEN)?;
+    assert!(rt; engine.desk().is_broken());
+    let disk = engine.into_disk();
     goes_on(&rt, rt.alloc(), disk, "truncate 0 0: truncated 0\n")
 }
 
