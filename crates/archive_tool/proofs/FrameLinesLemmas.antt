@@ -13,7 +13,7 @@ use Rattle.archive_tool.specs.declared.fault.EarlyEnd.{EarlyEnd}
 use Rattle.archive_tool.specs.declared.fault.EarlyEnd.TheVariants as ends
 use Rattle.archive_tool.specs.declared.frames.Listing.{Listing}
 use Rattle.archive_tool.specs.declared.frames.Listing.TheVariants.{Whole, Damaged}
-use Rattle.archive_tool.specs.declared.frames.Progress.{Progress}
+use Rattle.archive_tool.specs.declared.frames.Listed.{Listed}
 use Rattle.archive_tool.specs.FrameLines.{EndsFrames, HasFrames, HasNoFrame, IsListing, IsListingOfFirst, Lists, ListsSome, StandsFirst, end_text, frame_text}
 use Rattle.archive_tool.specs.Stored.{FailsToList, ListsNext, PassesFrame}
 
@@ -24,7 +24,7 @@ Stand (Some xs) None headers = ⊥
 Stand (Some xs) (Some ys) headers = HasFrames xs headers ys
 
 -- how far a listing has come
-pub record HasListed (file now contents written : Option (List ℕ)) (progress : Progress) : Type 0 where
+pub record HasListed (file now contents written : Option (List ℕ)) (progress : Listed) : Type 0 where
   pub headers : List Frame
   pub stand : Stand file now headers
   pub appended : Appends contents written (flat_map frame_text headers)
@@ -35,7 +35,7 @@ stand-nil : (a : Option (List ℕ)) → Stand a a []
 stand-nil None = tt
 stand-nil (Some xs) = refl
 
-pub none_listed : (file contents : Option (List ℕ)) (progress : Progress) → progress.count ≡ 0 → progress.offset ≡ 0 → HasListed file file contents contents progress
+pub none_listed : (file contents : Option (List ℕ)) (progress : Listed) → progress.count ≡ 0 → progress.offset ≡ 0 → HasListed file file contents contents progress
 none_listed file contents progress count offset = record {
   headers = [];
   stand = stand-nil file;
@@ -60,7 +60,7 @@ covered-more : (headers : List Frame) (header : Frame) → covered (headers ++ h
 covered-more [] header = omega arith
 covered-more (first ∷ headers) header = let rest = covered-more headers header in omega (arith, rest)
 
-pub one_listed : (file now later contents written then : Option (List ℕ)) (old new : Progress) → HasListed file now contents written old → ListsNext None now later written then old new → HasListed file later contents then new
+pub one_listed : (file now later contents written then : Option (List ℕ)) (old new : Listed) → HasListed file now contents written old → ListsNext None now later written then old new → HasListed file later contents then new
 one_listed file now later contents written then old new so_far next =
     let header = next.0 in
     let counts = next.2 in
@@ -83,7 +83,7 @@ one_listed file now later contents written then old new so_far next =
     }
 
 -- the last line
-pub all_listed : (file now later contents written then : Option (List ℕ)) (old new : Progress) (listing : Listing) → HasListed file now contents written old → ListsNext (Some listing) now later written then old new
+pub all_listed : (file now later contents written then : Option (List ℕ)) (old new : Listed) (listing : Listing) → HasListed file now contents written old → ListsNext (Some listing) now later written then old new
     → Lists file contents then (IsListing listing)
 all_listed file now later contents written then old new Whole so_far next = record {
   text = flat_map frame_text so_far.headers ++ end_text (length so_far.headers);
@@ -105,7 +105,7 @@ all_listed file now later contents written then old new Damaged so_far next = re
   by (Some xs) (Some ys) stand bad = (so_far.headers, ys, stand, bad, refl)
 
 -- what was listed before an early end
-first_listed : (file now contents written then : Option (List ℕ)) (progress : Progress) → HasListed file now contents written progress → Keeps written then → Lists file contents then IsListingOfFirst
+first_listed : (file now contents written then : Option (List ℕ)) (progress : Listed) → HasListed file now contents written progress → Keeps written then → Lists file contents then IsListingOfFirst
 first_listed file now contents written then progress so_far kept = record {
   text = flat_map frame_text so_far.headers;
   appended = Appends-kept contents written then _ so_far.appended kept;
@@ -116,7 +116,7 @@ first_listed file now contents written then progress so_far kept = record {
   by (Some xs) None stand = absurd stand
   by (Some xs) (Some ys) stand = (so_far.headers, ys, stand, refl)
 
-pub some_listed : (file now contents written then : Option (List ℕ)) (progress : Progress) (end : EarlyEnd) → HasListed file now contents written progress → FailsToList end written then → ListsSome end file contents then
+pub some_listed : (file now contents written then : Option (List ℕ)) (progress : Listed) (end : EarlyEnd) → HasListed file now contents written progress → FailsToList end written then → ListsSome end file contents then
 some_listed file now contents written then progress ends.Read so_far kept = first_listed file now contents written then progress so_far kept
 some_listed file now contents written then progress ends.Memory so_far fails = absurd fails
 some_listed file now contents written then progress ends.Write so_far fails = tt

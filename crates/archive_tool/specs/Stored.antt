@@ -9,7 +9,7 @@ use Rattle.archive_tool.specs.declared.fault.EarlyEnd.{EarlyEnd}
 use Rattle.archive_tool.specs.declared.fault.EarlyEnd.TheVariants as ends
 use Rattle.archive_tool.specs.declared.frames.Listing.{Listing}
 use Rattle.archive_tool.specs.declared.frames.Listing.TheVariants.{Whole, Damaged}
-use Rattle.archive_tool.specs.declared.frames.Progress.{Progress}
+use Rattle.archive_tool.specs.declared.frames.Listed.{Listed}
 use Rattle.archive_tool.specs.declared.stored.Look.{Look}
 use Rattle.archive_tool.specs.declared.stored.Look.TheVariants.{Passed, AtEnd}
 use Rattle.archive_tool.specs.declared.stored.Next.{Next}
@@ -57,12 +57,12 @@ IsNext old new nexts.End = IfSome old EndsFrames
 IsNext old new nexts.NoFrame = IfSome old HasNoFrame
 
 -- the frame that stood first was counted, and the bytes that it covers
-pub record Counts (old new : Progress) (header : Frame) : Type 0 where
+pub record Counts (old new : Listed) (header : Frame) : Type 0 where
   pub count : new.count ≡ old.count + 1
   pub offset : new.offset ≡ old.offset + aligned_length header
 
 -- the line of what stood next in a file was written: of a frame, which was counted, or the last line of the listing
-abbrev pub ListsNext : Option Listing → Option (List ℕ) → Option (List ℕ) → Option (List ℕ) → Option (List ℕ) → Progress → Progress → Type 0
+abbrev pub ListsNext : Option Listing → Option (List ℕ) → Option (List ℕ) → Option (List ℕ) → Option (List ℕ) → Listed → Listed → Type 0
 ListsNext None file rest contents written old new = (header : Frame) × PassesFrame file rest header × Counts old new header × Appends contents written (frame_text header)
 ListsNext (Some Whole) file rest contents written old new = IfSome file EndsFrames × Appends contents written (end_text old.count)
 ListsNext (Some Damaged) file rest contents written old new = IfSome file HasNoFrame × Appends contents written (refusal_text (BadFrame old.offset))

@@ -69,7 +69,7 @@ fn write_end<W: Write>(count: u64, writer: &mut W) -> Result<(), EarlyEnd>
 
 /// How far a listing has come.
 #[derive(Drop)]
-struct Progress {
+struct Listed {
     /// Looks into the file.
     reads: u64,
     /// Frames that were listed.
@@ -78,7 +78,7 @@ struct Progress {
     offset: usize,
 }
 
-impl Progress {
+impl Listed {
     ghost use Rattle.archive_tool.specs.Stored.{Counts};
 
     /// Counts a frame. `Read` where the file has more bytes than can be counted.
@@ -101,7 +101,7 @@ impl Progress {
 /// Lists what stands next in the file, and answers how the listing ended, if it did.
 fn list_next<R: BufRead, W: Write>(
     reader: &mut R,
-    progress: &mut Progress,
+    progress: &mut Listed,
     writer: &mut W,
 ) -> Result<Option<Listing>, EarlyEnd>
     requires { progress.old.count ≤ progress.old.reads }
@@ -139,7 +139,7 @@ fn list_all<R: BufRead, W: Write>(reader: &mut R, writer: &mut W) -> Result<List
     ensures early { IfErr result (λ end. ListsSome end (R.remaining reader.old)
         (W.contents writer.old) (W.contents writer.new)) }
 {
-    let mut progress = Progress {
+    let mut progress = Listed {
         reads: 0,
         count: 0,
         offset: 0,
