@@ -1,7 +1,8 @@
 #!/usr/bin/env python3
 """Lets the file system of a folder run full under an archive, and asks what is there afterwards.
 
-Usage: bench/full_disk.py <program> <folder>, as bench/full_disk.sh runs it; the folder's file system has to be a small one.
+Usage: bench/full_disk.py <program> <folder>, as bench/full_disk.sh runs it; the program may be an empty word, as nothing is
+named then, and the folder's file system has to be a small one.
 
 The disk runs full under the writing of a block, of an entry of the catalogue, and of the entry by which an opening stops the
 recordings that were active. Each time the line that meets it is DeviceFault, further changes are Broken, and opening again
@@ -14,7 +15,7 @@ import subprocess
 import sys
 from pathlib import Path
 
-from tool import TIMESTAMP, Fault, Session, Stream, run
+from tool import TIMESTAMP, Fault, Session, Stream, program, run
 
 STREAM = Stream(term_length=2**30, segment_length=2**30)
 LENGTH = 1_408  # bytes of a frame
@@ -43,13 +44,25 @@ def expect(what: str, told: object, right: object) -> None:
 class Archive:
     """An archive on a file system that runs full, beside files that take the rest of the room."""
 
-    def __init__(self, program: Path, disk: Path) -> None:
-        self.program, self.folder, self.ballast = program, disk / "archive", disk / "ballast"
+    def __init__(self, tool: Path, disk: Path) -> None:
+        self.tool, self.folder, self.ballast = tool, disk / "archive", disk / "ballast"
         self.folder.mkdir()
-        expect("create", run([program, "create", self.folder]), ["created"])
+        expect("create", run([self.tool, "create", self.folder]), ["created"])
 
     def session(self) -> Session:
-        return Session(self.program, self.folder)
+        return Session(self.tool, self.folder)
+
+    def begun(self) -> Session:
+        """A session that has started recording 0."""
+        session = self.session()
+        expect("start", session.ask(STREAM.start("c")), ["started 0 0"])
+        return session
+
+    def extended(self, when: str, position: int) -> Session:
+        """A session that goes on with recording 0 from a position."""
+        session = self.session()
+        expect(f"extend, {when}", session.ask(STREAM.extend(0, position)), ["extended 0"])
+        return session
 
     def fill(self, most: int) -> None:
         """Takes so many bytes of the file system, or all that are left."""
@@ -78,7 +91,7 @@ class Archive:
         """The next process replays recording 0 up to a position, and verifies it."""
         sent = [line for begin in range(0, position, BLOCK) for line in frames(begin)]
         polls = [f"poll 0 {POLLED}"] * (len(sent) // POLLED + 1)
-        told = run([self.program, "run", self.folder], ["positions 0", "verify 0", "replay 0 0 -1", *polls])
+        told = run([self.tool, "run", self.folder], ["positions 0", "verify 0", "replay 0 0 -1", *polls])
         told = [line for line in told if line != "done" and not line.startswith("more ")]
         right = [f"positions 0 {position} {position}", f"verified {len(sent)}", "replay 0"]
         right += [f"frame {place} {text.hex()}" for place, text in sent]
@@ -86,8 +99,7 @@ class Archive:
 
     def expect_extended(self, position: int) -> None:
         """The next process goes on with recording 0 from a position."""
-        session = self.session()
-        expect("extend, with room", session.ask(STREAM.extend(0, position)), ["extended 0"])
+        session = self.extended("with room", position)
         expect("block, with room", session.ask(block(0, position)), [f"settled {position + BLOCK}"])
         expect("the status, with room", session.end(), 0)
         self.expect_recorded("with room", position + BLOCK)
@@ -99,8 +111,7 @@ class Archive:
 def full_in_a_segment(archive: Archive) -> str:
     """The write of a block meets the full disk."""
     archive.fill(2**20)
-    session, position = archive.session(), 0
-    expect("start", session.ask(STREAM.start("c")), ["started 0 0"])
+    session, position = archive.begun(), 0
     while (told := session.ask(block(0, position))) == [f"settled {position + BLOCK}"]:
         position += BLOCK
     expect("the block that met the full disk", told, DEVICE_FAULT)
@@ -108,8 +119,7 @@ def full_in_a_segment(archive: Archive) -> str:
     expect("verify 0, of the file whose write has failed", session.ask("verify 0"), DEVICE_FAULT)
     archive.expect_broken(session)
     archive.expect_recorded("still full", position)
-    session = archive.session()
-    expect("extend, still full", session.ask(STREAM.extend(0, position)), ["extended 0"])
+    session = archive.extended("still full", position)
     expect("block, still full", session.ask(block(0, position)), DEVICE_FAULT)
     archive.expect_broken(session)
     archive.expect_recorded("full again", position)
@@ -120,8 +130,7 @@ def full_in_a_segment(archive: Archive) -> str:
 
 def full_in_the_catalogue(archive: Archive) -> str:
     """The entry of a start meets the full disk, while the segment files have what they need."""
-    session = archive.session()
-    expect("start", session.ask(STREAM.start("c")), ["started 0 0"])
+    session = archive.begun()
     expect("block", session.ask(block(0, 0)), [f"settled {BLOCK}"])
     archive.fill(sys.maxsize)
     channel, count = "d" * 512, 1
@@ -132,7 +141,7 @@ def full_in_the_catalogue(archive: Archive) -> str:
     archive.expect_broken(session)
     right = [STREAM.descriptor(0, -1, BLOCK, "c")] + [STREAM.descriptor(number, -1, 0, channel) for number in range(1, count)]
     right.append(f"end {count}")
-    expect("list, still full", run([archive.program, "list", archive.folder]), right)
+    expect("list, still full", run([archive.tool, "list", archive.folder]), right)
     archive.expect_recorded("still full", BLOCK)
     archive.make_room()
     archive.expect_extended(BLOCK)
@@ -141,16 +150,15 @@ def full_in_the_catalogue(archive: Archive) -> str:
 
 def full_at_an_opening(archive: Archive) -> str:
     """The entry by which an opening stops recordings has no room in the catalogue's last page."""
-    session = archive.session()
-    expect("start", session.ask(STREAM.start("c")), ["started 0 0"])
+    session = archive.begun()
     for number, length in enumerate([447] * 7 + [446], start=1):
         expect("start", session.ask(STREAM.start("d" * length)), [f"started {number} {number}"])
     expect("bytes of the catalogue", (archive.folder / "catalogue-a.bank").stat().st_size, 4_095)
     expect("the status", session.end(), 0)
     archive.fill(sys.maxsize)
-    ended = subprocess.run([archive.program, "list", archive.folder], capture_output=True, text=True)
+    ended = subprocess.run([archive.tool, "list", archive.folder], capture_output=True, text=True)
     expect("list, still full", (ended.returncode, ended.stdout, ended.stderr), (3, "", DEVICE_FAULT[0] + "\n"))
-    told = run([archive.program, "run", archive.folder], ["list 0 1", "reopen", "quit"])
+    told = run([archive.tool, "run", archive.folder], ["list 0 1", "reopen", "quit"])
     expect("run, still full", told, [*BROKEN, *DEVICE_FAULT, "bye"])
     archive.make_room()
     archive.expect_recorded("with room", 0)
@@ -159,9 +167,9 @@ def full_at_an_opening(archive: Archive) -> str:
 
 
 def main() -> int:
-    program, disk = (Path(word) for word in sys.argv[1:3])
+    tool, disk = program(sys.argv[1]), Path(sys.argv[2])
     for part in (full_in_a_segment, full_in_the_catalogue, full_at_an_opening):
-        archive = Archive(program, disk)
+        archive = Archive(tool, disk)
         try:
             print(part(archive))
         except Fault as fault:

@@ -3,8 +3,8 @@
 # and ext4 on a loop device. What may not be mounted here is skipped, and said to be.
 # Usage: bench/full_disk.sh [program]. Status 1 where anything is wrong.
 set -euo pipefail
-tool=$(realpath "${1:-${ARCHIVE_TOOL:-$(dirname "$0")/../crates/archive_tool/out/archive_tool}}")
-cd "$(dirname "$0")"
+tool=${1:-}
+here=$(dirname "$0")
 work=$(mktemp -d)
 trap 'umount -l "$work/disk" 2> "$work/log" || true; rm -rf "$work"' EXIT
 mkdir "$work/disk"
@@ -18,7 +18,7 @@ fill() {
         return
     fi
     echo "$name:"
-    python3 -B full_disk.py "$tool" "$work/disk"
+    python3 -B "$here/full_disk.py" "$tool" "$work/disk"
     umount "$work/disk"
 }
 

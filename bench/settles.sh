@@ -4,9 +4,8 @@
 # megabytes a second of a replay, and seconds of an opening. bench/settles.py says how each is measured.
 # Usage: bench/settles.sh [program] [settles of a run]
 set -euo pipefail
-tool=$(realpath "${1:-${ARCHIVE_TOOL:-$(dirname "$0")/../crates/archive_tool/out/archive_tool}}")
-cd "$(dirname "$0")"
+here=$(dirname "$0")
 work=$(mktemp -d)
 trap 'rm -rf "$work"' EXIT
-rustc --edition 2021 -O -o "$work/plain" plain_settles.rs
-python3 -B settles.py "$tool" "$work/plain" "${2:-4000}"
+rustc --edition 2021 -O -o "$work/plain" "$here/plain_settles.rs"
+python3 -B "$here/settles.py" "${1:-}" "$work/plain" "${2:-4000}"
