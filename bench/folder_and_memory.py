@@ -1,7 +1,7 @@
 #!/usr/bin/env python3
 """Asks that a folder answers as memory does, and that each command of the program ends as docs/CONTROL.md says.
 
-The worked scripts are read from archive_tool's tests. Those over an empty disk are run over memory and over a folder, and
+The worked scripts are read from tool_tests. Those over an empty disk are run over memory and over a folder, and
 both have to give the test's text, byte for byte; those over another disk are run over a folder that was made to be like it.
 Then each command is run on archives that are whole, damaged, absent or in use: its status, and what it prints on either
 stream.
@@ -18,7 +18,7 @@ from pathlib import Path
 
 from tool import ROOT, Session, Stream, bank, program, room, settle_entry
 
-CRATE = ROOT / "crates/archive_tool"
+CRATES = ROOT / "crates"
 TEXT = r'"((?:[^"\\]|\\.|\\\n)*)"'
 HEAD = r"fn (\w+)\(rt: HostRuntime\)[^{]*\{\s*"
 TEXTS = rf"{TEXT},\s*{TEXT},?\s*\)"
@@ -121,10 +121,10 @@ MADE: dict[str, Callable[[Trial, Path], None]] = {
 
 def try_scripts(trial: Trial) -> None:
     """Each script of the tests, over memory and a folder, or over a folder that is like its disk."""
-    source = "".join((CRATE / "src/tests" / name).read_text() for name in ("scenarios.rt", "disks.rt"))
+    source = "".join((CRATES / "tool_tests/src" / name).read_text() for name in ("scenarios.rt", "disks.rt"))
     vectors = dict(VECTOR.findall(source))
     empty = [(name, text_of(lines, vectors), text_of(told, vectors)) for name, lines, told in OVER_EMPTY.findall(source)]
-    empty.append(("stdin", (CRATE / "stdin").read_text(), (CRATE / "stdout").read_text()))
+    empty.append(("stdin", (CRATES / "archive_tool/stdin").read_text(), (CRATES / "archive_tool/stdout").read_text()))
     empty += [("no line", "", ""), ("a last line without its end", "list 0 0", "end 0\n"), ("quit", "quit\nlist 0 0\n", "bye\n")]
     for name, lines, told in empty:
         trial.expect(f"{name}, over memory", trial.ended("run", given=lines), (0, told, ""))

@@ -1,15 +1,1 @@
-mod PartsLemmas
-mod WorksLemmas
-mod CallLemmas
-mod OpeningLemmas
-mod LineLemmas
-mod ProgressLemmas
-mod ScriptLemmas
-mod EndLemmas
-mod ReportLemmas
-mod QuietLemmas
-mod GoingOnLemmas
 mod CommandLineLemmas
-mod StoredLemmas
-mod FrameLinesLemmas
-mod ListingLemmas

@@ -1,12 +1,13 @@
 -- How the program ends, and the status that says so: docs/CONTROL.md, "The program".
 use Rattle.std.specs.Prelude.{◌≡◌, ℕ, Bool, false, Option, Some, None}
+use Rattle.std.specs.Option.{option_map_or}
 use Rattle.std.specs.declared.io.ErrorKind.TheVariants as io
 use Rattle.clap.specs.declared.error.ErrorKind.{ErrorKind}
 use Rattle.clap.specs.declared.error.ErrorKind.TheVariants as kinds
 use Rattle.frame_core.specs.declared.refusal.Refusal.{Refusal}
 use Rattle.frame_core.specs.declared.refusal.Refusal.TheVariants.{Broken, Damaged, DeviceFault, NoMemory}
 use Rattle.host_disk.specs.declared.open_fault.OpenFault.TheVariants as folders
-use Rattle.archive_tool.specs.declared.fault.EarlyEnd.TheVariants as faults
+use Rattle.tool_core.specs.declared.fault.EarlyEnd.TheVariants as faults
 use Rattle.archive_tool.specs.declared.status.Ending.{Ending}
 use Rattle.archive_tool.specs.declared.status.Ending.TheVariants.{Done, Cut, Refused, Unopened, FoundDamage, NoCommand, Failed}
 
@@ -16,23 +17,6 @@ status_of_refusal (Damaged recording position) = 3
 status_of_refusal Broken = 3
 status_of_refusal DeviceFault = 3
 status_of_refusal refusal = 1
-
--- the status with which the program ends: 0 done, 1 refused, 2 a wrong command line, 3 a fault, damage, or a stream failed
-abbrev pub status_of : Ending → ℕ
-status_of Done = 0
-status_of (Cut faults.Memory) = 1
-status_of (Cut faults.Read) = 3
-status_of (Cut faults.Write) = 3
-status_of (Refused refusal) = status_of_refusal refusal
-status_of (Unopened folders.NoMemory) = 1
-status_of (Unopened fault) = 3
-status_of FoundDamage = 3
-status_of (NoCommand kinds.DisplayHelp) = 0
-status_of (NoCommand kinds.DisplayVersion) = 0
-status_of (NoCommand kinds.OutOfMemory) = 1
-status_of (NoCommand kind) = 2
-status_of (Failed io.OutOfMemory) = 1
-status_of (Failed kind) = 3
 
 -- the refusal that is told on standard error
 abbrev pub refusal_of : Ending → Option Refusal
@@ -48,6 +32,18 @@ refusal_of (NoCommand kinds.OutOfMemory) = Some NoMemory
 refusal_of (NoCommand kind) = None
 refusal_of (Failed io.OutOfMemory) = Some NoMemory
 refusal_of (Failed kind) = Some DeviceFault
+
+-- the status of an ending that tells no refusal: 0 done, 2 a wrong command line, 3 damage
+abbrev pub untold_status : Ending → ℕ
+untold_status FoundDamage = 3
+untold_status (NoCommand kinds.DisplayHelp) = 0
+untold_status (NoCommand kinds.DisplayVersion) = 0
+untold_status (NoCommand kind) = 2
+untold_status ending = 0
+
+-- the status with which the program ends: that of the refusal which it tells, where it tells one
+abbrev pub status_of : Ending → ℕ
+status_of ending = option_map_or status_of_refusal (refusal_of ending) (untold_status ending)
 
 -- A command whose output could not be handed on ends by that, if it had not failed before.
 abbrev pub handed_on : Ending → Bool → Ending

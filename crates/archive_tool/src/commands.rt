@@ -4,11 +4,6 @@ ghost use Rattle.std.specs.Prelude.{◌≡◌};
 ghost use Rattle.archive_tool.specs.Status.{handed_on};
 
 use crate::command::ToolCommand;
-use crate::fault::EarlyEnd;
-use crate::frames::{Listing, list_frames};
-use crate::progress::{Progress, Watched};
-use crate::reports::{Verdict, list_recordings, verify_recordings};
-use crate::script::run_script;
 use crate::status::Ending;
 use disk_core::{Disk, MemoryDisk};
 use engine_core::{Engine, OpenRefusal};
@@ -16,6 +11,7 @@ use frame_core::Refusal;
 use host_disk::HostDisk;
 use std::fs::{self, File};
 use std::io::{self, IsTerminal, Write};
+use tool_core::{EarlyEnd, Listing, Progress, Verdict, Watched, list_frames, list_recordings, run_script, verify_recordings};
 
 /// Does what a command asks for, hands on what it writes, and answers how that ended.
 pub(crate) fn obeyed<W: Write>(

@@ -5,34 +5,22 @@ ghost use Rattle.std.specs.Prelude.{◌≡◌};
 ghost use Rattle.clap.specs.Words.{kind_of};
 ghost use Rattle.archive_tool.specs.Status.{IsStatus, IsTold, status_of};
 
-mod answers;
-mod archive;
 mod command;
 mod commands;
-mod fault;
-mod frames;
-mod laws;
-mod lines;
-mod merging;
-mod progress;
-mod reports;
-mod script;
-mod state;
 mod status;
-mod stored;
 
 use clap::Error;
 use clap::error::ErrorKind;
 use command::{command_of, unreadable_words};
 use commands::obeyed;
 use control_core::print_refusal;
-use fault::EarlyEnd;
 use frame_core::Refusal;
 use status::Ending;
 use std::env;
 use std::io::{self, BufWriter};
 use std::process::ExitCode;
 use std::rt::Env;
+use tool_core::EarlyEnd;
 
 fn main(rt: HostRuntime) -> ExitCode {
     ExitCode::from(ended(rt))

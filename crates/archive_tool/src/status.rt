@@ -2,13 +2,13 @@
 
 ghost use Rattle.std.specs.Prelude.{◌≡◌};
 ghost use Rattle.archive_tool.specs.declared.status.Ending.TheVariants.{Cut, Refused, Unopened};
-ghost use Rattle.archive_tool.specs.Status.{refusal_of, status_of, status_of_refusal};
+ghost use Rattle.archive_tool.specs.Status.{refusal_of, status_of, status_of_refusal, untold_status};
 
-use crate::fault::EarlyEnd;
 use clap::error::ErrorKind;
 use frame_core::Refusal;
 use host_disk::OpenFault;
 use std::io;
+use tool_core::EarlyEnd;
 
 /// Done.
 const DONE: u8 = 0;
@@ -39,23 +39,25 @@ pub enum Ending {
 }
 
 impl Ending {
-    /// The program's status.
+    /// The program's status: that of the refusal which is told, where one is.
     pub fn status(self) -> u8
         ensures { result ≡ status_of self }
     {
+        match self.refusal() {
+            Some(refusal) => status_of_refusal(refusal),
+            None => self.untold_status(),
+        }
+    }
+
+    /// The status of an ending that tells no refusal.
+    fn untold_status(self) -> u8
+        ensures { result ≡ untold_status self }
+    {
         match self {
-            Ending::Done => DONE,
-            Ending::Cut(EarlyEnd::Memory) => REFUSED,
-            Ending::Cut(EarlyEnd::Read | EarlyEnd::Write) => DEVICE,
-            Ending::Refused(refusal) => status_of_refusal(refusal),
-            Ending::Unopened(OpenFault::NoMemory) => REFUSED,
-            Ending::Unopened(OpenFault::Device | OpenFault::Busy) => DEVICE,
             Ending::FoundDamage => DEVICE,
             Ending::NoCommand(ErrorKind::DisplayHelp | ErrorKind::DisplayVersion) => DONE,
-            Ending::NoCommand(ErrorKind::OutOfMemory) => REFUSED,
             Ending::NoCommand(_) => USAGE,
-            Ending::Failed(io::ErrorKind::OutOfMemory) => REFUSED,
-            Ending::Failed(_) => DEVICE,
+            _ => DONE,
         }
     }
 

@@ -2,11 +2,4 @@
 //! failing readers, writers and requests for memory lead to.
 
 mod command;
-mod disks;
-mod faults;
 mod folders;
-mod frames;
-mod lines;
-mod progress;
-mod reports;
-mod scenarios;

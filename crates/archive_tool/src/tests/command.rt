@@ -2,7 +2,7 @@
 //! told.
 
 use crate::command::{ToolCommand, command_of, unreadable_words};
-use crate::fault::EarlyEnd;
+use tool_core::EarlyEnd;
 use crate::status::Ending;
 use crate::{concluded, told};
 use clap::Error;

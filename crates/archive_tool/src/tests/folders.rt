@@ -3,7 +3,7 @@
 
 use crate::command::ToolCommand;
 use crate::commands::obeyed;
-use crate::script::run_script;
+use tool_core::run_script;
 use disk_core::{Disk, FileId};
 use host_disk::HostDisk;
 use std::test::Fail;

@@ -1,5 +1,0 @@
-use Rattle.archive_tool.proofs.ReportLemmas.{HasCome}
-use Rattle.archive_tool.proofs.reports.verify_recordings.Given as goal
-
-abbrev pub invariant-loop-id : goal.invariant-loop-id
-invariant-loop-id g l = HasCome g.D.Disk.life l.fn.engine l.engine l.id-items l.id-index (g.W.Write.contents l.fn.writer) (g.W.Write.contents l.writer) l.is_whole

@@ -1,0 +1,14 @@
+mod PartsLemmas
+mod WorksLemmas
+mod CallLemmas
+mod OpeningLemmas
+mod LineLemmas
+mod ProgressLemmas
+mod ScriptLemmas
+mod EndLemmas
+mod ReportLemmas
+mod QuietLemmas
+mod GoingOnLemmas
+mod StoredLemmas
+mod FrameLinesLemmas
+mod ListingLemmas

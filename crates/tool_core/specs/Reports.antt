@@ -1,0 +1,74 @@
+-- What `verify` tells of an archive: docs/CONTROL.md, "The program".
+use Rattle.std.specs.Prelude.{◌≡◌, ℕ, ℤ, Bool, IsTrue, List, [], ◌∷◌, length, map, take, Option, Result, MatchResult, is_ok, if◌then◌else◌}
+use Rattle.std.specs.List.{AllZip, flat_map, list_all}
+use Rattle.std.specs.Io.KnownBytes.{Appends}
+use Rattle.frame_core.specs.declared.refusal.Refusal.{Refusal}
+use Rattle.disk_core.specs.Life.{HasFailed, Life}
+use Rattle.archive_model.specs.declared.reply.Reply.{Reply}
+use Rattle.archive_model.specs.Register.{id_of}
+use Rattle.control_core.specs.declared.event.Event.TheVariants.{Verify}
+use Rattle.control_core.specs.Exact.{Archive, CallEnds}
+use Rattle.engine_core.specs.declared.engine.Engine.{Engine}
+use Rattle.engine_core.specs.Consistent.{IsConsistent}
+use Rattle.tool_core.specs.declared.fault.EarlyEnd.{EarlyEnd}
+use Rattle.tool_core.specs.declared.fault.EarlyEnd.TheVariants as ends
+use Rattle.tool_core.specs.declared.reports.Verdict.{Verdict}
+use Rattle.tool_core.specs.declared.reports.Verdict.TheVariants.{Whole, Refused}
+use Rattle.tool_core.specs.Script.{FailsToAnswer, outcome_text}
+use Rattle.tool_core.specs.Tie.{GoesOn}
+
+-- what is written of answers, one behind another
+abbrev pub outcomes_text : List (Result Reply Refusal) → List ℕ
+outcomes_text outcomes = flat_map outcome_text outcomes
+
+-- whether each of them is a reply
+abbrev pub verdict_of : List (Result Reply Refusal) → Verdict
+verdict_of outcomes = if list_all is_ok outcomes then Whole else Refused
+
+-- what was written before an early end: nothing is said of a writer that failed
+abbrev pub IsWrittenBefore : EarlyEnd → Option (List ℕ) → Option (List ℕ) → List ℕ → Type 0
+IsWrittenBefore ends.Read contents written text = ⊥
+IsWrittenBefore ends.Memory contents written text = Appends contents written text
+IsWrittenBefore ends.Write contents written text = Unit {0}
+
+-- the ids of an engine's recordings, as they rise
+abbrev pub ids_in : {D : Type 0} → Engine D → List ℤ
+ids_in engine = map id_of engine.parts.desk.state.register.recordings
+
+module _ {D : Type 0} (life : D → Life) where
+  -- the disk of an engine
+  abbrev pub life_in : Engine D → Life
+  life_in engine = life engine.parts.storage.disk
+
+  -- the engine is a crash-consistent archive's
+  abbrev pub IsEngineOf : Archive → Engine D → Type 0
+  IsEngineOf a engine = IsConsistent (life_in engine) engine.parts.storage.log engine.parts.desk.state a
+
+  -- An answer to the verifying of each of these recordings. Where the disk obeys the crash model it is one that the call may
+  -- have over the archive, a device fault only where a call of the disk has failed; and the archive stays.
+  pub record AnswersEach (old new : Engine D) (ids : List ℤ) (outcomes : List (Result Reply Refusal)) : Type 0 where
+    pub goes_on : GoesOn (life_in old) (life_in new)
+    pub each : length outcomes ≡ length ids
+    pub exact : (a : Archive) → IsEngineOf a old → IsTrue (life_in new).obeys →
+        IsEngineOf a new × AllZip (λ id outcome. CallEnds a (Verify id) (HasFailed (life_in old) (life_in new)) outcome a) ids outcomes
+
+  -- each recording was verified, and the answers are written
+  pub record HasReported (old new : Engine D) (contents written : Option (List ℕ)) (verdict : Verdict) : Type 0 where
+    pub outcomes : List (Result Reply Refusal)
+    pub answers : AnswersEach old new (ids_in old) outcomes
+    pub told : Appends contents written (outcomes_text outcomes)
+    pub judged : verdict ≡ verdict_of outcomes
+
+  -- the first recordings were verified, and the answers are written
+  pub record HasReportedFirst (old new : Engine D) (contents written : Option (List ℕ)) (end : EarlyEnd) : Type 0 where
+    pub outcomes : List (Result Reply Refusal)
+    pub answers : AnswersEach old new (take (length outcomes) (ids_in old)) outcomes
+    pub told : IsWrittenBefore end contents written (outcomes_text outcomes)
+
+  -- one recording was verified; what is written of the answer, and whether it is a reply
+  pub record HasReportedOne (old new : Engine D) (id : ℤ) (contents written : Option (List ℕ)) (result : Result Bool EarlyEnd) : Type 0 where
+    pub outcome : Result Reply Refusal
+    pub answers : AnswersEach old new (id ∷ []) (outcome ∷ [])
+    pub told : MatchResult result
+        (λ is_verified. Appends contents written (outcome_text outcome) × (is_verified ≡ is_ok outcome))
+        (λ end. FailsToAnswer end contents written)

@@ -1,0 +1,62 @@
+//! Why a script ended before its last line. docs/CONTROL.md, "Scripts".
+
+ghost use Rattle.std.specs.Prelude.{◌≡◌};
+ghost use Rattle.tool_core.specs.declared.fault.EarlyEnd.TheVariants.{Memory};
+ghost use Rattle.tool_core.specs.Script.{disk_of, end_of};
+
+use std::alloc::AllocError;
+
+/// Why a script, or a listing of a file's frames, ended before its last line.
+#[derive(Clone, Copy, Debug, PartialEq, Eq)]
+pub enum EarlyEnd {
+    /// Its input could not be read on, or was looked at as often as may be.
+    Read,
+    /// What was answered could not be written.
+    Write,
+    /// A request for memory was refused where no line could say so.
+    Memory,
+}
+
+impl From<AllocError> for EarlyEnd {
+    ghost from_gives = { λ _ fault. fault ≡ Memory };
+
+    fn from(_: AllocError) -> Self {
+        EarlyEnd::Memory
+    }
+}
+
+/// Why a script ended before its last line, and the disk of its archive.
+#[derive(Drop)]
+pub enum ScriptFault<D> {
+    /// Its input could not be read on, or was looked at as often as may be.
+    Read(D),
+    /// What was answered could not be written.
+    Write(D),
+    /// A request for memory was refused where no line could say so.
+    Memory(D),
+}
+
+impl<D> ScriptFault<D> {
+    /// The fault of a script that ended so, with its disk.
+    pub fn new(end: EarlyEnd, disk: D) -> ScriptFault<D>
+        ensures end { end_of result ≡ end }
+        ensures disk { disk_of result ≡ disk }
+    {
+        match end {
+            EarlyEnd::Read => ScriptFault::Read(disk),
+            EarlyEnd::Write => ScriptFault::Write(disk),
+            EarlyEnd::Memory => ScriptFault::Memory(disk),
+        }
+    }
+
+    /// Why, without the disk.
+    pub fn end(&self) -> EarlyEnd
+        ensures { result ≡ end_of self.now }
+    {
+        match self {
+            ScriptFault::Read(_) => EarlyEnd::Read,
+            ScriptFault::Write(_) => EarlyEnd::Write,
+            ScriptFault::Memory(_) => EarlyEnd::Memory,
+        }
+    }
+}

@@ -1,0 +1,28 @@
+//! What the program's commands do with readers, writers and disks: scripts of control lines, what is told of an archive and
+//! of a file of frames, and disks whose reads are watched.
+#![tactic(auto)]
+
+mod answers;
+mod archive;
+mod fault;
+mod frames;
+pub mod laws;
+mod lines;
+mod merging;
+mod output;
+mod progress;
+mod reports;
+mod script;
+mod state;
+mod stored;
+
+pub use answers::{write_outcome, write_refusal, write_reply};
+pub use archive::ScriptArchive;
+pub use fault::{EarlyEnd, ScriptFault};
+pub use frames::{Listing, list_frames};
+pub use lines::{LineBuffer, MAX_READS, read_line};
+pub use merging::answer_merge;
+pub use progress::{Progress, Viewer, Watched};
+pub use reports::{Verdict, list_recordings, verify_recordings};
+pub use script::run_script;
+pub use state::ScriptState;

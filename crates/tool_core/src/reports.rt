@@ -1,0 +1,114 @@
+//! What `list` and `verify` tell of an archive. docs/CONTROL.md, "The program".
+
+ghost use Rattle.std.specs.Prelude.{◌≡◌, ◌∷◌, [], pos, IfErr, IfOk, OnOk, map};
+ghost use Rattle.std.specs.Io.KnownBytes.{Appends};
+ghost use Rattle.archive_model.specs.declared.reply.Reply.TheVariants.{Recordings};
+ghost use Rattle.archive_model.specs.Register.{id_of};
+ghost use Rattle.control_core.specs.Decisions.{listed};
+ghost use Rattle.control_core.specs.ReplyText.{reply_text};
+ghost use Rattle.tool_core.specs.Script.{FailsToAnswer};
+ghost use Rattle.tool_core.specs.Reports.{AnswersEach, HasReported, HasReportedFirst, HasReportedOne};
+
+use crate::answers::{write_outcome, write_reply};
+use crate::fault::EarlyEnd;
+use archive_model::{Registration, Reply};
+use control_core::{Decision, Desk, Event, Request, decide};
+use disk_core::Disk;
+use engine_core::Engine;
+use frame_core::Refusal;
+use std::alloc::{AllocError, Global};
+use std::io::Write;
+
+/// Recordings that are listed at most: as many as there may be.
+const MOST_LISTED: i64 = 1_024;
+
+/// Whether each recording was verified.
+#[derive(Clone, Copy, Debug, PartialEq, Eq)]
+pub enum Verdict {
+    /// Each was.
+    Whole,
+    /// One at least was not: its line is an error's.
+    Refused,
+}
+
+/// Writes the descriptors of the recordings, by rising id: the reply of the line `list 0 1024`. The frames are not read.
+///
+/// `Memory` where the list or its text finds no memory, and then nothing is written; `Write` where the writer fails.
+/// docs/CONTROL.md, "The program".
+pub fn list_recordings<W: Write>(alloc: Global, desk: &Desk, writer: &mut W) -> Result<(), EarlyEnd>
+    ensures ok { OnOk result (Appends (W.contents writer.old) (W.contents writer.new)
+        (reply_text (Recordings (listed (pos 0) (pos 1024) desk.now.state.register.recordings)))) }
+    ensures err { IfErr result
+        (λ end. FailsToAnswer end (W.contents writer.old) (W.contents writer.new)) }
+{
+    let request = Request::List {
+        from: 0,
+        count: MOST_LISTED,
+    };
+    let Decision::Answered(reply) = decide(alloc, desk, &request) else {
+        return Err(EarlyEnd::Memory);
+    };
+    write_reply(alloc, &reply, writer)
+}
+
+/// Verifies each recording, by rising id, and writes the answer to each as a script does: `verified <frames>`, or the
+/// line of its refusal. The archive stays as it is.
+///
+/// `Memory` where there is none for the list of ids or for a reply's text, and `Write` where the writer fails: what was
+/// written before stays written. Costs what each recorded frame costs. docs/CONTROL.md, "The program".
+pub fn verify_recordings<W: Write, D: Disk>(
+    alloc: Global,
+    engine: &mut Engine<D>,
+    writer: &mut W,
+) -> Result<Verdict, EarlyEnd>
+    ensures whole { IfOk result
+        (HasReported D.life engine.old engine.new (W.contents writer.old) (W.contents writer.new)) }
+    ensures early { IfErr result
+        (HasReportedFirst D.life engine.old engine.new (W.contents writer.old) (W.contents writer.new)) }
+{
+    let ids = ids_of(alloc, engine.desk().recordings())?;
+    let mut is_whole = true;
+    for id in ids.as_slice() {
+        let is_verified = report(alloc, engine, id, writer)?;
+        is_whole = is_whole && is_verified;
+    }
+    Ok(if is_whole {
+        Verdict::Whole
+    } else {
+        Verdict::Refused
+    })
+}
+
+/// The ids of recordings.
+fn ids_of(alloc: Global, recordings: &[Registration]) -> Result<Vec<i64>, AllocError>
+    ensures { IfOk result (λ ids. ids.items ≡ map id_of recordings.now) }
+{
+    recordings
+        .iter()
+        .map(|known| known.descriptor.recording)
+        .collect(alloc)
+}
+
+/// Verifies a recording, writes the answer, and says whether it was verified.
+fn report<W: Write, D: Disk>(
+    alloc: Global,
+    engine: &mut Engine<D>,
+    recording: &i64,
+    writer: &mut W,
+) -> Result<bool, EarlyEnd>
+    ensures { HasReportedOne D.life engine.old engine.new recording.now (W.contents writer.old) (W.contents writer.new) result }
+{
+    let outcome = verify(alloc, engine, recording);
+    write_outcome(alloc, &outcome, writer)?;
+    Ok(outcome.is_ok())
+}
+
+/// Verifies a recording.
+fn verify<D: Disk>(alloc: Global, engine: &mut Engine<D>, recording: &i64) -> Result<Reply, Refusal>
+    ensures { AnswersEach D.life engine.old engine.new (recording.now ∷ []) (result ∷ []) }
+{
+    let event = Event::Verify {
+        recording: *recording,
+    };
+    engine.step(alloc, &event)
+}

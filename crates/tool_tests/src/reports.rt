@@ -1,0 +1,132 @@
+//! What `list` and `verify` tell of the archives of disks: docs/CONTROL.md, "The program".
+
+use super::scenarios::check_on;
+use tool_core::{Verdict, list_recordings, verify_recordings};
+use disk_core::{Disk, FileId, MemoryDisk};
+use engine_core::Engine;
+use std::alloc::Global;
+use std::test::*;
+
+/// The disk of an archive with two recordings: one of two frames, which was stopped, and one of a frame, which was not.
+pub fn two_recordings(alloc: Global) -> Result<MemoryDisk, Fail> {
+    check_on(
+        alloc,
+        MemoryDisk::new(alloc),
+        "start 1001 7 42 65536 1408 131072 0 1000 c; start 1001 7 42 65536 1408 131072 0 1000 d; block 0 HELLO_AT_0; \
+        block 0 HELLO_AT_64; block 1 HELLO_AT_0; stop 0 2000",
+        "started 0 0; started 1 1; settled 64; settled 128; settled 64; stopped 128",
+    )
+}
+
+/// The first byte of a recording's first file is 0, and synced.
+fn damaged(disk: MemoryDisk, recording: i64) -> Result<MemoryDisk, Fail> {
+    let mut disk = disk;
+    let file = FileId::Segment { recording, base: 0 };
+    disk.write_at(file, 0, &[0])?;
+    disk.sync(file)?;
+    Ok(disk)
+}
+
+/// What `list` tells of the archive of a disk.
+fn listed(alloc: Global, disk: MemoryDisk) -> Result<Vec<u8>, Fail> {
+    let Ok(engine) = Engine::open(alloc, disk) else {
+        return Err(Fail::new("the archive was not opened"));
+    };
+    let mut out = Vec::new(alloc);
+    if list_recordings(alloc, engine.desk(), &mut out).is_err() {
+        return Err(Fail::new("the list ended early"));
+    }
+    Ok(out)
+}
+
+/// What `verify` tells of the archive of a disk, and its verdict.
+fn verified(alloc: Global, disk: MemoryDisk) -> Result<(Vec<u8>, Verdict), Fail> {
+    let Ok(mut engine) = Engine::open(alloc, disk) else {
+        return Err(Fail::new("the archive was not opened"));
+    };
+    let mut out = Vec::new(alloc);
+    match verify_recordings(alloc, &mut engine, &mut out) {
+        Ok(verdict) => Ok((out, verdict)),
+        Err(_) => Err(Fail::new("the verification ended early")),
+    }
+}
+
+/// Fails with what is told of the archive of a disk, where it is another text or verdict.
+fn check_verified(
+    alloc: Global,
+    disk: MemoryDisk,
+    told: &str,
+    verdict: Verdict,
+) -> Result<(), Fail> {
+    let (out, judged) = verified(alloc, disk)?;
+    if out.as_slice() == told.as_bytes() && judged == verdict {
+        return Ok(());
+    }
+    Err(Fail::new(String::from_str(alloc, std::str::from_utf8(out.as_slice())?)?))
+}
+
+#[test]
+fn each_recording_is_listed(rt: HostRuntime) -> Result<(), Fail> {
+    let out = listed(rt.alloc(), two_recordings(rt.alloc())?)?;
+    let told = b"recording 0 1000 2000 0 128 42 131072 65536 1408 7 1001 c\n\
+        recording 1 1000 -1 0 64 42 131072 65536 1408 7 1001 d\nend 2\n";
+    assert!(rt; out.as_slice() == told.as_slice());
+    Ok(())
+}
+
+#[test]
+fn each_recording_is_verified(rt: HostRuntime) -> Result<(), Fail> {
+    check_verified(
+        rt.alloc(),
+        two_recordings(rt.alloc())?,
+        "verified 2\nverified 1\n",
+        Verdict::Whole,
+    )
+}
+
+#[test]
+fn the_first_is_damaged(rt: HostRuntime) -> Result<(), Fail> {
+    check_verified(
+        rt.alloc(),
+        damaged(two_recordings(rt.alloc())?, 0)?,
+        "error 15 Damaged 0 0\nverified 1\n",
+        Verdict::Refused,
+    )
+}
+
+#[test]
+fn the_last_is_damaged(rt: HostRuntime) -> Result<(), Fail> {
+    check_verified(
+        rt.alloc(),
+        damaged(two_recordings(rt.alloc())?, 1)?,
+        "verified 2\nerror 15 Damaged 1 0\n",
+        Verdict::Refused,
+    )
+}
+
+#[test]
+fn there_is_no_recording(rt: HostRuntime) -> Result<(), Fail> {
+    let disk = check_on(rt.alloc(), MemoryDisk::new(rt.alloc()), "list 0 1", "end 0")?;
+    check_verified(rt.alloc(), disk, "", Verdict::Whole)
+}
+
+#[test]
+fn an_empty_list(rt: HostRuntime) -> Result<(), Fail> {
+    let disk = check_on(rt.alloc(), MemoryDisk::new(rt.alloc()), "list 0 1", "end 0")?;
+    let out = listed(rt.alloc(), disk)?;
+    assert!(rt; out.as_slice() == b"end 0\n".as_slice());
+    Ok(())
+}
+
+/// A read fails once: the recording whose frames it was to give is not verified, and the next one is.
+#[test]
+fn a_read_fails_once(rt: HostRuntime) -> Result<(), Fail> {
+    let mut disk = two_recordings(rt.alloc())?;
+    disk.fail_at(12);
+    check_verified(
+        rt.alloc(),
+        disk,
+        "error 17 DeviceFault\nverified 1\n",
+        Verdict::Refused,
+    )
+}
