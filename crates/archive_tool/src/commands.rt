@@ -11,7 +11,10 @@ use frame_core::Refusal;
 use host_disk::HostDisk;
 use std::fs::{self, File};
 use std::io::{self, IsTerminal, Write};
-use tool_core::{EarlyEnd, Listing, Progress, Verdict, Watched, list_frames, list_recordings, run_script, verify_recordings};
+use tool_core::{
+    EarlyEnd, Listing, Progress, Verdict, Watched, list_frames, list_recordings, run_script,
+    verify_recordings,
+};
 
 /// Does what a command asks for, hands on what it writes, and answers how that ended.
 pub(crate) fn obeyed<W: Write>(

@@ -1,5 +1,5 @@
 -- The bytes of a file alone determine its listing.
-use Rattle.std.proofs.Common.{◌≡◌, ◌⊎◌, ◌≤◌, ◌∙◌, ℕ, List, [], ◌∷◌, ◌++◌, arith, sym, ap, subst, refl, inl, inr, length, take, drop, replicate}
+use Rattle.std.proofs.Common.{◌≡◌, ◌⊎◌, ◌∙◌, ℕ, List, [], ◌∷◌, ◌++◌, arith, sym, ap, subst, refl, inl, inr, length, take, drop, replicate}
 use Rattle.std.proofs.lemmas.Int.{ints}
 use Rattle.std.specs.Prelude.{flat_map, pos, unsigned_abs}
 use Rattle.frame_core.specs.declared.frame.FrameKind.{FrameKind}

@@ -1,5 +1,5 @@
 -- A script's lines are answered one after another, and its disk keeps up with what was written.
-use Rattle.std.proofs.Common.{◌≡◌, ◌≤◌, ◌∙◌, ℕ, true, false, List, Option, Result, Ok, Err, refl, sym, ap, subst, arith, IsTrue}
+use Rattle.std.proofs.Common.{◌≡◌, ◌∙◌, ℕ, true, false, List, Option, Result, Ok, Err, refl, sym, ap, subst}
 use Rattle.std.specs.Io.KnownBytes.{Appends, IsAtEnd, Keeps}
 use Rattle.std.specs.Prelude.{IfErr, MatchResult, OnOk}
 use Rattle.frame_core.specs.declared.refusal.Refusal.{Refusal}

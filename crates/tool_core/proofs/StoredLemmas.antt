@@ -1,7 +1,7 @@
 -- What is read and passed of a file's known bytes, and what stands first in them.
-use Rattle.std.proofs.Common.{◌≡◌, ◌≤◌, ◌+◌, ◌-◌, ◌∙◌, ℕ, List, [], ◌∷◌, ◌++◌, Option, Some, None, IfSome, arith, sym, ap, subst, refl, inl, inr, take, drop, length, replicate, append-nil, append_assoc, length-append, length-take, take-take, drop-drop, drop_at, take_all, drop_of_length-le, length-take-le, length-drop, take-add, le_refl}
+use Rattle.std.proofs.Common.{◌≡◌, ◌≤◌, ◌+◌, ◌-◌, ◌∙◌, ℕ, List, [], ◌∷◌, ◌++◌, Option, Some, None, IfSome, arith, sym, ap, subst, refl, inl, inr, take, drop, length, append-nil, length-append, length-take, take-take, drop-drop, drop_at, take_all, drop_of_length-le, length-take-le, length-drop, take-add, le_refl}
 use Rattle.std.proofs.lemmas.List.{take-append-le}
-use Rattle.std.specs.Prelude.{min, pos, unsigned_abs}
+use Rattle.std.specs.Prelude.{min, unsigned_abs}
 use Rattle.std.proofs.lemmas.Int.{ints}
 use Rattle.std.proofs.lemmas.Slice.{take-put_mid_below}
 use borrow.Rule.Slice.PartMut.{mid_len, post_of, put_mid, same_len_mid}
@@ -9,14 +9,14 @@ use Rattle.std.specs.Io.{StartsWith}
 use Rattle.std.specs.Io.BufRead.{DropsConsumable}
 use Rattle.std.proofs.BufReadLemmas.{Consumes_shown}
 use Rattle.std.specs.Io.KnownBytes.{Consumes, IsAtEnd, Keeps}
-use Rattle.std.proofs.KnownBytes.{Consumes-nil, Consumes-trans}
+use Rattle.std.proofs.KnownBytes.{Consumes-trans}
 use Rattle.frame_core.specs.declared.frame.FrameKind.{FrameKind}
 use Rattle.frame_core.specs.declared.frame.FrameKind.TheVariants.{Pad, Message, Heartbeat}
 use Rattle.frame_core.specs.declared.frame.Frame.{Frame}
 use Rattle.frame_core.specs.FrameEncoding.{aligned_length}
 use Rattle.frame_core.specs.Header.{HasHeaderLength, StartsWithHeader}
 use Rattle.frame_core.proofs.HeaderLemmas.{one_header}
-use Rattle.tool_core.specs.FrameLines.{EndsFrames, HasNoFrame, HasStored, StandsFirst}
+use Rattle.tool_core.specs.FrameLines.{EndsFrames, HasNoFrame, HasStored}
 use Rattle.tool_core.specs.Stored.{LosesFirst, LosesHeader, Passes, PassesFrame}
 
 -- ---- how many bytes were passed

@@ -1,5 +1,5 @@
 -- A disk of which no call has failed, in each part of a stretch of calls.
-use Rattle.std.proofs.Common.{◌≡◌, ◌≤◌, ℕ, IsTrue, arith}
+use Rattle.std.proofs.Common.{◌≡◌, ◌≤◌, ℕ, arith}
 use Rattle.disk_core.specs.Life.{HasFailed, Life}
 use Rattle.tool_core.specs.Script.{Works}
 use Rattle.tool_core.specs.Tie.{GoesOn}

@@ -9,7 +9,6 @@ mod frames;
 pub mod laws;
 mod lines;
 mod merging;
-mod output;
 mod progress;
 mod reports;
 mod script;

@@ -163,7 +163,7 @@ pub fn read_line<R: BufRead>(
     reads: &mut u64,
     line: &mut LineBuffer,
 ) -> Result<bool, EarlyEnd>
-    ensures counted { OnOk result (reads.old < reads.new) }
+    ensures counted { OnOk result ((reads.old < MAX_READS) × (reads.old < reads.new)) }
     ensures found { IfOk result (λ is_line. MatchBool is_line
         (ReadsLine (R.remaining reader.old) (R.remaining reader.new) line.new)
         (IsAtEnd (R.remaining reader.old))) }

@@ -1,8 +1,9 @@
 //! A script of control lines, from a reader to a writer. docs/CONTROL.md, "Scripts".
 
-ghost use Rattle.std.specs.Prelude.{◌≡◌, ◌⊎◌, ◌↔◌, Contains, IfErr, IfOk, IsTrue, OnOk, bytes_eq, codes, false};
-ghost use Rattle.std.specs.Io.KnownBytes.{Appends, Keeps};
+ghost use Rattle.std.specs.Prelude.{◌≡◌, ◌⊎◌, ◌↔◌, ◌<◌, Contains, IfErr, IfOk, IsTrue, MatchBool, OnOk, bytes_eq, codes};
+ghost use Rattle.std.specs.Io.KnownBytes.{Appends, IsAtEnd, Keeps};
 ghost use Rattle.std.specs.Io.Buffered.{reader_remaining};
+ghost use Rattle.tool_core.specs.InputLines.{ReadsLine};
 ghost use Rattle.tool_core.specs.Transcript.{Writes};
 ghost use Rattle.tool_core.specs.ScriptLines.{Answered, Scene, Standing, begun_with};
 ghost use Rattle.tool_core.specs.Script.{Begins, EndsEarly, FailsToAnswer, IsTranscript, IsUnopened, LeavesScene, Replied, Works, asked, disk_of, end_of, ended_by, outcome_text, quits};
@@ -11,8 +12,7 @@ ghost use Rattle.tool_core.specs.Tie.{GoesOn, IsScene, life_of};
 use crate::answers::write_outcome;
 use crate::archive::ScriptArchive;
 use crate::fault::{EarlyEnd, ScriptFault};
-use crate::lines::{LineBuffer, read_line};
-use crate::output::Output;
+use crate::lines::{LineBuffer, MAX_READS, read_line};
 use crate::state::ScriptState;
 use archive_model::Reply;
 use control_core::parse_line;
@@ -76,22 +76,25 @@ fn has_line(buffered: &[u8]) -> bool
     buffered.contains(&b'\n')
 }
 
-/// Hands on what was written, unless a whole line is at hand, so that nobody waits for a reply that is there.
-fn flush_if_waiting<R: Read, W: Write>(
-    reader: &BufReader<R>,
-    output: &mut Output<W>,
-) -> Result<(), EarlyEnd>
-    ensures kept { Keeps (W.contents output.old.writer) (W.contents output.new.writer) }
-    ensures handed_on { OnOk result (Contains (reader_buffer reader.now) 10 ⊎ (output.new.is_held ≡ false)) }
-    ensures fault { IfErr result (λ fault. fault ≡ EarlyEnd.Write) }
+/// Reads the next line, and answers whether there was one. What was written is handed on before, unless a whole line is at
+/// hand, so that nobody waits for a reply that is there. `reads` counts the looks at the input; `Write` where what was
+/// written could not be handed on, else as `read_line`.
+fn next_line<R: Read, W: Write>(
+    reader: &mut BufReader<R>,
+    writer: &mut W,
+    reads: &mut u64,
+    line: &mut LineBuffer,
+) -> Result<bool, EarlyEnd>
+    ensures kept { Keeps (W.contents writer.old) (W.contents writer.new) }
+    ensures counted { OnOk result ((reads.old < MAX_READS) × (reads.old < reads.new)) }
+    ensures found { IfOk result (λ is_line. MatchBool is_line
+        (ReadsLine (reader_remaining R.remaining reader.old) (reader_remaining R.remaining reader.new) line.new)
+        (IsAtEnd (reader_remaining R.remaining reader.old))) }
 {
-    if !output.is_held() || has_line(reader.buffer()) {
-        return Ok(());
-    }
-    if output.flush().is_err() {
+    if !has_line(reader.buffer()) && writer.flush().is_err() {
         return Err(EarlyEnd::Write);
     }
-    Ok(())
+    read_line(reader, reads, line)
 }
 
 /// Answers line after line, up to the one that quits or the end of the input.
@@ -99,31 +102,28 @@ fn run_lines<R: Read + Drop, W: Write, D: Disk>(
     alloc: Global,
     state: ScriptState<D>,
     reader: &mut BufReader<R>,
-    output: &mut Output<W>,
+    writer: &mut W,
 ) -> (ScriptState<D>, Result<(), EarlyEnd>)
     ensures goes_on { GoesOn (life_of D.life state.archive) (life_of D.life result.0.archive) }
     ensures whole { OnOk result.1 ((first : Standing) → IsScene D.life state (begun_with first) →
         Works (life_of D.life state.archive) (life_of D.life result.0.archive) →
-        Writes (reader_remaining R.remaining reader.old) (W.contents output.old.writer) (W.contents output.new.writer)
+        Writes (reader_remaining R.remaining reader.old) (W.contents writer.old) (W.contents writer.new)
         (IsTranscript first (IsScene D.life result.0))) }
     ensures early { IfErr result.1 (λ end. (first : Standing) → IsScene D.life state (begun_with first) →
         Works (life_of D.life state.archive) (life_of D.life result.0.archive) →
         EndsEarly end first (IsScene D.life result.0) (reader_remaining R.remaining reader.old)
-        (W.contents output.old.writer) (W.contents output.new.writer)) }
+        (W.contents writer.old) (W.contents writer.new)) }
 {
     let mut state = state;
     let mut line = LineBuffer::new(alloc);
     let mut reads = 0u64;
     'lines: loop {
-        if let Err(end) = flush_if_waiting(reader, output) {
-            return (state, Err(end));
-        }
-        match read_line(reader, &mut reads, &mut line) {
+        match next_line(reader, writer, &mut reads, &mut line) {
             Ok(true) => {}
             Ok(false) => return (state, Ok(())),
             Err(end) => return (state, Err(end)),
         }
-        let (next, answered) = answer_line(alloc, state, &line, output);
+        let (next, answered) = answer_line(alloc, state, &line, writer);
         state = next;
         match answered {
             Ok(()) => {}
@@ -168,10 +168,9 @@ pub fn run_script<R: Read + Drop, W: Write, D: Disk>(
         archive,
         merge: None,
     };
-    let mut output = Output::new(writer);
-    let (state, outcome) = run_lines(alloc, state, &mut reader, &mut output);
+    let (state, outcome) = run_lines(alloc, state, &mut reader, writer);
     let disk = state.archive.into_disk();
-    match after_flush(outcome, output.flush().is_ok()) {
+    match after_flush(outcome, writer.flush().is_ok()) {
         Ok(()) => Ok(disk),
         Err(end) => Err(ScriptFault::new(end, disk)),
     }

@@ -1,9 +1,9 @@
 //! Readers and writers that fail, and requests for memory that are refused.
 
-use tool_core::{ScriptFault, run_script};
 use disk_core::MemoryDisk;
 use std::io::{Error, ErrorKind, Read, Write};
 use std::test::*;
+use tool_core::{ScriptFault, run_script};
 
 /// Gives its bytes a few at a time, and then fails.
 #[derive(Drop)]

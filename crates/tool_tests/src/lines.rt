@@ -1,9 +1,9 @@
 //! What no clause says: that lines are read while there is memory, and what a failing input leads to.
 
-use tool_core::{EarlyEnd, LineBuffer, MAX_READS, read_line};
 use std::alloc::Global;
 use std::io::{BufReader, Error, ErrorKind, Read};
 use std::test::*;
+use tool_core::{EarlyEnd, LineBuffer, MAX_READS, read_line};
 
 /// Each line's bytes as text, or `-` where it is too long, each followed by `|`.
 fn lines_read(alloc: Global, input: &[u8], room: usize) -> Result<String, Fail> {

@@ -1,7 +1,6 @@
 //! What is shown of a long verification, by a clock of the tests.
 
 use super::reports::two_recordings;
-use tool_core::{Progress, Verdict, Viewer, Watched, verify_recordings};
 use disk_core::{Disk, FileId, MemoryDisk};
 use engine_core::Engine;
 use std::cell::Cell;
@@ -9,6 +8,7 @@ use std::fmt::Display;
 use std::io::Eprint;
 use std::test::*;
 use std::time::{Clock, Duration};
+use tool_core::{Progress, Verdict, Viewer, Watched, verify_recordings};
 
 /// A clock that goes on by 150 milliseconds at each look, and a terminal that counts what is printed.
 #[derive(Drop)]

@@ -1,9 +1,9 @@
 //! The worked scenarios, from lines to replies: docs/SCENARIOS.md. In a script a vector stands by its name.
 
-use tool_core::run_script;
 use disk_core::MemoryDisk;
 use std::alloc::Global;
 use std::test::*;
+use tool_core::run_script;
 
 // The vectors that scripts name, in hex.
 const VECTORS: [(&str, &str); 13] = [

@@ -2,7 +2,6 @@
 //! told.
 
 use crate::command::{ToolCommand, command_of, unreadable_words};
-use tool_core::EarlyEnd;
 use crate::status::Ending;
 use crate::{concluded, told};
 use clap::Error;
@@ -13,6 +12,7 @@ use std::fmt::Display;
 use std::io;
 use std::process::Abort;
 use std::test::*;
+use tool_core::EarlyEnd;
 
 /// The words between blanks.
 fn words(alloc: Global, line: &str) -> Result<Vec<String>, Fail> {

@@ -3,11 +3,11 @@
 
 use crate::command::ToolCommand;
 use crate::commands::obeyed;
-use tool_core::run_script;
 use disk_core::{Disk, FileId};
 use host_disk::HostDisk;
 use std::test::Fail;
 use std::{env, fs};
+use tool_core::run_script;
 
 const SCRIPT: &str = "start 1001 7 42 65536 1408 131072 0 1000 c\n\
     block 0 2500000000c001000000000007000000e90300002a000000000000000000000068656c6c6f\n";
