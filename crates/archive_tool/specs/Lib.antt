@@ -1,3 +1,2 @@
--- What a reader has to believe: the program's command line, and its statuses.
-pub mod CommandLine
+-- What a reader has to believe: the program's statuses.
 pub mod Status

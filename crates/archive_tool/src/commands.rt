@@ -3,8 +3,9 @@
 ghost use Rattle.std.specs.Prelude.{◌≡◌};
 ghost use Rattle.archive_tool.specs.Status.{handed_on};
 
-use crate::command::ToolCommand;
 use crate::status::Ending;
+use command_line::ToolCommand;
+use command_line::ToolCommand;
 use disk_core::{Disk, MemoryDisk};
 use engine_core::{Engine, OpenRefusal};
 use frame_core::Refusal;

@@ -5,13 +5,12 @@ ghost use Rattle.std.specs.Prelude.{◌≡◌};
 ghost use Rattle.clap.specs.Words.{kind_of};
 ghost use Rattle.archive_tool.specs.Status.{IsStatus, IsTold, status_of};
 
-mod command;
 mod commands;
 mod status;
 
 use clap::Error;
 use clap::error::ErrorKind;
-use command::{command_of, unreadable_words};
+use command_line::{command_of, unreadable_words};
 use commands::obeyed;
 use control_core::print_refusal;
 use frame_core::Refusal;

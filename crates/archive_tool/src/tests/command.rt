@@ -1,11 +1,12 @@
 //! What the words of a command line lead to, and how the program ends, beside their clauses: the texts, and where they are
 //! told.
 
-use crate::command::{ToolCommand, command_of, unreadable_words};
 use crate::status::Ending;
 use crate::{concluded, told};
 use clap::Error;
 use clap::error::ErrorKind;
+use command_line::{ToolCommand, command_of, unreadable_words};
+use command_line::{ToolCommand, command_of, unreadable_words};
 use std::alloc::Global;
 use std::cell::Cell;
 use std::fmt::Display;

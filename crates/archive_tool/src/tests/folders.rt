@@ -1,8 +1,9 @@
 //! The commands over a real folder, and how they end: docs/CONTROL.md, "The program". Each test has a folder of its own
 //! under the system's folder for temporary files.
 
-use crate::command::ToolCommand;
 use crate::commands::obeyed;
+use command_line::ToolCommand;
+use command_line::ToolCommand;
 use disk_core::{Disk, FileId};
 use host_disk::HostDisk;
 use std::test::Fail;

@@ -2,8 +2,8 @@
 use Rattle.std.proofs.Common.{map, Result, Ok, Err, rules}
 use Rattle.std.specs.Prelude.{string_bytes, IfErr}
 use Rattle.clap.specs.declared.parser.matches.ArgMatches.{ArgMatches}
-use Rattle.archive_tool.proofs.CommandLineLemmas.{fails_by, memory_fault, holds, holds_none, only_memory, plain_is_held, words_fault}
-use Rattle.archive_tool.proofs.command.command_of.Goals as goal
+use Rattle.command_line.proofs.CommandLineLemmas.{fails_by, memory_fault, holds, holds_none, only_memory, plain_is_held, words_fault}
+use Rattle.command_line.proofs.command.command_of.Goals as goal
 
 -- a fact of every error is one of the error that is answered
 of_any : {A E : Type 0} (P : E → Type 0) (r : Result A E) → ((e : E) → P e) → IfErr r P

@@ -10,9 +10,9 @@ use Rattle.clap.specs.declared.parser.matches.ArgMatches.{ArgMatches}
 use Rattle.clap.proofs.OnLiterals.{clap_on_literals}
 use Rattle.clap.specs.declared.parser.matches.Found.{Found}
 use Rattle.clap.proofs.WalkLemmas.{first_value-rows, one_text-rows}
-use Rattle.archive_tool.specs.declared.command.ToolCommand.{ToolCommand}
-use Rattle.archive_tool.specs.declared.command.ToolCommand.TheVariants.{Create, Run, List as AskList, Verify, Frames}
-use Rattle.archive_tool.specs.CommandLine.{IsAsked, IsCommand, IsHeld, IsMet, IsNumber, IsPlain, IsPlainWord, IsWordsFault, tool_app, words_of}
+use Rattle.command_line.specs.declared.command.ToolCommand.{ToolCommand}
+use Rattle.command_line.specs.declared.command.ToolCommand.TheVariants.{Create, Run, List as AskList, Verify, Frames}
+use Rattle.command_line.specs.CommandLine.{IsAsked, IsCommand, IsHeld, IsMet, IsNumber, IsPlain, IsPlainWord, IsWordsFault, tool_app, words_of}
 
 -- what a getter gave is what the rows hold
 pub text_given : (f : Found) (id : Text) (given got : Option (Bor Text)) → option_map (λ s. s.now) given ≡ first_value f id → given ≡ got → first_of id (rows_of f) ≡ option_map (λ s. s.now) got

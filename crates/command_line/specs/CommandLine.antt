@@ -8,8 +8,8 @@ use Rattle.clap.specs.declared.builder.command.Command.TheViews.{out-Command as 
 use Rattle.clap.specs.declared.builder.value_parser.ValueParser.TheVariants as parser
 use Rattle.clap.specs.declared.error.ErrorKind.{ErrorKind}
 use Rattle.clap.specs.declared.error.ErrorKind.TheVariants as kinds
-use Rattle.archive_tool.specs.declared.command.ToolCommand.{ToolCommand}
-use Rattle.archive_tool.specs.declared.command.ToolCommand.TheVariants.{Create, Run, List as AskList, Verify, Frames}
+use Rattle.command_line.specs.declared.command.ToolCommand.{ToolCommand}
+use Rattle.command_line.specs.declared.command.ToolCommand.TheVariants.{Create, Run, List as AskList, Verify, Frames}
 
 -- a word that has to be given
 abbrev pub required_word : Text → Rule

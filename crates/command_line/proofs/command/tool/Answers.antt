@@ -2,9 +2,9 @@
 use Rattle.std.proofs.Common.{◌≡◌, rules}
 use Rattle.std.proofs.lemmas.Result.{IfOk-weaker}
 use Rattle.clap.specs.Words.{app_of}
-use Rattle.archive_tool.specs.CommandLine.{named_tool}
-use Rattle.archive_tool.proofs.CommandLineLemmas.{adds}
-use Rattle.archive_tool.proofs.command.tool.Goals as goal
+use Rattle.command_line.specs.CommandLine.{named_tool}
+use Rattle.command_line.proofs.CommandLineLemmas.{adds}
+use Rattle.command_line.proofs.command.tool.Goals as goal
 
 pub returns : goal.returns
 returns c =

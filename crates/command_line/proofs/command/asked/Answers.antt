@@ -2,8 +2,8 @@
 use Rattle.std.proofs.Common.{rules, refl, codes}
 use Rattle.std.specs.Str.Parse.{ParsesUnsigned, ExplainsUnsignedError, HasUnsignedDigitsIfOk}
 use Rattle.clap.specs.Words.{found_of}
-use Rattle.archive_tool.proofs.CommandLineLemmas.{text_given, number_given, number_lacks, no_create, no_list, no_verify, no_frames}
-use Rattle.archive_tool.proofs.command.asked.Goals as goal
+use Rattle.command_line.proofs.CommandLineLemmas.{text_given, number_given, number_lacks, no_create, no_list, no_verify, no_frames}
+use Rattle.command_line.proofs.command.asked.Goals as goal
 
 pub returns-in_err-get_str-in-create : goal.returns-in_err-get_str-in-create
 returns-in_err-get_str-in-create c = rw c.from_residual.ensures

@@ -1,0 +1,2 @@
+-- What a reader has to believe: the program's command line.
+pub mod CommandLine

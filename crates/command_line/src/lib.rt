@@ -1,0 +1,6 @@
+//! The program's command line.
+#![tactic(auto)]
+
+mod command;
+
+pub use command::{ToolCommand, command_of, unreadable_words};
