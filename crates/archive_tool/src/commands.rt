@@ -5,7 +5,6 @@ ghost use Rattle.archive_tool.specs.Status.{handed_on};
 
 use crate::status::Ending;
 use command_line::ToolCommand;
-use command_line::ToolCommand;
 use disk_core::{Disk, MemoryDisk};
 use engine_core::{Engine, OpenRefusal};
 use frame_core::Refusal;

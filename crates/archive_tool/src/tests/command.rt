@@ -6,7 +6,6 @@ use crate::{concluded, told};
 use clap::Error;
 use clap::error::ErrorKind;
 use command_line::{ToolCommand, command_of, unreadable_words};
-use command_line::{ToolCommand, command_of, unreadable_words};
 use std::alloc::Global;
 use std::cell::Cell;
 use std::fmt::Display;
