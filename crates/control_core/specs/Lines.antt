@@ -1,12 +1,12 @@
 -- Control lines: docs/CONTROL.md, "Lines".
-use Rattle.std.specs.Prelude.{◌==◌, ℕ, nat_lt, nat_le, Bool, List, [], ◌∷◌, length, Option, Some, None, is_none, Result, Ok, Err, bytes_eq, if◌then◌else◌}
+use Rattle.std.specs.Prelude.{◌≡◌, ◌==◌, ◌&&◌, ℕ, nat_lt, nat_le, Bool, true, false, List, [], ◌∷◌, length, Option, Some, None, is_none, Result, Ok, Err, bytes_eq, if◌then◌else◌}
 use Rattle.std.specs.List.{position_or_len, before_first, after_first}
 use Rattle.std.specs.Str.{is_utf8}
 use Rattle.frame_core.specs.declared.refusal.Refusal.{Refusal}
-use Rattle.frame_core.specs.declared.refusal.Refusal.TheVariants.{BadLine}
+use Rattle.frame_core.specs.declared.refusal.Refusal.TheVariants.{BadLine, NoMemory}
 use Rattle.frame_core.specs.Outcome.{◌>>=◌}
 use Rattle.control_core.specs.declared.line.Line.{Line}
-use Rattle.control_core.specs.Table.{Kind, int, long, hex, Value, Fields, none, text, ◌&◌, Makes, Row, rows, is_served}
+use Rattle.control_core.specs.Table.{Kind, int, long, hex, Value, Fields, none, text, ◌&◌, Makes, Row, copies, rows, is_served}
 use Rattle.control_core.specs.Numbers.{long_of, int_of, bytes_of}
 
 -- a blank is U+0020 alone
@@ -71,3 +71,33 @@ read_of bytes = if is_utf8 bytes then text_of bytes else Err BadLine
 -- a line's bytes, without its end: no more than 262,144
 unfoldable pub line_of : List ℕ → Result Line Refusal
 line_of bytes = if nat_le (length bytes) 262144 then read_of bytes else Err BadLine
+
+-- ---- which lines take memory
+
+-- what is read, seen by a view, is what is decided; or want of memory, where reading takes memory
+abbrev pub Reads : {X Y : Type 0} → Bool → (X → Y) → Result X Refusal → Result Y Refusal → Type 0
+Reads takes view (Ok x) decided = decided ≡ Ok (view x)
+Reads takes view (Err NoMemory) decided = takes ≡ true
+Reads takes view (Err refusal) decided = decided ≡ Err refusal
+
+-- the row of a first word has a field that is copied
+abbrev pub copies_by : List Row → List ℕ → Bool
+copies_by [] word = false
+copies_by (row ∷ others) word = if bytes_eq word row.word then copies row.fields else copies_by others word
+
+-- a first word that is served, and whose fields are copied
+abbrev pub copies_behind : Result (List ℕ × Option (List ℕ)) Refusal → Bool
+copies_behind (Ok first) = is_served first.0 && copies_by rows first.0
+copies_behind (Err refusal) = false
+
+-- reading a text takes memory
+unfoldable pub text_copies : List ℕ → Bool
+text_copies s = copies_behind (word_at (Some s))
+
+-- reading bytes does, if they are text
+unfoldable pub read_copies : List ℕ → Bool
+read_copies bytes = if is_utf8 bytes then text_copies bytes else false
+
+-- reading a line does, if it is short enough
+unfoldable pub line_copies : List ℕ → Bool
+line_copies bytes = if nat_le (length bytes) 262144 then read_copies bytes else false

@@ -1,5 +1,5 @@
 -- The grammar of control lines as a table, a row for each first word: docs/CONTROL.md, "Lines".
-use Rattle.std.specs.Prelude.{ℕ, ℤ, Bool, false, not, ◌||◌, List, [], ◌∷◌, ◌++◌, codes, bytes_eq}
+use Rattle.std.specs.Prelude.{ℕ, ℤ, Bool, true, false, not, ◌||◌, List, [], ◌∷◌, ◌++◌, codes, bytes_eq}
 use Rattle.control_core.specs.declared.request.Request.TheVariants as asks
 use Rattle.control_core.specs.declared.event.Event.TheVariants.{Ask, Settle, ReplayOpen, ReplayPoll, ReplayClose, Sweep, Verify}
 use Rattle.control_core.specs.declared.line.Line.{Line}
@@ -24,6 +24,18 @@ pub data Fields : Type 0 where
   none : Fields
   text : Fields
   ◌&◌ : Kind → Fields → Fields
+
+-- a word of this kind is copied as it is read, which takes memory
+abbrev pub is_copied : Kind → Bool
+is_copied int = false
+is_copied long = false
+is_copied hex = true
+
+-- one of these fields is, or the text
+abbrev pub copies : Fields → Bool
+copies none = false
+copies text = true
+copies (k & fields) = is_copied k || copies fields
 
 -- a line, as soon as its fields are known
 abbrev pub Makes : Fields → Type 0

@@ -1,7 +1,7 @@
 //! Words of a control line that are numbers or bytes. docs/CONTROL.md, "Words".
 
-ghost use Rattle.std.specs.Prelude.{◌≡◌};
-ghost use Rattle.frame_core.specs.Outcome.{Gives};
+ghost use Rattle.std.specs.Prelude.{false, true};
+ghost use Rattle.control_core.specs.Lines.{Reads};
 ghost use Rattle.control_core.specs.Numbers.{long_of, int_of, bytes_of};
 
 use frame_core::{Items, Refusal};
@@ -11,7 +11,7 @@ use std::alloc::Global;
 /// The number that a word is, or `BadLine`.
 #[tactic(auto, unfolding(crate::specs::Numbers::long_of))]
 pub(crate) fn long(word: &str) -> Result<i64, Refusal>
-    ensures { result ≡ long_of word.now }
+    ensures { Reads false (λ z. z) result (long_of word.now) }
 {
     let Ok(value) = word.parse::<i64>() else {
         return Err(Refusal::BadLine);
@@ -26,7 +26,7 @@ pub(crate) fn long(word: &str) -> Result<i64, Refusal>
 /// The number of 32 bits that a word is, or `BadLine`.
 #[tactic(auto, unfolding(crate::specs::Numbers::int_of))]
 pub(crate) fn int(word: &str) -> Result<i32, Refusal>
-    ensures { result ≡ int_of word.now }
+    ensures { Reads false (λ z. z) result (int_of word.now) }
 {
     i32::try_from(long(word)?).map_err(|_| Refusal::BadLine)
 }
@@ -34,7 +34,7 @@ pub(crate) fn int(word: &str) -> Result<i32, Refusal>
 /// The bytes whose hex digits a text is: `BadLine` where it is empty or no hex, or `NoMemory`.
 #[tactic(auto, unfolding(crate::specs::Numbers::bytes_of))]
 pub(crate) fn bytes(alloc: Global, text: &str) -> Result<Items<u8>, Refusal>
-    ensures { Gives (λ x. x) result (bytes_of text.now) }
+    ensures { Reads true (λ x. x) result (bytes_of text.now) }
 {
     if text.is_empty() {
         return Err(Refusal::BadLine);

@@ -1,9 +1,8 @@
 //! Control lines read. docs/CONTROL.md, "Lines".
 
-ghost use Rattle.std.specs.Prelude.{◌≡◌, ◌++◌};
-ghost use Rattle.frame_core.specs.Outcome.{Gives, Shows};
+ghost use Rattle.std.specs.Prelude.{◌≡◌, ◌++◌, false, true};
 ghost use Rattle.control_core.specs.Table.{start_row, extend_row, catalogue_rows, asking_rows, archive_rows, merge_rows, rows, is_served};
-ghost use Rattle.control_core.specs.Lines.{read, read_by, text_of, read_of, line_of};
+ghost use Rattle.control_core.specs.Lines.{Reads, copies_by, line_copies, line_of, read, read_by, read_copies, read_of, text_copies, text_of};
 
 use crate::event::Event;
 use crate::line::Line;
@@ -17,7 +16,8 @@ use std::alloc::Global;
 
 /// Lines to a merge, and the last one.
 fn merge_line(alloc: Global, word: &str, words: &mut Words) -> Result<Line, Refusal>
-    ensures { Gives (λ line. (line, words.new)) result (read_by merge_rows word.now words.old) }
+    ensures { Reads (copies_by merge_rows word.now) (λ line. (line, words.new)) result
+        (read_by merge_rows word.now words.old) }
 {
     Ok(match word {
         "merge" => Line::Merge(MergeLine::Open {
@@ -36,7 +36,7 @@ fn merge_line(alloc: Global, word: &str, words: &mut Words) -> Result<Line, Refu
 
 /// Lines on replays and on the archive as a whole, before those.
 fn archive_line(alloc: Global, word: &str, words: &mut Words) -> Result<Line, Refusal>
-    ensures { Gives (λ line. (line, words.new)) result
+    ensures { Reads (copies_by (archive_rows ++ merge_rows) word.now) (λ line. (line, words.new)) result
         (read_by (archive_rows ++ merge_rows) word.now words.old) }
 {
     Ok(match word {
@@ -64,7 +64,7 @@ fn archive_line(alloc: Global, word: &str, words: &mut Words) -> Result<Line, Re
 
 /// Requests that change nothing, before those.
 fn asking_line(alloc: Global, word: &str, words: &mut Words) -> Result<Line, Refusal>
-    ensures { Gives (λ line. (line, words.new)) result
+    ensures { Reads (copies_by (asking_rows ++ (archive_rows ++ merge_rows)) word.now) (λ line. (line, words.new)) result
         (read_by (asking_rows ++ (archive_rows ++ merge_rows)) word.now words.old) }
 {
     Ok(Line::Event(Event::Ask(match word {
@@ -87,7 +87,7 @@ fn asking_line(alloc: Global, word: &str, words: &mut Words) -> Result<Line, Ref
 
 /// Requests that change the catalogue and open no recorder session, before those.
 fn catalogue_line(alloc: Global, word: &str, words: &mut Words) -> Result<Line, Refusal>
-    ensures { Gives (λ line. (line, words.new)) result
+    ensures { Reads (copies_by (catalogue_rows ++ (asking_rows ++ (archive_rows ++ merge_rows))) word.now) (λ line. (line, words.new)) result
         (read_by (catalogue_rows ++ (asking_rows ++ (archive_rows ++ merge_rows))) word.now words.old) }
 {
     Ok(Line::Event(Event::Ask(match word {
@@ -111,7 +111,7 @@ fn catalogue_line(alloc: Global, word: &str, words: &mut Words) -> Result<Line, 
 }
 
 fn start_line(alloc: Global, words: &mut Words) -> Result<Line, Refusal>
-    ensures { Gives (λ line. (line, words.new)) result
+    ensures { Reads true (λ line. (line, words.new)) result
         (read start_row.fields start_row.line words.old) }
 {
     Ok(Line::Event(Event::Ask(Request::Start(StartFields {
@@ -128,7 +128,7 @@ fn start_line(alloc: Global, words: &mut Words) -> Result<Line, Refusal>
 }
 
 fn extend_line(words: &mut Words) -> Result<Line, Refusal>
-    ensures { Shows (λ line. (line, words.new)) result
+    ensures { Reads false (λ line. (line, words.new)) result
         (read extend_row.fields extend_row.line words.old) }
 {
     Ok(Line::Event(Event::Ask(Request::Extend(ExtendFields {
@@ -144,7 +144,8 @@ fn extend_line(words: &mut Words) -> Result<Line, Refusal>
 
 /// Lines that open a recorder session or write by one, before those.
 fn recorder_line(alloc: Global, word: &str, words: &mut Words) -> Result<Line, Refusal>
-    ensures { Gives (λ line. (line, words.new)) result (read_by rows word.now words.old) }
+    ensures { Reads (copies_by rows word.now) (λ line. (line, words.new)) result
+        (read_by rows word.now words.old) }
 {
     Ok(match word {
         "start" => start_line(alloc, words)?,
@@ -171,9 +172,9 @@ fn is_served(word: &str) -> bool
     word != "compact"
 }
 
-#[tactic(auto, unfolding(crate::specs::Lines::text_of))]
+#[tactic(auto, unfolding(crate::specs::Lines::text_of, crate::specs::Lines::text_copies))]
 fn line_of_text(alloc: Global, text: &str) -> Result<Line, Refusal>
-    ensures { Gives (λ x. x) result (text_of text.now) }
+    ensures { Reads (text_copies text.now) (λ x. x) result (text_of text.now) }
 {
     let mut words = Words::new(text);
     let word = words.word()?;
@@ -188,9 +189,9 @@ fn line_of_text(alloc: Global, text: &str) -> Result<Line, Refusal>
     }
 }
 
-#[tactic(auto, unfolding(crate::specs::Lines::read_of))]
+#[tactic(auto, unfolding(crate::specs::Lines::read_of, crate::specs::Lines::read_copies))]
 fn line_of_bytes(alloc: Global, line: &[u8]) -> Result<Line, Refusal>
-    ensures { Gives (λ x. x) result (read_of line.now) }
+    ensures { Reads (read_copies line.now) (λ x. x) result (read_of line.now) }
 {
     match std::str::from_utf8(line) {
         Ok(text) => line_of_text(alloc, text),
@@ -201,10 +202,11 @@ fn line_of_bytes(alloc: Global, line: &[u8]) -> Result<Line, Refusal>
 /// The line that these bytes are, their end not among them: docs/CONTROL.md, "Lines". Costs their length.
 ///
 /// `BadLine` where they are none that the grammar has, also where they are more than 262,144 or the first word is
-/// `compact`, which nothing answers yet; `NoMemory` where a channel, a fragment or the bytes of a block find no memory.
-#[tactic(auto, unfolding(crate::specs::Lines::line_of))]
+/// `compact`, which nothing answers yet; `NoMemory` where a channel, a fragment or bytes find no memory, and of no line whose
+/// first word has none of these.
+#[tactic(auto, unfolding(crate::specs::Lines::line_of, crate::specs::Lines::line_copies))]
 pub fn parse_line(alloc: Global, line: &[u8]) -> Result<Line, Refusal>
-    ensures { Gives (λ x. x) result (line_of line.now) }
+    ensures { Reads (line_copies line.now) (λ x. x) result (line_of line.now) }
 {
     if line.len() > MAX_LINE_LENGTH {
         return Err(Refusal::BadLine);

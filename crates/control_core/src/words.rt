@@ -1,9 +1,8 @@
 //! The words of a control line, one after another. docs/CONTROL.md, "Words".
 
-ghost use Rattle.std.specs.Prelude.{◌≡◌, Some, option_copied, is_none};
-ghost use Rattle.frame_core.specs.Outcome.{Gives, Shows};
+ghost use Rattle.std.specs.Prelude.{◌≡◌, Some, false, is_none, option_copied, true};
 ghost use Rattle.control_core.specs.Table.{int, long, hex};
-ghost use Rattle.control_core.specs.Lines.{word_at, text_at, value_at};
+ghost use Rattle.control_core.specs.Lines.{Reads, text_at, value_at, word_at};
 
 use crate::number::{bytes, int, long};
 use archive_model::Channel;
@@ -34,7 +33,7 @@ impl<'a> Words<'a> {
 
     /// The next word, or `BadLine` where nothing is left.
     pub(crate) fn word(&mut self) -> Result<&'a str, Refusal>
-        ensures { Shows (λ word. (word.now, self.new)) result (word_at self.old) }
+        ensures { Reads false (λ word. (word.now, self.new)) result (word_at self.old) }
     {
         let text = self.rest.ok_or(Refusal::BadLine)?;
         match text.split_once(' ') {
@@ -51,28 +50,28 @@ impl<'a> Words<'a> {
 
     /// The next word as a number of 32 bits, or `BadLine`.
     pub(crate) fn int(&mut self) -> Result<i32, Refusal>
-        ensures { Shows (λ z. (z, self.new)) result (value_at int self.old) }
+        ensures { Reads false (λ z. (z, self.new)) result (value_at int self.old) }
     {
         int(self.word()?)
     }
 
     /// The next word as a number, or `BadLine`.
     pub(crate) fn long(&mut self) -> Result<i64, Refusal>
-        ensures { Shows (λ z. (z, self.new)) result (value_at long self.old) }
+        ensures { Reads false (λ z. (z, self.new)) result (value_at long self.old) }
     {
         long(self.word()?)
     }
 
     /// The next word as the bytes whose hex digits it is: `BadLine` where it is none, or `NoMemory`.
     pub(crate) fn bytes(&mut self, alloc: Global) -> Result<Items<u8>, Refusal>
-        ensures { Gives (λ bytes. (bytes, self.new)) result (value_at hex self.old) }
+        ensures { Reads true (λ bytes. (bytes, self.new)) result (value_at hex self.old) }
     {
         bytes(alloc, self.word()?)
     }
 
     /// All that is left as a text: `BadLine` where it has no byte, or `NoMemory`.
     pub(crate) fn text(&mut self, alloc: Global) -> Result<Channel, Refusal>
-        ensures { Gives (λ text. (text, self.new)) result (text_at self.old) }
+        ensures { Reads true (λ text. (text, self.new)) result (text_at self.old) }
     {
         match self.rest.take() {
             None | Some("") => Err(Refusal::BadLine),

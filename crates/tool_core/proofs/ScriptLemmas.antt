@@ -9,7 +9,7 @@ use Rattle.tool_core.specs.declared.fault.EarlyEnd.{EarlyEnd}
 use Rattle.tool_core.specs.declared.fault.EarlyEnd.TheVariants as ends
 use Rattle.tool_core.specs.declared.state.ScriptState.{ScriptState}
 use Rattle.tool_core.specs.InputLines.{ReadsLine}
-use Rattle.tool_core.specs.Script.{Answers, EndsEarly, FailsToAnswer, IsTranscript, Replied, Works, asked, outcome_text, quits}
+use Rattle.tool_core.specs.Script.{Answers, EndsEarly, FailsToAnswer, IsTranscript, Replied, Works, asked, asked_copies, outcome_text, quits}
 use Rattle.tool_core.specs.ScriptLines.{Answered, Scene, Standing, begun_with}
 use Rattle.tool_core.specs.Tie.{GoesOn, IsScene, life_of}
 use Rattle.tool_core.specs.Transcript.{Writes}
@@ -24,7 +24,7 @@ told contents written outcome (Ok done) appended fails = appended
 told contents written outcome (Err end) appended fails = fails
 
 -- what is written of an answer answers the line
-pub replied : (contents written line : Option (List ℕ)) (old new : Scene) (outcome : Result Reply Refusal) (result : Result (Unit {0}) EarlyEnd) → Answered old (asked line) outcome new → OnOk result (Appends contents written (outcome_text outcome))
+pub replied : (contents written line : Option (List ℕ)) (old new : Scene) (outcome : Result Reply Refusal) (result : Result (Unit {0}) EarlyEnd) → Answered (asked_copies line) old (asked line) outcome new → OnOk result (Appends contents written (outcome_text outcome))
     → IfErr result (λ end. FailsToAnswer end contents written) → Replied contents written line old new result
 replied contents written line old new outcome result answered appended fails =
     record { reply = outcome_text outcome; answers = (outcome, answered, refl); told = told contents written outcome result appended fails }

@@ -80,11 +80,11 @@ frame_at position (Some frame) = Some (record { position = pos position; frame =
 abbrev pub TakeEnds : Merging → Ends (Option Merging)
 TakeEnds m outcome new = (outcome ≡ Ok (replies.Taken (frame_at m.cursor (next_frame m)))) × (new ≡ Some (after_take m))
 
--- lines to a merge that was begun
+-- lines to a merge that was begun; only an offer may want memory
 abbrev pub BegunEnds : Merging → MergeLine → Ends (Option Merging)
 BegunEnds m (merges.Open term term_length position) = OpenEnds (Some m) term term_length position
-BegunEnds m (merges.Replay bytes) = OfferEnds after_replay_frame m bytes
-BegunEnds m (merges.Live bytes) = OfferEnds after_live_frame m bytes
+BegunEnds m (merges.Replay bytes) = OrNoMemory (Some m) (OfferEnds after_replay_frame m bytes)
+BegunEnds m (merges.Live bytes) = OrNoMemory (Some m) (OfferEnds after_live_frame m bytes)
 BegunEnds m merges.Take = TakeEnds m
 BegunEnds m merges.State = Answered (Some m) (replies.MergeState m.is_merged (pos m.cursor))
 

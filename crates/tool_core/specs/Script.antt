@@ -13,7 +13,7 @@ use Rattle.archive_model.specs.State.{State}
 use Rattle.catalogue_log.specs.Catalogue.{RefusesCatalogue}
 use Rattle.control_core.specs.declared.line.Line.{Line}
 use Rattle.control_core.specs.Exact.{Archive}
-use Rattle.control_core.specs.Lines.{line_of}
+use Rattle.control_core.specs.Lines.{line_copies, line_of}
 use Rattle.control_core.specs.ReplyText.{reply_text}
 use Rattle.control_core.specs.RefusalText.{refusal_text}
 use Rattle.engine_core.specs.Engine.{new_archive}
@@ -35,6 +35,11 @@ abbrev pub asked : Option (List ℕ) → Result Line Refusal
 asked None = Err BadLine
 asked (Some bytes) = line_of bytes
 
+-- reading it takes memory; one that is too long is not read
+abbrev pub asked_copies : Option (List ℕ) → Bool
+asked_copies None = false
+asked_copies (Some bytes) = line_copies bytes
+
 -- what is written of an answer
 abbrev pub outcome_text : Result Reply Refusal → List ℕ
 outcome_text (Ok reply) = reply_text reply
@@ -42,7 +47,7 @@ outcome_text (Err refusal) = refusal_text refusal
 
 -- From the old scene the text may be the answer to the line, and new the scene after it.
 abbrev pub Answers : Scene → Option (List ℕ) → List ℕ → Scene → Type 0
-Answers old line text new = (outcome : Result Reply Refusal) × Answered old (asked line) outcome new × (text ≡ outcome_text outcome)
+Answers old line text new = (outcome : Result Reply Refusal) × Answered (asked_copies line) old (asked line) outcome new × (text ≡ outcome_text outcome)
 
 -- the line behind which no further line is read
 abbrev pub quits : Option (List ℕ) → Bool

@@ -1,5 +1,5 @@
 -- What each line of a script is answered, and how the script stands after it. docs/CONTROL.md, "Lines".
-use Rattle.std.specs.Prelude.{◌≡◌, ◌⊎◌, ℤ, pos, List, ℕ, Option, None, Result, Ok, Err}
+use Rattle.std.specs.Prelude.{◌≡◌, ◌⊎◌, ℤ, pos, Bool, true, List, ℕ, Option, None, Result, Ok, Err}
 use Rattle.frame_core.specs.declared.refusal.Refusal.{Refusal}
 use Rattle.frame_core.specs.declared.refusal.Refusal.TheVariants.{BadLine, Broken, NoMemory}
 use Rattle.archive_model.specs.declared.command.Command.TheVariants.{Restart}
@@ -92,10 +92,11 @@ OfMerge s Made outcome new = Made outcome new.merge × (new.archive ≡ s.archiv
 abbrev pub Stays : Scene → Result Reply Refusal → Ends Scene
 Stays s answer outcome new = (outcome ≡ answer) × (new ≡ s)
 
+-- What a line is answered. The bytes of a block are read as one, which may want memory.
 abbrev pub LineEnds : Scene → Line → Ends Scene
 LineEnds s (lines.Event event) = OfArchive s (WhereOpen (Calls event) s.archive)
-LineEnds s (lines.Write session bytes) = OfArchive s (WhereOpen (WritesBytes session bytes) s.archive)
-LineEnds s (lines.Block session bytes) = OfArchive s (WhereOpen (Records session bytes) s.archive)
+LineEnds s (lines.Write session bytes) = OrWant s (OfArchive s (WhereOpen (WritesBytes session bytes) s.archive))
+LineEnds s (lines.Block session bytes) = OrWant s (OfArchive s (WhereOpen (Records session bytes) s.archive))
 LineEnds s lines.Reopen = OfArchive s (Reopens s.archive)
 LineEnds s (lines.Merge line) = OfMerge s (MergeEnds s.merge line)
 LineEnds s lines.Quit = Stays s (Ok Bye)
@@ -106,6 +107,6 @@ abbrev pub ReadLineEnds : Scene → Result Line Refusal → Ends Scene
 ReadLineEnds s (Ok line) = LineEnds s line
 ReadLineEnds s (Err refusal) = Stays s (Err refusal)
 
--- how it ends, with want of memory before anything has changed
-abbrev pub Answered : Scene → Result Line Refusal → Ends Scene
-Answered s line = OrWant s (ReadLineEnds s line)
+-- how it ends; or, where its reading takes memory, want of memory before anything has changed
+abbrev pub Answered : Bool → Scene → Result Line Refusal → Ends Scene
+Answered takes s line outcome new = ReadLineEnds s line outcome new ⊎ ((takes ≡ true) × (outcome ≡ Err NoMemory) × (new ≡ s))

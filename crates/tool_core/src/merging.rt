@@ -1,7 +1,7 @@
 //! Lines to the merge of a replay and the live stream: docs/CONTROL.md, "Merging".
 
 ghost use Rattle.std.specs.Prelude.{◌≡◌, pos};
-ghost use Rattle.tool_core.specs.Merging.{MergeEnds, OpenEnds, OrNoMemory, IsOfferOrMemory, reply_to, frame_at};
+ghost use Rattle.tool_core.specs.Merging.{MergeEnds, OpenEnds, IsOfferOrMemory, reply_to, frame_at};
 ghost use Rattle.merge_core.specs.Merge.{next_frame, after_take};
 
 use archive_model::{PolledFrame, Reply, may_begin_at};
@@ -17,7 +17,7 @@ pub fn answer_merge(
     merge: &mut Option<Merge>,
     line: &MergeLine,
 ) -> Result<Reply, Refusal>
-    ensures { OrNoMemory merge.old (MergeEnds merge.old line.now) result merge.new }
+    ensures { MergeEnds merge.old line.now result merge.new }
 {
     if let MergeLine::Open {
         initial_term_id,

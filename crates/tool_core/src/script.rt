@@ -6,7 +6,7 @@ ghost use Rattle.std.specs.Io.Buffered.{reader_remaining};
 ghost use Rattle.tool_core.specs.InputLines.{ReadsLine};
 ghost use Rattle.tool_core.specs.Transcript.{Writes};
 ghost use Rattle.tool_core.specs.ScriptLines.{Answered, Scene, Standing, begun_with};
-ghost use Rattle.tool_core.specs.Script.{Begins, EndsEarly, FailsToAnswer, IsTranscript, IsUnopened, LeavesScene, Replied, Works, asked, disk_of, end_of, ended_by, outcome_text, quits};
+ghost use Rattle.tool_core.specs.Script.{Begins, EndsEarly, FailsToAnswer, IsTranscript, IsUnopened, LeavesScene, Replied, Works, asked, asked_copies, disk_of, end_of, ended_by, outcome_text, quits};
 ghost use Rattle.tool_core.specs.Tie.{GoesOn, IsScene, life_of};
 
 use crate::answers::write_outcome;
@@ -42,7 +42,7 @@ fn outcome_of<D: Disk>(
 ) -> (ScriptState<D>, Result<Reply, Refusal>)
     ensures goes_on { GoesOn (life_of D.life state.archive) (life_of D.life result.0.archive) }
     ensures answered { (s : Scene) → IsScene D.life state s → Works (life_of D.life state.archive) (life_of D.life result.0.archive) →
-        (t : Scene) × IsScene D.life result.0 t × Answered s (asked line.now) result.1 t }
+        (t : Scene) × IsScene D.life result.0 t × Answered (asked_copies line.now) s (asked line.now) result.1 t }
 {
     let Some(bytes) = line.bytes() else {
         return (state, Err(Refusal::BadLine));

@@ -2,7 +2,7 @@
 
 ghost use Rattle.std.specs.Prelude.{◌≡◌, Ok};
 ghost use Rattle.tool_core.specs.Script.{Works};
-ghost use Rattle.tool_core.specs.ScriptLines.{LineEnds, OrWant, Scene};
+ghost use Rattle.tool_core.specs.ScriptLines.{LineEnds, Scene};
 ghost use Rattle.tool_core.specs.Tie.{GoesOn, IsScene, life_of};
 
 use crate::archive::ScriptArchive;
@@ -27,7 +27,7 @@ impl<D: Disk> ScriptState<D> {
     pub fn answer(self, alloc: Global, line: &Line) -> (ScriptState<D>, Result<Reply, Refusal>)
         ensures goes_on { GoesOn (life_of D.life self.archive) (life_of D.life result.0.archive) }
         ensures answered { (s : Scene) → IsScene D.life self s → Works (life_of D.life self.archive) (life_of D.life result.0.archive) →
-            (t : Scene) × IsScene D.life result.0 t × OrWant s (LineEnds s line.now) result.1 t }
+            (t : Scene) × IsScene D.life result.0 t × LineEnds s line.now result.1 t }
     {
         let ScriptState {
             mut archive,
