@@ -2,7 +2,7 @@
 //! under the system's folder for temporary files.
 
 use crate::commands::obeyed;
-use command_line::{ToolCommand, ToolCommand};
+use command_line::ToolCommand;
 use disk_core::{Disk, FileId};
 use host_disk::HostDisk;
 use std::test::Fail;
