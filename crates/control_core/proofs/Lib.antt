@@ -1,6 +1,7 @@
 mod NumbersLemmas
 mod LinesLemmas
 mod HexCaseLemmas
+mod DigitLemmas
 mod WordLemmas
 mod LineTextLemmas
 pub mod ChangeLemmas

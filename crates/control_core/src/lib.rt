@@ -10,6 +10,7 @@ mod deciding;
 mod decision;
 mod desk;
 mod event;
+mod hex_digits;
 pub mod laws;
 mod line;
 mod merge_line;

@@ -4,8 +4,8 @@ ghost use Rattle.std.specs.Prelude.{false, true};
 ghost use Rattle.control_core.specs.Lines.{Reads};
 ghost use Rattle.control_core.specs.Numbers.{long_of, int_of, bytes_of};
 
+use crate::hex_digits::decode_over;
 use frame_core::{Items, Refusal};
-use hex::FromHexError;
 use std::alloc::Global;
 
 /// The number that a word is, or `BadLine`.
@@ -39,9 +39,13 @@ pub(crate) fn bytes(alloc: Global, text: &str) -> Result<Items<u8>, Refusal>
     if text.is_empty() {
         return Err(Refusal::BadLine);
     }
-    match hex::decode(alloc, text) {
-        Ok(bytes) => Ok(Items::from_vec(bytes)),
-        Err(FromHexError::OutOfMemory) => Err(Refusal::NoMemory),
-        Err(_) => Err(Refusal::BadLine),
+    if text.len() % 2 != 0 {
+        return Err(Refusal::BadLine);
+    }
+    let mut bytes = vec![in alloc; 0; text.len() / 2]?;
+    if decode_over(text.as_bytes(), bytes.as_mut_slice()) {
+        Ok(Items::from_vec(bytes))
+    } else {
+        Err(Refusal::BadLine)
     }
 }
