@@ -1,28 +1,28 @@
 -- Bytes from hex digits, each pair put where its byte belongs.
-use Rattle.std.proofs.Common.{◌≡◌, ℕ, ◌+◌, ◌*◌, ◌%◌, ◌<◌, ◌≤◌, max, List, length, take, drop, slice_index, slice_set, inl, inr, nat_lt, Option, Some, None, unwrap_or, true, false, Result, Ok, Err, refl, arith, ◌∙◌}
+use Rattle.std.proofs.Common.{◌≡◌, ℕ, ◌+◌, ◌*◌, ◌%◌, ◌<◌, ◌≤◌, max, List, length, take, slice_index, slice_set, inl, inr, nat_lt, Option, Some, None, unwrap_or, true, false, Result, Ok, Err, refl, sym, arith, ◌∙◌}
 use Rattle.std.specs.List.{AllPass}
 use Rattle.std.specs.Bool.{MatchBool}
 use Rattle.std.proofs.lemmas.Bool.{cases_lt}
 use Rattle.std.proofs.lemmas.Bool.Decides.{nat_tests}
 use Rattle.std.proofs.lemmas.List.Elements.{All-get_or}
-use Rattle.hex.specs.Hex.{decode_of, decode_pairs, digit_or_error, hex_digit_value, is_hex_digit, pair_value}
+use Rattle.hex.specs.Hex.{decode_of, digit_or_error, hex_digit_value, is_hex_digit, pair_value}
 use Rattle.hex.specs.declared.error.FromHexError.{FromHexError}
 use Rattle.hex.proofs.HexLemmas.{decode_of-even, decode_of-ok}
 use Rattle.hex.proofs.Pairs.{decode_done, decode_start, decode_step, prepend}
 use Rattle.frame_core.specs.declared.refusal.Refusal.TheVariants.{BadLine}
+use Rattle.control_core.specs.HexDigits.{IsReadTo, put_before}
 use Rattle.control_core.specs.Numbers.{decoded}
 
 -- a digit's value, and 255 for another byte
-abbrev digit : ℕ → ℕ
+abbrev pub digit : ℕ → ℕ
 digit c = unwrap_or (hex_digit_value c) 255
 
--- the first i bytes are those of the text, if no byte of the text so far was other than a digit
-pub record IsReadTo (text out : List ℕ) (i worst : ℕ) : Type 0 where
-  pub digits : worst < 16 → decode_pairs 0 text ≡ prepend (take i out) (decode_pairs (2 * i) (drop (2 * i) text))
-  pub other : 16 ≤ worst → AllPass is_hex_digit text → ⊥
+same_before : (front : List ℕ) (r : Result (List ℕ) FromHexError) → prepend front r ≡ put_before front r
+same_before front (Ok bytes) = refl
+same_before front (Err fault) = refl
 
 pub nothing_read : (text out : List ℕ) → IsReadTo text out 0 0
-nothing_read text out = record { digits = (λ _. decode_start text out); other = (λ h. absurd (omega (arith, h))) }
+nothing_read text out = record { digits = (λ _. decode_start text out ∙ same_before (take 0 out) _); other = (λ h. absurd (omega (arith, h))) }
 
 read_value : (c i : ℕ) (o : Option ℕ) → unwrap_or o 255 < 16 → digit_or_error c i o ≡ Ok (unwrap_or o 255)
 read_value c i (Some v) h = refl
@@ -55,7 +55,7 @@ read_step text out i worst a b next fits room ea eb e read = record {
       let small : (worst < 16) × (a < 16) × (b < 16) = omega (arith, e, h) in
       let byte : (a * 16 % 256 + b) % 256 ≡ a * 16 + b = omega (arith, small.1, small.2) in
       let pair = rw (← ea, ← eb) at (read_pair (slice_index text (2 * i)) (slice_index text (2 * i + 1)) (2 * i) (rw (← ea) small.1) (rw (← eb) small.2)) in
-      rw byte (decode_step text out i (a * 16 + b) fits room pair (read.digits small.0)));
+      rw byte (decode_step text out i (a * 16 + b) fits room pair (read.digits small.0 ∙ sym (same_before _ _)) ∙ same_before _ _));
   other = (λ h all. elim (cases_lt worst 16) [
     | inr far ↦ read.other far all
     | inl low ↦ elim (cases_lt a 16) [
@@ -72,6 +72,6 @@ pub all_read : (text out : List ℕ) (i worst : ℕ) → length out ≤ i → le
 all_read text out i worst end long read =
     let even : length text % 2 ≡ 0 = omega (arith, long) in
     elim (cases_lt worst 16) [
-      | inl low ↦ let is : nat_lt worst 16 ≡ true = grind (arith, nat_tests, low) in rw is (decode_of-even text even ∙ decode_done text out i end (omega (arith, end, long)) (read.digits low))
+      | inl low ↦ let is : nat_lt worst 16 ≡ true = grind (arith, nat_tests, low) in rw is (decode_of-even text even ∙ decode_done text out i end (omega (arith, end, long)) (read.digits low ∙ sym (same_before _ _)))
       | inr far ↦ let is : nat_lt worst 16 ≡ false = grind (arith, nat_tests, far) in rw is (refused (decode_of text) (λ bytes is. read.other far (decode_of-ok text bytes is).1))
     ]

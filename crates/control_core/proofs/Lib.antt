@@ -2,6 +2,7 @@ mod NumbersLemmas
 mod LinesLemmas
 mod HexCaseLemmas
 mod DigitLemmas
+mod PairLemmas
 mod WordLemmas
 mod LineTextLemmas
 pub mod ChangeLemmas

@@ -17,3 +17,5 @@ pub mod Agreement
 pub mod Exact
 pub mod Bytes
 pub mod Consistent
+-- how far hex digits are read
+pub mod HexDigits
