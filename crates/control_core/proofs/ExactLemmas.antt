@@ -5,6 +5,7 @@ use Rattle.std.proofs.lemmas.Int.{ints}
 use Rattle.frame_core.specs.declared.block.Block.{Block}
 use Rattle.frame_core.specs.declared.refusal.Refusal.{Refusal}
 use Rattle.frame_core.specs.declared.refusal.Refusal.TheVariants.{BadBlock, BadPosition, Broken, StaleSession}
+use Rattle.frame_core.specs.ReplayEnd.{bound_of}
 use Rattle.archive_model.specs.declared.registration.Registration.{Registration}
 use Rattle.archive_model.specs.declared.reply.Reply.{Reply}
 use Rattle.archive_model.specs.declared.reply.Reply.TheVariants as replies
@@ -29,7 +30,7 @@ use Rattle.control_core.specs.declared.turns.OpeningDecision.{OpeningDecision}
 use Rattle.control_core.specs.declared.turns.OpeningDecision.TheVariants as opening
 use Rattle.control_core.specs.Callers.{replay_number, written_to}
 use Rattle.control_core.specs.Desk.{DeskState}
-use Rattle.control_core.specs.Changes.{after_close, after_open, after_poll, after_write, bound_from, recorded_of, settled, settled_by, settled_position}
+use Rattle.control_core.specs.Changes.{after_close, after_open, after_poll, after_write, recorded_of, settled, settled_by, settled_position}
 use Rattle.control_core.specs.Decisions.{decision_of}
 use Rattle.control_core.specs.Turns.{begins_at, close_tests, continues, is_done_at, open_tests, opened_at, opening_decided, opening_of, poll_tests, replay_in, replay_of, session_in, settle_tests, settling_by, settling_of, sweep_tests, verify_tests, write_tests}
 use Rattle.control_core.specs.Machine.{AtPlace, Breaks, Decided, Either, Ended, Faults, Gives, Outcome, Passing, Refuses, Step, UnlessBoundary, Unread, recording_of}
@@ -136,12 +137,12 @@ exact_settle a session o b h =
 opens_behind : (a : Archive) (id position size : ℤ) (o : Result Reply Refusal) (b : Archive)
     → OpeningEnds a (checked (open_tests a.desk id position size true) (block_checks ++ last_checks) (Ok (opening_of a.desk id position size))) o b
     → Passing a.desk (open_tests a.desk id position size true) (block_checks ++ last_checks)
-    (Ended (Ok (told.Reply (replies.ReplayOpened a.desk.callers.next_replay))) (after_open id (begins_at position (registration_in a.desk.register id)) (bound_from (begins_at position (registration_in a.desk.register id)) size) a.desk)) (plain o) b.desk
+    (Ended (Ok (told.Reply (replies.ReplayOpened a.desk.callers.next_replay))) (after_open id (begins_at position (registration_in a.desk.register id)) (bound_of (begins_at position (registration_in a.desk.register id)) size) a.desk)) (plain o) b.desk
 opens_behind a id position size o b h =
     let next = begins_at position (registration_in a.desk.register id) in
-    let opened_so : Outcome → DeskState → Type 0 = Ended (Ok (told.Reply (replies.ReplayOpened a.desk.callers.next_replay))) (after_open id next (bound_from next size) a.desk) in
+    let opened_so : Outcome → DeskState → Type 0 = Ended (Ok (told.Reply (replies.ReplayOpened a.desk.callers.next_replay))) (after_open id next (bound_of next size) a.desk) in
     passing a (OpeningEnds a) (λ r o b h. h) (open_tests a.desk id position size true) (block_checks ++ last_checks) (Ok (opening_of a.desk id position size)) opened_so o b
-    (λ done. told_so _ (with_desk (after_open id (begins_at position (registration_in a.desk.register id)) (bound_from (begins_at position (registration_in a.desk.register id)) size) a.desk) a) o b done) h
+    (λ done. told_so _ (with_desk (after_open id (begins_at position (registration_in a.desk.register id)) (bound_of (begins_at position (registration_in a.desk.register id)) size) a.desk) a) o b done) h
 
 -- what the frames say at a place
 at_place : (a : Archive) (id next : ℤ) (found : Option Registration) (behind : Result Opening Refusal) (ends : Outcome → DeskState → Type 0) (o : Result Reply Refusal) (b : Archive)
@@ -168,7 +169,7 @@ exact_open a id position size o b h =
     let behind = checked tests (block_checks ++ last_checks) (Ok (opening_of a.desk id position size)) in
     let F : Result OpeningDecision Refusal → Result Reply Refusal → Archive → Type 0 = λ x. OpeningEnds a (asked_opening a id (opening_decided x)) in
     let next = begins_at position found in
-    let opened_so : Outcome → DeskState → Type 0 = Passing a.desk tests (block_checks ++ last_checks) (Ended (Ok (told.Reply (replies.ReplayOpened a.desk.callers.next_replay))) (after_open id next (bound_from next size) a.desk)) in
+    let opened_so : Outcome → DeskState → Type 0 = Passing a.desk tests (block_checks ++ last_checks) (Ended (Ok (told.Reply (replies.ReplayOpened a.desk.callers.next_replay))) (after_open id next (bound_of next size) a.desk)) in
     passing a F (λ r o b h. h) tests first_checks (Ok (opened_at found behind next)) (AtPlace a.desk found next opened_so) o b
     (at_place a id next found behind opened_so o b (opens_behind a id position size o b)) h
 

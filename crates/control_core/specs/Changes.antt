@@ -1,6 +1,5 @@
 -- What becomes of the desk. docs/CONTROL.md, "Control state" and "Requests".
-use Rattle.std.specs.Prelude.{◌+ℤ◌, ◌+◌, ◌++◌, not, ℤ, pos, negsuc, Bool, true, [], ◌∷◌, filter, Option, Some, None, if◌then◌else◌}
-use Rattle.std.specs.Int.{int_min}
+use Rattle.std.specs.Prelude.{◌+ℤ◌, ◌+◌, ◌++◌, not, ℤ, pos, Bool, true, [], ◌∷◌, filter, Option, Some, None}
 use Rattle.std.specs.Ordering.{int_eq}
 use Rattle.archive_model.specs.declared.command.Command.{Command}
 use Rattle.archive_model.specs.declared.command.Command.TheVariants.{Start, Append, Stop, Extend, Truncate, PurgeSegments, PurgeRecording, Restart}
@@ -12,7 +11,7 @@ use Rattle.archive_model.specs.Keyed.{find, change, without}
 use Rattle.archive_model.specs.Register.{RegisterState, active_count, all_stopped, changed, registered, registration_in, segments_before, with_one, with_out}
 use Rattle.control_core.specs.declared.callers.RecorderSession.{RecorderSession}
 use Rattle.control_core.specs.declared.callers.Written.{Written}
-use Rattle.control_core.specs.Callers.{CallersState, last_number, moved_to, no_callers, replay_number, session_number, with_written, written_to}
+use Rattle.control_core.specs.Callers.{CallersState, moved_to, no_callers, replay_number, session_number, with_written, written_to}
 use Rattle.control_core.specs.Desk.{DeskState, is_replay_of}
 
 -- ---- sessions and replays
@@ -40,10 +39,6 @@ without_callers id c = record (without_sessions id c) { replays = filter (λ r. 
 -- what the session of a number has written
 abbrev pub with_blocks : ℤ → Option Written → CallersState → CallersState
 with_blocks number written c = record c { sessions = change session_number number (with_written written) c.sessions }
-
--- where a replay ends that was asked for with a length: -1 means that it has no end
-abbrev pub bound_from : ℤ → ℤ → ℤ
-bound_from position size = if int_eq size (negsuc 0) then last_number else int_min (position +ℤ size) last_number
 
 -- one replay more
 abbrev pub with_replay : ℤ → ℤ → ℤ → CallersState → CallersState

@@ -2,6 +2,7 @@
 use Rattle.std.specs.Prelude.{◌≡◌, ◌⊎◌, ◌≤ℤ◌, ◌<ℤ◌, ◌++◌, ℤ, Bool, true, MatchBool, List, [], ◌∷◌, Option, Some, None, Result, Ok, Err}
 use Rattle.frame_core.specs.declared.refusal.Refusal.{Refusal}
 use Rattle.frame_core.specs.declared.refusal.Refusal.TheVariants.{BadBlock, BadPosition, Damaged, DeviceFault, NoMemory}
+use Rattle.frame_core.specs.ReplayEnd.{bound_of}
 use Rattle.archive_model.specs.declared.command.Command.{Command}
 use Rattle.archive_model.specs.declared.registration.Registration.{Registration}
 use Rattle.archive_model.specs.declared.reply.Reply.TheVariants as replies
@@ -16,7 +17,7 @@ use Rattle.control_core.specs.declared.callers.Written.{Written}
 use Rattle.control_core.specs.declared.decision.Decision.{Decision}
 use Rattle.control_core.specs.declared.decision.Decision.TheVariants.{Refused, Answered, Accepted, IfBoundary}
 use Rattle.control_core.specs.Desk.{DeskState}
-use Rattle.control_core.specs.Changes.{after_close, after_open, after_poll, after_write, bound_from, broken_desk, desk_after, reply_after, settled, settled_position}
+use Rattle.control_core.specs.Changes.{after_close, after_open, after_poll, after_write, broken_desk, desk_after, reply_after, settled, settled_position}
 use Rattle.control_core.specs.Decisions.{decision_of}
 use Rattle.control_core.specs.Turns.{begins_at, close_tests, is_done_at, open_tests, poll_tests, replay_in, session_in, settle_tests, sweep_tests, verify_tests, write_tests}
 
@@ -101,7 +102,7 @@ Opens old id position size =
     let next = begins_at position found in
     let tests = open_tests old id position size true in
     Passing old tests first_checks (AtPlace old found next
-    (Passing old tests (block_checks ++ last_checks) (Ended (Ok (told.Reply (replies.ReplayOpened old.callers.next_replay))) (after_open id next (bound_from next size) old))))
+    (Passing old tests (block_checks ++ last_checks) (Ended (Ok (told.Reply (replies.ReplayOpened old.callers.next_replay))) (after_open id next (bound_of next size) old))))
 
 -- The frames of a poll begin at the next position and end at or below the recorded one. There are some exactly where
 -- the next position is below the bound and the recorded position.

@@ -4,6 +4,7 @@ use Rattle.std.specs.Prelude.{◌≢◌, ◌<◌, ◌&&◌, ◌||◌, ◌++◌, 
 use Rattle.std.specs.Ordering.{int_eq}
 use Rattle.frame_core.specs.declared.refusal.Refusal.{Refusal}
 use Rattle.frame_core.specs.declared.refusal.Refusal.TheVariants.{BadBlock, BadParameter, BadPosition, Broken, HistoryFull, MaxReplays, NeedSettle, StaleSession, UnknownRecording, UnknownReplay}
+use Rattle.frame_core.specs.ReplayEnd.{bound_of, is_done}
 use Rattle.archive_model.specs.declared.registration.Registration.{Registration}
 use Rattle.archive_model.specs.declared.reply.Reply.{Reply}
 use Rattle.archive_model.specs.declared.reply.Reply.TheVariants.{Closed, Written as WrittenReply}
@@ -20,7 +21,7 @@ use Rattle.control_core.specs.declared.turns.Settling.{Settling}
 use Rattle.control_core.specs.declared.turns.Settling.TheVariants as settling
 use Rattle.control_core.specs.Callers.{last_number, replay_number, session_number}
 use Rattle.control_core.specs.Desk.{DeskState, has_room}
-use Rattle.control_core.specs.Changes.{bound_from, next_position, recorded_of}
+use Rattle.control_core.specs.Changes.{next_position, recorded_of}
 
 abbrev pub session_in : DeskState → ℤ → Option RecorderSession
 session_in d number = find session_number number d.callers.sessions
@@ -89,7 +90,7 @@ open_tests d id position size begins _ = true
 -- the replay that is asked for
 abbrev pub opening_of : DeskState → ℤ → ℤ → ℤ → Opening
 opening_of d id position size =
-    let next = begins_at position (registration_in d.register id) in record { recording = id; next = next; bound = bound_from next size }
+    let next = begins_at position (registration_in d.register id) in record { recording = id; next = next; bound = bound_of next size }
 
 -- the start and the recorded position are boundaries, whatever the frames are
 abbrev pub opened_at : Option Registration → Result Opening Refusal → ℤ → OpeningDecision
@@ -123,9 +124,9 @@ pub record MayOpen (d : DeskState) (o : Opening) : Type 0 where
 
 -- ---- polling and closing
 
--- at its bound, or at the end of a recording that isn't active
+-- a replay of the recording is done that has come to a position
 abbrev pub is_done_at : Registration → ℤ → ℤ → Bool
-is_done_at r bound next = int_le bound next || (not (is_active r) && int_eq next r.recorded)
+is_done_at r bound next = is_done bound next r.recorded (is_active r)
 
 abbrev pub poll_tests : DeskState → ℤ → ℤ → Tests
 poll_tests d number most BadParameter = int_le (pos 1) most && int_le most (pos 4096)

@@ -2,16 +2,16 @@
 //! "Refusals".
 
 ghost use Rattle.std.specs.Prelude.{◌≡◌, ◌++◌, ◌≤ℤ◌, negsuc, true, Some, Ok};
+ghost use Rattle.frame_core.specs.ReplayEnd.{bound_of};
 ghost use Rattle.archive_model.specs.Checks.{block_checks, checked, checks, last_checks};
 ghost use Rattle.archive_model.specs.Register.{registration_in};
-ghost use Rattle.control_core.specs.Changes.{bound_from};
 ghost use Rattle.control_core.specs.Turns.{begins_at, close_decision, open_decision, open_tests, opened_at, poll_decision, settle_decision, sweep_tests, verify_tests, write_decision};
 
 use crate::callers::{OpenReplay, Written};
 use crate::desk::Desk;
 use archive_model::{Registration, Reply};
-use frame_core::Refusal;
 use frame_core::limits::{LAST_NUMBER, MAX_OPEN_REPLAYS, MAX_POLL};
+use frame_core::{Refusal, replay_bound};
 
 /// What there is to settle.
 #[derive(Clone, Copy, Debug)]
@@ -151,17 +151,6 @@ fn begins_at(position: &i64, known: &Registration) -> i64
     *position
 }
 
-/// Where a replay ends that begins at a position.
-fn bound_from(position: &i64, length: &i64) -> i64
-    requires { negsuc 0 ≤ℤ length.now }
-    ensures { result ≡ bound_from position.now length.now }
-{
-    if *length == -1 {
-        return LAST_NUMBER;
-    }
-    position.saturating_add(*length)
-}
-
 fn behind_boundary(
     desk: &Desk,
     recording: &i64,
@@ -170,7 +159,7 @@ fn behind_boundary(
 ) -> Result<Opening, Refusal>
     requires { negsuc 0 ≤ℤ length.now }
     ensures { result ≡ checked (open_tests desk.now.state recording.now next.now length.now true) (block_checks ++ last_checks)
-        (Ok (record { recording = recording.now; next = next.now; bound = bound_from next.now length.now })) }
+        (Ok (record { recording = recording.now; next = next.now; bound = bound_of next.now length.now })) }
 {
     if desk.open_replays() >= MAX_OPEN_REPLAYS || desk.next_replay() == LAST_NUMBER {
         return Err(Refusal::MaxReplays);
@@ -178,7 +167,7 @@ fn behind_boundary(
     Ok(Opening {
         recording: *recording,
         next: *next,
-        bound: bound_from(next, length),
+        bound: replay_bound(next, length),
     })
 }
 

@@ -15,7 +15,7 @@ use crate::reading;
 use archive_model::{Registration, Reply};
 use control_core::decide_poll;
 use disk_core::Disk;
-use frame_core::Refusal;
+use frame_core::{Refusal, is_replay_done};
 use std::alloc::Global;
 
 impl<D: Disk> Parts<D> {
@@ -54,8 +54,7 @@ impl<D: Disk> Parts<D> {
 fn goes_on(known: &Registration, bound: &i64, next: i64) -> Option<i64>
     ensures { result ≡ (if is_done_at known.now bound.now next then None else Some next) }
 {
-    let at_end = !known.is_active() && next == known.recorded;
-    if *bound <= next || at_end {
+    if is_replay_done(bound, &next, &known.recorded, known.is_active()) {
         return None;
     }
     Some(next)

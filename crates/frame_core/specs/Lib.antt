@@ -1,10 +1,11 @@
--- What a reader has to believe: frames, datagrams, positions, segments, setup and NAK frames, blocks and the refusals' numbers.
+-- What a reader has to believe: frames, datagrams, positions, segments, where a replay ends, setup and NAK frames, blocks and the refusals' numbers.
 pub mod FrameEncoding
 pub mod Front
 pub mod Header
 pub mod Datagram
 pub mod Position
 pub mod Segment
+pub mod ReplayEnd
 pub mod Limits
 pub mod Setup
 pub mod Nak

@@ -14,6 +14,7 @@ pub mod limits;
 mod nak;
 mod positions;
 mod refusal;
+mod replay_end;
 mod segments;
 mod setup;
 
@@ -28,5 +29,6 @@ pub use items::Items;
 pub use nak::Nak;
 pub use positions::{position, term_of};
 pub use refusal::Refusal;
+pub use replay_end::{is_replay_done, replay_bound};
 pub use segments::segment_base;
 pub use setup::Setup;

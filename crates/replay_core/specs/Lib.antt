@@ -1,3 +1,2 @@
--- What a reader has to believe: where a replay ends and when it is done, and what a poll gives.
-pub mod Replay
+-- What a reader has to believe: what a poll gives. Where a replay ends and when it is done stands in frame_core.
 pub mod Poll

@@ -1,7 +1,9 @@
 //! A replay: what it reads, where it goes on and where it ends. docs/CONTROL.md, "Replays".
 
 ghost use Rattle.std.specs.Prelude.{◌≡◌, ◌≤ℤ◌, pos, negsuc};
-ghost use Rattle.replay_core.specs.Replay.{bound_of, is_done};
+ghost use Rattle.frame_core.specs.ReplayEnd.{bound_of, is_done};
+
+use frame_core::{is_replay_done, replay_bound};
 
 /// A replay of a recording. Positions are in bytes of the stream.
 #[derive(Clone, Copy, Debug, PartialEq, Eq)]
@@ -22,15 +24,10 @@ impl Replay {
         ensures next { result.next ≡ position }
         ensures bound { negsuc 0 ≤ℤ length → result.bound ≡ bound_of position length }
     {
-        let bound = if length == -1 {
-            i64::MAX
-        } else {
-            position.saturating_add(length)
-        };
         Replay {
             recording,
             next: position,
-            bound,
+            bound: replay_bound(&position, &length),
         }
     }
 
@@ -44,8 +41,8 @@ impl Replay {
     /// Whether it gives no frame any more: it is at its bound, or at the recorded position of a recording that isn't
     /// active. Does not allocate.
     pub fn is_done(&self, recorded: i64, active: bool) -> bool
-        ensures { result ≡ is_done self.now recorded active }
+        ensures { result ≡ is_done self.now.bound self.now.next recorded active }
     {
-        self.bound <= self.next || (!active && self.next == recorded)
+        is_replay_done(&self.bound, &self.next, &recorded, active)
     }
 }
