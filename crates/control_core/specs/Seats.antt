@@ -1,11 +1,13 @@
 -- What the desk's values keep beside what they show. docs/CONTROL.md, "Control state".
-use Rattle.std.specs.Prelude.{◌≢◌, ◌≤◌, ◌<◌, ℕ, ℤ, pos, List, [], ◌∷◌, length, IsTrue, true}
+use Rattle.std.specs.Prelude.{◌≡◌, ◌≢◌, ◌≤◌, ◌<◌, ℕ, ℤ, pos, List, [], ◌∷◌, length, Some, IsTrue, true}
 use Rattle.archive_model.specs.declared.command.Command.{Command}
 use Rattle.archive_model.specs.declared.command.Command.TheVariants.{Start, Append, Stop, Extend, Truncate, PurgeSegments, PurgeRecording, Restart}
-use Rattle.archive_model.specs.Keyed.{Each, Rise}
+use Rattle.archive_model.specs.Keyed.{Each, Rise, find}
+use Rattle.archive_model.specs.Numbered.{IsPlaceOf}
 use Rattle.archive_model.specs.Register.{RegisterState, id_of, is_active, registration_in}
 use Rattle.archive_model.specs.Checks.{is_of}
 use Rattle.control_core.specs.declared.callers.RecorderSession.{RecorderSession}
+use Rattle.control_core.specs.declared.callers.FoundReplay.{FoundReplay}
 use Rattle.control_core.specs.declared.callers.OpenReplay.{OpenReplay}
 use Rattle.control_core.specs.Callers.{CallersState, replay_number, session_number}
 use Rattle.control_core.specs.Desk.{DeskState}
@@ -21,6 +23,11 @@ pub record ReplaysView : Type 0 where
   pub values : List OpenReplay
   pub next : ℤ
   pub room : ℕ
+
+-- the replay of a number, where it stands
+pub record IsFoundReplay (number : ℤ) (rs : List OpenReplay) (f : FoundReplay) : Type 0 where
+  pub replay : find replay_number number rs ≡ Some f.replay
+  pub stands : IsPlaceOf replay_number number rs f.index
 
 -- the recording that a session writes is there and active
 abbrev pub IsWriting : RegisterState → RecorderSession → Type 0

@@ -39,6 +39,15 @@ pub struct OpenReplay {
     pub bound: i64,
 }
 
+/// A replay that was found among those that are open.
+#[derive(Clone, Copy, Debug, PartialEq, Eq)]
+pub struct FoundReplay {
+    /// At which index it stands, until a replay is closed.
+    pub index: usize,
+    /// The replay.
+    pub replay: OpenReplay,
+}
+
 impl Numbered for RecorderSession {
     ghost number_of = { λ s. s.number };
 

@@ -2,6 +2,8 @@
 
 ghost use Rattle.std.specs.Prelude.{◌≡◌, ◌<◌, IfErr, OnOk};
 ghost use Rattle.frame_core.specs.declared.refusal.Refusal.TheVariants.{NoMemory};
+ghost use Rattle.archive_model.specs.Numbered.{IsPlaceOf};
+ghost use Rattle.control_core.specs.Callers.{replay_number};
 ghost use Rattle.control_core.specs.Changes.{after_close, after_open, after_poll, after_write, broken_desk, settled};
 ghost use Rattle.control_core.specs.Turns.{MayOpen, session_in};
 
@@ -50,18 +52,20 @@ impl Desk {
             .open(&opening.recording, &opening.next, &opening.bound);
     }
 
-    /// A replay goes on from a position. Costs the open replays; does not allocate.
-    pub fn move_replay(&mut self, replay: &i64, next: &i64)
+    /// The replay of a number goes on from a position; it stands at an index. In constant time; does not allocate.
+    pub fn move_replay(&mut self, replay: &i64, index: usize, next: &i64)
+        requires { IsPlaceOf replay_number replay.now self.old.state.callers.replays index }
         ensures { self.new.state ≡ after_poll replay.now next.now self.old.state }
     {
-        self.replays.set_next(replay, next);
+        self.replays.set_next(replay, index, next);
     }
 
-    /// A replay is closed. Costs the open replays; does not allocate.
-    pub fn close_replay(&mut self, replay: &i64)
+    /// The replay of a number is closed; it stands at an index. Costs the open replays; does not allocate.
+    pub fn close_replay(&mut self, replay: &i64, index: usize)
+        requires { IsPlaceOf replay_number replay.now self.old.state.callers.replays index }
         ensures { self.new.state ≡ after_close replay.now self.old.state }
     {
-        self.replays.close(replay);
+        self.replays.close(replay, index);
     }
 
     /// A write has failed: no further call writes.

@@ -1,15 +1,15 @@
 //! All that an archive knows but its frames. docs/CONTROL.md, "Control state".
 
-ghost use Rattle.std.specs.Prelude.{◌≡◌, ◌<◌, ◌^◌, length, option_copied, IfSome, ◌&&◌};
+ghost use Rattle.std.specs.Prelude.{◌≡◌, ◌<◌, ◌^◌, length, option_copied, IfSome, MatchOption, None, ◌&&◌};
 ghost use Rattle.std.specs.List.{list_any};
 ghost use Rattle.archive_model.specs.Register.{HasLayout, active_count, may_begin, may_record, registration_in, no_recordings};
 ghost use Rattle.control_core.specs.Callers.{no_callers};
 ghost use Rattle.control_core.specs.Changes.{next_position, recorded_of};
 ghost use Rattle.control_core.specs.Turns.{replay_in, session_in};
-ghost use Rattle.control_core.specs.Seats.{KeepsSeats};
+ghost use Rattle.control_core.specs.Seats.{IsFoundReplay, KeepsSeats};
 ghost use Rattle.control_core.specs.Desk.{new_desk, has_room, has_session_number, is_replayed, is_replay_before};
 
-use crate::callers::{OpenReplay, RecorderSession};
+use crate::callers::{FoundReplay, RecorderSession};
 use crate::replays::Replays;
 use crate::sessions::Sessions;
 use archive_model::{Register, Registration};
@@ -162,8 +162,9 @@ impl Desk {
     }
 
     /// The open replay of a number. Costs the replays that are open.
-    pub fn replay(&self, number: &i64) -> Option<OpenReplay>
-        ensures found { result ≡ replay_in self.now.state number.now }
+    pub fn replay(&self, number: &i64) -> Option<FoundReplay>
+        ensures found { MatchOption result (replay_in self.now.state number.now ≡ None)
+            (IsFoundReplay number.now self.now.state.callers.replays) }
         ensures seats { KeepsSeats self.now.state.register self.now.state.callers }
     {
         self.replays.get(number)

@@ -27,7 +27,7 @@ mod words;
 
 pub use asked::{Asked, Told};
 pub use bytes::read_terms;
-pub use callers::{OpenReplay, RecorderSession, Written};
+pub use callers::{FoundReplay, OpenReplay, RecorderSession, Written};
 pub use deciding::decide;
 pub use decision::Decision;
 pub use desk::Desk;

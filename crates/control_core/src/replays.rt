@@ -1,13 +1,15 @@
 //! The replays that are open. docs/CONTROL.md, "Replays".
 
-ghost use Rattle.std.specs.Prelude.{◌≡◌, ◌+ℤ◌, ◌++◌, ◌∷◌, [], ◌<◌, ◌≢◌, not, pos, filter, length, IfErr, OnOk};
+ghost use Rattle.std.specs.Prelude.{◌≡◌, ◌+ℤ◌, ◌++◌, ◌∷◌, [], ◌<◌, ◌≢◌, not, pos, filter, length, IfErr, OnOk, MatchOption, None};
 ghost use Rattle.std.specs.List.{list_any};
 ghost use Rattle.frame_core.specs.declared.refusal.Refusal.TheVariants.{NoMemory};
 ghost use Rattle.archive_model.specs.Keyed.{find, change, without, Rise};
+ghost use Rattle.archive_model.specs.Numbered.{IsPlaceOf};
 ghost use Rattle.control_core.specs.Callers.{last_number, moved_to, replay_number};
 ghost use Rattle.control_core.specs.Desk.{is_replay_of, is_replay_before};
+ghost use Rattle.control_core.specs.Seats.{IsFoundReplay};
 
-use crate::callers::OpenReplay;
+use crate::callers::{FoundReplay, OpenReplay};
 use archive_model::place_of;
 use frame_core::Refusal;
 use std::alloc::Global;
@@ -48,11 +50,13 @@ impl Replays {
     }
 
     /// The open replay of a number. Costs the replays that are open.
-    pub fn get(&self, number: &i64) -> Option<OpenReplay>
-        ensures { result ≡ find replay_number number.now self.now.values }
+    pub fn get(&self, number: &i64) -> Option<FoundReplay>
+        ensures { MatchOption result (find replay_number number.now self.now.values ≡ None)
+            (IsFoundReplay number.now self.now.values) }
     {
-        let place = place_of(self.values.as_slice(), number)?;
-        Some(self.values[place])
+        let index = place_of(self.values.as_slice(), number)?;
+        let replay = self.values[index];
+        Some(FoundReplay { index, replay })
     }
 
     /// How many replays are open.
@@ -120,28 +124,24 @@ impl Replays {
         self.next += 1;
     }
 
-    /// Where a replay goes on. Costs the replays that are open.
-    pub fn set_next(&mut self, number: &i64, next: &i64)
+    /// Where the replay of a number goes on, which stands at an index. In constant time.
+    pub fn set_next(&mut self, number: &i64, index: usize, next: &i64)
+        requires { IsPlaceOf replay_number number.now self.old.values index }
         ensures values { self.new.values ≡ change replay_number number.now (moved_to next.now) self.old.values }
         ensures next { self.new.next ≡ self.old.next }
     {
-        let Some(place) = place_of(self.values.as_slice(), number) else {
-            return;
-        };
-        let replay = &mut self.values[place];
+        let replay = &mut self.values[index];
         replay.move_to(next);
     }
 
-    /// The replay of a number is gone. Costs the replays that are open.
-    pub fn close(&mut self, number: &i64)
-        requires { Rise replay_number (pos 0) self.old.values self.old.next }
+    /// The replay of a number is gone, which stands at an index. Costs the replays that are open.
+    pub fn close(&mut self, number: &i64, index: usize)
+        requires stands { IsPlaceOf replay_number number.now self.old.values index }
+        requires rising { Rise replay_number (pos 0) self.old.values self.old.next }
         ensures values { self.new.values ≡ without replay_number number.now self.old.values }
         ensures next { self.new.next ≡ self.old.next }
     {
-        let Some(place) = place_of(self.values.as_slice(), number) else {
-            return;
-        };
-        let _ = self.values.remove(place);
+        let _ = self.values.remove(index);
     }
 
     /// The replays of a recording are gone. Costs the replays that are open.

@@ -1,13 +1,15 @@
 //! What is decided on a call that is no request, by the desk alone. docs/CONTROL.md, "Recorder sessions", "Replays" and
 //! "Refusals".
 
-ghost use Rattle.std.specs.Prelude.{◌≡◌, ◌++◌, ◌≤ℤ◌, negsuc, true, Some, Ok};
+ghost use Rattle.std.specs.Prelude.{◌≡◌, ◌++◌, ◌≤ℤ◌, negsuc, true, Some, Ok, Err, IfOk, MatchResult};
 ghost use Rattle.frame_core.specs.ReplayEnd.{bound_of};
 ghost use Rattle.archive_model.specs.Checks.{block_checks, checked, checks, last_checks};
 ghost use Rattle.archive_model.specs.Register.{registration_in};
+ghost use Rattle.archive_model.specs.declared.reply.Reply.TheVariants.{Closed};
+ghost use Rattle.control_core.specs.Seats.{IsFoundReplay};
 ghost use Rattle.control_core.specs.Turns.{begins_at, close_decision, open_decision, open_tests, opened_at, poll_decision, settle_decision, sweep_tests, verify_tests, write_decision};
 
-use crate::callers::{OpenReplay, Written};
+use crate::callers::{FoundReplay, Written};
 use crate::desk::Desk;
 use archive_model::{Registration, Reply};
 use frame_core::limits::{LAST_NUMBER, MAX_OPEN_REPLAYS, MAX_POLL};
@@ -171,9 +173,13 @@ fn behind_boundary(
     })
 }
 
-/// What is decided on a poll for at most so many frames: the replay to be read from, or a refusal. Costs the open replays.
-pub fn decide_poll(desk: &Desk, replay: &i64, max: &i64) -> Result<OpenReplay, Refusal>
-    ensures { result ≡ poll_decision desk.now.state replay.now max.now }
+/// What is decided on a poll for at most so many frames: the replay to be read from, and where it stands, or a refusal.
+/// Costs the open replays.
+pub fn decide_poll(desk: &Desk, replay: &i64, max: &i64) -> Result<FoundReplay, Refusal>
+    ensures decided { MatchResult result
+        (λ found. poll_decision desk.now.state replay.now max.now ≡ Ok found.replay)
+        (λ refusal. poll_decision desk.now.state replay.now max.now ≡ Err refusal) }
+    ensures found { IfOk result (IsFoundReplay replay.now desk.now.state.callers.replays) }
 {
     if *max < 1 || *max > MAX_POLL {
         return Err(Refusal::BadParameter);
@@ -181,14 +187,15 @@ pub fn decide_poll(desk: &Desk, replay: &i64, max: &i64) -> Result<OpenReplay, R
     desk.replay(replay).ok_or(Refusal::UnknownReplay)
 }
 
-/// What is decided on closing a replay. Costs the open replays.
-pub fn decide_close(desk: &Desk, replay: &i64) -> Result<Reply, Refusal>
-    ensures { result ≡ close_decision desk.now.state replay.now }
+/// What is decided on closing a replay, which is answered by `Closed`: the replay, and where it stands, or a refusal.
+/// Costs the open replays.
+pub fn decide_close(desk: &Desk, replay: &i64) -> Result<FoundReplay, Refusal>
+    ensures decided { MatchResult result
+        (λ found. close_decision desk.now.state replay.now ≡ Ok Closed)
+        (λ refusal. close_decision desk.now.state replay.now ≡ Err refusal) }
+    ensures found { IfOk result (IsFoundReplay replay.now desk.now.state.callers.replays) }
 {
-    if desk.replay(replay).is_none() {
-        return Err(Refusal::UnknownReplay);
-    }
-    Ok(Reply::Closed)
+    desk.replay(replay).ok_or(Refusal::UnknownReplay)
 }
 
 /// What is decided on a sweep: it is refused where a write has failed.

@@ -30,8 +30,8 @@ impl<D: Disk> Parts<D> {
             Ended (D.life self.old.storage.disk) (D.life self.new.storage.disk) self.new.storage.log self.new.desk.state a
             (EndsAs (D.life self.old.storage.disk) (D.life self.new.storage.disk) (events.ReplayClose replay.now) a result) }
     {
-        let reply = decide_close(&self.desk, replay)?;
-        self.desk.close_replay(replay);
-        Ok(reply)
+        let found = decide_close(&self.desk, replay)?;
+        self.desk.close_replay(replay, found.index);
+        Ok(Reply::Closed)
     }
 }

@@ -37,12 +37,12 @@ impl<D: Disk> Parts<D> {
             (EndsAs (D.life self.old.storage.disk) (D.life self.new.storage.disk) (events.ReplayPoll replay.now most.now) a result) }
     {
         let found = decide_poll(&self.desk, replay, most)?;
-        let Some(known) = self.desk.recording(&found.recording) else {
+        let Some(known) = self.desk.recording(&found.replay.recording) else {
             return Err(Refusal::UnknownRecording);
         };
-        let given = reading::poll(alloc, &mut self.storage.disk, known, &found, *most)?;
-        let next = goes_on(known, &found.bound, given.next);
-        self.desk.move_replay(replay, &given.next);
+        let given = reading::poll(alloc, &mut self.storage.disk, known, &found.replay, *most)?;
+        let next = goes_on(known, &found.replay.bound, given.next);
+        self.desk.move_replay(replay, found.index, &given.next);
         Ok(Reply::Polled {
             frames: given.frames,
             next,

@@ -3,4 +3,4 @@ use Rattle.control_core.proofs.SeatLemmas.{set_is_change}
 use Rattle.control_core.proofs.replays.Replays.set_next.Goals as goal
 
 pub returns-clause-values : goal.returns-clause-values
-returns-clause-values c = rw (← c.self.view_is) (set_is_change replay_number c.args.number.now c.self.inside.values.items c.in-Some.place (moved_to c.args.next.now) _ _ (rw (← c.as_slice.ensures.value) c.in-Some.ensures) c.index_mut-replay.ensures.value c.move_to.ensures)
+returns-clause-values c = rw (← c.self.view_is) (set_is_change replay_number c.args.number.now c.self.inside.values.items c.args.index (moved_to c.args.next.now) _ _ (rw (← c.self.view_is) at c.requires) c.index_mut-replay.ensures.value c.move_to.ensures)

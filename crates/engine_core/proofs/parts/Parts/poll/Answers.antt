@@ -27,24 +27,24 @@ returns-in_err-found-clause-polled g c a was =
     let event = events.ReplayPoll c.args.replay.now c.args.most.now in
     let refusal = c.in_err-found.field-0.0 in
     let is : c.from_residual.result ≡ Err refusal = search rules in
-    let decided : poll_decision a.desk c.args.replay.now c.args.most.now ≡ Err refusal = ap (λ d. poll_decision d c.args.replay.now c.args.most.now) (sym was.desk_is) ∙ sym c.in_err-found.ensures in
+    let decided : poll_decision a.desk c.args.replay.now c.args.most.now ≡ Err refusal = ap (λ d. poll_decision d c.args.replay.now c.args.most.now) (sym was.desk_is) ∙ c.in_err-found.ensures.decided in
     untouched life c.args.self.now.storage.log c.args.self.now.desk.state a _ was
     (λ reads. subst (λ o. CallEnds a event (HasFailed life life) o a) (sym is) (inl (polling_refused a c.args.replay.now c.args.most.now refusal decided)))
 
 pub returns-in_default-clause-polled : goal.returns-in_default-clause-polled
 returns-in_default-clause-polled g c a was =
     let desk = c.args.self.now.desk.state in
-    let there = replay_recording desk c.args.replay.now c.in_ok-found.found c.requires.orderly (polled_open desk c.args.replay.now c.args.most.now c.in_ok-found.found (sym c.in_ok-found.ensures)) in
+    let there = replay_recording desk c.args.replay.now c.in_ok-found.found.replay c.requires.orderly (polled_open desk c.args.replay.now c.args.most.now c.in_ok-found.found.replay c.in_ok-found.ensures.decided) in
     let none : None ≡ Some there.0 = c.in_default.ensures.found ∙ there.1 in
     absurd cc
 
 pub poll-requires-clause-laid_out : goal.poll-requires-clause-laid_out
-poll-requires-clause-laid_out g c = (laid_found c.args.self.now.desk.state c.in_ok-found.found.recording c.in-Some.known.now c.requires.orderly c.in-Some.ensures.found).laid_out
+poll-requires-clause-laid_out g c = (laid_found c.args.self.now.desk.state c.in_ok-found.found.replay.recording c.in-Some.known.now c.requires.orderly c.in-Some.ensures.found).laid_out
 
 pub poll-requires-clause-from_start : goal.poll-requires-clause-from_start
 poll-requires-clause-from_start g c =
     let desk = c.args.self.now.desk.state in
-    replay_from_start desk c.args.replay.now c.in_ok-found.found c.in-Some.known.now c.requires.orderly (polled_open desk c.args.replay.now c.args.most.now c.in_ok-found.found (sym c.in_ok-found.ensures)) (sym c.in-Some.ensures.found)
+    replay_from_start desk c.args.replay.now c.in_ok-found.found.replay c.in-Some.known.now c.requires.orderly (polled_open desk c.args.replay.now c.args.most.now c.in_ok-found.found.replay c.in_ok-found.ensures.decided) (sym c.in-Some.ensures.found)
 
 pub returns-in_err-given-clause-polled : goal.returns-in_err-given-clause-polled
 returns-in_err-given-clause-polled g c a was =
@@ -52,9 +52,9 @@ returns-in_err-given-clause-polled g c a was =
     let new = g.D.Disk.life c.poll.new.disk in
     let log = c.args.self.now.storage.log in
     let desk = c.args.self.now.desk.state in
-    let replay = c.in_ok-found.found in
+    let replay = c.in_ok-found.found.replay in
     let event = events.ReplayPoll c.args.replay.now c.args.most.now in
-    let decided : poll_decision a.desk c.args.replay.now c.args.most.now ≡ Ok replay = ap (λ d. poll_decision d c.args.replay.now c.args.most.now) (sym was.desk_is) ∙ sym c.in_ok-found.ensures in
+    let decided : poll_decision a.desk c.args.replay.now c.args.most.now ≡ Ok replay = ap (λ d. poll_decision d c.args.replay.now c.args.most.now) (sym was.desk_is) ∙ c.in_ok-found.ensures.decided in
     let opened = polled_open a.desk c.args.replay.now c.args.most.now replay decided in
     let known = known_recording a replay.recording c.in-Some.known.now was.agrees (ap (λ d. registration_in d.register replay.recording) (sym was.desk_is) ∙ sym c.in-Some.ensures.found) in
     let r = known.recording in
@@ -70,7 +70,7 @@ pub returns-clause-orderly : goal.returns-clause-orderly
 returns-clause-orderly g c =
     let desk = c.args.self.now.desk.state in
     subst IsOrderly (sym c.move_replay.ensures)
-    (orderly_poll desk c.args.replay.now c.in_ok-given.given.next c.in_ok-found.found c.requires.orderly (polled_open desk c.args.replay.now c.args.most.now c.in_ok-found.found (sym c.in_ok-found.ensures)) c.in_ok-given.ensures.forward)
+    (orderly_poll desk c.args.replay.now c.in_ok-given.given.next c.in_ok-found.found.replay c.requires.orderly (polled_open desk c.args.replay.now c.args.most.now c.in_ok-found.found.replay c.in_ok-found.ensures.decided) c.in_ok-given.ensures.forward)
 
 pub returns-clause-polled : goal.returns-clause-polled
 returns-clause-polled g c a was =
@@ -78,10 +78,10 @@ returns-clause-polled g c a was =
     let new = g.D.Disk.life c.poll.new.disk in
     let log = c.args.self.now.storage.log in
     let desk = c.args.self.now.desk.state in
-    let replay = c.in_ok-found.found in
+    let replay = c.in_ok-found.found.replay in
     let number = c.args.replay.now in
     let next = c.in_ok-given.given.next in
-    let decided : poll_decision a.desk number c.args.most.now ≡ Ok replay = ap (λ d. poll_decision d number c.args.most.now) (sym was.desk_is) ∙ sym c.in_ok-found.ensures in
+    let decided : poll_decision a.desk number c.args.most.now ≡ Ok replay = ap (λ d. poll_decision d number c.args.most.now) (sym was.desk_is) ∙ c.in_ok-found.ensures.decided in
     let opened = polled_open a.desk number c.args.most.now replay decided in
     let known = known_recording a replay.recording c.in-Some.known.now was.agrees (ap (λ d. registration_in d.register replay.recording) (sym was.desk_is) ∙ sym c.in-Some.ensures.found) in
     let r = known.recording in
