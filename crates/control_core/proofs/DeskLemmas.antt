@@ -12,13 +12,14 @@ use Rattle.archive_model.specs.declared.registration.Change.TheVariants as chang
 use Rattle.archive_model.specs.Keyed.{find, change, without, Each, Rise}
 use Rattle.archive_model.specs.Checks.{is_of}
 use Rattle.archive_model.specs.Register.{RegisterState, active_count, all_stopped, changed, changed_by, id_of, is_active, registration_in, restarted, with_one, with_out}
-use Rattle.archive_model.proofs.RegisterLemmas.{each_push, id_kept, rise_push}
+use Rattle.archive_model.proofs.RegisterLemmas.{each_push, found_number, id_kept, rise_push}
 use Rattle.control_core.specs.declared.callers.RecorderSession.{RecorderSession}
 use Rattle.control_core.specs.declared.callers.OpenReplay.{OpenReplay}
 use Rattle.control_core.specs.declared.callers.Written.{Written}
 use Rattle.control_core.specs.Callers.{CallersState, moved_to, no_callers, replay_number, session_number, with_written}
-use Rattle.control_core.specs.Desk.{is_replay_of}
-use Rattle.control_core.specs.Changes.{begun_session, is_session_of, with_blocks, with_session, without_callers, without_sessions}
+use Rattle.control_core.specs.Desk.{DeskState, is_replay_of}
+use Rattle.control_core.specs.Changes.{begun_session, entered, is_session_of, settled, settled_by, with_blocks, with_session, without_callers, without_sessions}
+use Rattle.control_core.specs.Turns.{session_in}
 use Rattle.control_core.specs.Seats.{AreApart, IsReading, IsWriting, KeepsReplays, KeepsSeats, KeepsSessions}
 use Rattle.control_core.proofs.SeatLemmas.{rise_filter}
 use Rattle.control_core.proofs.FoundLemmas.{each_both, each_filter, each_weaker, found_below, found_changed, found_here, found_last, found_left, found_more, found_other, one_less, rise_change, rise_map, rise_without}
@@ -358,3 +359,11 @@ keeps_closed g c n keeps = record { rising = keeps.rising; sessions = keeps.sess
 pub keeps_opened : (g : RegisterState) (c : CallersState) (r : OpenReplay) → replay_number r ≡ c.next_replay → length c.replays < 64 → is_some (registration_in g r.recording) ≡ true → KeepsSeats g c
     → KeepsSeats g (record c { replays = c.replays ++ r ∷ []; next_replay = c.next_replay +ℤ pos 1 })
 keeps_opened g c r is few there keeps = record { rising = keeps.rising; sessions = keeps.sessions; replays = replays_opened g c.replays c.next_replay r is few there keeps.replays }
+
+-- what a session that is found wrote is recorded
+pub settled_found : (d : DeskState) (n : ℤ) (s : RecorderSession) (w : Written) → session_in d n ≡ Some s → s.written ≡ Some w →
+    settled (session_in d n) d ≡ entered (changed s.recording (changes.Settle w.last) d.register) (with_blocks n None d.callers) d
+settled_found d n s w found wrote =
+    let number : s.number ≡ n = found_number session_number n d.callers.sessions s found in
+    ap (λ (o : Option RecorderSession). settled o d) found ∙ ap (λ (o : Option Written). settled_by s o d) wrote
+    ∙ ap (λ (m : ℤ). entered (changed s.recording (changes.Settle w.last) d.register) (with_blocks m None d.callers) d) number

@@ -8,6 +8,7 @@ use Rattle.archive_model.specs.Register.{RegisterState, id_of, is_active, regist
 use Rattle.archive_model.specs.Checks.{is_of}
 use Rattle.control_core.specs.declared.callers.RecorderSession.{RecorderSession}
 use Rattle.control_core.specs.declared.callers.FoundReplay.{FoundReplay}
+use Rattle.control_core.specs.declared.callers.FoundSession.{FoundSession}
 use Rattle.control_core.specs.declared.callers.OpenReplay.{OpenReplay}
 use Rattle.control_core.specs.Callers.{CallersState, replay_number, session_number}
 use Rattle.control_core.specs.Desk.{DeskState}
@@ -23,6 +24,11 @@ pub record ReplaysView : Type 0 where
   pub values : List OpenReplay
   pub next : ℤ
   pub room : ℕ
+
+-- the session of a number, where it stands
+pub record IsFoundSession (number : ℤ) (ss : List RecorderSession) (f : FoundSession) : Type 0 where
+  pub session : find session_number number ss ≡ Some f.session
+  pub stands : IsPlaceOf session_number number ss f.index
 
 -- the replay of a number, where it stands
 pub record IsFoundReplay (number : ℤ) (rs : List OpenReplay) (f : FoundReplay) : Type 0 where

@@ -139,7 +139,7 @@ impl Desk {
     }
 
     /// What a session wrote is recorded.
-    pub(crate) fn settle_session(&mut self, session: &RecorderSession)
+    fn settle_session(&mut self, session: &RecorderSession)
         requires room { self.old.state.counted < self.old.state.limit }
         ensures { self.new.state ≡ settled (Some session.now) self.old.state }
     {
@@ -150,7 +150,7 @@ impl Desk {
             position: written.last,
         };
         self.register.change(&session.recording, &end);
-        self.sessions.set_written(&session.number, None);
+        self.sessions.clear_written(&session.number);
         self.counted += 1;
     }
 

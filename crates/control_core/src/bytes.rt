@@ -17,7 +17,7 @@ pub fn read_terms(desk: &Desk, session: &i64) -> Result<Geometry, Refusal>
     }
     let found = desk.session(session).ok_or(Refusal::StaleSession)?;
     let known = desk
-        .recording(&found.recording)
+        .recording(&found.session.recording)
         .ok_or(Refusal::UnknownRecording)?;
     Ok(known.descriptor.geometry())
 }

@@ -39,6 +39,15 @@ pub struct OpenReplay {
     pub bound: i64,
 }
 
+/// A recorder session that was found among those that are open.
+#[derive(Clone, Copy, Debug, PartialEq, Eq)]
+pub struct FoundSession {
+    /// At which index it stands, until a session ends.
+    pub index: usize,
+    /// The session.
+    pub session: RecorderSession,
+}
+
 /// A replay that was found among those that are open.
 #[derive(Clone, Copy, Debug, PartialEq, Eq)]
 pub struct FoundReplay {

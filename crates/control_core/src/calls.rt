@@ -3,34 +3,43 @@
 ghost use Rattle.std.specs.Prelude.{◌≡◌, ◌<◌, IfErr, OnOk};
 ghost use Rattle.frame_core.specs.declared.refusal.Refusal.TheVariants.{NoMemory};
 ghost use Rattle.archive_model.specs.Numbered.{IsPlaceOf};
-ghost use Rattle.control_core.specs.Callers.{replay_number};
+ghost use Rattle.control_core.specs.Callers.{replay_number, session_number};
 ghost use Rattle.control_core.specs.Changes.{after_close, after_open, after_poll, after_write, broken_desk, settled};
+ghost use Rattle.control_core.specs.Seats.{IsFoundSession};
 ghost use Rattle.control_core.specs.Turns.{MayOpen, session_in};
 
-use crate::callers::Written;
+use crate::callers::{FoundSession, Written};
 use crate::desk::Desk;
 use crate::turns::Opening;
+use archive_model::Change;
 use frame_core::Refusal;
 
 impl Desk {
-    /// A session wrote a block, which lies from its first to its last position. Costs the open sessions; does not
-    /// allocate.
-    pub fn note_written(&mut self, session: &i64, block: &Written)
+    /// The session of a number wrote a block, which lies from its first to its last position; the session stands at an
+    /// index. In constant time; does not allocate.
+    pub fn note_written(&mut self, session: &i64, index: usize, block: &Written)
+        requires { IsPlaceOf session_number session.now self.old.state.callers.sessions index }
         ensures { self.new.state ≡ after_write session.now block.now self.old.state }
     {
-        self.sessions.set_written(session, Some(*block));
+        self.sessions.set_written(session, index, Some(*block));
     }
 
-    /// What a session wrote is recorded, as one entry of the history; nothing changes where it wrote nothing. Costs the
-    /// open sessions; does not allocate.
-    pub fn settle(&mut self, session: &i64)
+    /// What the session of a number wrote is recorded, as one entry of the history; nothing changes where it wrote nothing.
+    /// The session was found. In constant time; does not allocate.
+    pub fn settle(&mut self, session: &i64, found: &FoundSession)
         requires room { self.old.state.counted < self.old.state.limit }
+        requires found { IsFoundSession session.now self.old.state.callers.sessions found.now }
         ensures { self.new.state ≡ settled (session_in self.old.state session.now) self.old.state }
     {
-        let Some(found) = self.session(session) else {
+        let Some(written) = found.session.written else {
             return;
         };
-        self.settle_session(&found);
+        let end = Change::Settle {
+            position: written.last,
+        };
+        self.register.change(&found.session.recording, &end);
+        self.sessions.set_written(session, found.index, None);
+        self.counted += 1;
     }
 
     /// Takes the memory for one more replay, so that opening it takes none. `NoMemory` leaves the desk as it was.

@@ -6,10 +6,10 @@ ghost use Rattle.archive_model.specs.Register.{HasLayout, active_count, may_begi
 ghost use Rattle.control_core.specs.Callers.{no_callers};
 ghost use Rattle.control_core.specs.Changes.{next_position, recorded_of};
 ghost use Rattle.control_core.specs.Turns.{replay_in, session_in};
-ghost use Rattle.control_core.specs.Seats.{IsFoundReplay, KeepsSeats};
+ghost use Rattle.control_core.specs.Seats.{IsFoundReplay, IsFoundSession, KeepsSeats};
 ghost use Rattle.control_core.specs.Desk.{new_desk, has_room, has_session_number, is_replayed, is_replay_before};
 
-use crate::callers::{FoundReplay, RecorderSession};
+use crate::callers::{FoundReplay, FoundSession, RecorderSession};
 use crate::replays::Replays;
 use crate::sessions::Sessions;
 use archive_model::{Register, Registration};
@@ -154,8 +154,9 @@ impl Desk {
     }
 
     /// The recorder session of a number. Costs the sessions that are open.
-    pub fn session(&self, number: &i64) -> Option<RecorderSession>
-        ensures found { result ≡ session_in self.now.state number.now }
+    pub fn session(&self, number: &i64) -> Option<FoundSession>
+        ensures found { MatchOption result (session_in self.now.state number.now ≡ None)
+            (IsFoundSession number.now self.now.state.callers.sessions) }
         ensures seats { KeepsSeats self.now.state.register self.now.state.callers }
     {
         self.sessions.get(number)

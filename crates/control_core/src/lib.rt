@@ -27,7 +27,7 @@ mod words;
 
 pub use asked::{Asked, Told};
 pub use bytes::read_terms;
-pub use callers::{FoundReplay, OpenReplay, RecorderSession, Written};
+pub use callers::{FoundReplay, FoundSession, OpenReplay, RecorderSession, Written};
 pub use deciding::decide;
 pub use decision::Decision;
 pub use desk::Desk;
@@ -39,6 +39,6 @@ pub use print::print_reply;
 pub use refusal_line::{RefusalLine, print_refusal};
 pub use request::{FindFields, Request};
 pub use turns::{
-    Opening, OpeningDecision, Settling, decide_close, decide_open, decide_poll, decide_settle,
-    decide_sweep, decide_verify, decide_write,
+    FoundSettling, Opening, OpeningDecision, Settling, decide_close, decide_open, decide_poll,
+    decide_settle, decide_sweep, decide_verify, decide_write,
 };

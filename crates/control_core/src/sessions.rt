@@ -1,12 +1,14 @@
 //! The recorder sessions that are open. docs/CONTROL.md, "Recorder sessions".
 
-ghost use Rattle.std.specs.Prelude.{◌≡◌, ◌+ℤ◌, ◌++◌, ◌∷◌, [], ◌<◌, ◌≢◌, not, pos, filter, IfErr, OnOk};
+ghost use Rattle.std.specs.Prelude.{◌≡◌, ◌+ℤ◌, ◌++◌, ◌∷◌, [], ◌<◌, ◌≢◌, not, pos, filter, IfErr, OnOk, MatchOption, None};
 ghost use Rattle.frame_core.specs.declared.refusal.Refusal.TheVariants.{NoMemory};
 ghost use Rattle.archive_model.specs.Keyed.{find, change};
+ghost use Rattle.archive_model.specs.Numbered.{IsPlaceOf};
 ghost use Rattle.control_core.specs.Callers.{last_number, session_number, with_written};
 ghost use Rattle.control_core.specs.Changes.{begun_session, is_session_of};
+ghost use Rattle.control_core.specs.Seats.{IsFoundSession};
 
-use crate::callers::{RecorderSession, Written};
+use crate::callers::{FoundSession, RecorderSession, Written};
 use archive_model::place_of;
 use frame_core::Refusal;
 use std::alloc::Global;
@@ -47,11 +49,13 @@ impl Sessions {
     }
 
     /// The session of a number. Costs the sessions that are open.
-    pub fn get(&self, number: &i64) -> Option<RecorderSession>
-        ensures { result ≡ find session_number number.now self.now.values }
+    pub fn get(&self, number: &i64) -> Option<FoundSession>
+        ensures { MatchOption result (find session_number number.now self.now.values ≡ None)
+            (IsFoundSession number.now self.now.values) }
     {
-        let place = place_of(self.values.as_slice(), number)?;
-        Some(self.values[place])
+        let index = place_of(self.values.as_slice(), number)?;
+        let session = self.values[index];
+        Some(FoundSession { index, session })
     }
 
     /// The first session that writes a recording. Costs the sessions that are open.
@@ -99,15 +103,24 @@ impl Sessions {
         self.next += 1;
     }
 
-    /// What a session has written and not settled. Costs the sessions that are open.
-    pub fn set_written(&mut self, number: &i64, written: Option<Written>)
+    /// What the session of a number has written and not settled, which stands at an index. In constant time.
+    pub fn set_written(&mut self, number: &i64, index: usize, written: Option<Written>)
+        requires { IsPlaceOf session_number number.now self.old.values index }
         ensures values { self.new.values ≡ change session_number number.now (with_written written) self.old.values }
         ensures next { self.new.next ≡ self.old.next }
     {
-        let Some(place) = place_of(self.values.as_slice(), number) else {
+        self.values[index].written = written;
+    }
+
+    /// The session of a number has nothing to settle. Costs the sessions that are open.
+    pub fn clear_written(&mut self, number: &i64)
+        ensures values { self.new.values ≡ change session_number number.now (with_written None) self.old.values }
+        ensures next { self.new.next ≡ self.old.next }
+    {
+        let Some(index) = place_of(self.values.as_slice(), number) else {
             return;
         };
-        self.values[place].written = written;
+        self.set_written(number, index, None);
     }
 
     /// The sessions of a recording are gone. Costs the sessions that are open.

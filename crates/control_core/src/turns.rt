@@ -1,15 +1,15 @@
 //! What is decided on a call that is no request, by the desk alone. docs/CONTROL.md, "Recorder sessions", "Replays" and
 //! "Refusals".
 
-ghost use Rattle.std.specs.Prelude.{◌≡◌, ◌++◌, ◌≤ℤ◌, negsuc, true, Some, Ok, Err, IfOk, MatchResult};
+ghost use Rattle.std.specs.Prelude.{◌≡◌, ◌++◌, ◌≤ℤ◌, negsuc, true, Some, Ok, None, Err, IfOk, MatchOption, MatchResult};
 ghost use Rattle.frame_core.specs.ReplayEnd.{bound_of};
 ghost use Rattle.archive_model.specs.Checks.{block_checks, checked, checks, last_checks};
 ghost use Rattle.archive_model.specs.Register.{registration_in};
 ghost use Rattle.archive_model.specs.declared.reply.Reply.TheVariants.{Closed};
-ghost use Rattle.control_core.specs.Seats.{IsFoundReplay};
-ghost use Rattle.control_core.specs.Turns.{begins_at, close_decision, open_decision, open_tests, opened_at, poll_decision, settle_decision, sweep_tests, verify_tests, write_decision};
+ghost use Rattle.control_core.specs.Seats.{IsFoundReplay, IsFoundSession};
+ghost use Rattle.control_core.specs.Turns.{begins_at, close_decision, open_decision, open_tests, opened_at, poll_decision, session_in, settle_decision, sweep_tests, verify_tests, write_decision};
 
-use crate::callers::{FoundReplay, Written};
+use crate::callers::{FoundReplay, FoundSession, Written};
 use crate::desk::Desk;
 use archive_model::{Registration, Reply};
 use frame_core::limits::{LAST_NUMBER, MAX_OPEN_REPLAYS, MAX_POLL};
@@ -57,26 +57,30 @@ pub enum OpeningDecision {
     },
 }
 
-/// What is decided on writing a block that lies from its first to its last position. `fits` tells whether it is a block
-/// of the terms, session and stream of the session's recording. Answers the block's end. Costs the open sessions.
+/// What is decided on writing a block that lies from its first to its last position. `found` is what the desk has under
+/// the session's number; `fits` tells whether it is a block of the terms, session and stream of the session's recording.
+/// Answers the block's end. In constant time.
 pub fn decide_write(
     desk: &Desk,
     session: &i64,
+    found: &Option<FoundSession>,
     block: &Written,
     fits: bool,
 ) -> Result<Reply, Refusal>
+    requires { MatchOption found.now (session_in desk.now.state session.now ≡ None)
+        (IsFoundSession session.now desk.now.state.callers.sessions) }
     ensures { result ≡ write_decision desk.now.state session.now block.now fits }
 {
     if desk.is_broken() {
         return Err(Refusal::Broken);
     }
-    let Some(found) = desk.session(session) else {
+    let Some(found) = found else {
         return Err(Refusal::StaleSession);
     };
-    if !fits || block.first != desk.next_position(&found) {
+    if !fits || block.first != desk.next_position(&found.session) {
         return Err(Refusal::BadBlock);
     }
-    if found.written.is_some() {
+    if found.session.written.is_some() {
         return Err(Refusal::NeedSettle);
     }
     Ok(Reply::Written {
@@ -84,9 +88,21 @@ pub fn decide_write(
     })
 }
 
+/// What there is to settle of a session that was found.
+#[derive(Clone, Copy, Debug)]
+pub struct FoundSettling {
+    /// The session, and where it stands.
+    pub found: FoundSession,
+    /// What there is to settle.
+    pub settling: Settling,
+}
+
 /// What is decided on settling what a session wrote. Costs the open sessions.
-pub fn decide_settle(desk: &Desk, session: &i64) -> Result<Settling, Refusal>
-    ensures { result ≡ settle_decision desk.now.state session.now }
+pub fn decide_settle(desk: &Desk, session: &i64) -> Result<FoundSettling, Refusal>
+    ensures decided { MatchResult result
+        (λ decided. settle_decision desk.now.state session.now ≡ Ok decided.settling)
+        (λ refusal. settle_decision desk.now.state session.now ≡ Err refusal) }
+    ensures found { IfOk result (λ decided. IsFoundSession session.now desk.now.state.callers.sessions decided.found) }
 {
     if desk.is_broken() {
         return Err(Refusal::Broken);
@@ -94,18 +110,19 @@ pub fn decide_settle(desk: &Desk, session: &i64) -> Result<Settling, Refusal>
     let Some(found) = desk.session(session) else {
         return Err(Refusal::StaleSession);
     };
-    let Some(written) = found.written else {
-        return Ok(Settling::Nothing {
-            position: desk.next_position(&found),
-        });
+    let Some(written) = found.session.written else {
+        let position = desk.next_position(&found.session);
+        let settling = Settling::Nothing { position };
+        return Ok(FoundSettling { found, settling });
     };
     if !desk.has_room() {
         return Err(Refusal::HistoryFull);
     }
-    Ok(Settling::Blocks {
-        recording: found.recording,
+    let settling = Settling::Blocks {
+        recording: found.session.recording,
         written,
-    })
+    };
+    Ok(FoundSettling { found, settling })
 }
 
 /// What is decided on opening a replay: docs/CONTROL.md, "Replays".

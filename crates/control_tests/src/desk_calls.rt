@@ -63,7 +63,8 @@ fn called(desk: &Desk, kind: u8, number: i64, other: i64) -> u8 {
                 first: other,
                 last: other.saturating_add(64),
             };
-            number_of(&decide_write(desk, &number, &block, true))
+            let found = desk.session(&number);
+            number_of(&decide_write(desk, &number, &found, &block, true))
         }
     }
 }
@@ -128,7 +129,8 @@ fn bytes_are_read_by_the_terms_of_the_recording(rt: HostRuntime) -> Result<(), F
 #[test]
 fn a_written_block_is_settled_before_the_next(rt: HostRuntime) -> Result<(), Fail> {
     let mut desk = recording(rt.alloc(), 1, 1)?;
-    desk.note_written(&0, &Written { first: 0, last: 64 });
+    let session = desk.session(&0).ok_or("no session")?;
+    desk.note_written(&0, session.index, &Written { first: 0, last: 64 });
     let misplaced = called(&desk, 6, 0, 0);
     let unsettled = called(&desk, 6, 0, 64);
     let full = called(&desk, 0, 0, 0);

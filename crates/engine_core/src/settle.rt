@@ -7,6 +7,7 @@ ghost use Rattle.archive_model.specs.declared.reply.Reply.TheVariants as replies
 ghost use Rattle.control_core.specs.declared.event.Event.TheVariants as events;
 ghost use Rattle.control_core.specs.declared.turns.Settling.TheVariants.{Blocks};
 ghost use Rattle.control_core.specs.Exact.{Archive, settled_archive};
+ghost use Rattle.control_core.specs.Seats.{IsFoundSession};
 ghost use Rattle.control_core.specs.Turns.{settle_decision};
 ghost use Rattle.engine_core.specs.Calls.{CommitEnds, Ended, EndsAs};
 ghost use Rattle.engine_core.specs.Consistent.{IsConsistent};
@@ -16,7 +17,7 @@ use crate::parts::{Parts, failed};
 use crate::reading::layout_of;
 use archive_model::Reply;
 use catalogue_log::Entry;
-use control_core::{Settling, Written, decide_settle};
+use control_core::{FoundSession, Settling, Written, decide_settle};
 use disk_core::Disk;
 use frame_core::Refusal;
 
@@ -39,23 +40,26 @@ impl<D: Disk> Parts<D> {
             Ended (D.life self.old.storage.disk) (D.life self.new.storage.disk) self.new.storage.log self.new.desk.state a
             (EndsAs (D.life self.old.storage.disk) (D.life self.new.storage.disk) (events.Settle session.now) a result) }
     {
-        match decide_settle(&self.desk, session)? {
+        let decided = decide_settle(&self.desk, session)?;
+        match decided.settling {
             Settling::Nothing { position } => Ok(Reply::Settled { position }),
             Settling::Blocks { recording, written } => {
-                self.settle_blocks(session, &recording, &written)
+                self.settle_blocks(session, &decided.found, &recording, &written)
             }
         }
     }
 
-    /// Records what a session wrote of a recording, once it is decided; then the desk follows. `NoMemory`; `DeviceFault`
-    /// where the disk fails: the archive is then broken.
+    /// Records what a session that was found wrote of a recording, once it is decided; then the desk follows. `NoMemory`;
+    /// `DeviceFault` where the disk fails: the archive is then broken.
     fn settle_blocks(
         &mut self,
         session: &i64,
+        found: &FoundSession,
         recording: &i64,
         written: &Written,
     ) -> Result<Reply, Refusal>
         requires orderly { IsOrderly self.old.desk.state }
+        requires found { IsFoundSession session.now self.old.desk.state.callers.sessions found.now }
         requires decided { settle_decision self.old.desk.state session.now ≡ Ok (Blocks recording.now written.now) }
         ensures orderly { IsOrderly self.new.desk.state }
         ensures obeyed { IsTrue (D.life self.new.storage.disk).obeys → IsTrue (D.life self.old.storage.disk).obeys }
@@ -79,7 +83,7 @@ impl<D: Disk> Parts<D> {
         };
         match self.storage.settle(&layout, written.first, &entry) {
             Ok(()) => {
-                self.desk.settle(session);
+                self.desk.settle(session, found);
                 Ok(Reply::Settled { position })
             }
             Err(refusal) => Err(failed(&mut self.desk, refusal)),

@@ -1,9 +1,13 @@
 //! A recorder session writes a block. docs/CONTROL.md, "Recorder sessions"; docs/STORAGE.md, "Segments".
 
-ghost use Rattle.std.specs.Prelude.{◌≤◌, IsErrOf, IsTrue, MatchOption, Ok};
+ghost use Rattle.std.specs.Prelude.{◌≡◌, ◌≤◌, IfSome, IsErrOf, IsTrue, MatchOption, None, Ok};
 ghost use Rattle.frame_core.specs.declared.refusal.Refusal.TheVariants.{DeviceFault};
 ghost use Rattle.disk_core.specs.Life.{HasFailed};
+ghost use Rattle.archive_model.specs.Numbered.{IsPlaceOf};
 ghost use Rattle.control_core.specs.declared.event.Event.TheVariants as events;
+ghost use Rattle.control_core.specs.Callers.{session_number};
+ghost use Rattle.control_core.specs.Seats.{IsFoundSession};
+ghost use Rattle.control_core.specs.Turns.{session_in};
 ghost use Rattle.control_core.specs.Exact.{Archive};
 ghost use Rattle.engine_core.specs.Calls.{Ended, EndsAs};
 ghost use Rattle.engine_core.specs.Consistent.{IsConsistent};
@@ -13,14 +17,15 @@ ghost use Rattle.engine_core.specs.Writing.{HasNoTarget, IsTarget};
 use crate::parts::{Parts, failed};
 use crate::reading::layout_of;
 use archive_model::Reply;
-use control_core::{Desk, Written, decide_write};
+use control_core::{Desk, FoundSession, Written, decide_write};
 use disk_core::Disk;
 use frame_core::{Block, Refusal, block_end};
 use segment_store::Layout;
 
-// Where a session's block is written, and where it ends, in bytes of the stream.
+// At which index a session stands, where its block is written, and where that ends, in bytes of the stream.
 #[derive(Drop)]
 struct Target {
+    index: usize,
     layout: Layout,
     end: i64,
 }
@@ -44,21 +49,22 @@ impl<D: Disk> Parts<D> {
             (EndsAs (D.life self.old.storage.disk) (D.life self.new.storage.disk) (events.Write session.now block.now) a
             result) }
     {
-        let Some(target) = target_of(&self.desk, session, block) else {
+        let found = self.desk.session(session);
+        let Some(target) = target_of(&self.desk, session, &found, block) else {
             let nothing = Written {
                 first: block.position,
                 last: block.position,
             };
-            return decide_write(&self.desk, session, &nothing, false);
+            return decide_write(&self.desk, session, &found, &nothing, false);
         };
         let span = Written {
             first: block.position,
             last: target.end,
         };
-        let reply = decide_write(&self.desk, session, &span, true)?;
+        let reply = decide_write(&self.desk, session, &found, &span, true)?;
         match self.storage.write(&target.layout, block) {
             Ok(()) => {
-                self.desk.note_written(session, &span);
+                self.desk.note_written(session, target.index, &span);
                 Ok(reply)
             }
             Err(refusal) => Err(failed(&mut self.desk, refusal)),
@@ -67,14 +73,23 @@ impl<D: Disk> Parts<D> {
 }
 
 /// None where the number is no session's, or the block isn't one of the terms, session and stream of its recording.
-fn target_of(desk: &Desk, session: &i64, block: &Block) -> Option<Target>
-    ensures { MatchOption result (HasNoTarget desk.now.state session.now block.now)
+fn target_of(
+    desk: &Desk,
+    session: &i64,
+    found: &Option<FoundSession>,
+    block: &Block,
+) -> Option<Target>
+    requires { MatchOption found.now (session_in desk.now.state session.now ≡ None)
+        (IsFoundSession session.now desk.now.state.callers.sessions) }
+    ensures stands { IfSome result (λ target.
+        IsPlaceOf session_number session.now desk.now.state.callers.sessions target.index) }
+    ensures target { MatchOption result (HasNoTarget desk.now.state session.now block.now)
         (λ target. IsTarget desk.now.state session.now block.now target.layout target.end) }
 {
-    let Some(found) = desk.session(session) else {
+    let Some(found) = found else {
         return None;
     };
-    let Some(known) = desk.recording(&found.recording) else {
+    let Some(known) = desk.recording(&found.session.recording) else {
         return None;
     };
     let descriptor = &known.descriptor;
@@ -82,6 +97,7 @@ fn target_of(desk: &Desk, session: &i64, block: &Block) -> Option<Target>
         return None;
     };
     Some(Target {
+        index: found.index,
         layout: layout_of(descriptor),
         end,
     })

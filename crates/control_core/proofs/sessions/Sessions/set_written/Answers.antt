@@ -4,4 +4,4 @@ use Rattle.control_core.proofs.SeatLemmas.{set_is_change}
 use Rattle.control_core.proofs.sessions.Sessions.set_written.Goals as goal
 
 pub returns-clause-values : goal.returns-clause-values
-returns-clause-values c = rw (← c.self.view_is) (set_is_change session_number c.args.number.now c.self.inside.values.items c.in-Some.place (with_written c.args.written) _ _ (rw (← c.as_slice.ensures.value) c.in-Some.ensures) c.index_mut.ensures.value refl)
+returns-clause-values c = rw (← c.self.view_is) (set_is_change session_number c.args.number.now c.self.inside.values.items c.args.index (with_written c.args.written) _ _ (rw (← c.self.view_is) at c.requires) c.index_mut.ensures.value refl)

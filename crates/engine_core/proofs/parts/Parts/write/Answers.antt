@@ -27,15 +27,15 @@ returns-in_err-reply-clause-written g c a was =
     let decided : Err c.in_err-reply.field-0.0 ≡ write_decision c.args.self.now.desk.state c.args.session.now (span_to c.args.block.now c.in-Some.target.end) true = search rules in
     untouched life c.args.self.now.storage.log c.args.self.now.desk.state a _ was
     (λ reads. subst (λ o. CallEnds a (events.Write c.args.session.now c.args.block.now) (HasFailed life life) o a) (sym is)
-    (refused_ends life c.args.self.now.storage.log c.args.self.now.desk.state a c.args.session.now c.args.block.now c.in-Some.target.layout c.in-Some.target.end was c.in-Some.ensures c.in_err-reply.field-0.0 (HasFailed life life) decided))
+    (refused_ends life c.args.self.now.storage.log c.args.self.now.desk.state a c.args.session.now c.args.block.now c.in-Some.target.layout c.in-Some.target.end was c.in-Some.ensures.target c.in_err-reply.field-0.0 (HasFailed life life) decided))
 
 pub write-requires-clause-layout : goal.write-requires-clause-layout
-write-requires-clause-layout g c = lays_out c.args.self.now.desk.state c.args.session.now c.args.block.now c.in-Some.target.layout c.in-Some.target.end c.requires.orderly c.in-Some.ensures
+write-requires-clause-layout g c = lays_out c.args.self.now.desk.state c.args.session.now c.args.block.now c.in-Some.target.layout c.in-Some.target.end c.requires.orderly c.in-Some.ensures.target
 
 pub write-requires-clause-recorded : goal.write-requires-clause-recorded
 write-requires-clause-recorded g c =
     let decided : Ok c.in_ok-reply.reply ≡ write_decision c.args.self.now.desk.state c.args.session.now (span_to c.args.block.now c.in-Some.target.end) true = search rules in
-    from_start c.args.self.now.desk.state c.args.session.now c.args.block.now c.in-Some.target.layout c.in-Some.target.end c.in_ok-reply.reply c.requires.orderly c.in-Some.ensures decided
+    from_start c.args.self.now.desk.state c.args.session.now c.args.block.now c.in-Some.target.layout c.in-Some.target.end c.in_ok-reply.reply c.requires.orderly c.in-Some.ensures.target decided
 
 pub returns-in-Ok-clause-orderly : goal.returns-in-Ok-clause-orderly
 returns-in-Ok-clause-orderly g c =
@@ -46,7 +46,7 @@ returns-in-Ok-clause-orderly g c =
     let same_to : c.in-Some.target.end ≡ to = search rules in
     let noted = c.note_written.ensures ∙ ap (λ w. after_write c.args.session.now w c.args.self.now.desk.state) (span_same c.args.block.now c.in-Some.target.end at to same_at same_to) in
     subst IsOrderly (sym noted)
-    (orderly_written c.args.self.now.desk.state c.args.session.now c.args.block.now c.in-Some.target.layout c.in-Some.target.end c.in_ok-reply.reply c.requires.orderly c.in-Some.ensures decided)
+    (orderly_written c.args.self.now.desk.state c.args.session.now c.args.block.now c.in-Some.target.layout c.in-Some.target.end c.in_ok-reply.reply c.requires.orderly c.in-Some.ensures.target decided)
 
 pub returns-in-Ok-clause-written : goal.returns-in-Ok-clause-written
 returns-in-Ok-clause-written g c a was =
@@ -58,7 +58,7 @@ returns-in-Ok-clause-written g c a was =
     let same_at : c.args.block.now.position ≡ at = search rules in
     let same_to : c.in-Some.target.end ≡ to = search rules in
     let noted = c.note_written.ensures ∙ ap (λ w. after_write c.args.session.now w c.args.self.now.desk.state) (span_same c.args.block.now c.in-Some.target.end at to same_at same_to) in
-    write_done old c.args.self.now.storage.log c.args.self.now.desk.state a c.args.session.now c.args.block.now c.in-Some.target.layout c.in-Some.target.end was c.in-Some.ensures c.in_ok-reply.reply decided
+    write_done old c.args.self.now.storage.log c.args.self.now.desk.state a c.args.session.now c.args.block.now c.in-Some.target.layout c.in-Some.target.end was c.in-Some.ensures.target c.in_ok-reply.reply decided
     new c.write.new.self.log (Ok tt) c.in-Ok.ensures.changes c.in-Ok.ensures.moves c.note_written.new.self.state (HasFailed old new) refl c.in-Ok.ensures.log noted c.in-Ok.ensures.written
 
 pub returns-in-Err-clause-written : goal.returns-in-Err-clause-written
@@ -67,6 +67,6 @@ returns-in-Err-clause-written g c a was =
     let new = g.D.Disk.life c.write.new.self.disk in
     let decided : Ok c.in_ok-reply.reply ≡ write_decision c.args.self.now.desk.state c.args.session.now (span_to c.args.block.now c.in-Some.target.end) true = search rules in
     let fault = c.in-Err.ensures.refusal in
-    write_failed old c.args.self.now.storage.log c.args.self.now.desk.state a c.args.session.now c.args.block.now c.in-Some.target.layout c.in-Some.target.end was c.in-Some.ensures c.in_ok-reply.reply decided
+    write_failed old c.args.self.now.storage.log c.args.self.now.desk.state a c.args.session.now c.args.block.now c.in-Some.target.layout c.in-Some.target.end was c.in-Some.ensures.target c.in_ok-reply.reply decided
     new c.write.new.self.log (Err c.in-Err.refusal) c.in-Err.ensures.changes c.in-Err.ensures.moves c.failed.result c.failed.new.desk.state (HasFailed old new) (c.failed.ensures.same ∙ fault) c.in-Err.ensures.cause
     (c.failed.ensures.state ∙ ap (λ refusal. after_failure refusal c.args.self.now.desk.state) fault)
