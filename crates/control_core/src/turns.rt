@@ -225,12 +225,12 @@ pub fn decide_sweep(desk: &Desk) -> Result<(), Refusal>
     Err(Refusal::Broken)
 }
 
-/// What is decided on verifying a recording: it has to be there.
-pub fn decide_verify(desk: &Desk, recording: &i64) -> Result<(), Refusal>
-    ensures { result ≡ checked (verify_tests desk.now.state recording.now) checks (Ok tt) }
+/// What is decided on verifying a recording: it has to be there, and is answered.
+pub fn decide_verify<'a>(desk: &'a Desk, recording: &i64) -> Result<&'a Registration, Refusal>
+    ensures decided { MatchResult result
+        (λ known. checked (verify_tests desk.now.state recording.now) checks (Ok (tt {0})) ≡ Ok (tt {0}))
+        (λ refusal. checked (verify_tests desk.now.state recording.now) checks (Ok (tt {0})) ≡ Err refusal) }
+    ensures found { IfOk result (λ known. Some known.now ≡ registration_in desk.now.state.register recording.now) }
 {
-    if desk.recording(recording).is_none() {
-        return Err(Refusal::UnknownRecording);
-    }
-    Ok(())
+    desk.recording(recording).ok_or(Refusal::UnknownRecording)
 }

@@ -34,10 +34,7 @@ impl<D: Disk> Parts<D> {
             Ended (D.life self.old.storage.disk) (D.life self.new.storage.disk) self.new.storage.log self.new.desk.state a
             (EndsAs (D.life self.old.storage.disk) (D.life self.new.storage.disk) (events.Verify recording.now) a result) }
     {
-        decide_verify(&self.desk, recording)?;
-        let Some(known) = self.desk.recording(recording) else {
-            return Err(Refusal::UnknownRecording);
-        };
+        let known = decide_verify(&self.desk, recording)?;
         let frames = count_frames(alloc, &mut self.storage.disk, known)?;
         Ok(Reply::Verified { frames })
     }
