@@ -7,6 +7,7 @@ ghost use Rattle.tool_core.specs.Parts.{HasNoEnd, Grows, IsSpent, TakesPart};
 
 use crate::fault::EarlyEnd;
 use frame_core::limits::MAX_LINE_LENGTH;
+use memchr::memchr;
 use std::alloc::{AllocError, Global};
 use std::io::{BufRead, ErrorKind};
 use std::marker::Model;
@@ -108,7 +109,7 @@ fn line_end(shown: &[u8]) -> Option<usize>
         × HasNoEnd (take at shown.now)) }
     ensures none { IfNone result (HasNoEnd shown.now) }
 {
-    shown.iter().position(|b| *b == b'\n')
+    memchr(b'\n', shown)
 }
 
 /// Looks at the input once, and counts the look; where as many as may be were made, nothing is looked at. A look that a

@@ -18,6 +18,7 @@ use archive_model::Reply;
 use control_core::parse_line;
 use disk_core::Disk;
 use frame_core::Refusal;
+use memchr::memchr;
 use std::alloc::Global;
 use std::io::{BufReader, Read, Write};
 
@@ -73,7 +74,7 @@ fn answer_line<W: Write, D: Disk>(
 fn has_line(buffered: &[u8]) -> bool
     ensures { IsTrue result ↔ Contains buffered.now 10 }
 {
-    buffered.contains(&b'\n')
+    memchr(b'\n', buffered).is_some()
 }
 
 /// Reads the next line, and answers whether there was one. What was written is handed on before, unless a whole line is at
