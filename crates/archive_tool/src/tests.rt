@@ -1,5 +1,4 @@
-//! What no clause says: the worked scenarios, the commands over a folder and how they end, listings of files, and what
-//! failing readers, writers and requests for memory lead to.
+//! What no clause says: what words lead to, the commands over a folder, and how they end.
 
 mod command;
 mod folders;

@@ -5,7 +5,8 @@ use crate::commands::obeyed;
 use command_line::ToolCommand;
 use disk_core::{Disk, FileId};
 use host_disk::HostDisk;
-use std::test::Fail;
+use std::io::{self, Write};
+use std::test::*;
 use std::{env, fs};
 use tool_core::run_script;
 
@@ -141,6 +142,34 @@ fn folders_that_hold_no_archive(rt: HostRuntime) -> Result<(), Fail> {
     let disk = disk_of(rt, folder)?;
     check(rt, ToolCommand::List { folder }, "", 3)?;
     drop(disk);
+    fs::remove_dir_all(&rt, folder)?;
+    Ok(())
+}
+
+/// Takes what is written, and cannot hand it on.
+#[derive(Drop)]
+struct Holding;
+
+impl Write for Holding {
+    fn write(&mut self, buf: &[u8]) -> io::Result<usize> {
+        Ok(buf.len())
+    }
+
+    fn flush(&mut self) -> io::Result<()> {
+        Err(io::Error::from(io::ErrorKind::Other))
+    }
+}
+
+#[test]
+fn what_is_not_handed_on_is_told(rt: HostRuntime) -> Result<(), Fail> {
+    let path = unused(rt, "held")?;
+    let folder = path.as_str();
+    let command = ToolCommand::Create {
+        folder,
+        history: 16,
+    };
+    let ending = obeyed(rt, &command, &mut Holding);
+    assert!(rt; ending.status() == 3);
     fs::remove_dir_all(&rt, folder)?;
     Ok(())
 }
