@@ -1,6 +1,6 @@
 #!/usr/bin/env python3
-"""Runs `rt ci` and tells what it spent: the minutes and processor seconds of each crate's proof, tests and edits, and the
-longest chain of these that wait for one another.
+"""Runs `rt ci` and tells what it spent: the minutes and processor seconds of each crate's proof, tests and edits, the
+longest chain of these that wait for one another, and the dearest edits.
 
 Usage: bench/gate.py            runs rt ci at the top of the repository; its exit status is that of rt ci
 The processors should be idle: minutes are by the clock. Processor seconds are sampled twice a second from /proc, so up to
@@ -19,6 +19,7 @@ ROOT = Path(__file__).resolve().parent.parent
 TICKS = os.sysconf("SC_CLK_TCK")
 PERIOD = 0.5
 PARTS = ("proof", "tests", "edits")
+DEAREST = 20
 
 
 def dependencies() -> dict[str, list[str]]:
@@ -28,11 +29,16 @@ def dependencies() -> dict[str, list[str]]:
     return {name: [it for it in below if it in named] for name, below in named.items()}
 
 
+def edits_of(crate: str) -> list[Path]:
+    return sorted((ROOT / "crates" / crate / "must-fail").glob("*.edit"))
+
+
 class Samples:
     """What each part of each crate has taken: processor seconds, and when it was first and last seen."""
 
     def __init__(self) -> None:
         self.of_process: dict[tuple[int, int], tuple[str, str, float]] = {}
+        self.of_edit: dict[str, dict[str, dict[tuple[int, int], float]]] = defaultdict(lambda: defaultdict(dict))
         self.seen: dict[tuple[str, str], list[float]] = {}
 
     def take(self, top: int) -> None:
@@ -59,6 +65,8 @@ class Samples:
             part = "edits" if "/rt-edit-" in folder + "/" else "tests" if "--test" in words else "proof"
             seconds = (int(fields[11]) + int(fields[12])) / TICKS
             self.of_process[process, int(fields[19])] = crate, part, seconds
+            if part == "edits":
+                self.of_edit[crate][folder][process, int(fields[19])] = seconds
             self.seen.setdefault((crate, part), [time.time(), 0.0])[1] = time.time()
 
     def seconds(self) -> dict[tuple[str, str], float]:
@@ -66,6 +74,11 @@ class Samples:
         for crate, part, spent in self.of_process.values():
             total[crate, part] += spent
         return total
+
+    def edits(self, crate: str) -> list[tuple[float, str]]:
+        """The processor seconds of each edit: a crate's are tried one after another, by name, each in a folder of its own."""
+        spent = [sum(it.values()) for it in self.of_edit[crate].values()]
+        return list(zip(spent, (f"{crate}/{it.stem}" for it in edits_of(crate))))
 
     def minutes(self, crate: str, part: str) -> float:
         first, last = self.seen.get((crate, part), (0.0, 0.0))
@@ -99,7 +112,7 @@ def report(samples: Samples, elapsed: float) -> None:
     print("| Crate | proof, min | proof, s | tests, min | tests, s | edits | edits, min | edits, s |")
     print("|---|---|---|---|---|---|---|---|")
     for crate in dependencies():
-        edits = len(list((ROOT / "crates" / crate / "must-fail").glob("*.edit")))
+        edits = len(edits_of(crate))
         cells = [f"{samples.minutes(crate, it):.1f} | {seconds[crate, it]:.0f}" for it in PARTS]
         print(f"| {crate} | {cells[0]} | {cells[1]} | {edits} | {cells[2]} |")
     sums = [sum(spent for (_, part), spent in seconds.items() if part == it) for it in PARTS]
@@ -107,6 +120,8 @@ def report(samples: Samples, elapsed: float) -> None:
     print(f"\nProcessor minutes: {told}; together {sum(sums) / 60:.0f}. By the clock: {elapsed / 60:.1f} minutes.")
     minutes, names = longest_chain(samples)
     print(f"The longest chain: {', '.join(names)}: {minutes:.1f} minutes.")
+    dear = sorted((it for crate in dependencies() for it in samples.edits(crate)), reverse=True)[:DEAREST]
+    print(f"The dearest edits, in processor seconds: {', '.join(f'{name} {spent:.0f}' for spent, name in dear)}.")
 
 
 def main() -> int:
