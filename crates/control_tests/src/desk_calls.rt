@@ -1,7 +1,7 @@
 //! What a desk decides on the calls that are no requests, what is looked for, and the limits: docs/CONTROL.md, by example.
 
-use crate::desks::{make, told};
-use crate::requests::start;
+use crate::desks::{asked, make, told};
+use crate::requests::{start, start_of_bad_terms};
 use archive_model::{Channel, Reply};
 use control_core::{
     Decision, Desk, FindFields, OpeningDecision, Request, Written, decide, decide_close,
@@ -151,19 +151,33 @@ fn stopped(alloc: Global) -> Result<Desk, Refusal> {
     Ok(desk)
 }
 
-/// The history is full, too.
+// Whether the recording is stopped, the kind of `asked`, a position: a replay from 0 on is open, and the history is full.
+const KEPT: [(bool, u8, i64, u8); 6] = [
+    (true, 1, 0, 4),
+    (true, 3, 0, 4),
+    (true, 1, 64, 5),
+    (true, 2, 64, 5),
+    (false, 1, 64, 2),
+    (false, 3, 0, 2),
+];
+
+fn kept(alloc: Global, is_stopped: bool) -> Result<Desk, Refusal> {
+    if is_stopped {
+        return stopped(alloc);
+    }
+    let mut desk = recording(alloc, 1, 1)?;
+    open(&mut desk, 0)?;
+    Ok(desk)
+}
+
+/// In each row the next rule is broken, too.
 #[test]
 fn a_replay_keeps_its_recording(rt: HostRuntime) -> Result<(), Fail> {
-    let desk = stopped(rt.alloc())?;
-    let truncate = Request::Truncate {
-        recording: 0,
-        position: 0,
-    };
-    let purge = Request::PurgeRecording { recording: 0 };
-    let truncated = told(&decide(rt.alloc(), &desk, &truncate));
-    let purged = told(&decide(rt.alloc(), &desk, &purge));
-    assert!(rt; truncated == 4);
-    assert!(rt; purged == 4);
+    for (is_stopped, kind, position, refusal) in KEPT {
+        let desk = kept(rt.alloc(), is_stopped)?;
+        let decision = decide(rt.alloc(), &desk, &asked(kind, 0, position));
+        assert!(rt; told(&decision) == refusal);
+    }
     Ok(())
 }
 
@@ -183,13 +197,22 @@ fn at_most_64_replays_are_open(rt: HostRuntime) -> Result<(), Fail> {
     Ok(())
 }
 
-/// The history is full, too.
+/// What a start whose terms are bad is told, and what one is whose terms are good.
+fn starts(alloc: Global, desk: &Desk) -> Result<(u8, u8), Refusal> {
+    let bad = decide(alloc, desk, &start_of_bad_terms(alloc)?);
+    let good = decide(alloc, desk, &start(alloc)?);
+    Ok((told(&bad), told(&good)))
+}
+
+/// The history is full, too; then a write fails.
 #[test]
 fn at_most_64_recordings_are_active(rt: HostRuntime) -> Result<(), Fail> {
-    let desk = recording(rt.alloc(), 64, 64)?;
-    let request = start(rt.alloc())?;
-    let refused = told(&decide(rt.alloc(), &desk, &request));
-    assert!(rt; refused == 7);
+    let mut desk = recording(rt.alloc(), 64, 64)?;
+    let refused = starts(rt.alloc(), &desk)?;
+    assert!(rt; refused == (10, 7));
+    desk.break_down();
+    let broken = starts(rt.alloc(), &desk)?;
+    assert!(rt; broken == (16, 16));
     Ok(())
 }
 

@@ -8,7 +8,7 @@ use std::alloc::Global;
 use std::test::*;
 
 /// A request by its kind and two numbers.
-fn asked(kind: u8, recording: i64, number: i64) -> Request {
+pub(crate) fn asked(kind: u8, recording: i64, number: i64) -> Request {
     match kind {
         0 => Request::Stop {
             recording,
@@ -78,7 +78,7 @@ pub(crate) fn told(decision: &Decision) -> u8 {
 }
 
 // In each row that is refused two rules are broken at once, where the request has a later one.
-const ROWS: [(u8, u8, i64, i64, u8); 27] = [
+const ROWS: [(u8, u8, i64, i64, u8); 28] = [
     (2, 0, 9, -1, 16),
     (1, 0, 9, -1, 10),
     (1, 0, 9, 5, 1),
@@ -101,6 +101,7 @@ const ROWS: [(u8, u8, i64, i64, u8); 27] = [
     (1, 2, 9, 0, 1),
     (1, 2, 0, 0, 5),
     (2, 3, 9, 0, 16),
+    (1, 3, 9, 0, 1),
     (1, 3, 0, 0, 2),
     (1, 3, 1, 0, 11),
     (0, 3, 1, 0, 0),

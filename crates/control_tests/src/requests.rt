@@ -8,7 +8,16 @@ use std::test::*;
 
 /// The request of one line.
 pub(crate) fn start(alloc: Global) -> Result<Request, Refusal> {
-    match parse_line(alloc, b"start 1001 7 42 65536 1408 131072 0 1000 c")? {
+    request_of(alloc, b"start 1001 7 42 65536 1408 131072 0 1000 c")
+}
+
+/// One whose term length is none.
+pub(crate) fn start_of_bad_terms(alloc: Global) -> Result<Request, Refusal> {
+    request_of(alloc, b"start 1001 7 42 65535 1408 131072 0 1000 c")
+}
+
+fn request_of(alloc: Global, line: &[u8]) -> Result<Request, Refusal> {
+    match parse_line(alloc, line)? {
         Line::Event(Event::Ask(request)) => Ok(request),
         _ => Err(Refusal::BadLine),
     }
