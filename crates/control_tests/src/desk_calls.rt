@@ -1,6 +1,6 @@
 //! What a desk decides on the calls that are no requests, what is looked for, and the limits: docs/CONTROL.md, by example.
 
-use crate::desks::{asked, make, told};
+use crate::desks::{asked, begin, make, told};
 use crate::requests::{start, start_of_bad_terms};
 use archive_model::{Channel, Reply};
 use control_core::{
@@ -15,10 +15,7 @@ use std::test::*;
 /// An archive of so many active recordings.
 fn recording(alloc: Global, count: u8, limit: u32) -> Result<Desk, Refusal> {
     let mut desk = Desk::new(alloc, limit);
-    let request = start(alloc)?;
-    for _ in 0..count {
-        make(alloc, &mut desk, &request)?;
-    }
+    begin(alloc, &mut desk, count)?;
     Ok(desk)
 }
 
@@ -69,7 +66,9 @@ fn called(desk: &Desk, kind: u8, number: i64, other: i64) -> u8 {
     }
 }
 
-// Whether a write failed, the kind, the session, replay or recording, and another number.
+// Whether a write failed, the kind, the session, replay or recording, and another number. In each row that is refused the
+// next rule is broken, too; those of written blocks and of 64 open replays have tests of their own. A session that is not
+// there wrote nothing, so a full history does not refuse to settle it.
 const CALLS: [(bool, u8, i64, i64, u8); 22] = [
     (true, 0, 9, 0, 16),
     (false, 0, 9, 0, 12),
@@ -140,41 +139,58 @@ fn a_written_block_is_settled_before_the_next(rt: HostRuntime) -> Result<(), Fai
     Ok(())
 }
 
-fn stopped(alloc: Global) -> Result<Desk, Refusal> {
-    let mut desk = recording(alloc, 1, 2)?;
-    let stop = Request::Stop {
-        recording: 0,
-        timestamp: 5,
+/// What session 0 wrote is settled: recording 0 is recorded to where its second segment begins.
+fn record_a_segment(desk: &mut Desk) -> Result<(), Refusal> {
+    let session = desk.session(&0).ok_or(Refusal::StaleSession)?;
+    let block = Written {
+        first: 0,
+        last: 131_072,
     };
-    make(alloc, &mut desk, &stop)?;
-    open(&mut desk, 0)?;
-    Ok(desk)
+    desk.note_written(&0, session.index, &block);
+    let written = desk.session(&0).ok_or(Refusal::StaleSession)?;
+    if !desk.has_room() {
+        return Err(Refusal::HistoryFull);
+    }
+    desk.settle(&0, &written);
+    Ok(())
 }
 
-// Whether the recording is stopped, the kind of `asked`, a position: a replay from 0 on is open, and the history is full.
-const KEPT: [(bool, u8, i64, u8); 6] = [
-    (true, 1, 0, 4),
-    (true, 3, 0, 4),
-    (true, 1, 64, 5),
-    (true, 2, 64, 5),
-    (false, 1, 64, 2),
-    (false, 3, 0, 2),
+// The state of `kept`, the kind of `asked`, a position: the history is full.
+const KEPT: [(u8, u8, i64, u8); 8] = [
+    (1, 1, 0, 4),
+    (1, 3, 0, 4),
+    (1, 1, 64, 5),
+    (1, 2, 64, 5),
+    (0, 1, 64, 2),
+    (0, 3, 0, 2),
+    (2, 2, 131_072, 4),
+    (3, 2, 131_072, 11),
 ];
 
-fn kept(alloc: Global, is_stopped: bool) -> Result<Desk, Refusal> {
-    if is_stopped {
-        return stopped(alloc);
+fn prepare(alloc: Global, desk: &mut Desk, state: u8) -> Result<(), Refusal> {
+    match state {
+        0 => (),
+        1 => make(alloc, desk, &asked(0, 0, 5))?,
+        _ => record_a_segment(desk)?,
     }
-    let mut desk = recording(alloc, 1, 1)?;
-    open(&mut desk, 0)?;
+    if state == 3 {
+        return Ok(());
+    }
+    open(desk, 0)
+}
+
+/// 0: active, 1: stopped, 2 and 3: recorded to where its second segment begins. A replay from 0 on is open, but in 3.
+fn kept(alloc: Global, state: u8) -> Result<Desk, Refusal> {
+    let mut desk = recording(alloc, 1, if state == 0 { 1 } else { 2 })?;
+    prepare(alloc, &mut desk, state)?;
     Ok(desk)
 }
 
 /// In each row the next rule is broken, too.
 #[test]
 fn a_replay_keeps_its_recording(rt: HostRuntime) -> Result<(), Fail> {
-    for (is_stopped, kind, position, refusal) in KEPT {
-        let desk = kept(rt.alloc(), is_stopped)?;
+    for (state, kind, position, refusal) in KEPT {
+        let desk = kept(rt.alloc(), state)?;
         let decision = decide(rt.alloc(), &desk, &asked(kind, 0, position));
         assert!(rt; told(&decision) == refusal);
     }
@@ -189,11 +205,15 @@ fn many_replays(alloc: Global) -> Result<Desk, Refusal> {
     Ok(desk)
 }
 
+/// A recording, a position, and what the opening of one more is told. Of a recording that is not there no position is bad.
+const OPENED: [(i64, i64, u8); 3] = [(9, 0, 1), (0, 64, 5), (0, 0, 8)];
+
 #[test]
 fn at_most_64_replays_are_open(rt: HostRuntime) -> Result<(), Fail> {
     let desk = many_replays(rt.alloc())?;
-    let refused = called(&desk, 1, 0, 0);
-    assert!(rt; refused == 8);
+    for (recording, position, refusal) in OPENED {
+        assert!(rt; called(&desk, 1, recording, position) == refusal);
+    }
     Ok(())
 }
 
@@ -239,13 +259,14 @@ fn sought(
     }))
 }
 
-const SOUGHT: [(i64, i32, &'static str, i64); 6] = [
+const SOUGHT: [(i64, i32, &'static str, i64); 7] = [
     (0, 7, "c", 1),
     (1, 7, "c", 1),
     (2, 7, "c", -1),
     (0, 8, "c", -1),
     (0, 7, "d", -1),
     (-1, 7, "c", -11),
+    (0, 7, "", -11),
 ];
 
 #[test]

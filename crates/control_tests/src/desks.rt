@@ -51,19 +51,32 @@ pub(crate) fn make(alloc: Global, desk: &mut Desk, request: &Request) -> Result<
     Ok(())
 }
 
-/// Recording 0 is active, recording 1 is stopped where it began; three entries count.
-fn two_recordings(alloc: Global, limit: u32) -> Result<Desk, Refusal> {
+/// Begins so many more recordings.
+pub(crate) fn begin(alloc: Global, desk: &mut Desk, count: u8) -> Result<(), Refusal> {
+    let request = start(alloc)?;
+    for _ in 0..count {
+        make(alloc, desk, &request)?;
+    }
+    Ok(())
+}
+
+/// Recording 0 is active, recording 1 is stopped where it began, and so many more are active; three more entries count.
+fn two_recordings(alloc: Global, more: u8, limit: u32) -> Result<Desk, Refusal> {
     let mut desk = Desk::new(alloc, limit);
-    make(alloc, &mut desk, &start(alloc)?)?;
-    make(alloc, &mut desk, &start(alloc)?)?;
+    begin(alloc, &mut desk, 2)?;
     make(alloc, &mut desk, &asked(0, 1, 5))?;
+    begin(alloc, &mut desk, more)?;
     Ok(desk)
 }
 
-/// 0: there is room; 1: there is none; 2: none, and a write failed.
+/// 0: there is room; 1: there is none; 2: none, and a write failed; 3: none, and 64 recordings are active.
 fn desk_of(alloc: Global, state: u8) -> Result<Desk, Refusal> {
-    let limit = if state == 0 { 4 } else { 3 };
-    let mut desk = two_recordings(alloc, limit)?;
+    let (more, limit) = match state {
+        0 => (0, 4),
+        3 => (63, 66),
+        _ => (0, 3),
+    };
+    let mut desk = two_recordings(alloc, more, limit)?;
     if state == 2 {
         desk.break_down();
     }
@@ -77,8 +90,9 @@ pub(crate) fn told(decision: &Decision) -> u8 {
     }
 }
 
-// In each row that is refused two rules are broken at once, where the request has a later one.
-const ROWS: [(u8, u8, i64, i64, u8); 28] = [
+// In each row that is refused two rules are broken at once, where the request has a later one. Of a recording that is not
+// there none is but those of the recordings and the history.
+const ROWS: [(u8, u8, i64, i64, u8); 31] = [
     (2, 0, 9, -1, 16),
     (1, 0, 9, -1, 10),
     (1, 0, 9, 5, 1),
@@ -87,8 +101,11 @@ const ROWS: [(u8, u8, i64, i64, u8); 28] = [
     (0, 0, 0, 5, 0),
     (2, 6, 9, 0, 16),
     (1, 6, 9, 0, 1),
+    (3, 6, 99, 0, 1),
     (1, 6, 0, 64, 2),
     (1, 6, 1, 64, 6),
+    (3, 6, 1, 64, 6),
+    (3, 6, 1, 0, 7),
     (1, 6, 1, 0, 11),
     (0, 6, 1, 0, 0),
     (2, 1, 9, 0, 16),
