@@ -1,5 +1,5 @@
 -- Accepted commands keep states well-formed, and the register after them is the one of the state.
-use Rattle.std.proofs.Common.{rules, ◌≡◌, ◌+ℤ◌, ◌≤ℤ◌, ℕ, ℤ, pos, negsuc, Bool, true, false, cond, List, [], ◌∷◌, ◌++◌, Option, Some, map, ◌&&◌, refl, sym, ap, subst, ◌∙◌, true≢false, int_le, arith}
+use Rattle.std.proofs.Common.{rules, ◌≡◌, ◌+ℤ◌, ◌≤ℤ◌, ◌*◌, ◌^◌, ℕ, ℤ, pos, negsuc, Bool, true, false, cond, List, [], ◌∷◌, ◌++◌, Option, Some, map, ◌&&◌, refl, sym, ap, subst, ◌∙◌, true≢false, int_le, unsigned_abs, arith}
 use Rattle.std.specs.Prelude.{not, option_map, IsTrue, IsSomeAnd}
 use Rattle.std.proofs.lemmas.Int.{ints}
 use Rattle.std.specs.Ordering.{int_eq}
@@ -27,7 +27,7 @@ use Rattle.archive_model.specs.Checks.{is_boundary_by, is_of}
 use Rattle.archive_model.specs.Histories.{new_book}
 use Rattle.archive_model.specs.WellFormed.{AreAccepted, IsKept, IsOfStream, IsWell}
 use Rattle.archive_model.proofs.HistoriesLemmas.{covered-append, contiguous_append, blocks_contiguous}
-use Rattle.archive_model.proofs.StreamLemmas.{aligned_behind, blocks_of_stream, each_append, each_left, start_aligned}
+use Rattle.archive_model.proofs.StreamLemmas.{aligned_behind, blocks_of_stream, each_append, each_left, frames_in_stream, start_aligned, start_in_stream}
 use Rattle.archive_model.proofs.CutLemmas.{Leaves}
 use Rattle.archive_model.proofs.WellLemmas.{both, is_purge, purge_leaves, truncation_leaves}
 use Rattle.archive_model.proofs.RegisterLemmas.{each_map, each_push, rise_push}
@@ -139,18 +139,23 @@ purge r p kept base =
 le_true : (a b : ℤ) → int_le a b ≡ true → a ≤ℤ b
 le_true a b e = search rules
 
-layout_of : (f : StartFields) → is_layout f ≡ true → (is_term_length f.term_length ≡ true) × (is_term_length f.segment_length ≡ true) × (f.term_length ≤ℤ f.segment_length)
+layout_of : (f : StartFields) → is_layout f ≡ true
+    → (is_term_length f.term_length ≡ true) × (is_term_length f.segment_length ≡ true) × (f.term_length ≤ℤ f.segment_length) × (is_mtu f.mtu ≡ true)
 unfolding is_layout
 layout_of f has =
     let first : ((is_term_length f.term_length && is_term_length f.segment_length) && int_le f.term_length f.segment_length ≡ true) × (is_mtu f.mtu ≡ true) = both has in
     let second : (is_term_length f.term_length && is_term_length f.segment_length ≡ true) × (int_le f.term_length f.segment_length ≡ true) = both first.0 in
     let third : (is_term_length f.term_length ≡ true) × (is_term_length f.segment_length ≡ true) = both second.0 in
-    (third.0, third.1, le_true f.term_length f.segment_length second.1)
+    (third.0, third.1, le_true f.term_length f.segment_length second.1, first.1)
 
 starts_low : (position term : ℤ) → is_start_position position term ≡ true → pos 0 ≤ℤ position
 unfolding is_start_position
 starts_low (pos p) term is = omega (arith, ints)
 starts_low (negsuc p) term is = absurd (true≢false (sym is))
+
+from_zero : (timestamp : ℤ) → not (is_negative timestamp) ≡ true → is_negative timestamp ≡ false
+from_zero (pos n) is = refl
+from_zero (negsuc n) is = absurd (true≢false (sym is))
 
 pub kept_fresh : (id : ℤ) (f : StartFields) → is_in_range f ≡ true → IsKept (fresh id f)
 kept_fresh id f range =
@@ -160,10 +165,14 @@ kept_fresh id f range =
     let lengths = layout_of f third.0 in
     record {
       start = starts_low f.start_position f.term_length third.1;
+      in_stream = start_in_stream f.start_position f.term_length third.1;
       aligned = start_aligned f.start_position f.term_length third.1;
       term = lengths.0;
       segment = lengths.1;
       no_less = lengths.2;
+      mtu = lengths.3;
+      began = from_zero f.timestamp second.1;
+      channel = first.1;
       of_stream = tt;
       encodable = tt;
       contiguous = tt;
@@ -186,10 +195,14 @@ blocks_encodable g publication position (b ∷ bs) blocks =
 pub kept_appended : (r : Recording) (blocks : List Block) → IsKept r → Continue r blocks → is_active r ≡ true → IsKept (appended blocks r)
 kept_appended r blocks kept next active = record {
   start = kept.start;
+  in_stream = kept.in_stream;
   aligned = kept.aligned;
   term = kept.term;
   segment = kept.segment;
   no_less = kept.no_less;
+  mtu = kept.mtu;
+  began = kept.began;
+  channel = kept.channel;
   of_stream = each_append (IsOfStream r.descriptor.stream_id) r.frames (frames_of blocks) kept.of_stream (blocks_of_stream (geometry_of r.descriptor) (publication_of r.descriptor) (recorded_position r) blocks next.1);
   encodable = encodable_append r.frames (frames_of blocks) kept.encodable (blocks_encodable (geometry_of r.descriptor) (publication_of r.descriptor) (recorded_position r) blocks next.1);
   contiguous =
@@ -201,10 +214,14 @@ kept_appended r blocks kept next active = record {
 pub kept_stopped : (timestamp : ℤ) (r : Recording) → IsKept r → IsKept (stopped timestamp r)
 kept_stopped timestamp r kept = record {
   start = kept.start;
+  in_stream = kept.in_stream;
   aligned = kept.aligned;
   term = kept.term;
   segment = kept.segment;
   no_less = kept.no_less;
+  mtu = kept.mtu;
+  began = kept.began;
+  channel = kept.channel;
   of_stream = kept.of_stream;
   encodable = kept.encodable;
   contiguous = kept.contiguous;
@@ -214,10 +231,14 @@ kept_stopped timestamp r kept = record {
 pub kept_extended : (session_id : ℤ) (r : Recording) → IsKept r → IsKept (extended session_id r)
 kept_extended session_id r kept = record {
   start = kept.start;
+  in_stream = kept.in_stream;
   aligned = kept.aligned;
   term = kept.term;
   segment = kept.segment;
   no_less = kept.no_less;
+  mtu = kept.mtu;
+  began = kept.began;
+  channel = kept.channel;
   of_stream = kept.of_stream;
   encodable = kept.encodable;
   contiguous = kept.contiguous;
@@ -229,10 +250,14 @@ kept_truncated r p kept cut =
     let left = truncation r p kept cut in
     record {
       start = kept.start;
+      in_stream = kept.in_stream;
       aligned = kept.aligned;
       term = kept.term;
       segment = kept.segment;
       no_less = kept.no_less;
+      mtu = kept.mtu;
+      began = kept.began;
+      channel = kept.channel;
       of_stream = each_left (IsOfStream r.descriptor.stream_id) (ends_by p) r.descriptor.start_position r.frames kept.of_stream;
       encodable = left.encodable;
       contiguous = left.contiguous;
@@ -245,15 +270,28 @@ unfolding is_later_base
 base_low (pos q) r base = omega (arith, ints)
 base_low (negsuc q) r base = absurd (true≢false (sym base))
 
+-- it is at or before the recorded position, which is in the stream
+base_in_stream : (p : ℤ) (r : Recording) → IsKept r → is_later_base p (registration_of r) ≡ true → p ≤ℤ pos (2 ^ 31 * unsigned_abs r.descriptor.term_length)
+unfolding is_later_base
+base_in_stream (pos q) r kept base =
+    let recorded : pos q ≤ℤ recorded_position r = le_true (pos q) (recorded_position r) (both (both base).0).1 in
+    let last : recorded_position r ≤ℤ pos (2 ^ 31 * unsigned_abs r.descriptor.term_length) = frames_in_stream (geometry_of r.descriptor) r.descriptor.start_position r.frames kept.contiguous kept.in_stream in
+    omega (arith, ints, recorded, last)
+base_in_stream (negsuc q) r kept base = absurd (true≢false (sym base))
+
 pub kept_purged : (r : Recording) (p : ℤ) → IsKept r → is_later_base p (registration_of r) ≡ true → IsKept (purged p r)
 kept_purged r p kept base =
     let left = purge r p kept base in
     record {
       start = base_low p (registration_of r) base;
+      in_stream = base_in_stream p r kept base;
       aligned = aligned_behind p r.descriptor.start_position (purged p r).frames r.frames (base_low p (registration_of r) base) kept.aligned left.ends;
       term = kept.term;
       segment = kept.segment;
       no_less = kept.no_less;
+      mtu = kept.mtu;
+      began = kept.began;
+      channel = kept.channel;
       of_stream = each_left (IsOfStream r.descriptor.stream_id) (λ f. int_le p f.position) r.descriptor.start_position r.frames kept.of_stream;
       encodable = left.encodable;
       contiguous = left.contiguous;

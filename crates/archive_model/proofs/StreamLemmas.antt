@@ -1,9 +1,11 @@
--- The frames of a recording are of its stream, and it starts at a multiple of 32.
-use Rattle.std.proofs.Common.{◌≡◌, ◌≢◌, ◌+◌, ◌*◌, ◌/◌, ◌%◌, ◌+ℤ◌, ◌≤ℤ◌, ℕ, ℤ, pos, negsuc, Bool, true, false, cond, List, [], ◌∷◌, ◌++◌, Some, None, ◌&&◌, filter, refl, sym, ap, true≢false, arith, inl, inr}
-use Rattle.std.proofs.lemmas.Int.{ints}
+-- The frames of a recording are of its stream and end in it, and it starts at a multiple of 32.
+use Rattle.std.proofs.Common.{◌≡◌, ◌≢◌, ◌<◌, ◌≤◌, ◌+◌, ◌*◌, ◌/◌, ◌%◌, ◌+ℤ◌, ◌-ℤ◌, ◌*ℤ◌, ◌≤ℤ◌, ℕ, suc, ℤ, pos, negsuc, Bool, true, false, cond, FitsSigned, List, [], ◌∷◌, ◌++◌, Some, None, ◌&&◌, filter, refl, sym, ap, subst, ◌∙◌, true≢false, arith, inl, inr}
+use Rattle.std.proofs.lemmas.Int.{ints, SFits-int_wrap}
+use Rattle.std.proofs.Math.Nat.{mul-le-mul_left, mul_comm}
 use Rattle.std.proofs.lemmas.Bool.Decides.{nat_tests, Decides-int_eq}
 use Rattle.std.specs.Prelude.{◌==◌, ◌^◌, nat_lt, unsigned_abs}
 use Rattle.std.specs.Ordering.{int_eq}
+use Rattle.std.specs.Int.{w32}
 use Rattle.frame_core.specs.declared.frame.Frame.{Frame}
 use Rattle.frame_core.specs.declared.frame.FrameKind.{FrameKind}
 use Rattle.frame_core.specs.declared.frame.FrameKind.TheVariants.{Pad, Message, Heartbeat}
@@ -12,11 +14,13 @@ use Rattle.frame_core.specs.declared.block.BlockIds.{BlockIds}
 use Rattle.frame_core.specs.declared.block.Publication.{Publication}
 use Rattle.frame_core.specs.declared.geometry.Geometry.{Geometry}
 use Rattle.frame_core.specs.FrameEncoding.{IsAligned, aligned_length}
+use Rattle.frame_core.specs.Position.{HasPosition, terms_since}
 use Rattle.frame_core.specs.Block.{AreBlockOf, block_ids, covered, end_position, has_ids, is_message, is_part, run_end}
 use Rattle.archive_model.specs.declared.reply.PolledFrame.{PolledFrame}
 use Rattle.archive_model.specs.Acceptance.{AreBlocksFrom}
 use Rattle.archive_model.specs.Commands.{frames_of}
 use Rattle.archive_model.specs.Descriptor.{is_start_position}
+use Rattle.archive_model.specs.Histories.{AreContiguous}
 use Rattle.archive_model.specs.Keyed.{Each}
 use Rattle.archive_model.specs.Replay.{frames_in, placed}
 use Rattle.archive_model.specs.WellFormed.{IsOfStream}
@@ -108,3 +112,49 @@ aligned_behind (pos p) start left all low aligned same =
     let same : p ≡ 32 * (p / 32) = omega (arith, sum) in
     (p / 32, ap pos same)
 aligned_behind (negsuc p) start left all low aligned same = absurd (omega (arith, ints, low))
+
+-- a new recording starts before the end of its stream
+
+pub start_in_stream : (position term : ℤ) → is_start_position position term ≡ true → position ≤ℤ pos (2 ^ 31 * unsigned_abs term)
+unfolding is_start_position
+start_in_stream (pos p) term is =
+    let parts : ((p % 32 == 0) ≡ true) × (nat_lt p (2 ^ 31 * unsigned_abs term) ≡ true) = both is in
+    let less : p < 2 ^ 31 * unsigned_abs term = grind (arith, nat_tests) in
+    omega (arith, ints, less)
+start_in_stream (negsuc p) term is = absurd (true≢false (sym is))
+
+-- frames without a gap from a position in the stream end in it
+
+-- a term of at most 2^31 ends in them
+pub times_le : (a t : ℕ) → suc a ≤ 2 ^ 31 → a * t + t ≤ 2 ^ 31 * t
+times_le a t less =
+    let more : t * suc a ≤ t * 2 ^ 31 = mul-le-mul_left t less in
+    let left : t * suc a ≡ a * t + t = mul_comm t (suc a) ∙ omega arith in
+    let right : t * 2 ^ 31 ≡ 2 ^ 31 * t = mul_comm t (2 ^ 31) in
+    omega (arith, more, left, right)
+
+-- what ends in its term ends in the stream
+pub ends_in_stream : (g : Geometry) (term offset position : ℤ) (size : ℕ) → HasPosition g term offset position → (offset +ℤ pos size) ≤ℤ g.term_length → (position +ℤ pos size) ≤ℤ pos (2 ^ 31 * unsigned_abs g.term_length)
+ends_in_stream g term offset position size at ends = by (terms_since g term) g.term_length offset refl refl refl
+  where
+    by : (since length place : ℤ) → terms_since g term ≡ since → g.term_length ≡ length → offset ≡ place → (position +ℤ pos size) ≤ℤ pos (2 ^ 31 * unsigned_abs g.term_length)
+    by (pos a) (pos t) (pos o) since_is length_is offset_is =
+        let fits : FitsSigned w32 (terms_since g term) = SFits-int_wrap w32 (term -ℤ g.initial_term_id) in
+        let less : suc a ≤ 2 ^ 31 = omega (arith, ints, fits, since_is) in
+        let most : a * t + t ≤ 2 ^ 31 * t = times_le a t less in
+        let place : position ≡ pos a *ℤ pos t +ℤ pos o =
+        at.place ∙ ap (λ (x : ℤ). x *ℤ g.term_length +ℤ offset) since_is ∙ ap (λ (x : ℤ). pos a *ℤ x +ℤ offset) length_is ∙ ap (λ (x : ℤ). pos a *ℤ pos t +ℤ x) offset_is in
+        let end : position +ℤ pos size ≡ pos (a * t + o + size) = omega (arith, ints, place) in
+        let within : a * t + o + size ≤ a * t + t = omega (arith, ints, ends, length_is, offset_is) in
+        let top : unsigned_abs g.term_length ≡ t = ap unsigned_abs length_is in
+        subst (λ (n : ℕ). (position +ℤ pos size) ≤ℤ pos (2 ^ 31 * n)) (sym top) (omega (arith, ints, end, within, most))
+    by (negsuc a) length place since_is length_is offset_is = absurd (omega (arith, ints, at.since, since_is))
+    by (pos a) (negsuc t) place since_is length_is offset_is = absurd (omega (arith, ints, at.high, at.low, length_is))
+    by (pos a) (pos t) (negsuc o) since_is length_is offset_is = absurd (omega (arith, ints, at.low, offset_is))
+
+pub frames_in_stream : (g : Geometry) (position : ℤ) (fs : List Frame) → AreContiguous g position fs → position ≤ℤ pos (2 ^ 31 * unsigned_abs g.term_length)
+    → (position +ℤ pos (covered fs)) ≤ℤ pos (2 ^ 31 * unsigned_abs g.term_length)
+frames_in_stream g position [] parts inside = omega (arith, ints, inside)
+frames_in_stream g position (f ∷ fs) parts inside =
+    let rest = frames_in_stream g (position +ℤ pos (aligned_length f)) fs parts.2 (ends_in_stream g f.term_id f.term_offset position (aligned_length f) parts.0 parts.1) in
+    omega (arith, ints, rest)

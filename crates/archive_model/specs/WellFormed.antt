@@ -1,13 +1,14 @@
 -- States that accepted commands make.
 use Rattle.std.specs.Ordering.{int_eq}
-use Rattle.std.specs.Prelude.{◌≡◌, ◌≢◌, ◌≤ℤ◌, ℤ, pos, Bool, true, false, List, [], ◌∷◌}
+use Rattle.std.specs.Prelude.{◌≡◌, ◌≢◌, ◌≤ℤ◌, ◌*◌, ◌^◌, ℤ, pos, Bool, true, false, List, [], ◌∷◌, unsigned_abs}
 use Rattle.frame_core.specs.declared.frame.Frame.{Frame}
 use Rattle.frame_core.specs.declared.frame.FrameKind.TheVariants.{Heartbeat}
 use Rattle.frame_core.specs.Block.{AreEncodable}
 use Rattle.frame_core.specs.FrameEncoding.{IsAligned}
-use Rattle.frame_core.specs.Limits.{is_term_length}
+use Rattle.frame_core.specs.Limits.{is_mtu, is_term_length}
 use Rattle.archive_model.specs.declared.command.Command.{Command}
 use Rattle.archive_model.specs.declared.command.Command.TheVariants.{PurgeRecording, Truncate}
+use Rattle.archive_model.specs.Descriptor.{is_channel, is_negative}
 use Rattle.archive_model.specs.Keyed.{Each, Rise}
 use Rattle.archive_model.specs.State.{Recording, State, id_of, is_active, recorded_position}
 use Rattle.archive_model.specs.Acceptance.{BookState, book_after}
@@ -20,14 +21,19 @@ pub record IsOfStream (stream : ℤ) (f : Frame) : Type 0 where
   pub stream_is : f.stream_id ≡ stream
 
 -- The frames of a recording are of its stream, have encodings and go without a gap from its start, a multiple of 32, each
--- inside its term; its terms and segments have lengths in their limits; where it isn't active it stopped at its recorded
--- position.
+-- inside its term; its terms and segments have lengths in their limits, and so have its MTU and its channel; it began at a
+-- time from 0 on; where it isn't active it stopped at its recorded position. It starts at most 2^31 terms into the stream: a
+-- new one before that, and a purge may leave one that starts there, where the stream ends.
 pub record IsKept (r : Recording) : Type 0 where
   pub start : pos 0 ≤ℤ r.descriptor.start_position
+  pub in_stream : r.descriptor.start_position ≤ℤ pos (2 ^ 31 * unsigned_abs r.descriptor.term_length)
   pub aligned : IsAligned r.descriptor.start_position
   pub term : is_term_length r.descriptor.term_length ≡ true
   pub segment : is_term_length r.descriptor.segment_length ≡ true
   pub no_less : r.descriptor.term_length ≤ℤ r.descriptor.segment_length
+  pub mtu : is_mtu r.descriptor.mtu ≡ true
+  pub began : is_negative r.descriptor.start_timestamp ≡ false
+  pub channel : is_channel r.descriptor.channel ≡ true
   pub of_stream : Each (IsOfStream r.descriptor.stream_id) r.frames
   pub encodable : AreEncodable r.frames
   pub contiguous : IsContiguous r

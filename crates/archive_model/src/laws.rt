@@ -49,8 +49,9 @@ pub fn ids_rise()
         Rise id_of (pos 0) (after_all empty cs).recordings (after_all empty cs).next }
 {}
 
-/// An accepted command leaves a well-formed state well-formed: ids rise, frames go without a gap from the start to the
-/// recorded position, each inside its term, and where a recording isn't active it stopped at its recorded position.
+/// An accepted command leaves a well-formed state well-formed: ids rise, a recording's parameters are in their limits,
+/// frames go without a gap from the start to the recorded position, each inside its term, and where a recording isn't
+/// active it stopped at its recorded position.
 pub fn an_accepted_command_keeps_states_well_formed()
     ensures { (b : BookState) (c : Command) →
         IsWell b.state → Accepts b c → IsWell (after b.state c) }

@@ -1,10 +1,8 @@
 -- The calls that are no commands keep the desk orderly, and so does an opening.
-use Rattle.std.proofs.Common.{◌≡◌, ◌∙◌, sym, ap, subst, refl, inl, inr, ℕ, suc, ℤ, pos, negsuc, ◌+◌, ◌*◌, ◌^◌, ◌-ℤ◌, ◌+ℤ◌, ◌*ℤ◌, ◌≤◌, ◌≤ℤ◌, ◌||◌, not, Bool, true, true≢false, FitsSigned, List, [], ◌∷◌, ◌++◌, Option, Some, None, Result, Ok, int_le, unsigned_abs, arith}
-use Rattle.std.proofs.lemmas.Int.{ints, SFits-int_wrap}
+use Rattle.std.proofs.Common.{◌≡◌, ◌∙◌, sym, ap, subst, refl, inl, inr, ℕ, ℤ, pos, ◌+◌, ◌*◌, ◌^◌, ◌+ℤ◌, ◌≤ℤ◌, ◌||◌, not, Bool, true, true≢false, List, [], ◌∷◌, ◌++◌, Option, Some, None, Result, Ok, int_le, unsigned_abs, arith}
+use Rattle.std.proofs.lemmas.Int.{ints}
 use Rattle.std.proofs.lemmas.Bool.Decides.{Decides-int_eq}
-use Rattle.std.proofs.Math.Nat.{mul-le-mul_left, mul_comm}
 use Rattle.std.specs.Prelude.{IsSomeAnd, is_some}
-use Rattle.std.specs.Int.{w32}
 use Rattle.frame_core.specs.declared.block.Block.{Block}
 use Rattle.frame_core.specs.declared.block.Publication.{Publication}
 use Rattle.frame_core.specs.declared.frame.Frame.{Frame}
@@ -12,7 +10,6 @@ use Rattle.frame_core.specs.declared.geometry.Geometry.{Geometry}
 use Rattle.frame_core.specs.declared.refusal.Refusal.{Refusal}
 use Rattle.frame_core.specs.declared.refusal.Refusal.TheVariants.{ActiveRecording, BadBlock, BadExtension, BadParameter, BadPosition, Broken, NeedSettle, NotActive, StaleSession, UnknownRecording, UnknownReplay, ActiveReplay, MaxRecordings, MaxReplays, HistoryFull}
 use Rattle.frame_core.specs.Block.{AreBlockOf, IsBlock, block_ids, covered, end_position}
-use Rattle.frame_core.specs.Position.{HasPosition, terms_since}
 use Rattle.segment_store.proofs.StoredLemmas.{run_covers}
 use Rattle.archive_model.specs.declared.registration.Registration.{Registration}
 use Rattle.archive_model.specs.declared.reply.Reply.{Reply}
@@ -23,6 +20,7 @@ use Rattle.archive_model.specs.Register.{RegisterState, all_stopped, is_active, 
 use Rattle.archive_model.specs.State.{geometry_of, publication_of}
 use Rattle.archive_model.proofs.RegisterLemmas.{each_push}
 use Rattle.archive_model.proofs.StateLemmas.{each_change, each_found, each_without}
+use Rattle.archive_model.proofs.StreamLemmas.{ends_in_stream}
 use Rattle.archive_model.proofs.WellLemmas.{both}
 use Rattle.catalogue_log.specs.declared.entry.Entry.{Entry}
 use Rattle.catalogue_log.specs.Fold.{AreAdmitted, after_entries}
@@ -44,33 +42,6 @@ use Rattle.engine_core.proofs.LaidLemmas.{all_stopped_laid, entries_laid, le_tru
 use Rattle.engine_core.proofs.OrderlyLemmas.{nobody}
 
 -- ---- a block ends in its stream
-
--- a term of at most 2^31 ends in them
-times_le : (a t : ℕ) → suc a ≤ 2 ^ 31 → a * t + t ≤ 2 ^ 31 * t
-times_le a t less =
-    let more : t * suc a ≤ t * 2 ^ 31 = mul-le-mul_left t less in
-    let left : t * suc a ≡ a * t + t = mul_comm t (suc a) ∙ omega arith in
-    let right : t * 2 ^ 31 ≡ 2 ^ 31 * t = mul_comm t (2 ^ 31) in
-    omega (arith, more, left, right)
-
--- what ends in its term ends in the stream
-ends_in_stream : (g : Geometry) (term offset position : ℤ) (size : ℕ) → HasPosition g term offset position → (offset +ℤ pos size) ≤ℤ g.term_length → (position +ℤ pos size) ≤ℤ pos (2 ^ 31 * unsigned_abs g.term_length)
-ends_in_stream g term offset position size at ends = by (terms_since g term) g.term_length offset refl refl refl
-  where
-    by : (since length place : ℤ) → terms_since g term ≡ since → g.term_length ≡ length → offset ≡ place → (position +ℤ pos size) ≤ℤ pos (2 ^ 31 * unsigned_abs g.term_length)
-    by (pos a) (pos t) (pos o) since_is length_is offset_is =
-        let fits : FitsSigned w32 (terms_since g term) = SFits-int_wrap w32 (term -ℤ g.initial_term_id) in
-        let less : suc a ≤ 2 ^ 31 = omega (arith, ints, fits, since_is) in
-        let most : a * t + t ≤ 2 ^ 31 * t = times_le a t less in
-        let place : position ≡ pos a *ℤ pos t +ℤ pos o =
-        at.place ∙ ap (λ (x : ℤ). x *ℤ g.term_length +ℤ offset) since_is ∙ ap (λ (x : ℤ). pos a *ℤ x +ℤ offset) length_is ∙ ap (λ (x : ℤ). pos a *ℤ pos t +ℤ x) offset_is in
-        let end : position +ℤ pos size ≡ pos (a * t + o + size) = omega (arith, ints, place) in
-        let within : a * t + o + size ≤ a * t + t = omega (arith, ints, ends, length_is, offset_is) in
-        let top : unsigned_abs g.term_length ≡ t = ap unsigned_abs length_is in
-        subst (λ (n : ℕ). (position +ℤ pos size) ≤ℤ pos (2 ^ 31 * n)) (sym top) (omega (arith, ints, end, within, most))
-    by (negsuc a) length place since_is length_is offset_is = absurd (omega (arith, ints, at.since, since_is))
-    by (pos a) (negsuc t) place since_is length_is offset_is = absurd (omega (arith, ints, at.high, at.low, length_is))
-    by (pos a) (pos t) (negsuc o) since_is length_is offset_is = absurd (omega (arith, ints, at.low, offset_is))
 
 block_ends : (g : Geometry) (p : Publication) (frames : List Frame) (position : ℤ) → AreBlockOf g p frames position → (position +ℤ pos (covered frames)) ≤ℤ pos (2 ^ 31 * unsigned_abs g.term_length)
 block_ends g p [] position is = absurd is
