@@ -125,28 +125,34 @@ fn bytes_are_read_by_the_terms_of_the_recording(rt: HostRuntime) -> Result<(), F
     Ok(())
 }
 
+/// Session 0 wrote a block from 0 on.
+fn note(desk: &mut Desk, last: i64) -> Result<(), Refusal> {
+    let session = desk.session(&0).ok_or(Refusal::StaleSession)?;
+    desk.note_written(&0, session.index, &Written { first: 0, last });
+    Ok(())
+}
+
+fn with_a_block(alloc: Global) -> Result<Desk, Refusal> {
+    let mut desk = recording(alloc, 1, 1)?;
+    note(&mut desk, 64)?;
+    Ok(desk)
+}
+
+// The kind of `called` and a position: a block up to 64 is written, and the history is full.
+const WRITTEN: [(u8, i64, u8); 3] = [(6, 0, 13), (6, 64, 14), (0, 0, 11)];
+
 #[test]
 fn a_written_block_is_settled_before_the_next(rt: HostRuntime) -> Result<(), Fail> {
-    let mut desk = recording(rt.alloc(), 1, 1)?;
-    let session = desk.session(&0).ok_or("no session")?;
-    desk.note_written(&0, session.index, &Written { first: 0, last: 64 });
-    let misplaced = called(&desk, 6, 0, 0);
-    let unsettled = called(&desk, 6, 0, 64);
-    let full = called(&desk, 0, 0, 0);
-    assert!(rt; misplaced == 13);
-    assert!(rt; unsettled == 14);
-    assert!(rt; full == 11);
+    let desk = with_a_block(rt.alloc())?;
+    for (kind, position, refusal) in WRITTEN {
+        assert!(rt; called(&desk, kind, 0, position) == refusal);
+    }
     Ok(())
 }
 
 /// What session 0 wrote is settled: recording 0 is recorded to where its second segment begins.
 fn record_a_segment(desk: &mut Desk) -> Result<(), Refusal> {
-    let session = desk.session(&0).ok_or(Refusal::StaleSession)?;
-    let block = Written {
-        first: 0,
-        last: 131_072,
-    };
-    desk.note_written(&0, session.index, &block);
+    note(desk, 131_072)?;
     let written = desk.session(&0).ok_or(Refusal::StaleSession)?;
     if !desk.has_room() {
         return Err(Refusal::HistoryFull);

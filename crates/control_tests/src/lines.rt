@@ -279,45 +279,42 @@ fn frame_lines(rt: HostRuntime) -> Result<(), Fail> {
     Ok(())
 }
 
+const REFUSALS: [(Refusal, &'static str); 22] = [
+    (Refusal::UnknownRecording, "error 1 UnknownRecording\n"),
+    (Refusal::ActiveRecording, "error 2 ActiveRecording\n"),
+    (Refusal::NotActive, "error 3 NotActive\n"),
+    (Refusal::ActiveReplay, "error 4 ActiveReplay\n"),
+    (Refusal::BadPosition, "error 5 BadPosition\n"),
+    (Refusal::BadExtension, "error 6 BadExtension\n"),
+    (Refusal::MaxRecordings, "error 7 MaxRecordings\n"),
+    (Refusal::MaxReplays, "error 8 MaxReplays\n"),
+    (Refusal::UnknownReplay, "error 9 UnknownReplay\n"),
+    (Refusal::BadParameter, "error 10 BadParameter\n"),
+    (Refusal::HistoryFull, "error 11 HistoryFull\n"),
+    (Refusal::StaleSession, "error 12 StaleSession\n"),
+    (Refusal::BadBlock, "error 13 BadBlock\n"),
+    (Refusal::NeedSettle, "error 14 NeedSettle\n"),
+    (
+        Refusal::Damaged {
+            recording: -1,
+            position: 64,
+        },
+        "error 15 Damaged -1 64\n",
+    ),
+    (Refusal::Broken, "error 16 Broken\n"),
+    (Refusal::DeviceFault, "error 17 DeviceFault\n"),
+    (Refusal::NoMemory, "error 18 NoMemory\n"),
+    (Refusal::NotCatalogue, "error 19 NotCatalogue\n"),
+    (Refusal::NewerVersion, "error 20 NewerVersion\n"),
+    (Refusal::BadFrame { offset: 32 }, "error 21 BadFrame 32\n"),
+    (Refusal::BadLine, "error 22 BadLine\n"),
+];
+
 #[test]
-fn refusal_lines(rt: HostRuntime) -> Result<(), Fail> {
-    for (refusal, text) in [
-        (Refusal::UnknownRecording, "error 1 UnknownRecording\n"),
-        (Refusal::ActiveRecording, "error 2 ActiveRecording\n"),
-        (Refusal::NotActive, "error 3 NotActive\n"),
-        (Refusal::ActiveReplay, "error 4 ActiveReplay\n"),
-        (Refusal::BadPosition, "error 5 BadPosition\n"),
-        (Refusal::BadExtension, "error 6 BadExtension\n"),
-        (Refusal::MaxRecordings, "error 7 MaxRecordings\n"),
-        (Refusal::MaxReplays, "error 8 MaxReplays\n"),
-        (Refusal::UnknownReplay, "error 9 UnknownReplay\n"),
-        (Refusal::BadParameter, "error 10 BadParameter\n"),
-        (Refusal::HistoryFull, "error 11 HistoryFull\n"),
-        (Refusal::StaleSession, "error 12 StaleSession\n"),
-        (Refusal::BadBlock, "error 13 BadBlock\n"),
-        (Refusal::NeedSettle, "error 14 NeedSettle\n"),
-        (
-            Refusal::Damaged {
-                recording: -1,
-                position: 64,
-            },
-            "error 15 Damaged -1 64\n",
-        ),
-        (Refusal::Broken, "error 16 Broken\n"),
-        (Refusal::DeviceFault, "error 17 DeviceFault\n"),
-        (Refusal::NoMemory, "error 18 NoMemory\n"),
-        (Refusal::NotCatalogue, "error 19 NotCatalogue\n"),
-        (Refusal::NewerVersion, "error 20 NewerVersion\n"),
-        (Refusal::BadFrame { offset: 32 }, "error 21 BadFrame 32\n"),
-        (Refusal::BadLine, "error 22 BadLine\n"),
-    ] {
-        assert_eq!(rt;
-            print_refusal(&refusal).as_bytes(),
-            text.as_bytes(),
-            "{refusal:?}"
-        );
+fn refusal_lines(rt: HostRuntime) {
+    for (refusal, text) in REFUSALS {
+        assert!(rt; print_refusal(&refusal).as_bytes() == text.as_bytes());
     }
-    Ok(())
 }
 
 /// A refused request for memory is told as NoMemory, and the call may be made again: bench/refused_test_memory.py runs
