@@ -12,7 +12,7 @@ use clap::Error;
 use clap::error::ErrorKind;
 use command_line::{command_of, unreadable_words};
 use commands::obeyed;
-use control_core::print_refusal;
+use control_lines::print_refusal;
 use frame_core::Refusal;
 use status::Ending;
 use std::env;

@@ -1,10 +1,3 @@
-mod NumbersLemmas
-mod LinesLemmas
-mod HexCaseLemmas
-mod DigitLemmas
-mod PairLemmas
-mod WordLemmas
-mod LineTextLemmas
 pub mod ChangeLemmas
 mod ListingLemmas
 mod FragmentLemmas

@@ -1,13 +1,12 @@
 //! Laws of the definitions, each the contract of a function that does nothing.
 
-ghost use Rattle.std.specs.Prelude.{◌≡◌, ◌++◌, ◌↔◌, ◌⊎◌, ℕ, ℤ, List, Contains, Some, Ok, Err, Result, IsFalse, true};
+ghost use Rattle.std.specs.Prelude.{◌≡◌, ◌⊎◌, ℕ, ℤ, Some, Ok, Err, Result, IsFalse};
 ghost use Rattle.archive_model.specs.declared.command.Command.{Command};
 ghost use Rattle.archive_model.specs.State.{State, register_of};
 ghost use Rattle.archive_model.specs.Commands.{after, register_after};
 ghost use Rattle.archive_model.specs.Acceptance.{BookState};
 ghost use Rattle.archive_model.specs.Accepting.{Accepts};
 ghost use Rattle.archive_model.specs.WellFormed.{IsWell};
-ghost use Rattle.control_core.specs.declared.line.Line.{Line};
 ghost use Rattle.control_core.specs.declared.request.Request.{Request};
 ghost use Rattle.control_core.specs.Desk.{DeskState};
 ghost use Rattle.control_core.specs.Changes.{desk_after};
@@ -24,24 +23,6 @@ ghost use Rattle.control_core.specs.declared.turns.Opening.{Opening};
 ghost use Rattle.control_core.specs.declared.callers.Written.{Written};
 ghost use Rattle.control_core.specs.declared.decision.Decision.TheVariants.{Accepted};
 ghost use Rattle.control_core.specs.declared.turns.Settling.TheVariants.{Blocks};
-ghost use Rattle.control_core.specs.Table.{Row, rows, is_served};
-ghost use Rattle.control_core.specs.Lines.{line_of};
-ghost use Rattle.control_core.specs.LineText.{Values, AreFit, line_with, text_with, IsShortText, IsSpelling};
-
-/// The one text of a row and of values that its fields may have is read as their line, if the row is served and the text
-/// is short enough: docs/CONTROL.md, "Lines".
-pub fn texts_are_read()
-    ensures { (row : Row) (values : Values row.fields) →
-        Contains rows row → is_served row.word ≡ true → AreFit row.fields values →
-        IsShortText (row.word ++ text_with row.fields values) →
-        line_of (row.word ++ text_with row.fields values) ≡ Ok (line_with row.fields row.line values) }
-{}
-
-/// What is read as a line is a spelling of it, hex digits in either case, and every spelling is read: docs/CONTROL.md,
-/// "Lines".
-pub fn spellings_are_read()
-    ensures { (line : Line) (text : List ℕ) → (line_of text ≡ Ok line) ↔ IsSpelling line text }
-{}
 
 /// Each test holds of the command that a decision leads to, so it may be accepted: docs/CONTROL.md, "Requests".
 #[tactic(auto, using(crate::proofs::AgreementLemmas::allowed))]

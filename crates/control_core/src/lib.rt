@@ -1,4 +1,4 @@
-//! What is asked of an archive and what it answers, as values and as lines of text, and what it keeps of its callers.
+//! What is asked of an archive, as values, what is decided on it, and what an archive keeps of its callers.
 #![tactic(auto)]
 
 mod accepting;
@@ -10,20 +10,12 @@ mod deciding;
 mod decision;
 mod desk;
 mod event;
-mod hex_digits;
 pub mod laws;
-mod line;
-mod merge_line;
-mod number;
 mod opening;
-mod parse;
-mod print;
-mod refusal_line;
 mod replays;
 mod request;
 mod sessions;
 mod turns;
-mod words;
 
 pub use asked::{Asked, Told};
 pub use bytes::read_terms;
@@ -32,11 +24,6 @@ pub use deciding::decide;
 pub use decision::Decision;
 pub use desk::Desk;
 pub use event::Event;
-pub use line::Line;
-pub use merge_line::MergeLine;
-pub use parse::parse_line;
-pub use print::print_reply;
-pub use refusal_line::{RefusalLine, print_refusal};
 pub use request::{FindFields, Request};
 pub use turns::{
     FoundSettling, Opening, OpeningDecision, Settling, decide_close, decide_open, decide_poll,

@@ -1,5 +1,5 @@
-//! Tests of control_core: what no clause says. They stand apart from it, so that it isn't proved a second time for its tests,
-//! and apart from the tests of the other libraries, which need not wait for it.
+//! Tests of control_core and control_lines: what no clause says. They stand apart from them, so that these aren't proved a
+//! second time for their tests, and apart from the tests of the other libraries, which need not wait for them.
 #![tactic(auto)]
 
 #[cfg(test)]

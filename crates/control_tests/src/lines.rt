@@ -1,7 +1,8 @@
 //! Control lines read, and replies and refusals printed: docs/CONTROL.md, "Lines" and "Refusals", by example.
 
 use archive_model::{Channel, Descriptor, PolledFrame, Reply, StartFields};
-use control_core::{Event, Line, MergeLine, Request, parse_line, print_refusal, print_reply};
+use control_core::{Event, Request};
+use control_lines::{Line, MergeLine, parse_line, print_refusal, print_reply};
 use frame_core::{Frame, FrameKind, Items, Refusal};
 use std::alloc::Global;
 use std::test::*;

@@ -1,7 +1,8 @@
 //! Decisions of a desk without recordings: docs/CONTROL.md, "Requests", by example.
 
 use archive_model::{Channel, Command, Reply};
-use control_core::{Decision, Desk, Event, FindFields, Line, Request, decide, parse_line};
+use control_core::{Decision, Desk, Event, FindFields, Request, decide};
+use control_lines::{Line, parse_line};
 use frame_core::Refusal;
 use std::alloc::Global;
 use std::test::*;

@@ -1,7 +1,8 @@
 //! Calls as lines of a word and numbers, and their answers as the lines of docs/CONTROL.md.
 
 use archive_model::{Channel, ExtendFields, Reply, StartFields};
-use control_core::{Event, Request, print_refusal, print_reply};
+use control_core::{Event, Request};
+use control_lines::{print_refusal, print_reply};
 use disk_core::MemoryDisk;
 use engine_core::Engine;
 use frame_core::{Block, Frame, FrameKind, Items, Refusal};

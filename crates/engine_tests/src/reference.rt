@@ -2,7 +2,8 @@
 
 use crate::calls::{answer, told};
 use archive_model::{Book, Command, Descriptor, Recording, Reply};
-use control_core::{Event, Request, print_reply};
+use control_core::{Event, Request};
+use control_lines::print_reply;
 use disk_core::MemoryDisk;
 use engine_core::Engine;
 use frame_core::limits::LAST_NUMBER;

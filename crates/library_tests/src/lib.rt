@@ -1,4 +1,4 @@
-//! Tests of the libraries that know no control line: what no clause says. They stand apart from the crates that they test,
+//! Tests of the libraries that know no desk: what no clause says. They stand apart from the crates that they test,
 //! so that no library is proved a second time for its tests.
 #![tactic(auto)]
 

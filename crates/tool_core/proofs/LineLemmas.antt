@@ -5,9 +5,9 @@ use Rattle.frame_core.specs.declared.refusal.Refusal.{Refusal}
 use Rattle.disk_core.specs.Life.{Life}
 use Rattle.archive_model.specs.declared.reply.Reply.{Reply}
 use Rattle.merge_core.specs.Merge.{Merging}
-use Rattle.control_core.specs.declared.line.Line.{Line}
-use Rattle.control_core.specs.declared.line.Line.TheVariants as lines
-use Rattle.control_core.specs.declared.merge_line.MergeLine.{MergeLine}
+use Rattle.control_lines.specs.declared.line.Line.{Line}
+use Rattle.control_lines.specs.declared.line.Line.TheVariants as lines
+use Rattle.control_lines.specs.declared.merge_line.MergeLine.{MergeLine}
 use Rattle.tool_core.specs.declared.archive.ScriptArchive.{ScriptArchive}
 use Rattle.tool_core.specs.declared.state.ScriptState.{ScriptState}
 use Rattle.tool_core.specs.Merging.{Ends, MergeEnds}

@@ -10,7 +10,7 @@ use Rattle.frame_core.specs.Block.{covered}
 use Rattle.frame_core.specs.FrameEncoding.{aligned_length, i32_at}
 use Rattle.frame_core.specs.Header.{HasHeaderLength}
 use Rattle.frame_core.proofs.HeaderLemmas.{header_fields, one_header}
-use Rattle.control_core.specs.RefusalText.{refusal_text}
+use Rattle.control_lines.specs.RefusalText.{refusal_text}
 use Rattle.tool_core.specs.declared.frames.Listing.{Listing}
 use Rattle.tool_core.specs.declared.frames.Listing.TheVariants.{Whole, Damaged}
 use Rattle.tool_core.specs.FrameLines.{EndsFrames, HasFrames, HasNoFrame, HasStored, IsListing, StandsFirst, end_text, frame_text}

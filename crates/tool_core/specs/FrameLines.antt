@@ -9,7 +9,7 @@ use Rattle.frame_core.specs.declared.refusal.Refusal.TheVariants.{BadFrame}
 use Rattle.frame_core.specs.Block.{covered}
 use Rattle.frame_core.specs.FrameEncoding.{aligned_length, type_of}
 use Rattle.frame_core.specs.Header.{StartsWithHeader}
-use Rattle.control_core.specs.RefusalText.{refusal_text}
+use Rattle.control_lines.specs.RefusalText.{refusal_text}
 use Rattle.tool_core.specs.declared.fault.EarlyEnd.{EarlyEnd}
 use Rattle.tool_core.specs.declared.fault.EarlyEnd.TheVariants as ends
 use Rattle.tool_core.specs.declared.frames.Listing.{Listing}

@@ -12,8 +12,8 @@ use Rattle.archive_model.specs.Descriptor.{may_begin_at}
 use Rattle.merge_core.specs.declared.merge.Offered.{Offered}
 use Rattle.merge_core.specs.declared.merge.Offered.TheVariants.{Held, Ignored, Full}
 use Rattle.merge_core.specs.Merge.{Merging, opened, answer_to, after_replay_frame, after_live_frame, after_take, next_frame}
-use Rattle.control_core.specs.declared.merge_line.MergeLine.{MergeLine}
-use Rattle.control_core.specs.declared.merge_line.MergeLine.TheVariants as merges
+use Rattle.control_lines.specs.declared.merge_line.MergeLine.{MergeLine}
+use Rattle.control_lines.specs.declared.merge_line.MergeLine.TheVariants as merges
 
 -- what a line may end with: its answer, and what it is about then
 abbrev pub Ends : Type 0 → Type 1

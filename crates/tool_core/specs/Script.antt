@@ -11,11 +11,11 @@ use Rattle.archive_model.specs.declared.reply.Reply.{Reply}
 use Rattle.archive_model.specs.Commands.{after}
 use Rattle.archive_model.specs.State.{State}
 use Rattle.catalogue_log.specs.Catalogue.{RefusesCatalogue}
-use Rattle.control_core.specs.declared.line.Line.{Line}
 use Rattle.control_core.specs.Exact.{Archive}
-use Rattle.control_core.specs.Lines.{line_copies, line_of}
-use Rattle.control_core.specs.ReplyText.{reply_text}
-use Rattle.control_core.specs.RefusalText.{refusal_text}
+use Rattle.control_lines.specs.declared.line.Line.{Line}
+use Rattle.control_lines.specs.Lines.{line_copies, line_of}
+use Rattle.control_lines.specs.ReplyText.{reply_text}
+use Rattle.control_lines.specs.RefusalText.{refusal_text}
 use Rattle.engine_core.specs.Engine.{new_archive}
 use Rattle.engine_core.specs.Opened.{IsFresh, LeavesEither}
 use Rattle.engine_core.specs.Opening.{ReadsAsBefore}

@@ -10,10 +10,10 @@ use Rattle.archive_model.specs.State.{active_count}
 use Rattle.merge_core.specs.Merge.{Merging}
 use Rattle.control_core.specs.declared.event.Event.{Event}
 use Rattle.control_core.specs.declared.event.Event.TheVariants as events
-use Rattle.control_core.specs.declared.line.Line.{Line}
-use Rattle.control_core.specs.declared.line.Line.TheVariants as lines
 use Rattle.control_core.specs.Bytes.{BytesEnd}
 use Rattle.control_core.specs.Exact.{Archive, ArchiveEnd, CallEnds, Is, opened_archive}
+use Rattle.control_lines.specs.declared.line.Line.{Line}
+use Rattle.control_lines.specs.declared.line.Line.TheVariants as lines
 use Rattle.tool_core.specs.Merging.{MergeEnds, Ends}
 
 -- so, or memory was refused, and nothing has changed

@@ -4,7 +4,7 @@ use Rattle.std.specs.Io.KnownBytes.{Appends, Consumes, IsAtEnd, Keeps}
 use Rattle.frame_core.specs.declared.frame.Frame.{Frame}
 use Rattle.frame_core.specs.declared.refusal.Refusal.TheVariants.{BadFrame}
 use Rattle.frame_core.specs.FrameEncoding.{aligned_length, frame_of}
-use Rattle.control_core.specs.RefusalText.{refusal_text}
+use Rattle.control_lines.specs.RefusalText.{refusal_text}
 use Rattle.tool_core.specs.declared.fault.EarlyEnd.{EarlyEnd}
 use Rattle.tool_core.specs.declared.fault.EarlyEnd.TheVariants as ends
 use Rattle.tool_core.specs.declared.frames.Listing.{Listing}

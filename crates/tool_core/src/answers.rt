@@ -2,13 +2,13 @@
 
 ghost use Rattle.std.specs.Prelude.{◌≡◌, IfErr, OnOk};
 ghost use Rattle.std.specs.Io.KnownBytes.{Appends};
-ghost use Rattle.control_core.specs.ReplyText.{reply_text};
-ghost use Rattle.control_core.specs.RefusalText.{refusal_text};
+ghost use Rattle.control_lines.specs.ReplyText.{reply_text};
+ghost use Rattle.control_lines.specs.RefusalText.{refusal_text};
 ghost use Rattle.tool_core.specs.Script.{FailsToAnswer, outcome_text};
 
 use crate::fault::EarlyEnd;
 use archive_model::Reply;
-use control_core::{print_refusal, print_reply};
+use control_lines::{print_refusal, print_reply};
 use frame_core::Refusal;
 use std::alloc::Global;
 use std::io::Write;

@@ -5,7 +5,7 @@ ghost use Rattle.tool_core.specs.Merging.{MergeEnds, OpenEnds, IsOfferOrMemory, 
 ghost use Rattle.merge_core.specs.Merge.{next_frame, after_take};
 
 use archive_model::{PolledFrame, Reply, may_begin_at};
-use control_core::MergeLine;
+use control_lines::MergeLine;
 use frame_core::limits::MAX_MTU;
 use frame_core::{Frame, Geometry, Refusal, frames_of_datagram};
 use merge_core::{Merge, Offered};

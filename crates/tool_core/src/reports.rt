@@ -5,7 +5,7 @@ ghost use Rattle.std.specs.Io.KnownBytes.{Appends};
 ghost use Rattle.archive_model.specs.declared.reply.Reply.TheVariants.{Recordings};
 ghost use Rattle.archive_model.specs.Register.{id_of};
 ghost use Rattle.control_core.specs.Decisions.{listed};
-ghost use Rattle.control_core.specs.ReplyText.{reply_text};
+ghost use Rattle.control_lines.specs.ReplyText.{reply_text};
 ghost use Rattle.tool_core.specs.Script.{FailsToAnswer};
 ghost use Rattle.tool_core.specs.Reports.{AnswersEach, HasReported, HasReportedFirst, HasReportedOne};
 

@@ -15,7 +15,7 @@ use crate::fault::{EarlyEnd, ScriptFault};
 use crate::lines::{LineBuffer, MAX_READS, read_line};
 use crate::state::ScriptState;
 use archive_model::Reply;
-use control_core::parse_line;
+use control_lines::parse_line;
 use disk_core::Disk;
 use frame_core::Refusal;
 use memchr::memchr;

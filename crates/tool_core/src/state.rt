@@ -8,7 +8,7 @@ ghost use Rattle.tool_core.specs.Tie.{GoesOn, IsScene, life_of};
 use crate::archive::ScriptArchive;
 use crate::merging::answer_merge;
 use archive_model::Reply;
-use control_core::Line;
+use control_lines::Line;
 use disk_core::Disk;
 use frame_core::Refusal;
 use merge_core::Merge;

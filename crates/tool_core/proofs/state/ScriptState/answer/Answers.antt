@@ -3,7 +3,7 @@ use Rattle.std.proofs.Common.{◌∙◌, ℕ, List, ap, refl, sym}
 use Rattle.std.specs.Prelude.{Ok, Err}
 use Rattle.frame_core.specs.declared.refusal.Refusal.TheVariants.{BadLine}
 use Rattle.archive_model.specs.declared.reply.Reply.TheVariants.{Bye}
-use Rattle.control_core.specs.declared.line.Line.TheVariants as lines
+use Rattle.control_lines.specs.declared.line.Line.TheVariants as lines
 use Rattle.tool_core.specs.ScriptLines.{Calls, Records, Reopens, WhereOpen, WritesBytes}
 use Rattle.tool_core.proofs.LineLemmas.{by_call, by_merge, by_none, by_want, shown}
 use Rattle.tool_core.proofs.state.ScriptState.answer.Goals.{in-Event, in-Write, in-Block, in-Merge, in-Quit, in-Compact}

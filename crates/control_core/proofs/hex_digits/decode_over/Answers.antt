@@ -1,6 +1,0 @@
-use Rattle.std.proofs.Common.{arith}
-use Rattle.control_core.proofs.DigitLemmas.{all_read}
-use Rattle.control_core.proofs.hex_digits.decode_over.Goals as goal
-
-pub returns : goal.returns
-returns c = all_read _ _ _ _ (omega arith) (omega arith) c.read_last.ensures.read

@@ -1,5 +1,0 @@
-use Rattle.control_core.specs.HexDigits.{IsReadTo}
-use Rattle.control_core.proofs.hex_digits.read_last.Given as goal
-
-abbrev pub invariant-loop-i : goal.invariant-loop-i
-invariant-loop-i l = IsReadTo l.text l.out l.i l.worst

@@ -1,5 +1,0 @@
-use Rattle.control_core.proofs.LineTextLemmas.{line_is_read}
-use Rattle.control_core.proofs.laws.spellings_are_read.Goals as goal
-
-pub returns : goal.returns
-returns c = line_is_read

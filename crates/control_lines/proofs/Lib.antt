@@ -1,0 +1,7 @@
+mod NumbersLemmas
+mod LinesLemmas
+mod HexCaseLemmas
+mod DigitLemmas
+mod PairLemmas
+mod WordLemmas
+mod LineTextLemmas
