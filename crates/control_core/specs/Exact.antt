@@ -1,6 +1,6 @@
 -- What each call of an archive is answered exactly, by its state with the frames, its desk and what its sessions wrote.
 -- docs/CONTROL.md, "Requests", "Recorder sessions" and "Replays".
-use Rattle.std.specs.Prelude.{◌≡◌, ◌⊎◌, ◌++◌, ◌+ℤ◌, ℕ, ℤ, pos, Bool, true, false, IsTrue, IsSomeAnd, MatchBool, List, [], ◌∷◌, length, unsigned_abs, Option, Some, None, is_none, is_some, Result, Ok, Err, if◌then◌else◌}
+use Rattle.std.specs.Prelude.{◌≡◌, ◌⊎◌, ◌++◌, ◌+ℤ◌, ℕ, ℤ, pos, Bool, true, false, IsTrue, IsSomeAnd, MatchBool, List, [], ◌∷◌, length, unsigned_abs, Option, Some, None, is_none, is_some, Result, Ok, Err, is_ok, if◌then◌else◌}
 use Rattle.std.specs.Ordering.{int_eq}
 use Rattle.frame_core.specs.declared.block.Block.{Block}
 use Rattle.frame_core.specs.declared.refusal.Refusal.{Refusal}
@@ -16,7 +16,7 @@ use Rattle.archive_model.specs.Keyed.{find}
 use Rattle.archive_model.specs.State.{Recording, State, geometry_of, id_of, publication_of, register_of, registration_of}
 use Rattle.archive_model.specs.Acceptance.{BookState}
 use Rattle.archive_model.specs.Accepting.{begins_in}
-use Rattle.archive_model.specs.Checks.{checked, checks}
+use Rattle.archive_model.specs.Checks.{checked, checks, passes}
 use Rattle.archive_model.specs.Commands.{after}
 use Rattle.archive_model.specs.Replay.{polled}
 use Rattle.control_core.specs.declared.asked.Asked.{Asked}
@@ -36,7 +36,7 @@ use Rattle.control_core.specs.declared.turns.Settling.{Settling}
 use Rattle.control_core.specs.declared.turns.Settling.TheVariants as settling
 use Rattle.control_core.specs.Desk.{DeskState, opened_desk}
 use Rattle.control_core.specs.Changes.{after_close, after_open, after_poll, after_write, broken_desk, desk_after, reply_after, settled}
-use Rattle.control_core.specs.Decisions.{accepted, decision_of}
+use Rattle.control_core.specs.Decisions.{accepted, command_in, decision_of}
 use Rattle.control_core.specs.Turns.{close_decision, is_done_at, open_decision, poll_decision, replay_in, session_in, settle_decision, sweep_tests, verify_tests, write_decision}
 use Rattle.control_core.specs.Machine.{OrOutside, Outcome}
 
@@ -190,20 +190,44 @@ ArchiveEnds a (events.Verify id) = Leaves a a (checked (verify_tests a.desk id) 
 abbrev pub broken : State → Archive → Archive
 broken u a = record a { desk = broken_desk a.desk; doubt = Some u }
 
--- a call that writes, and whose failing write breaks the archive
-abbrev pub breaks : Event → Bool
-breaks (events.Ask request) = true
-breaks (events.Write session block) = true
-breaks (events.Settle session) = true
-breaks _ = false
+abbrev pub waits_for_frames : Decision → Bool
+waits_for_frames (IfBoundary id position decided) = true
+waits_for_frames _ = false
+
+abbrev pub opens_by_frames : OpeningDecision → Bool
+opens_by_frames (opening.IfBoundary position decided) = true
+opens_by_frames (opening.Decided decided) = false
+
+abbrev pub has_blocks : Result Settling Refusal → Bool
+has_blocks (Ok (settling.Blocks id w)) = true
+has_blocks _ = false
+
+-- a call that is let through reads files, or removes those that no recording needs
+abbrev pub reads_files : DeskState → Event → Bool
+reads_files d (events.Ask request) = waits_for_frames (decision_of d request)
+reads_files d (events.ReplayOpen id position size) = opens_by_frames (open_decision d id position size)
+reads_files d (events.ReplayPoll number most) = is_ok (poll_decision d number most)
+reads_files d events.Sweep = passes (sweep_tests d) checks
+reads_files d (events.Verify id) = passes (verify_tests d id) checks
+reads_files d _ = false
+
+-- a call that is accepted writes what it makes
+abbrev pub writes_files : DeskState → Event → Bool
+writes_files d (events.Ask request) = is_some (command_in (decision_of d request))
+writes_files d (events.Write session block) = true
+writes_files d (events.Settle session) = has_blocks (settle_decision d session)
+writes_files d _ = false
 
 -- the state that the call makes where it is accepted
 abbrev pub Makes : Archive → Event → State → Type 0
 Makes a event u = (reply : Reply) × ((b : Archive) × ArchiveEnds a event (Ok reply) b × (b.state ≡ u))
 
--- after a device fault nothing has changed, or what the call makes is in doubt
+-- After a device fault in reading nothing has changed; after one in writing what the call makes is in doubt. A call that
+-- asks nothing of the device meets none.
 abbrev pub LeftByFault : Archive → Event → Archive → Type 0
-LeftByFault a event b = (b ≡ a) ⊎ (IsTrue (breaks event) × ((u : State) × Makes a event u × (b ≡ broken u a)))
+LeftByFault a event b =
+    (IsTrue (reads_files a.desk event) × (b ≡ a))
+    ⊎ (IsTrue (writes_files a.desk event) × ((u : State) × Makes a event u × (b ≡ broken u a)))
 
 -- What a call ends with: its answer, want of memory, which changes nothing, or a device fault where the device had one.
 abbrev pub CallEnds : Archive → Event → Type 0 → ArchiveEnd

@@ -1,6 +1,6 @@
 -- How a request is answered.
 use Rattle.std.proofs.Common.{◌≡◌, ◌++◌, ◌∙◌, inl, inr, sym, ap, subst, refl, Bool, true, false, true≢false, cond, Option, Some, None, IsTrue, IsFalse, List, [], ◌∷◌, ℤ}
-use Rattle.std.specs.Prelude.{IfOk, Result, Ok, Err, not, option_map}
+use Rattle.std.specs.Prelude.{IfOk, Result, Ok, Err, is_some, not, option_map}
 use Rattle.frame_core.specs.declared.refusal.Refusal.{Refusal}
 use Rattle.frame_core.specs.declared.refusal.Refusal.TheVariants.{BadPosition, DeviceFault, NoMemory}
 use Rattle.disk_core.specs.Life.{Life}
@@ -29,7 +29,7 @@ use Rattle.control_core.specs.Consistent.{IsAcceptable}
 use Rattle.control_core.specs.Decisions.{Allows, Decides, accepted, answered, command_in, command_tests, decided, decision_of, if_boundary, takes_memory, truncate_tests}
 use Rattle.control_core.specs.Desk.{DeskState}
 use Rattle.control_core.specs.Machine.{Outside}
-use Rattle.control_core.specs.Exact.{Archive, ArchiveEnds, CallEnds, DecisionEnds, archive_after, asked_frames, book_of, breaks, recording_at}
+use Rattle.control_core.specs.Exact.{Archive, ArchiveEnds, CallEnds, DecisionEnds, archive_after, asked_frames, book_of, recording_at, waits_for_frames, reads_files, writes_files}
 use Rattle.control_core.proofs.AgreementLemmas.{allowed, answered_none, at_boundary, in_front, passing}
 use Rattle.control_core.proofs.DecidedLemmas.{decided_accepted}
 use Rattle.engine_core.specs.Calls.{CommitEnds, Ended, is_cut}
@@ -40,7 +40,7 @@ pub ended_as : (old new : Life) (log : LogState) (desk : DeskState) (a : Archive
 ended_as old new log desk a P Q to ended = record { after = ended.after; ends = to ended.after ended.ends; consistent = ended.consistent; any_moment = ended.any_moment }
 
 -- a commit that is a call
-pub commit_call : (a : Archive) (event : Event) (reply : Reply) (b : Archive) (faulted : Type 0) (outcome : Result Reply Refusal) (c : Archive) → IsTrue (breaks event) → ArchiveEnds a event (Ok reply) b → CommitEnds a reply b faulted outcome c → CallEnds a event faulted outcome c
+pub commit_call : (a : Archive) (event : Event) (reply : Reply) (b : Archive) (faulted : Type 0) (outcome : Result Reply Refusal) (c : Archive) → IsTrue (writes_files a.desk event) → ArchiveEnds a event (Ok reply) b → CommitEnds a reply b faulted outcome c → CallEnds a event faulted outcome c
 commit_call a event reply b faulted (Ok told) c writes ends (is, same) = subst (λ (r : Reply). ArchiveEnds a event (Ok r) c) (sym is) (subst (λ (x : Archive). ArchiveEnds a event (Ok reply) x) (sym same) ends)
 commit_call a event reply b faulted (Err NoMemory) c writes ends same = inr same
 commit_call a event reply b faulted (Err DeviceFault) c writes ends (cause, same) = inr (cause, inr (writes, (b.state, (reply, (b, ends, refl)), same)))
@@ -210,31 +210,35 @@ begun_asked a request id position c r agrees is found begins =
 refused_as : (a : Archive) (request : Request) (refusal : Refusal) (outcome : Result Reply Refusal) (b : Archive) → asked_frames a (decision_of a.desk request) ≡ decisions.Refused refusal → (outcome ≡ Err refusal) × (b ≡ a) → ArchiveEnds a (events.Ask request) outcome b
 refused_as a request refusal outcome b is same = subst (λ (d : Decision). DecisionEnds a d outcome b) (sym is) same
 
-outside_call : (a : Archive) (event : Event) (faulted : Type 0) (refusal : Refusal) (b : Archive) → Outside a faulted (λ x. x ≡ a) refusal b → CallEnds a event faulted (Err refusal) b
-outside_call a event faulted NoMemory b is = inr is
-outside_call a event faulted DeviceFault b is = inr (is.0, inl is.1)
-outside_call a event faulted refusal b is = absurd is
+outside_call : (a : Archive) (event : Event) (faulted : Type 0) (refusal : Refusal) (b : Archive) → IsTrue (reads_files a.desk event) → Outside a faulted (λ x. x ≡ a) refusal b → CallEnds a event faulted (Err refusal) b
+outside_call a event faulted NoMemory b reads is = inr is
+outside_call a event faulted DeviceFault b reads is = inr (is.0, inl (reads, is.1))
+outside_call a event faulted refusal b reads is = absurd is
 
-begun_call : (a : Archive) (request : Request) (behind : Result Command Refusal) (faulted : Type 0) (outcome : Result Reply Refusal) (b : Archive) → asked_frames a (decision_of a.desk request) ≡ accepted behind → BegunEnds a behind faulted outcome b → CallEnds a (events.Ask request) faulted outcome b
-begun_call a request (Ok c) faulted outcome b is ends = commit_call a (events.Ask request) (reply_after a.desk c) (archive_after a c) faulted outcome b refl (accepted_ends a request c is) ends
-begun_call a request (Err refusal) faulted (Ok reply) b is ends = absurd (none ends.0)
+begun_call : (a : Archive) (request : Request) (id position : ℤ) (behind : Result Command Refusal) (faulted : Type 0) (outcome : Result Reply Refusal) (b : Archive) → decision_of a.desk request ≡ decisions.IfBoundary id position behind → asked_frames a (decision_of a.desk request) ≡ accepted behind
+    → BegunEnds a behind faulted outcome b → CallEnds a (events.Ask request) faulted outcome b
+begun_call a request id position (Ok c) faulted outcome b decides is ends = commit_call a (events.Ask request) (reply_after a.desk c) (archive_after a c) faulted outcome b (ap (λ (d : Decision). is_some (command_in d)) decides) (accepted_ends a request c is) ends
+begun_call a request id position (Err refusal) faulted (Ok reply) b decides is ends = absurd (none ends.0)
   where
     none : Ok reply ≡ Err refusal → ⊥
     none e = cc
-begun_call a request (Err refusal) faulted (Err other) b is ends = inl (refused_as a request refusal (Err other) b is ends)
+begun_call a request id position (Err refusal) faulted (Err other) b decides is ends = inl (refused_as a request refusal (Err other) b is ends)
 
 pub inside_ends : (a : Archive) (request : Request) (id position : ℤ) (behind : Result Command Refusal) (r : Recording) (faulted : Type 0) (outcome : Result Reply Refusal) (b : Archive) → decision_of a.desk request ≡ decisions.IfBoundary id position behind
     → recording_at a id ≡ Some r → InsideEnds a (begins_frame position r) behind faulted outcome b → CallEnds a (events.Ask request) faulted outcome b
 inside_ends a request id position behind r faulted outcome b is found = by (begins_frame position r) outcome (inside_is a request id position behind r is found)
   where
+    reads : IsTrue (reads_files a.desk (events.Ask request))
+    reads = ap waits_for_frames is
+
     by : (t : Bool) (o : Result Reply Refusal) → asked_frames a (decision_of a.desk request) ≡ cond t (accepted behind) (decisions.Refused BadPosition) → InsideEnds a t behind faulted o b → CallEnds a (events.Ask request) faulted o b
-    by true (Ok reply) asked ends = begun_call a request behind faulted (Ok reply) b asked ends
-    by true (Err refusal) asked ends = elim ends [ inl begun ↦ begun_call a request behind faulted (Err refusal) b asked begun | inr out ↦ outside_call a (events.Ask request) faulted refusal b out ]
+    by true (Ok reply) asked ends = begun_call a request id position behind faulted (Ok reply) b is asked ends
+    by true (Err refusal) asked ends = elim ends [ inl begun ↦ begun_call a request id position behind faulted (Err refusal) b is asked begun | inr out ↦ outside_call a (events.Ask request) faulted refusal b reads out ]
     by false (Ok reply) asked ends = absurd (none ends.0)
       where
         none : Ok reply ≡ Err BadPosition → ⊥
         none e = cc
-    by false (Err refusal) asked ends = elim ends [ inl bad ↦ inl (refused_as a request BadPosition (Err refusal) b asked bad) | inr out ↦ outside_call a (events.Ask request) faulted refusal b out ]
+    by false (Err refusal) asked ends = elim ends [ inl bad ↦ inl (refused_as a request BadPosition (Err refusal) b asked bad) | inr out ↦ outside_call a (events.Ask request) faulted refusal b reads out ]
 
 -- what the desk knows of a recording is what the state has
 pub record IsKnown (a : Archive) (id : ℤ) (g : Registration) : Type 0 where

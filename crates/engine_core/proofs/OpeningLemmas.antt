@@ -254,17 +254,18 @@ made_in (Ok log) old mid new limit files range obeyed none all = record {
     at_most true is = let more : 16777216 < limit = grind (arith, nat_tests) in let bad = range.1 (inr more) in absurd cc
     at_most false is = grind (arith, nat_tests)
 
-pub refused_in : {X : Type 0} (result : Result X Refusal) (old mid new : Life) (limit : ℕ) → (IsErrOf result BadParameter ↔ ((limit < 1) ⊎ (16777216 < limit))) → IsQuiet old mid
+pub refused_in : {X : Type 0} (result : Result X Refusal) (old mid new : Life) (limit : ℕ) (files : List FileId) → (IsErrOf result BadParameter ↔ ((limit < 1) ⊎ (16777216 < limit))) → IsQuiet old mid → (IsTrue new.obeys → IsTrue mid.obeys) → files ≡ []
+    → (IsTrue mid.obeys → AreFilesWith (λ file. IsSome (reads old.now file)) files)
     → IfErr result (λ refusal. ((refusal ≡ BadParameter) × (new ≡ mid)) ⊎ ((refusal ≡ DeviceFault) × HasFailed mid new)) → IfErr result (RefusesNew old new limit)
-refused_in (Ok log) old mid new limit range quiet refused = tt
-refused_in (Err refusal) old mid new limit range quiet (inl bad) =
+refused_in (Ok log) old mid new limit files range quiet obeyed none all refused = tt
+refused_in (Err refusal) old mid new limit files range quiet obeyed none all (inl bad) =
     let out : (limit < 1) ⊎ (16777216 < limit) = range.0 (ap Err bad.0) in
     subst (λ (r : Refusal). RefusesNew old new limit r) (sym bad.0)
     (subst (λ (life : Life). IsQuiet old life) (sym bad.1) quiet, elim out [ inl low ↦ inl low | inr high ↦ inr (inl high) ])
-refused_in (Err refusal) old mid new limit range quiet (inr fault) =
+refused_in (Err refusal) old mid new limit files range quiet obeyed none all (inr fault) =
     let failed = fault.1 in
     let faults = quiet.faults in
-    subst (λ (r : Refusal). RefusesNew old new limit r) (sym fault.0) (omega (arith, failed, faults))
+    subst (λ (r : Refusal). RefusesNew old new limit r) (sym fault.0) (omega (arith, failed, faults), inr (λ obeys. none_there old files none (all (obeyed obeys))))
 
 pub empty_list : (files : List FileId) → length files ≡ 0 → files ≡ []
 empty_list [] none = refl

@@ -20,7 +20,7 @@ use Rattle.control_core.specs.declared.event.Event.TheVariants as events
 use Rattle.control_core.specs.Changes.{after_poll}
 use Rattle.control_core.specs.Callers.{moved_to, replay_number}
 use Rattle.control_core.specs.Desk.{DeskState}
-use Rattle.control_core.specs.Exact.{Archive, ArchiveEnds, CallEnds, Leaves, PolledEnds, PollingEnds, frames_end, goes_on, recording_at, with_desk}
+use Rattle.control_core.specs.Exact.{Archive, ArchiveEnds, CallEnds, Leaves, PolledEnds, PollingEnds, frames_end, goes_on, reads_files, recording_at, with_desk}
 use Rattle.control_core.specs.Turns.{poll_decision, poll_tests, replay_in, replay_of}
 use Rattle.engine_core.specs.Calls.{Ended}
 use Rattle.engine_core.specs.Consistent.{IsConsistent}
@@ -93,9 +93,9 @@ checked_ok {X = X} {Y = Y} tests (r ∷ rs) x z y is = by (tests r) is (checked_
     by false e later = absurd cc
 
 -- a read that failed by a fault of the disk, or by want of memory
-pub outside_read : (a : Archive) (event : Event) (faulted : Type 0) (outcome : Result Reply Refusal) (refusal : Refusal) → outcome ≡ Err refusal → IsOutside refusal → (refusal ≡ DeviceFault → faulted) → CallEnds a event faulted outcome a
+pub outside_read : (a : Archive) (event : Event) (faulted : Type 0) (outcome : Result Reply Refusal) (refusal : Refusal) → outcome ≡ Err refusal → IsOutside refusal → (refusal ≡ DeviceFault → faulted × IsTrue (reads_files a.desk event)) → CallEnds a event faulted outcome a
 outside_read a event faulted outcome refusal is outside cause = subst (λ (o : Result Reply Refusal). CallEnds a event faulted o a) (sym is)
-    (elim outside [ inl fault ↦ subst (λ (r : Refusal). CallEnds a event faulted (Err r) a) (sym fault) (inr (cause fault, inl refl)) | inr memory ↦ subst (λ (r : Refusal). CallEnds a event faulted (Err r) a) (sym memory) (inr refl) ])
+    (elim outside [ inl fault ↦ (let why = cause fault in subst (λ (r : Refusal). CallEnds a event faulted (Err r) a) (sym fault) (inr (why.0, inl (why.1, refl)))) | inr memory ↦ subst (λ (r : Refusal). CallEnds a event faulted (Err r) a) (sym memory) (inr refl) ])
 
 -- a call for which memory was refused
 pub unkept : (a : Archive) (event : Event) (faulted : Type 0) (outcome : Result Reply Refusal) (refusal : Refusal) → outcome ≡ Err refusal → refusal ≡ NoMemory → CallEnds a event faulted outcome a

@@ -21,7 +21,7 @@ use Rattle.control_core.specs.declared.turns.OpeningDecision.{OpeningDecision}
 use Rattle.control_core.specs.declared.turns.OpeningDecision.TheVariants as opening
 use Rattle.control_core.specs.Changes.{after_open}
 use Rattle.control_core.specs.Desk.{DeskState}
-use Rattle.control_core.specs.Exact.{Archive, CallEnds, OpeningEnds, asked_opening, recording_at, with_desk}
+use Rattle.control_core.specs.Exact.{Archive, CallEnds, OpeningEnds, asked_opening, opens_by_frames, recording_at, with_desk}
 use Rattle.control_core.specs.Turns.{begins_at, open_decision, open_tests, opened_at, opening_decided, opening_in, opening_of}
 use Rattle.engine_core.specs.Consistent.{IsConsistent}
 use Rattle.engine_core.specs.Reading.{IsRead}
@@ -120,11 +120,11 @@ is_opened decided faulted o is = elim is [ inl same ↦ sym same | inr fault ↦
 
 module _ (a : Archive) (id position size : ℤ) (faulted : Type 0) where
   -- it is refused, or the frames cannot be read
-  pub opening_refused : (outcome : Result Reply Refusal) (refusal : Refusal) → outcome ≡ Err refusal → IsDecided (asked_opening a id (open_decision a.desk id position size)) faulted (Err refusal)
+  pub opening_refused : (outcome : Result Reply Refusal) (refusal : Refusal) → outcome ≡ Err refusal → IsDecided (asked_opening a id (open_decision a.desk id position size)) (faulted × IsTrue (opens_by_frames (open_decision a.desk id position size))) (Err refusal)
       → CallEnds a (events.ReplayOpen id position size) faulted outcome a
   opening_refused outcome refusal is decided = subst (λ (x : Result Reply Refusal). CallEnds a (events.ReplayOpen id position size) faulted x a) (sym is) (elim decided [
     | inl same ↦ inl (subst (λ (d : Result Opening Refusal). OpeningEnds a d (Err refusal) a) same (refl, refl))
-    | inr fault ↦ let failed : DeviceFault ≡ refusal = (let e = fault.0 in cc) in subst (λ (x : Refusal). CallEnds a (events.ReplayOpen id position size) faulted (Err x) a) failed (inr (fault.1, inl refl))
+    | inr fault ↦ let failed : DeviceFault ≡ refusal = (let e = fault.0 in cc) in subst (λ (x : Refusal). CallEnds a (events.ReplayOpen id position size) faulted (Err x) a) failed (inr (fault.1.0, inl (fault.1.1, refl)))
   ])
 
   pub opening_ends : (o : Opening) (number : ℤ) → asked_opening a id (open_decision a.desk id position size) ≡ Ok o → number ≡ a.desk.callers.next_replay

@@ -101,7 +101,7 @@ calls_push events outcomes i event outcome within is answered =
     ap (λ (es : List Event). calls_of es (outcomes ++ outcome ∷ [])) more ∙ calls_both (take i events) outcomes event outcome same
 
 -- a fault more, where one is answered
-fault_more : (old mid new : Life) (outcomes : List (Result Reply Refusal)) (outcome : Result Reply Refusal) → HasFailedOften (faults_in outcomes) old mid → mid.faults ≤ new.faults → (outcome ≡ Err DeviceFault → HasFailed mid new)
+pub fault_more : (old mid new : Life) (outcomes : List (Result Reply Refusal)) (outcome : Result Reply Refusal) → HasFailedOften (faults_in outcomes) old mid → mid.faults ≤ new.faults → (outcome ≡ Err DeviceFault → HasFailed mid new)
     → HasFailedOften (faults_in (outcomes ++ outcome ∷ [])) old new
 fault_more old mid new outcomes outcome so_far faults cause = subst (λ (n : ℕ). HasFailedOften n old new) (sym counted) (by outcome cause)
   where
@@ -139,7 +139,7 @@ next_run old mid new old_log log new_log old_desk desk new_desk events i event o
       subst (λ (calls : List Call). Ran old new new_log new_desk a calls) (sym (calls_push events outcomes i event outcome within is so_far.answered))
       (ran_more old mid new log new_log desk new_desk a (calls_of (take i events) outcomes) event outcome (so_far.ran a was (obeyed obeys))
       (λ b there. ended_as mid new new_log new_desk b (EndsAs mid new event b outcome) (λ c. CallEnds b event (Unit {0}) outcome c)
-      (λ c ends. call_weaker b event (HasFailed mid new) outcome c (ends (λ reads. obeys))) (step b there (λ cut. obeys))));
+      (λ c ends. call_weaker b event (HasFailed mid new) outcome c (ends.0 (λ reads. obeys))) (step b there (λ cut. obeys))));
 }
 
 -- all are

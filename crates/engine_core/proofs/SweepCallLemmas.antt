@@ -17,7 +17,7 @@ use Rattle.segment_store.specs.Stored.{HoldsFrames}
 use Rattle.archive_model.specs.declared.registration.Registration.{Registration}
 use Rattle.archive_model.specs.declared.reply.Reply.{Reply}
 use Rattle.archive_model.specs.declared.reply.Reply.TheVariants as replies
-use Rattle.archive_model.specs.Checks.{checked, checks, is_of}
+use Rattle.archive_model.specs.Checks.{checked, checks, is_of, passes}
 use Rattle.archive_model.specs.Keyed.{find}
 use Rattle.archive_model.specs.Register as register
 use Rattle.archive_model.specs.Register.{registration_in}
@@ -119,9 +119,12 @@ module _ (old new : Life) (log : LogState) (desk : DeskState) (a : Archive) (was
 abbrev pub sweep_decision : DeskState → Result (Unit {0}) Refusal
 sweep_decision d = checked (sweep_tests d) checks (Ok tt)
 
+pub sweep_passes : (d : DeskState) (x : Unit {0}) → sweep_decision d ≡ Ok x → passes (sweep_tests d) checks ≡ true
+sweep_passes d x is = (held (sweep_tests d) checks tt x is).0
+
 -- nothing has failed where it is
 sweep_works : (d : DeskState) (x : Unit {0}) → sweep_decision d ≡ Ok x → d.is_broken ≡ false
-sweep_works d x is = not_so d.is_broken (both (held (sweep_tests d) checks tt x is).0).0
+sweep_works d x is = not_so d.is_broken (both (sweep_passes d x is)).0
 
 -- so the archive stays as it is, however the sweep ends
 pub sweep_ended : (old new : Life) (log new_log : LogState) (desk : DeskState) (a : Archive) (keeps : List Keep) (x : Unit {0}) (Ends : Archive → Type 0) → IsConsistent old log desk a → KeepsSeats desk.register desk.callers → Ok x ≡ sweep_decision desk → keeps ≡ registered_keeps desk.register

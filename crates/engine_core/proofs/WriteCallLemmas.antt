@@ -161,11 +161,11 @@ module _ (old : Life) (log : LogState) (desk : DeskState) (a : Archive) (n : ℤ
       seats : KeepsSessions a.desk.register a.desk.callers.sessions a.desk.callers.next_session
       seats = target.seats.sessions
 
-      pub write_failed : (told : Refusal) (new_desk : DeskState) (faulted : Type 0) → told ≡ DeviceFault → faulted → new_desk ≡ broken_desk desk → Ended old new new_log new_desk a (λ b. (IsTrue false → IsTrue new.obeys) → CallEnds a (events.Write n block) faulted (Err told) b)
+      pub write_failed : (told : Refusal) (new_desk : DeskState) (faulted : Type 0) → told ≡ DeviceFault → faulted → new_desk ≡ broken_desk desk → Ended old new new_log new_desk a (λ b. ((IsTrue false → IsTrue new.obeys) → CallEnds a (events.Write n block) faulted (Err told) b) × Unit {0})
       write_failed told new_desk faulted device cause same =
           failed old new new_log new_desk a a.state _ was.well was.agrees moves.any_moment moves.frames (same ∙ ap broken_desk was.desk_is)
           (written_failing (reads old.now) (reads new.now) a.state a.desk.callers a.blocks n target.session r opened only was.written a.desk.callers.next_session seats.rising seats.apart)
-          (λ obeys. was.reading (changes.obeyed obeys)) (λ nothing. subst (λ (x : Refusal). CallEnds a (events.Write n block) faulted (Err x) (broken a.state a)) (sym device) (inr (cause, inr (refl, (a.state, (reply, (written a n block, write_ends, refl)), refl)))))
+          (λ obeys. was.reading (changes.obeyed obeys)) ((λ nothing. subst (λ (x : Refusal). CallEnds a (events.Write n block) faulted (Err x) (broken a.state a)) (sym device) (inr (cause, inr (refl, (a.state, (reply, (written a n block, write_ends, refl)), refl))))), tt)
 
       ready : (new_desk : DeskState) → new_log ≡ log → new_desk ≡ after_write n (span_to block end) desk
           → HoldsFrames (reads new.now) layout (unsigned_abs block.position) block.frames (unsigned_abs block.position + covered block.frames) → IsReady new new_log new_desk (written a n block)
@@ -186,10 +186,10 @@ module _ (old : Life) (log : LogState) (desk : DeskState) (a : Archive) (n : ℤ
 
       pub write_done : (new_desk : DeskState) (faulted : Type 0) → result ≡ Ok tt → new_log ≡ log → new_desk ≡ after_write n (span_to block end) desk
           → HoldsFrames (reads new.now) layout (unsigned_abs block.position) block.frames (unsigned_abs block.position + covered block.frames)
-          → Ended old new new_log new_desk a (λ b. (IsTrue false → IsTrue new.obeys) → CallEnds a (events.Write n block) faulted (Ok reply) b)
+          → Ended old new new_log new_desk a (λ b. ((IsTrue false → IsTrue new.obeys) → CallEnds a (events.Write n block) faulted (Ok reply) b) × Unit {0})
       write_done new_desk faulted went same_log same stand =
           let rested : Moves old new new_log a.state a.state (Ok tt) = subst (Moves old new new_log a.state a.state) went moves in
-          done old new new_log new_desk a (written a n block) _ rested.any_moment rested.rests (ready new_desk same_log same stand) (λ nothing. write_ends)
+          done old new new_log new_desk a (written a n block) _ rested.any_moment rested.rests (ready new_desk same_log same stand) ((λ nothing. write_ends), tt)
 
 -- ---- what an orderly desk asks of the files
 

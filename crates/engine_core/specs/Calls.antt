@@ -10,7 +10,7 @@ use Rattle.control_core.specs.declared.event.Event.{Event}
 use Rattle.control_core.specs.declared.event.Event.TheVariants as events
 use Rattle.control_core.specs.declared.request.Request.TheVariants.{Truncate}
 use Rattle.control_core.specs.Desk.{DeskState}
-use Rattle.control_core.specs.Exact.{Archive, ArchiveEnd, CallEnds, broken}
+use Rattle.control_core.specs.Exact.{Archive, ArchiveEnd, CallEnds, broken, with_desk}
 use Rattle.engine_core.specs.Recovery.{RecoversTo}
 use Rattle.engine_core.specs.Consistent.{IsConsistent, MayStand, MayStandIn}
 
@@ -42,9 +42,17 @@ is_cut _ = false
 abbrev pub IfRead : Bool → Life → Type 0 → Type 0
 IfRead reading life Fact = (IsTrue reading → IsTrue life.obeys) → Fact
 
+-- what a call leaves whatever it has read: a replay's calls change the desk alone, a sweep and a verification nothing
+abbrev pub Keeps : Event → Archive → Archive → Type 0
+Keeps (events.ReplayOpen id position size) a b = b ≡ with_desk b.desk a
+Keeps (events.ReplayPoll number most) a b = b ≡ with_desk b.desk a
+Keeps events.Sweep a b = b ≡ a
+Keeps (events.Verify id) a b = b ≡ a
+Keeps _ a b = Unit {0}
+
 -- the exact end of a call
 abbrev pub EndsAs : Life → Life → Event → Archive → Result Reply Refusal → Archive → Type 0
-EndsAs old new event a outcome b = IfRead (is_read event) new (CallEnds a event (HasFailed old new) outcome b)
+EndsAs old new event a outcome b = IfRead (is_read event) new (CallEnds a event (HasFailed old new) outcome b) × Keeps event a b
 
 -- ---- a commit
 

@@ -20,11 +20,12 @@ pub record ReadsAsBefore (old new : Life) : Type 0 where
   pub obeyed : IsTrue new.obeys → IsTrue old.obeys
   pub faults : old.faults ≤ new.faults
 
--- no archive is made: the history limit is out of its range, or a file is there; a fault, or want of memory for the listing
+-- no archive is made: the history limit is out of its range, or a file is there; a fault of the listing, or behind it where
+-- no file was; or want of memory for the listing
 abbrev pub RefusesNew : Life → Life → ℕ → Refusal → Type 0
 RefusesNew old new limit BadParameter =
     IsQuiet old new × ((limit < 1) ⊎ (16777216 < limit) ⊎ (IsTrue new.obeys → (file : FileId) × IsSome (reads old.now file)))
-RefusesNew old new limit DeviceFault = HasFailed old new
+RefusesNew old new limit DeviceFault = HasFailed old new × (IsQuiet old new ⊎ (IsTrue new.obeys → (file : FileId) → reads old.now file ≡ None))
 RefusesNew old new limit NoMemory = IsQuiet old new
 RefusesNew old new limit _ = ⊥
 

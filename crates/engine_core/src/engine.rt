@@ -136,6 +136,9 @@ impl<D: Disk> Engine<D> {
             reads (D.life refused.disk).now file ≡ reads (D.life disk).now file) }
         ensures kept { IfErr result (λ refused. (refused.refusal ≡ DeviceFault)
             ⊎ ReadsAsBefore (D.life disk) (D.life refused.disk)) }
+        // Nothing is written where no recording was active.
+        ensures idle { IfOk result (λ engine. engine.restarted ≡ pos 0 →
+            ReadsAsBefore (D.life disk) (D.life engine.parts.storage.disk)) }
     {
         let mut disk = disk;
         match opening::read_desk(alloc, &mut disk) {
@@ -164,6 +167,8 @@ fn start<D: Disk>(parts: Parts<D>) -> Result<Engine<D>, OpenRefusal<D>>
     ensures desk { IfOk result (λ engine. (g : RegisterState) (counted limit : ℕ) →
         parts.desk.state ≡ opened_desk g counted limit →
         engine.parts.desk.state ≡ opened_desk (all_stopped g) counted limit) }
+    ensures idle { IfOk result (λ engine. engine.restarted ≡ pos 0 →
+        D.life engine.parts.storage.disk ≡ D.life parts.storage.disk) }
     // Whatever the archive is, where its log works.
     ensures outside { IfErr result (λ refused. IsFalse parts.storage.log.is_broken →
         (refused.refusal ≡ DeviceFault) ⊎ (refused.refusal ≡ NoMemory)) }

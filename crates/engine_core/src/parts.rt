@@ -59,6 +59,8 @@ impl<D: Disk> Parts<D> {
         ensures desk { OnOk result ((g : RegisterState) (counted limit : ℕ) →
             self.old.desk.state ≡ opened_desk g counted limit →
             self.new.desk.state ≡ opened_desk (all_stopped g) counted limit) }
+        ensures idle { IfOk result (λ stopped. stopped ≡ pos 0 →
+            D.life self.new.storage.disk ≡ D.life self.old.storage.disk) }
         // Whatever the archive is, where its log works.
         ensures refused { IfErr result (λ refusal. IsFalse self.old.storage.log.is_broken →
             (refusal ≡ DeviceFault) ⊎ (refusal ≡ NoMemory)) }

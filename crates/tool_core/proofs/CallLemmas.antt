@@ -98,7 +98,7 @@ pub record Stepped (new : Life) (log : LogState) (desk : DeskState) (a : Archive
 pub stepped : (old new : Life) (log : LogState) (desk : DeskState) (a : Archive) (event : Event) (outcome : Result Reply Refusal) → Works old new → a.doubt ≡ None
     → Ended old new log desk a (EndsAs old new event a outcome) → Stepped new log desk a event outcome
 stepped old new log desk a event outcome works certain ended =
-    let ends : Calls event a outcome ended.after = steady a event (HasFailed old new) outcome ended.after (not_failed old new works) (ended.ends (λ reads. works.obeys)) in
+    let ends : Calls event a outcome ended.after = steady a event (HasFailed old new) outcome ended.after (not_failed old new works) (ended.ends.0 (λ reads. works.obeys)) in
     record { after = ended.after; consistent = ended.consistent; certain = calls_doubt a event outcome ended.after ends ∙ certain; ends = ends }
 
 -- ---- a script's archive
@@ -113,7 +113,7 @@ called life archive old new event outcome s is step stands works =
   where
     by : (s : Standing) → IsStanding life (Open old) s → Works (life old.parts.storage.disk) (life new.parts.storage.disk) → (t : Standing) × IsStanding life (Open new) t × WhereOpen (Calls event) s outcome t
     by (closed a) stands works = absurd stands
-    by (refused why) stands works = absurd stands
+    by (refused image why) stands works = absurd stands
     by (opened a) stands works =
         let done = stepped (life old.parts.storage.disk) (life new.parts.storage.disk) new.parts.storage.log new.parts.desk.state a event outcome works stands.1 (step a stands.0 (λ cut. works.obeys)) in
         (opened done.after, (done.consistent, done.certain), done.ends)

@@ -3,7 +3,6 @@ use Rattle.std.proofs.Common.{◌≡◌, ◌≤◌, ◌⊎◌, ℕ, Bool, true, 
 use Rattle.std.specs.Io.KnownBytes.{Keeps}
 use Rattle.std.proofs.KnownBytes.{Appends-kept, Keeps-refl}
 use Rattle.std.specs.Prelude.{IfErr, IfSome, OnOk}
-use Rattle.disk_core.specs.DiskImage.{MayLeave, reads}
 use Rattle.disk_core.specs.Life.{Life}
 use Rattle.tool_core.specs.declared.archive.ScriptArchive.{ScriptArchive}
 use Rattle.tool_core.specs.declared.fault.EarlyEnd.{EarlyEnd}
@@ -74,9 +73,9 @@ module _ (a : Standing) (Left Right : Scene → Type 0) (follows : (s : Scene) �
 -- ---- the end of a script
 
 -- the disk of a script leaves its scene
-pub scene_left : {D : Type 0} (life : D → Life) (state : ScriptState D) (disk : D) → ((d : D) → MayLeave (life d).now (reads (life d).now)) → life disk ≡ life_of life state.archive → (s : Scene) → IsScene life state s → LeavesScene (life disk) s
-scene_left life state disk may same s is =
-    subst (λ (l : Life). LeavesScene l s) (sym same) (standing_left life state.archive s.archive may is.0)
+pub scene_left : {D : Type 0} (life : D → Life) (state : ScriptState D) (disk : D) → life disk ≡ life_of life state.archive → (s : Scene) → IsScene life state s → LeavesScene (life disk) s
+scene_left life state disk same s is =
+    subst (λ (l : Life). LeavesScene l s) (sym same) (standing_left life state.archive s.archive is.0)
 
 -- what a script does from its opening to its last line
 pub record Ran {D : Type 0} (life : D → Life) (start : Life) (archive : ScriptArchive D) (old new : ScriptState D) (input contents written : Option (List ℕ)) (result : Result (Unit {0}) EarlyEnd) : Type 0 where
@@ -110,30 +109,30 @@ from life start archive old new disk input contents written result ran same a be
 
 -- it was read to its end, and handed on
 pub ends_well : {D : Type 0} (life : D → Life) (start : Life) (archive : ScriptArchive D) (old new : ScriptState D) (disk : D) (input contents written flushed : Option (List ℕ)) (result : Result (Unit {0}) EarlyEnd) (is_flushed : Bool)
-    → Ran life start archive old new input contents written result → Ok tt ≡ ended_by result is_flushed → ((d : D) → MayLeave (life d).now (reads (life d).now)) → life disk ≡ life_of life new.archive → Keeps written flushed
+    → Ran life start archive old new input contents written result → Ok tt ≡ ended_by result is_flushed → life disk ≡ life_of life new.archive → Keeps written flushed
     → (a : Standing) → Begins start a → Works start (life disk) → Writes input contents flushed (IsTranscript a (LeavesScene (life disk)))
-ends_well life start archive old new disk input contents written flushed (Ok done) is_flushed ran is may same keeps a begins works =
+ends_well life start archive old new disk input contents written flushed (Ok done) is_flushed ran is same keeps a begins works =
     let here = from life start archive old new disk input contents written (Ok done) ran same a begins works in
-    whole_as a (IsScene life new) (LeavesScene (life disk)) (scene_left life new disk may same) input contents written flushed keeps (ran.whole a here.scene here.works)
-ends_well life start archive old new disk input contents written flushed (Err end) is_flushed ran is may same keeps a begins works = let wrong : Ok tt ≡ Err end = is in absurd cc
+    whole_as a (IsScene life new) (LeavesScene (life disk)) (scene_left life new disk same) input contents written flushed keeps (ran.whole a here.scene here.works)
+ends_well life start archive old new disk input contents written flushed (Err end) is_flushed ran is same keeps a begins works = let wrong : Ok tt ≡ Err end = is in absurd cc
 
 -- or not
 pub ends_early : {D : Type 0} (life : D → Life) (start : Life) (archive : ScriptArchive D) (old new : ScriptState D) (disk : D) (input contents written flushed : Option (List ℕ)) (result : Result (Unit {0}) EarlyEnd) (is_flushed : Bool) (end : EarlyEnd)
-    → Ran life start archive old new input contents written result → Err end ≡ ended_by result is_flushed → ((d : D) → MayLeave (life d).now (reads (life d).now)) → life disk ≡ life_of life new.archive → Keeps written flushed
+    → Ran life start archive old new input contents written result → Err end ≡ ended_by result is_flushed → life disk ≡ life_of life new.archive → Keeps written flushed
     → (a : Standing) → Begins start a → Works start (life disk) → EndsEarly end a (LeavesScene (life disk)) input contents flushed
-ends_early life start archive old new disk input contents written flushed (Ok done) true end ran is may same keeps a begins works = let wrong : Err end ≡ Ok done = is in absurd cc
-ends_early life start archive old new disk input contents written flushed (Ok done) false end ran is may same keeps a begins works =
+ends_early life start archive old new disk input contents written flushed (Ok done) true end ran is same keeps a begins works = let wrong : Err end ≡ Ok done = is in absurd cc
+ends_early life start archive old new disk input contents written flushed (Ok done) false end ran is same keeps a begins works =
     let here = from life start archive old new disk input contents written (Ok done) ran same a begins works in
     let fault : Err end ≡ Err ends.Write = is in
     let same_end : ends.Write ≡ end = cc in
     subst (λ (e : EarlyEnd). EndsEarly e a (LeavesScene (life disk)) input contents flushed) same_end
-    (unflushed a (IsScene life new) (LeavesScene (life disk)) (scene_left life new disk may same) input contents written flushed (ran.whole a here.scene here.works))
-ends_early life start archive old new disk input contents written flushed (Err early) is_flushed end ran is may same keeps a begins works =
+    (unflushed a (IsScene life new) (LeavesScene (life disk)) (scene_left life new disk same) input contents written flushed (ran.whole a here.scene here.works))
+ends_early life start archive old new disk input contents written flushed (Err early) is_flushed end ran is same keeps a begins works =
     let here = from life start archive old new disk input contents written (Err early) ran same a begins works in
     let fault : Err end ≡ Err early = is in
     let same_end : early ≡ end = cc in
     subst (λ (e : EarlyEnd). EndsEarly e a (LeavesScene (life disk)) input contents flushed) same_end
-    (early_as a (IsScene life new) (LeavesScene (life disk)) (scene_left life new disk may same) early input contents written flushed keeps (ran.early a here.scene here.works))
+    (early_as a (IsScene life new) (LeavesScene (life disk)) (scene_left life new disk same) early input contents written flushed keeps (ran.early a here.scene here.works))
 
 -- as its fault has it
 pub fault_as : {D : Type 0} (life : D → Life) (start : Life) (fault : ScriptFault D) (end : EarlyEnd) (disk : D) (input contents flushed : Option (List ℕ)) → end_of fault ≡ end → disk_of fault ≡ disk

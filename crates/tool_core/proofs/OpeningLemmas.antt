@@ -15,7 +15,6 @@ use Rattle.archive_model.specs.Commands.{after}
 use Rattle.archive_model.specs.State.{State, active_count}
 use Rattle.catalogue_log.specs.declared.bank.BankHeader.{BankHeader}
 use Rattle.catalogue_log.specs.declared.entry.Entry.{Entry}
-use Rattle.catalogue_log.specs.Bank.{IsBank}
 use Rattle.catalogue_log.specs.Catalogue.{IsCatalogue, RefusesBank, RefusesCatalogue}
 use Rattle.catalogue_log.specs.Fold.{counts}
 use Rattle.catalogue_log.specs.LogState.{LogState}
@@ -32,9 +31,9 @@ use Rattle.engine_core.proofs.RecoveryLemmas.{one_state, sound_recovers}
 use Rattle.engine_core.specs.declared.engine.Engine.{Engine}
 use Rattle.tool_core.specs.declared.archive.ScriptArchive.{ScriptArchive}
 use Rattle.tool_core.specs.declared.archive.ScriptArchive.TheVariants.{Open, Closed}
-use Rattle.tool_core.specs.Script.{Begins, IsRefusedBy, LeavesStanding, Opens, Restarts, Works}
+use Rattle.tool_core.specs.Script.{Begins, IsRefused, IsRefusedBy, LeavesArchive, LeavesStanding, Opens, Restarts, Works}
 use Rattle.tool_core.specs.ScriptLines.{Reopens, ReopensAs, Standing, closed, opened, refused, reopened}
-use Rattle.tool_core.specs.Tie.{GoesOn, IsKept, IsStanding, closed_by, life_of}
+use Rattle.tool_core.specs.Tie.{GoesOn, IsStanding, closed_by, life_of}
 use Rattle.tool_core.proofs.WorksLemmas.{not_failed, works_then}
 
 -- ---- an archive at which nobody calls yet
@@ -90,44 +89,44 @@ reads_as_before life = record { same = λ file. refl; any_moment = started life 
 -- ---- closing, and opening again
 
 -- what an open archive leaves
-pub kept : (life : Life) (log : LogState) (desk : DeskState) (a : Archive) → IsConsistent life log desk a → a.doubt ≡ None → MayLeave life.now (reads life.now) → IsKept life a
-kept life log desk a was certain may =
+pub kept : (life : Life) (log : LogState) (desk : DeskState) (a : Archive) → IsConsistent life log desk a → a.doubt ≡ None → LeavesArchive life a
+kept life log desk a was certain =
     let sound = was.sound certain in
     let history = was.history certain in
     let counted : a.desk.counted ≡ count_by counts sound.entries = ap (λ (d : DeskState). d.counted) (sym was.desk_is) ∙ sym history.counted ∙ sound.rests.is_log.counted in
     let limit : a.desk.limit ≡ log.header.history_limit = ap (λ (d : DeskState). d.limit) (sym was.desk_is) ∙ sym history.limit in
     record {
-      leaves = λ image left. sound_recovers life.now log a.state image sound left;
+      recovers = λ image left. sound_recovers life.now log a.state image sound left;
       header = log.header;
       entries = sound.entries;
-      catalogue = rest_left life.now log sound.entries (reads life.now) sound.rests may;
+      catalogue = λ image left. rest_left life.now log sound.entries image sound.rests left;
       counted = counted;
       limit = limit;
     }
 
-leaves_one : (life : Life) (a : Archive) → IsKept life a → LeavesEither life a.state a.state
-leaves_one life a was image left = record { state = a.state; is = inl refl; recovers = was.leaves image left }
+leaves_one : (life : Life) (a : Archive) → LeavesArchive life a → LeavesEither life a.state a.state
+leaves_one life a was image left = record { state = a.state; is = inl refl; recovers = was.recovers image left }
 
 -- the state that was read is the archive's
 read_is : (old new : Life) (log : LogState) (desk : DeskState) (count : ℤ) (a : Archive) (o : IsOpened old new log desk count a.state a.state) → o.read ≡ a.state
 read_is old new log desk count a o = elim o.is [ inl same ↦ same | inr same ↦ same ]
 
-pub opened_again : (old new : Life) (log : LogState) (desk : DeskState) (count : ℤ) (a : Archive) → IsKept old a → IsOpened old new log desk count a.state a.state → IsAt new log desk (reopened a) × (count ≡ pos (active_count a.state))
-opened_again old new log desk count a was o =
+pub opened_again : (old new : Life) (log : LogState) (desk : DeskState) (count : ℤ) (a : Archive) → LeavesArchive old a → MayLeave old.now (reads old.now) → IsOpened old new log desk count a.state a.state → IsAt new log desk (reopened a) × (count ≡ pos (active_count a.state))
+opened_again old new log desk count a was may o =
     let same : o.read ≡ a.state = read_is old new log desk count a o in
-    let is : o.archive ≡ opened_archive (after o.read Restart) (count_by counts was.entries) was.header.history_limit = fresh_is (reads old.now) (after o.read Restart) o.archive was.header was.entries o.fresh was.catalogue in
+    let is : o.archive ≡ opened_archive (after o.read Restart) (count_by counts was.entries) was.header.history_limit = fresh_is (reads old.now) (after o.read Restart) o.archive was.header was.entries o.fresh (was.catalogue (reads old.now) may) in
     let whole : o.archive ≡ reopened a = is ∙ ap (λ (x : State). opened_archive (after x Restart) (count_by counts was.entries) was.header.history_limit) same
     ∙ ap (λ (n : ℕ). opened_archive (after a.state Restart) n was.header.history_limit) (sym was.counted)
     ∙ ap (λ (n : ℕ). opened_archive (after a.state Restart) a.desk.counted n) (sym was.limit) in
     (at_fresh new log desk (reads old.now) (after o.read Restart) (reopened a) o.archive o.consistent o.fresh whole, o.stopped ∙ ap (λ (x : State). pos (active_count x)) same)
 
 -- where it was refused for want of memory the disk keeps it
-pub stays_closed : (old new : Life) (a : Archive) → IsKept old a → ReadsAsBefore old new → IsKept new a
+pub stays_closed : (old new : Life) (a : Archive) → LeavesArchive old a → ReadsAsBefore old new → LeavesArchive new a
 stays_closed old new a was before = record {
-  leaves = λ image left. was.leaves image (now_leaves old new (MayLeave old.now) before.any_moment image left);
+  recovers = λ image left. was.recovers image (now_leaves old new (MayLeave old.now) before.any_moment image left);
   header = was.header;
   entries = was.entries;
-  catalogue = subst (λ (bank : Option (List ℕ)). IsBank (bytes_of bank) was.header was.entries) (sym (before.same BankA)) was.catalogue;
+  catalogue = λ image left. was.catalogue image (now_leaves old new (MayLeave old.now) before.any_moment image left);
   counted = was.counted;
   limit = was.limit;
 }
@@ -142,6 +141,10 @@ refused_as old new (Damaged recording at) same is = subst (λ (bank : Option (Li
 refused_as old new NotCatalogue same is = subst (λ (bank : Option (List ℕ)). RefusesBank (bytes_of bank) NotCatalogue) (sym same) is
 refused_as old new NewerVersion same is = subst (λ (bank : Option (List ℕ)). RefusesBank (bytes_of bank) NewerVersion) (sym same) is
 refused_as old new why same is = absurd is
+
+-- where each file reads as before
+refused_still : (old new : Life) (image : DiskImage) (why : Refusal) → ((file : FileId) → reads new.now file ≡ reads old.now file) → IsRefused old image why → IsRefused new image why
+refused_still old new image why same is = (refused_as old new why (same BankA) is.0, λ file. same file ∙ is.1 file)
 
 -- there is no catalogue then
 no_catalogue : (life : Life) (why : Refusal) (h : BankHeader) (es : List Entry) → IsRefusedBy life why → IsCatalogue (reads life.now) h es → ⊥
@@ -214,7 +217,7 @@ opened_is life old engine answer (opened a) restarts works =
     let at = begun old (life engine.parts.storage.disk) engine.parts.storage.log engine.parts.desk.state engine.restarted a restarts (answer.opened_as restarts.state restarts.other restarts.leaves works.obeys) in
     (at.consistent, at.certain)
 opened_is life old engine answer (closed a) opens works = absurd opens
-opened_is life old engine answer (refused why) opens works = let desk = answer.desk works.obeys in absurd (no_catalogue old why desk.header desk.entries opens desk.catalogue)
+opened_is life old engine answer (refused image why) opens works = let desk = answer.desk works.obeys in absurd (no_catalogue old why desk.header desk.entries opens.0 desk.catalogue)
 
 -- where it was refused by anything but want of memory, the disk's catalogue is refused
 abbrev Begun : {D : Type 0} → (D → Life) → Life → ScriptArchive D → Type 0
@@ -224,7 +227,7 @@ still_refused : {D : Type 0} (life : D → Life) (old : Life) (refusal : Refusal
 still_refused life old refusal disk answer other (opened a) restarts works =
     elim (answer.whole restarts.state restarts.other restarts.leaves works.obeys).1 [ inl fault ↦ absurd (not_failed old (life disk) works (answer.cause fault)) | inr memory ↦ absurd (other memory) ]
 still_refused life old refusal disk answer other (closed a) opens works = absurd opens
-still_refused life old refusal disk answer other (refused why) opens works = refused_as old (life disk) why ((unfailed life old refusal disk answer works).same BankA) opens
+still_refused life old refusal disk answer other (refused image why) opens works = refused_still old (life disk) image why (unfailed life old refusal disk answer works).same opens
 
 pub not_closed_then : {D : Type 0} (life : D → Life) (old : Life) (refusal : Refusal) (disk : D) (result : Result (ScriptArchive D) D) → result ≡ closed_by refusal disk → Refused life old refusal disk → IfOk result (Begun life old)
 not_closed_then life old refusal disk result is answer = subst (λ (r : Result (ScriptArchive _) _). IfOk r (Begun life old)) (sym is) (by refusal refl)
@@ -246,56 +249,42 @@ closed_before life old refusal disk result is same = subst (λ (r : Result (Scri
 -- ---- closing a script's archive, and opening it again
 
 -- what the disk of a script's archive leaves
-pub standing_left : {D : Type 0} (life : D → Life) (archive : ScriptArchive D) (s : Standing) → ((disk : D) → MayLeave (life disk).now (reads (life disk).now)) → IsStanding life archive s → LeavesStanding (life_of life archive) s
-standing_left life (Open engine) (opened a) may stands = (kept (life engine.parts.storage.disk) engine.parts.storage.log engine.parts.desk.state a stands.0 stands.1 (may engine.parts.storage.disk)).leaves
-standing_left life (Open engine) (closed a) may stands = absurd stands
-standing_left life (Open engine) (refused why) may stands = absurd stands
-standing_left life (Closed disk) (opened a) may stands = absurd stands
-standing_left life (Closed disk) (closed a) may stands = stands.leaves
-standing_left life (Closed disk) (refused why) may stands = stands
-
--- what is known of it as it is closed
-abbrev Keeps : Life → Standing → Type 0
-Keeps life (opened a) = IsKept life a
-Keeps life (closed a) = IsKept life a
-Keeps life (refused why) = IsRefusedBy life why
-
-standing_kept : {D : Type 0} (life : D → Life) (archive : ScriptArchive D) (s : Standing) → ((disk : D) → MayLeave (life disk).now (reads (life disk).now)) → IsStanding life archive s → Keeps (life_of life archive) s
-standing_kept life (Open engine) (opened a) may stands = kept (life engine.parts.storage.disk) engine.parts.storage.log engine.parts.desk.state a stands.0 stands.1 (may engine.parts.storage.disk)
-standing_kept life (Open engine) (closed a) may stands = absurd stands
-standing_kept life (Open engine) (refused why) may stands = absurd stands
-standing_kept life (Closed disk) (opened a) may stands = absurd stands
-standing_kept life (Closed disk) (closed a) may stands = stands
-standing_kept life (Closed disk) (refused why) may stands = stands
+pub standing_left : {D : Type 0} (life : D → Life) (archive : ScriptArchive D) (s : Standing) → IsStanding life archive s → LeavesStanding (life_of life archive) s
+standing_left life (Open engine) (opened a) stands = kept (life engine.parts.storage.disk) engine.parts.storage.log engine.parts.desk.state a stands.0 stands.1
+standing_left life (Open engine) (closed a) stands = absurd stands
+standing_left life (Open engine) (refused image why) stands = absurd stands
+standing_left life (Closed disk) (opened a) stands = absurd stands
+standing_left life (Closed disk) (closed a) stands = stands
+standing_left life (Closed disk) (refused image why) stands = stands
 
 -- it is open again
-open_as : {D : Type 0} (life : D → Life) (old : Life) (engine : Engine D) (a : Archive) → IsKept old a → Opened life old engine → Works old (life engine.parts.storage.disk)
+open_as : {D : Type 0} (life : D → Life) (old : Life) (engine : Engine D) (a : Archive) → LeavesArchive old a → MayLeave old.now (reads old.now) → Opened life old engine → Works old (life engine.parts.storage.disk)
     → (t : Standing) × IsStanding life (Open engine) t × ReopensAs a (Ok (Reopened engine.restarted)) t
-open_as life old engine a was answer works =
-    let done = opened_again old (life engine.parts.storage.disk) engine.parts.storage.log engine.parts.desk.state engine.restarted a was (answer.opened_as a.state a.state (leaves_one old a was) works.obeys) in
+open_as life old engine a was may answer works =
+    let done = opened_again old (life engine.parts.storage.disk) engine.parts.storage.log engine.parts.desk.state engine.restarted a was may (answer.opened_as a.state a.state (leaves_one old a was) works.obeys) in
     (opened (reopened a), (done.0.consistent, done.0.certain), (ap (λ (n : ℤ). Reopened n) done.1, refl))
 
-open_again : {D : Type 0} (life : D → Life) (old : Life) (engine : Engine D) (s : Standing) → Keeps old s → Opened life old engine → Works old (life engine.parts.storage.disk) → (t : Standing) × IsStanding life (Open engine) t × Reopens s (Ok (Reopened engine.restarted)) t
-open_again life old engine (opened a) was answer works = open_as life old engine a was answer works
-open_again life old engine (closed a) was answer works = open_as life old engine a was answer works
-open_again life old engine (refused why) was answer works = let desk = answer.desk works.obeys in absurd (no_catalogue old why desk.header desk.entries was desk.catalogue)
+open_again : {D : Type 0} (life : D → Life) (old : Life) (engine : Engine D) (s : Standing) → LeavesStanding old s → MayLeave old.now (reads old.now) → Opened life old engine → Works old (life engine.parts.storage.disk) → (t : Standing) × IsStanding life (Open engine) t × Reopens s (Ok (Reopened engine.restarted)) t
+open_again life old engine (opened a) was may answer works = open_as life old engine a was may answer works
+open_again life old engine (closed a) was may answer works = open_as life old engine a was may answer works
+open_again life old engine (refused image why) was may answer works = let desk = answer.desk works.obeys in absurd (no_catalogue old why desk.header desk.entries was.0 desk.catalogue)
 
 -- there was no memory for it
-closed_as : {D : Type 0} (life : D → Life) (old : Life) (refusal : Refusal) (disk : D) (a : Archive) → IsKept old a → Refused life old refusal disk → Works old (life disk) → (t : Standing) × IsStanding life (Closed disk) t × ReopensAs a (Err refusal) t
+closed_as : {D : Type 0} (life : D → Life) (old : Life) (refusal : Refusal) (disk : D) (a : Archive) → LeavesArchive old a → Refused life old refusal disk → Works old (life disk) → (t : Standing) × IsStanding life (Closed disk) t × ReopensAs a (Err refusal) t
 closed_as life old refusal disk a was answer works = elim (answer.whole a.state a.state (leaves_one old a was) works.obeys).1 [
   | inl fault ↦ absurd (not_failed old (life disk) works (answer.cause fault))
   | inr memory ↦ (closed a, stays_closed old (life disk) a was (unfailed life old refusal disk answer works), subst (λ (r : Refusal). ReopensAs a (Err r) (closed a)) (sym memory) refl)
 ]
 
 -- or it is refused again
-refused_again : {D : Type 0} (life : D → Life) (old : Life) (refusal : Refusal) (disk : D) (s : Standing) → Keeps old s → Refused life old refusal disk → Works old (life disk) → (t : Standing) × IsStanding life (Closed disk) t × Reopens s (Err refusal) t
+refused_again : {D : Type 0} (life : D → Life) (old : Life) (refusal : Refusal) (disk : D) (s : Standing) → LeavesStanding old s → Refused life old refusal disk → Works old (life disk) → (t : Standing) × IsStanding life (Closed disk) t × Reopens s (Err refusal) t
 refused_again life old refusal disk (opened a) was answer works = closed_as life old refusal disk a was answer works
 refused_again life old refusal disk (closed a) was answer works = closed_as life old refusal disk a was answer works
-refused_again life old refusal disk (refused why) was answer works =
-    let stays : IsStanding life (Closed disk) (refused why) = refused_as old (life disk) why ((unfailed life old refusal disk answer works).same BankA) was in
-    elim (refused_once old why refusal was (answer.other works.obeys)) [
-      | inl same ↦ (refused why, stays, (inl (ap (λ (r : Refusal). Err r) same), refl))
-      | inr (inl memory) ↦ (refused why, stays, (inr (ap (λ (r : Refusal). Err r) memory), refl))
+refused_again life old refusal disk (refused image why) was answer works =
+    let stays : IsStanding life (Closed disk) (refused image why) = refused_still old (life disk) image why (unfailed life old refusal disk answer works).same was in
+    elim (refused_once old why refusal was.0 (answer.other works.obeys)) [
+      | inl same ↦ (refused image why, stays, (inl (ap (λ (r : Refusal). Err r) same), refl))
+      | inr (inl memory) ↦ (refused image why, stays, (inr (ap (λ (r : Refusal). Err r) memory), refl))
       | inr (inr fault) ↦ absurd (not_failed old (life disk) works (answer.cause fault))
     ]
 
@@ -305,12 +294,12 @@ pub reopened_again : {D : Type 0} (life : D → Life) (archive : ScriptArchive D
     → (t : Standing) × IsStanding life (Open engine) t × Reopens s (Ok reply) t
 reopened_again life archive old engine may same answer reply is s stands works =
     subst (λ (r : Reply). (t : Standing) × IsStanding life (Open engine) t × Reopens s (Ok r) t) (sym is)
-    (open_again life (life old) engine s (subst (λ (l : Life). Keeps l s) (sym same) (standing_kept life archive s may stands)) answer (subst (λ (l : Life). Works l (life engine.parts.storage.disk)) (sym same) works))
+    (open_again life (life old) engine s (subst (λ (l : Life). LeavesStanding l s) (sym same) (standing_left life archive s stands)) (may old) answer (subst (λ (l : Life). Works l (life engine.parts.storage.disk)) (sym same) works))
 
-pub reopened_not : {D : Type 0} (life : D → Life) (archive : ScriptArchive D) (old : D) (refusal : Refusal) (disk : D) → ((disk : D) → MayLeave (life disk).now (reads (life disk).now)) → life old ≡ life_of life archive → Refused life (life old) refusal disk
+pub reopened_not : {D : Type 0} (life : D → Life) (archive : ScriptArchive D) (old : D) (refusal : Refusal) (disk : D) → life old ≡ life_of life archive → Refused life (life old) refusal disk
     → (s : Standing) → IsStanding life archive s → Works (life_of life archive) (life disk) → (t : Standing) × IsStanding life (Closed disk) t × Reopens s (Err refusal) t
-reopened_not life archive old refusal disk may same answer s stands works =
-    refused_again life (life old) refusal disk s (subst (λ (l : Life). Keeps l s) (sym same) (standing_kept life archive s may stands)) answer (subst (λ (l : Life). Works l (life disk)) (sym same) works)
+reopened_not life archive old refusal disk same answer s stands works =
+    refused_again life (life old) refusal disk s (subst (λ (l : Life). LeavesStanding l s) (sym same) (standing_left life archive s stands)) answer (subst (λ (l : Life). Works l (life disk)) (sym same) works)
 
 -- ---- beginning
 
@@ -328,7 +317,7 @@ made life old engine is consistent first (inr files) works = absurd (some_file (
 quiet_opens : (old new : Life) (first : Standing) → IsQuiet old new → Opens old first → Opens new first
 quiet_opens old new (opened a) quiet opens = quiet_restarts old new a quiet opens
 quiet_opens old new (closed a) quiet opens = absurd opens
-quiet_opens old new (refused why) quiet opens = refused_as old new why (ap (λ (files : Files). reads files BankA) quiet.now) opens
+quiet_opens old new (refused image why) quiet opens = refused_still old new image why (λ file. ap (λ (files : Files). reads files file) quiet.now) opens
 
 not_blank : (old new : Life) (first : Standing) → RefusesNew old new 1048576 BadParameter → IsTrue new.obeys → Begins old first → Opens new first
 not_blank old new first no_archive obeys (inl blank) = absurd (by no_archive.1)
@@ -373,7 +362,7 @@ unmade_then life old refusal disk result is no_archive other =
     subst (λ (r : Result (ScriptArchive _) _). IfOk r (λ archive. (first : Standing) → Begins old first → Works old (life_of life archive) → IsStanding life archive first)) (sym is) (by refusal no_archive other)
   where
     by : (r : Refusal) → RefusesNew old (life disk) 1048576 r → r ≢ BadParameter → IfOk (closed_by r disk) (λ archive. (first : Standing) → Begins old first → Works old (life_of life archive) → IsStanding life archive first)
-    by DeviceFault no_archive other = λ first from works. absurd (not_failed old (life disk) works no_archive)
+    by DeviceFault no_archive other = λ first from works. absurd (not_failed old (life disk) works no_archive.0)
     by NoMemory no_archive other = tt
     by BadParameter no_archive other = absurd (other refl)
     by r no_archive other = absurd no_archive

@@ -1,21 +1,23 @@
 -- Recordings verified one after another.
-use Rattle.std.proofs.Common.{◌≡◌, ◌∙◌, ◌≤◌, ◌+◌, ◌<◌, ◌++◌, refl, sym, ap, ap₂, subst, inl, inr, ℕ, ℤ, Bool, true, false, true≢false, IsTrue, List, [], ◌∷◌, length, take, get_or, Option, arith}
+use Rattle.std.proofs.Common.{◌≡◌, ◌∙◌, ◌≤◌, ◌+◌, ◌<◌, ◌++◌, refl, sym, ap, ap₂, subst, ℕ, ℤ, Bool, true, false, true≢false, cond, IsTrue, List, [], ◌∷◌, length, take, get_or, Option, arith}
 use Rattle.std.proofs.lemmas.List.{append-nil, length-append, length-take-le, take_all, take_more}
 use Rattle.std.proofs.lemmas.List.Concat.{flat_map-append}
 use Rattle.std.proofs.lemmas.List.Folds.{list_all-append}
+use Rattle.std.proofs.lemmas.List.Sums.{sum_by-append}
 use Rattle.std.proofs.KnownBytes.{Appends-nil, Appends-trans, Appends-kept}
 use Rattle.std.specs.Io.KnownBytes.{Appends}
 use Rattle.std.specs.List.{AllZip, list_all}
 use Rattle.std.specs.Prelude.{Result, Ok, Err, is_ok, ◌&&◌, if◌then◌else◌, pos}
 use Rattle.frame_core.specs.declared.refusal.Refusal.{Refusal}
-use Rattle.frame_core.specs.declared.refusal.Refusal.TheVariants.{DeviceFault, NoMemory}
+use Rattle.frame_core.specs.declared.refusal.Refusal.TheVariants.{DeviceFault}
 use Rattle.disk_core.specs.Life.{HasFailed, Life}
 use Rattle.archive_model.specs.declared.reply.Reply.{Reply}
 use Rattle.control_core.specs.declared.event.Event.{Event}
 use Rattle.control_core.specs.declared.event.Event.TheVariants.{Verify}
-use Rattle.control_core.specs.Exact.{Archive, CallEnds, Leaves}
+use Rattle.control_core.specs.Exact.{Archive, CallEnds}
 use Rattle.engine_core.specs.declared.engine.Engine.{Engine}
-use Rattle.engine_core.specs.Calls.{Ended, EndsAs, is_cut}
+use Rattle.engine_core.specs.Calls.{Ended, EndsAs, HasFailedOften, faults_in, is_cut, is_fault}
+use Rattle.engine_core.proofs.RunLemmas.{call_weaker, fault_more}
 use Rattle.tool_core.specs.declared.fault.EarlyEnd.{EarlyEnd}
 use Rattle.tool_core.specs.declared.fault.EarlyEnd.TheVariants as ends
 use Rattle.tool_core.specs.declared.reports.Verdict.{Verdict}
@@ -28,39 +30,16 @@ and-true : (b : Bool) → (b && true) ≡ b
 and-true true = refl
 and-true false = refl
 
--- ---- one call
-
--- a fault that was one is one
-weaker_fault : (a : Archive) (event : Event) (F G : Type 0) (outcome : Result Reply Refusal) (b : Archive) → (F → G) → CallEnds a event F outcome b → CallEnds a event G outcome b
-weaker_fault a event F G (Ok reply) b more ends = ends
-weaker_fault a event F G (Err NoMemory) b more ends = ends
-weaker_fault a event F G (Err DeviceFault) b more ends = elim ends [ inl exact ↦ inl exact | inr out ↦ inr (more out.0, out.1) ]
-weaker_fault a event F G (Err refusal) b more ends = ends
-
-left_same : (a : Archive) (decided outcome : Result Reply Refusal) (b : Archive) → Leaves a a decided outcome b → b ≡ a
-left_same a (Ok reply) outcome b ends = ends.1
-left_same a (Err refusal) outcome b ends = ends.1
-
--- verifying changes nothing
-verify_stays : (a : Archive) (id : ℤ) (F : Type 0) (outcome : Result Reply Refusal) (b : Archive) → CallEnds a (Verify id) F outcome b → b ≡ a
-verify_stays a id F (Ok reply) b ends = left_same a _ (Ok reply) b ends
-verify_stays a id F (Err NoMemory) b ends = elim ends [ inl exact ↦ left_same a _ (Err NoMemory) b exact | inr same ↦ same ]
-verify_stays a id F (Err DeviceFault) b ends = elim ends [ inl exact ↦ left_same a _ (Err DeviceFault) b exact | inr out ↦ elim out.1 [ inl same ↦ same | inr broken ↦ absurd (true≢false (sym broken.0)) ] ]
-verify_stays a id F (Err refusal) b ends = elim ends [ inl exact ↦ left_same a _ (Err refusal) b exact | inr out ↦ absurd out ]
-
 -- ---- faults
 
-failed_first : (old mid new : Life) → mid.faults ≤ new.faults → HasFailed old mid → HasFailed old new
-failed_first old mid new more failed = omega (arith, more, failed)
+-- those of both lists have their causes
+faults_then : (old mid new : Life) (outcomes last : List (Result Reply Refusal)) → HasFailedOften (faults_in outcomes) old mid → HasFailedOften (faults_in last) mid new → HasFailedOften (faults_in (outcomes ++ last)) old new
+faults_then old mid new outcomes last first behind = subst (λ (n : ℕ). HasFailedOften n old new) (sym (sum_by-append (λ o. cond (is_fault o) 1 0) outcomes last)) (omega (arith, first, behind))
 
-failed_then : (old mid new : Life) → old.faults ≤ mid.faults → HasFailed mid new → HasFailed old new
-failed_then old mid new more failed = omega (arith, more, failed)
+faults_since : (old mid new : Life) (outcomes : List (Result Reply Refusal)) → HasFailedOften (faults_in outcomes) old mid → mid.faults ≤ new.faults → HasFailedOften (faults_in outcomes) old new
+faults_since old mid new outcomes first more = omega (arith, first, more)
 
-each_weaker : (a : Archive) (F G : Type 0) (ids : List ℤ) (outcomes : List (Result Reply Refusal)) → (F → G) → AllZip (λ id outcome. CallEnds a (Verify id) F outcome a) ids outcomes → AllZip (λ id outcome. CallEnds a (Verify id) G outcome a) ids outcomes
-each_weaker a F G [] [] more all = tt
-each_weaker a F G [] (o ∷ os) more all = absurd all
-each_weaker a F G (id ∷ ids) [] more all = absurd all
-each_weaker a F G (id ∷ ids) (o ∷ os) more all = (weaker_fault a (Verify id) F G o a more all.0, each_weaker a F G ids os more all.1)
+-- ---- each answer
 
 each_more : (R : ℤ → Result Reply Refusal → Type 0) (ids : List ℤ) (outcomes : List (Result Reply Refusal)) (id : ℤ) (outcome : Result Reply Refusal) → AllZip R ids outcomes → R id outcome → AllZip R (ids ++ id ∷ []) (outcomes ++ outcome ∷ [])
 each_more R [] [] id o all one = (one, tt)
@@ -72,7 +51,7 @@ each_more R (i ∷ ids) (p ∷ os) id o all one = (all.0, each_more R ids os id 
 
 module _ {D : Type 0} (life : D → Life) where
   pub none_yet : (engine : Engine D) → AnswersEach life engine engine [] []
-  none_yet engine = record { goes_on = record { obeyed = λ obeys. obeys; faults = omega arith }; each = refl; exact = λ a is obeys. (is, tt) }
+  none_yet engine = record { goes_on = record { obeyed = λ obeys. obeys; faults = omega arith }; each = refl; cause = omega arith; stays = λ a is. is; exact = λ a is obeys. tt }
 
   -- what an engine promises of an event
   abbrev pub Steps : Engine D → Engine D → Event → Result Reply Refusal → Type 0
@@ -81,15 +60,16 @@ module _ {D : Type 0} (life : D → Life) where
 
   -- an engine's answer to the verifying of one
   pub one : (old new : Engine D) (id : ℤ) (outcome : Result Reply Refusal) → (IsTrue (life_in life new).obeys → IsTrue (life_in life old).obeys) → (life_in life old).faults ≤ (life_in life new).faults
-      → Steps old new (Verify id) outcome → AnswersEach life old new (id ∷ []) (outcome ∷ [])
-  one old new id outcome obeyed faults stepped = record {
+      → (outcome ≡ Err DeviceFault → HasFailed (life_in life old) (life_in life new)) → Steps old new (Verify id) outcome → AnswersEach life old new (id ∷ []) (outcome ∷ [])
+  one old new id outcome obeyed faults cause stepped = record {
     goes_on = record { obeyed = obeyed; faults = faults };
     each = refl;
+    cause = fault_more (life_in life old) (life_in life old) (life_in life new) [] outcome (omega arith) faults cause;
+    stays = λ a was. let ended = stepped a was (λ cut. absurd (true≢false (sym cut))) in subst (λ (b : Archive). IsEngineOf life b new) ended.ends.1 ended.consistent;
     exact = λ a was obeys.
         let ended = stepped a was (λ cut. obeys) in
-        let ends : CallEnds a (Verify id) (HasFailed (life_in life old) (life_in life new)) outcome ended.after = ended.ends (λ reads. obeys) in
-        let same : ended.after ≡ a = verify_stays a id _ outcome ended.after ends in
-        (subst (λ (b : Archive). IsEngineOf life b new) same ended.consistent, (subst (λ (b : Archive). CallEnds a (Verify id) (HasFailed (life_in life old) (life_in life new)) outcome b) same ends, tt));
+        let ends = call_weaker a (Verify id) (HasFailed (life_in life old) (life_in life new)) outcome ended.after (ended.ends.0 (λ reads. obeys)) in
+        (subst (λ (b : Archive). CallEnds a (Verify id) (Unit {0}) outcome b) ended.ends.1 ends, tt);
   }
 
   goes_then : (old mid new : Engine D) → GoesOn (life_in life old) (life_in life mid) → GoesOn (life_in life mid) (life_in life new) → GoesOn (life_in life old) (life_in life new)
@@ -104,14 +84,9 @@ module _ {D : Type 0} (life : D → Life) where
   more old mid new ids outcomes id outcome so_far last = record {
     goes_on = goes_then old mid new so_far.goes_on last.goes_on;
     each = let same = so_far.each in length-append outcomes (outcome ∷ []) ∙ ap (λ n. n + 1) same ∙ sym (length-append ids (id ∷ []));
-    exact = λ a is obeys.
-        let first = so_far.exact a is (last.goes_on.obeyed obeys) in
-        let final = last.exact a first.0 obeys in (
-          final.0,
-          each_more (λ id outcome. CallEnds a (Verify id) (HasFailed (life_in life old) (life_in life new)) outcome a) ids outcomes id outcome
-              (each_weaker a _ _ ids outcomes (failed_first (life_in life old) (life_in life mid) (life_in life new) last.goes_on.faults) first.1)
-              (weaker_fault a (Verify id) _ _ outcome a (failed_then (life_in life old) (life_in life mid) (life_in life new) so_far.goes_on.faults) final.1.0),
-        );
+    cause = faults_then (life_in life old) (life_in life mid) (life_in life new) outcomes (outcome ∷ []) so_far.cause last.cause;
+    stays = λ a is. last.stays a (so_far.stays a is);
+    exact = λ a is obeys. each_more (λ id outcome. CallEnds a (Verify id) (Unit {0}) outcome a) ids outcomes id outcome (so_far.exact a is (last.goes_on.obeyed obeys)) (last.exact a (so_far.stays a is) obeys).0;
   }
 
   -- a later engine, of whose call no answer was written
@@ -120,10 +95,9 @@ module _ {D : Type 0} (life : D → Life) where
   later old mid new ids outcomes id outcome so_far last = record {
     goes_on = goes_then old mid new so_far.goes_on last.goes_on;
     each = so_far.each;
-    exact = λ a is obeys.
-        let first = so_far.exact a is (last.goes_on.obeyed obeys) in
-        let final = last.exact a first.0 obeys in
-        (final.0, each_weaker a _ _ ids outcomes (failed_first (life_in life old) (life_in life mid) (life_in life new) last.goes_on.faults) first.1);
+    cause = faults_since (life_in life old) (life_in life mid) (life_in life new) outcomes so_far.cause last.goes_on.faults;
+    stays = λ a is. last.stays a (so_far.stays a is);
+    exact = λ a is obeys. so_far.exact a is (last.goes_on.obeyed obeys);
   }
 
   -- ---- the loop

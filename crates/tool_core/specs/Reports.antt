@@ -3,12 +3,13 @@ use Rattle.std.specs.Prelude.{◌≡◌, ℕ, ℤ, Bool, IsTrue, List, [], ◌�
 use Rattle.std.specs.List.{AllZip, flat_map, list_all}
 use Rattle.std.specs.Io.KnownBytes.{Appends}
 use Rattle.frame_core.specs.declared.refusal.Refusal.{Refusal}
-use Rattle.disk_core.specs.Life.{HasFailed, Life}
+use Rattle.disk_core.specs.Life.{Life}
 use Rattle.archive_model.specs.declared.reply.Reply.{Reply}
 use Rattle.archive_model.specs.Register.{id_of}
 use Rattle.control_core.specs.declared.event.Event.TheVariants.{Verify}
 use Rattle.control_core.specs.Exact.{Archive, CallEnds}
 use Rattle.engine_core.specs.declared.engine.Engine.{Engine}
+use Rattle.engine_core.specs.Calls.{HasFailedOften, faults_in}
 use Rattle.engine_core.specs.Consistent.{IsConsistent}
 use Rattle.tool_core.specs.declared.fault.EarlyEnd.{EarlyEnd}
 use Rattle.tool_core.specs.declared.fault.EarlyEnd.TheVariants as ends
@@ -44,13 +45,16 @@ module _ {D : Type 0} (life : D → Life) where
   abbrev pub IsEngineOf : Archive → Engine D → Type 0
   IsEngineOf a engine = IsConsistent (life_in engine) engine.parts.storage.log engine.parts.desk.state a
 
-  -- An answer to the verifying of each of these recordings. Where the disk obeys the crash model it is one that the call may
-  -- have over the archive, a device fault only where a call of the disk has failed; and the archive stays.
+  -- An answer to the verifying of each of these recordings, so many of them device faults at most as calls of the disk have
+  -- failed; where the disk obeys the crash model each is one that the call may have over the archive. The archive stays,
+  -- whatever was read.
   pub record AnswersEach (old new : Engine D) (ids : List ℤ) (outcomes : List (Result Reply Refusal)) : Type 0 where
     pub goes_on : GoesOn (life_in old) (life_in new)
     pub each : length outcomes ≡ length ids
+    pub cause : HasFailedOften (faults_in outcomes) (life_in old) (life_in new)
+    pub stays : (a : Archive) → IsEngineOf a old → IsEngineOf a new
     pub exact : (a : Archive) → IsEngineOf a old → IsTrue (life_in new).obeys →
-        IsEngineOf a new × AllZip (λ id outcome. CallEnds a (Verify id) (HasFailed (life_in old) (life_in new)) outcome a) ids outcomes
+        AllZip (λ id outcome. CallEnds a (Verify id) (Unit {0}) outcome a) ids outcomes
 
   -- each recording was verified, and the answers are written
   pub record HasReported (old new : Engine D) (contents written : Option (List ℕ)) (verdict : Verdict) : Type 0 where

@@ -1,5 +1,5 @@
 -- A script's output is the transcript of its lines. docs/CONTROL.md, "Scripts".
-use Rattle.std.specs.Prelude.{◌≡◌, ◌⊎◌, ◌<◌, ◌-◌, ◌^◌, ℕ, Bool, true, false, IsTrue, List, Option, Some, None, Result, Ok, Err, IfSome, IsSome, MatchResult, bytes_eq, codes}
+use Rattle.std.specs.Prelude.{◌≡◌, ◌⊎◌, ◌<◌, ◌-◌, ◌^◌, ℕ, Bool, true, false, IsTrue, List, Option, Some, None, Result, Ok, Err, IfSome, IsSome, MatchResult, bytes_eq, codes, count_by}
 use Rattle.std.specs.Io.KnownBytes.{Appends, Keeps}
 use Rattle.frame_core.specs.declared.refusal.Refusal.{Refusal}
 use Rattle.frame_core.specs.declared.refusal.Refusal.TheVariants.{BadLine, DeviceFault, NoMemory}
@@ -10,7 +10,10 @@ use Rattle.archive_model.specs.declared.command.Command.TheVariants.{Restart}
 use Rattle.archive_model.specs.declared.reply.Reply.{Reply}
 use Rattle.archive_model.specs.Commands.{after}
 use Rattle.archive_model.specs.State.{State}
-use Rattle.catalogue_log.specs.Catalogue.{RefusesCatalogue}
+use Rattle.catalogue_log.specs.declared.bank.BankHeader.{BankHeader}
+use Rattle.catalogue_log.specs.declared.entry.Entry.{Entry}
+use Rattle.catalogue_log.specs.Catalogue.{IsCatalogue, RefusesCatalogue}
+use Rattle.catalogue_log.specs.Fold.{counts}
 use Rattle.control_core.specs.Exact.{Archive}
 use Rattle.control_lines.specs.declared.line.Line.{Line}
 use Rattle.control_lines.specs.Lines.{line_copies, line_of}
@@ -25,7 +28,7 @@ use Rattle.tool_core.specs.declared.fault.EarlyEnd.TheVariants as ends
 use Rattle.tool_core.specs.declared.fault.ScriptFault.{ScriptFault}
 use Rattle.tool_core.specs.declared.fault.ScriptFault.TheVariants as faults
 use Rattle.tool_core.specs.InputLines.{lines_of}
-use Rattle.tool_core.specs.ScriptLines.{Answered, Scene, Standing, begun_with, closed, opened, refused}
+use Rattle.tool_core.specs.ScriptLines.{Answered, Scene, Standing, begun_with, closed, opened, refused, reopened}
 use Rattle.tool_core.specs.Transcript.{AnswersAll, AnswersSome, Writes}
 
 -- ---- answers
@@ -85,27 +88,38 @@ IsRefusedBy life DeviceFault = ⊥
 IsRefusedBy life NoMemory = ⊥
 IsRefusedBy life refusal = RefusesCatalogue (reads life.now) refusal
 
+-- the disk reads as this image, and that is why its catalogue is refused
+abbrev pub IsRefused : Life → DiskImage → Refusal → Type 0
+IsRefused life image why = IsRefusedBy life why × ((file : FileId) → reads life.now file ≡ image file)
+
 -- what is opened of a disk: the restart of what it recovers to, or why there is no archive
 abbrev pub Opens : Life → Standing → Type 0
 Opens life (opened a) = Restarts life a
 Opens life (closed a) = ⊥
-Opens life (refused why) = IsRefusedBy life why
+Opens life (refused image why) = IsRefused life image why
 
 -- what a script begins with: a new archive where no file is there, else what is opened
 abbrev pub Begins : Life → Standing → Type 0
 Begins life first = (IsBlank life × (first ≡ opened (new_archive 1048576))) ⊎ (HasFile life × Opens life first)
 
--- a script begins with the restart of an archive
-pub record GoesOnFrom (a : Archive) (life : Life) : Type 0 where
-  pub archive : Archive
-  pub begins : Begins life (opened archive)
-  pub restarted : archive.state ≡ after a.state Restart
+-- a script begins with the restart of an archive, and with its history
+abbrev pub GoesOnFrom : Archive → Life → Type 0
+GoesOnFrom a life = Begins life (opened (reopened a))
 
--- every image that a crash now may leave recovers to the state of the archive; or there is none
+-- every image that a crash now may leave recovers to the state of the archive, and its catalogue has the archive's history
+pub record LeavesArchive (life : Life) (a : Archive) : Type 0 where
+  pub recovers : (image : DiskImage) → MayLeave life.now image → Recovers image a.state
+  pub header : BankHeader
+  pub entries : List Entry
+  pub catalogue : (image : DiskImage) → MayLeave life.now image → IsCatalogue image header entries
+  pub counted : a.desk.counted ≡ count_by counts entries
+  pub limit : a.desk.limit ≡ header.history_limit
+
+-- the disk leaves the archive; or there is none, and it reads as it did
 abbrev pub LeavesStanding : Life → Standing → Type 0
-LeavesStanding life (opened a) = (image : DiskImage) → MayLeave life.now image → Recovers image a.state
-LeavesStanding life (closed a) = (image : DiskImage) → MayLeave life.now image → Recovers image a.state
-LeavesStanding life (refused why) = IsRefusedBy life why
+LeavesStanding life (opened a) = LeavesArchive life a
+LeavesStanding life (closed a) = LeavesArchive life a
+LeavesStanding life (refused image why) = IsRefused life image why
 
 abbrev pub LeavesScene : Life → Scene → Type 0
 LeavesScene life s = LeavesStanding life s.archive

@@ -2,6 +2,7 @@
 use Rattle.std.specs.Prelude.{◌≡◌, ◌⊎◌, ℤ, pos, Bool, true, List, ℕ, Option, None, Result, Ok, Err}
 use Rattle.frame_core.specs.declared.refusal.Refusal.{Refusal}
 use Rattle.frame_core.specs.declared.refusal.Refusal.TheVariants.{BadLine, Broken, NoMemory}
+use Rattle.disk_core.specs.DiskImage.{DiskImage}
 use Rattle.archive_model.specs.declared.command.Command.TheVariants.{Restart}
 use Rattle.archive_model.specs.declared.reply.Reply.{Reply}
 use Rattle.archive_model.specs.declared.reply.Reply.TheVariants.{Bye, Reopened}
@@ -22,19 +23,20 @@ OrWant old Made outcome new = Made outcome new ⊎ ((outcome ≡ Err NoMemory) �
 
 -- ---- the archive of a script
 
--- an archive that is open, one that could not be opened again, as it was last, or none: why the disk's catalogue is refused
+-- an archive that is open, one that could not be opened again, as it was last, or none: what the disk reads as, and why its
+-- catalogue is refused
 pub data Standing : Type 0 where
   opened : Archive → Standing
   closed : Archive → Standing
-  refused : Refusal → Standing
+  refused : DiskImage → Refusal → Standing
 
 -- a call of the archive where it is open; else it is Broken
 abbrev pub WhereOpen : (Archive → ArchiveEnd) → Standing → Ends Standing
 WhereOpen Made (opened a) outcome (opened b) = Made a outcome b
 WhereOpen Made (opened a) outcome (closed b) = ⊥
-WhereOpen Made (opened a) outcome (refused why) = ⊥
+WhereOpen Made (opened a) outcome (refused image why) = ⊥
 WhereOpen Made (closed a) outcome new = (outcome ≡ Err Broken) × (new ≡ closed a)
-WhereOpen Made (refused why) outcome new = (outcome ≡ Err Broken) × (new ≡ refused why)
+WhereOpen Made (refused image why) outcome new = (outcome ≡ Err Broken) × (new ≡ refused image why)
 
 -- a call, where no device fails
 abbrev pub Calls : Event → Archive → ArchiveEnd
@@ -67,7 +69,7 @@ ReopensAs a (Err refusal) new = ⊥
 abbrev pub Reopens : Standing → Ends Standing
 Reopens (opened a) outcome new = ReopensAs a outcome new
 Reopens (closed a) outcome new = ReopensAs a outcome new
-Reopens (refused why) outcome new = ((outcome ≡ Err why) ⊎ (outcome ≡ Err NoMemory)) × (new ≡ refused why)
+Reopens (refused image why) outcome new = ((outcome ≡ Err why) ⊎ (outcome ≡ Err NoMemory)) × (new ≡ refused image why)
 
 -- ---- lines
 

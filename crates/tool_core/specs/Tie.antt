@@ -1,32 +1,16 @@
 -- What a script's values in memory and its disk are to its scene.
-use Rattle.std.specs.Prelude.{◌≡◌, ◌≤◌, IsTrue, ℕ, ℤ, List, None, Result, Ok, Err, count_by}
+use Rattle.std.specs.Prelude.{◌≡◌, ◌≤◌, IsTrue, ℕ, ℤ, List, None, Result, Ok, Err}
 use Rattle.frame_core.specs.declared.block.Block.{Block}
 use Rattle.frame_core.specs.declared.refusal.Refusal.{Refusal}
 use Rattle.frame_core.specs.declared.refusal.Refusal.TheVariants.{Broken, NoMemory}
-use Rattle.disk_core.specs.DiskImage.{DiskImage, MayLeave, reads}
 use Rattle.disk_core.specs.Life.{Life}
-use Rattle.catalogue_log.specs.declared.bank.BankHeader.{BankHeader}
-use Rattle.catalogue_log.specs.declared.entry.Entry.{Entry}
-use Rattle.catalogue_log.specs.Catalogue.{IsCatalogue}
-use Rattle.catalogue_log.specs.Fold.{counts}
 use Rattle.control_core.specs.Bytes.{IsReadBy, terms_in}
-use Rattle.control_core.specs.Exact.{Archive}
 use Rattle.engine_core.specs.Consistent.{IsConsistent}
-use Rattle.engine_core.specs.Recovery.{Recovers}
 use Rattle.tool_core.specs.declared.archive.ScriptArchive.{ScriptArchive}
 use Rattle.tool_core.specs.declared.archive.ScriptArchive.TheVariants.{Open, Closed}
 use Rattle.tool_core.specs.declared.state.ScriptState.{ScriptState}
-use Rattle.tool_core.specs.Script.{IsRefusedBy}
+use Rattle.tool_core.specs.Script.{IsRefused, LeavesArchive}
 use Rattle.tool_core.specs.ScriptLines.{Scene, Standing, closed, opened, refused}
-
--- the disk leaves an archive's state, and its catalogue has the archive's history
-pub record IsKept (life : Life) (a : Archive) : Type 0 where
-  pub leaves : (image : DiskImage) → MayLeave life.now image → Recovers image a.state
-  pub header : BankHeader
-  pub entries : List Entry
-  pub catalogue : IsCatalogue (reads life.now) header entries
-  pub counted : a.desk.counted ≡ count_by counts entries
-  pub limit : a.desk.limit ≡ header.history_limit
 
 module _ {D : Type 0} (life : D → Life) where
   -- the disk of an archive
@@ -34,15 +18,15 @@ module _ {D : Type 0} (life : D → Life) where
   life_of (Open engine) = life engine.parts.storage.disk
   life_of (Closed disk) = life disk
 
-  -- an open archive is crash-consistent, and none of its writes has failed; a closed one is kept by its disk; where there is none,
-  -- the disk's catalogue is refused
+  -- an open archive is crash-consistent, and none of its writes has failed; a closed one is what its disk leaves; where there is none,
+  -- the disk reads as it did, and its catalogue is refused
   abbrev pub IsStanding : ScriptArchive D → Standing → Type 0
   IsStanding (Open engine) (opened a) = IsConsistent (life engine.parts.storage.disk) engine.parts.storage.log engine.parts.desk.state a × (a.doubt ≡ None)
   IsStanding (Open engine) (closed a) = ⊥
-  IsStanding (Open engine) (refused why) = ⊥
+  IsStanding (Open engine) (refused image why) = ⊥
   IsStanding (Closed disk) (opened a) = ⊥
-  IsStanding (Closed disk) (closed a) = IsKept (life disk) a
-  IsStanding (Closed disk) (refused why) = IsRefusedBy (life disk) why
+  IsStanding (Closed disk) (closed a) = LeavesArchive (life disk) a
+  IsStanding (Closed disk) (refused image why) = IsRefused (life disk) image why
 
   abbrev pub IsScene : ScriptState D → Scene → Type 0
   IsScene state s = IsStanding state.archive s.archive × (state.merge ≡ s.merge)
@@ -62,4 +46,4 @@ abbrev pub ReadsBlock : Standing → ℤ → List ℕ → Result Block Refusal �
 ReadsBlock s session bytes (Err NoMemory) = Unit {0}
 ReadsBlock (opened a) session bytes read = IsReadBy (terms_in a.desk session) bytes read
 ReadsBlock (closed a) session bytes read = read ≡ Err Broken
-ReadsBlock (refused why) session bytes read = read ≡ Err Broken
+ReadsBlock (refused image why) session bytes read = read ≡ Err Broken

@@ -1,6 +1,8 @@
 use Rattle.std.proofs.Common.{rules, ◌≡◌, ◌∙◌, sym, ap, inl, inr, cond, true, false, None, Some, Err}
 use Rattle.std.proofs.Common.{to_z, of_z, w64}
 use Rattle.frame_core.specs.declared.refusal.Refusal.TheVariants.{BadPosition}
+use Rattle.control_core.specs.Exact.{opens_by_frames}
+use Rattle.control_core.specs.Turns.{open_decision}
 use Rattle.engine_core.proofs.InsideLemmas.{laid_found}
 use Rattle.engine_core.proofs.ReplayOpenLemmas.{asked_alone, asked_read, leads_inside, leads_to, opens_inside, read_known}
 use Rattle.engine_core.proofs.replay_open.decided_opening.Goals as goal
@@ -27,7 +29,9 @@ returns-in_err-begins_at-in-IfBoundary-clause-decided g c log a was obeys =
     let read = read_known old new log c.args.desk.now.state a c.args.recording.now c.in-Some.known.now (g.met.D.Disk.reads_may_stay c.args.disk.now) was c.in-Some.ensures.found obeys in
     let is : c.from_residual.result ≡ Err c.in_err-begins_at-in-IfBoundary.field-0.0 = search rules in
     let fault = c.in_err-begins_at-in-IfBoundary.ensures.fault read.0 read.2 in
-    inr (is ∙ ap Err fault, c.in_err-begins_at-in-IfBoundary.ensures.cause (ap Err fault))
+    let by_frames : opens_by_frames (open_decision a.desk c.args.recording.now c.args.position.now c.args.length.now) ≡ true = ap (λ d. opens_by_frames (open_decision d c.args.recording.now c.args.position.now c.args.length.now)) (sym was.desk_is)
+    ∙ ap opens_by_frames (sym c.in-IfBoundary.ensures) in
+    inr (is ∙ ap Err fault, (c.in_err-begins_at-in-IfBoundary.ensures.cause (ap Err fault), by_frames))
 
 pub returns-then-not-branch-clause-decided : goal.returns-then-not-branch-clause-decided
 returns-then-not-branch-clause-decided g c log a was obeys =

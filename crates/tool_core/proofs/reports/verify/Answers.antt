@@ -6,4 +6,4 @@ use Rattle.tool_core.proofs.reports.verify.Goals as goal
 pub returns : goal.returns
 returns g c =
     let stepped : Steps g.D.Disk.life c.args.engine.now c.step.new.self (Verify c.args.recording.now) c.step.result = search rules in
-    one g.D.Disk.life c.args.engine.now c.step.new.self c.args.recording.now c.step.result c.step.ensures.obeyed c.step.ensures.faults stepped
+    one g.D.Disk.life c.args.engine.now c.step.new.self c.args.recording.now c.step.result c.step.ensures.obeyed c.step.ensures.faults c.step.ensures.cause stepped

@@ -13,7 +13,7 @@ returns-in-Ok-after_flush-clause-whole g c =
     let ran = ran_of g.D.Disk.life (g.D.Disk.life c.args.disk) c.in-Ok-of_disk.archive (record { archive = c.in-Ok-of_disk.archive; merge = None }) c.run_lines-state.result.0 _ _ _ _ c.run_lines-state.result.1 same
     c.in-Ok-of_disk.ensures.faults c.in-Ok-of_disk.ensures.begun c.run_lines-state.ensures.goes_on (λ a stands. (stands, refl)) c.run_lines-state.ensures.whole c.run_lines-state.ensures.early in
     ends_well g.D.Disk.life (g.D.Disk.life c.args.disk) c.in-Ok-of_disk.archive _ c.run_lines-state.result.0 c.into_disk-disk.result _ _ _ _ c.run_lines-state.result.1 c.is_ok.result ran
-    (sym c.in-Ok-after_flush.is ∙ c.after_flush.ensures) g.met.D.Disk.reads_may_stay c.into_disk-disk.ensures c.flush.ensures.bytes
+    (sym c.in-Ok-after_flush.is ∙ c.after_flush.ensures) c.into_disk-disk.ensures c.flush.ensures.bytes
 
 pub returns-clause-early : goal.returns-clause-early
 returns-clause-early g c =
@@ -22,4 +22,4 @@ returns-clause-early g c =
     c.in-Ok-of_disk.ensures.faults c.in-Ok-of_disk.ensures.begun c.run_lines-state.ensures.goes_on (λ a stands. (stands, refl)) c.run_lines-state.ensures.whole c.run_lines-state.ensures.early in
     fault_as g.D.Disk.life (g.D.Disk.life c.args.disk) c.new.result c.in-Err-after_flush.end c.into_disk-disk.result _ _ _ c.new.ensures.end c.new.ensures.disk
     (ends_early g.D.Disk.life (g.D.Disk.life c.args.disk) c.in-Ok-of_disk.archive _ c.run_lines-state.result.0 c.into_disk-disk.result _ _ _ _ c.run_lines-state.result.1 c.is_ok.result c.in-Err-after_flush.end ran
-    (sym c.in-Err-after_flush.is ∙ c.after_flush.ensures) g.met.D.Disk.reads_may_stay c.into_disk-disk.ensures c.flush.ensures.bytes)
+    (sym c.in-Err-after_flush.is ∙ c.after_flush.ensures) c.into_disk-disk.ensures c.flush.ensures.bytes)

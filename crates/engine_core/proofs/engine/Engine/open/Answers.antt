@@ -1,8 +1,9 @@
-use Rattle.std.proofs.Common.{refl}
-use Rattle.std.proofs.lemmas.Result.{IfErr-weaker}
+use Rattle.std.proofs.Common.{refl, subst, sym}
+use Rattle.std.proofs.lemmas.Result.{IfErr-weaker, IfOk-weaker}
 use Rattle.disk_core.specs.DiskImage.{reads}
 use Rattle.archive_model.specs.Register.{no_recordings}
 use Rattle.catalogue_log.specs.Fold.{after_entries}
+use Rattle.engine_core.specs.Opening.{ReadsAsBefore}
 use Rattle.engine_core.proofs.OpeningLemmas.{fault_refuses}
 use Rattle.engine_core.proofs.ReopenLemmas.{active_same, desk_read, either_then, err_three, err_two, failed_later, kept_reads, ok_three, open_done, opened_consistent, read_refused, reads_as, reads_otherwise, stop_refused}
 use Rattle.engine_core.proofs.engine.Engine.open.Goals as goal
@@ -85,3 +86,7 @@ returns-in-Ok-clause-kept g c =
     let old = g.D.Disk.life c.args.disk in
     let mid = g.D.Disk.life c.read_desk.new.disk in
     IfErr-weaker c.start.result _ _ (λ refused. kept_reads old mid (g.D.Disk.life refused.disk) refused.refusal c.read_desk.ensures.before) c.start.ensures.kept
+
+pub returns-in-Ok-clause-idle : goal.returns-in-Ok-clause-idle
+returns-in-Ok-clause-idle g c =
+    IfOk-weaker c.start.result _ _ (λ engine same is. subst (λ life. ReadsAsBefore (g.D.Disk.life c.args.disk) life) (sym (same is)) c.read_desk.ensures.before) c.start.ensures.idle

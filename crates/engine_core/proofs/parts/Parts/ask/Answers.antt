@@ -1,5 +1,6 @@
-use Rattle.std.proofs.Common.{rules, ◌≡◌, ◌∙◌, false, sym, subst, ap, refl, inl, inr}
+use Rattle.std.proofs.Common.{rules, ◌≡◌, ◌∙◌, false, sym, subst, ap, inl, inr}
 use Rattle.std.proofs.Common.{to_z, of_z, w64}
+use Rattle.std.specs.Prelude.{is_some}
 use Rattle.disk_core.specs.Life.{HasFailed}
 use Rattle.archive_model.specs.State.{registration_of}
 use Rattle.archive_model.specs.Register.{is_end}
@@ -28,13 +29,13 @@ pub returns-in-Refused-clause-asked : goal.returns-in-Refused-clause-asked
 returns-in-Refused-clause-asked g c a was cut =
     let life = g.D.Disk.life c.args.self.now.storage.disk in
     let decides = subst (λ d. Decides (takes_memory c.args.request.now) (decisions.Refused c.in-Refused.refusal) (decision_of d c.args.request.now)) was.desk_is c.in-Refused.ensures in
-    untouched life c.args.self.now.storage.log c.args.self.now.desk.state a _ was (λ reads. refused_ends a c.args.request.now c.in-Refused.refusal (HasFailed life life) decides)
+    untouched life c.args.self.now.storage.log c.args.self.now.desk.state a _ was ((λ reads. refused_ends a c.args.request.now c.in-Refused.refusal (HasFailed life life) decides), tt)
 
 pub returns-in-Answered-clause-asked : goal.returns-in-Answered-clause-asked
 returns-in-Answered-clause-asked g c a was cut =
     let life = g.D.Disk.life c.args.self.now.storage.disk in
     let decides = subst (λ d. Decides (takes_memory c.args.request.now) (decisions.Answered c.in-Answered.reply) (decision_of d c.args.request.now)) was.desk_is c.in-Answered.ensures in
-    untouched life c.args.self.now.storage.log c.args.self.now.desk.state a _ was (λ reads. answered_ends a c.args.request.now c.in-Answered.reply (HasFailed life life) decides)
+    untouched life c.args.self.now.storage.log c.args.self.now.desk.state a _ was ((λ reads. answered_ends a c.args.request.now c.in-Answered.reply (HasFailed life life) decides), tt)
 
 pub returns-in-Accepted-clause-asked : goal.returns-in-Accepted-clause-asked
 returns-in-Accepted-clause-asked g c a was cut =
@@ -45,7 +46,7 @@ returns-in-Accepted-clause-asked g c a was cut =
     let frames : asked_frames a (decision_of a.desk c.args.request.now) ≡ decisions.Accepted command = ap (asked_frames a) is in
     let asked = asked_of a c.args.request.now command was.agrees frames in
     ended_as old new c.make.new.self.storage.log c.make.new.self.desk.state a _ (EndsAs old new (events.Ask c.args.request.now) a c.make.result)
-    (λ b ends reads. commit_call a (events.Ask c.args.request.now) (reply_after a.desk command) (archive_after a command) (HasFailed old new) c.make.result b refl (accepted_ends a c.args.request.now command frames) ends)
+    (λ b ends. ((λ reads. commit_call a (events.Ask c.args.request.now) (reply_after a.desk command) (archive_after a command) (HasFailed old new) c.make.result b (ap (λ d. is_some (command_in d)) is) (accepted_ends a c.args.request.now command frames) ends), tt))
     (c.make.ensures.made a was asked.works asked.acceptable.accepted)
 
 pub returns-in-IfBoundary-clause-asked : goal.returns-in-IfBoundary-clause-asked
@@ -65,7 +66,7 @@ returns-in-IfBoundary-clause-asked g c a was cut =
     let r = known.recording in
     let strictly : is_end position (registration_of r) ≡ false = subst (λ x. is_end position x ≡ false) known.is inside.inside in
     ended_as old new c.make_inside.new.self.storage.log c.make_inside.new.self.desk.state a _ (EndsAs old new (events.Ask request) a c.make_inside.result)
-    (λ b ends reads. inside_ends a request id position behind r (HasFailed old new) c.make_inside.result b is known.found ends)
+    (λ b ends. ((λ reads. inside_ends a request id position behind r (HasFailed old new) c.make_inside.result b is known.found ends), tt))
     (c.make_inside.ensures.made a r was known.found strictly (λ begins. inside_accepts a request id position behind r was.agrees is known.found begins) (cut inside.cut))
 
 pub returns-in-Refused-clause-cause : goal.returns-in-Refused-clause-cause

@@ -23,7 +23,7 @@ returns-in_err-found-clause-closed g c a was =
     let is : c.from_residual.result ≡ Err refusal = search rules in
     let decided : close_decision a.desk number ≡ Err refusal = ap (λ d. close_decision d number) (sym was.desk_is) ∙ c.in_err-found.ensures.decided in
     untouched life c.args.self.now.storage.log c.args.self.now.desk.state a _ was
-    (λ reads. subst (λ o. CallEnds a (events.ReplayClose number) (HasFailed life life) o a) (sym is) (inl (leaves_refused a (with_desk (after_close number a.desk) a) (close_decision a.desk number) refusal decided)))
+    ((λ reads. subst (λ o. CallEnds a (events.ReplayClose number) (HasFailed life life) o a) (sym is) (inl (leaves_refused a (with_desk (after_close number a.desk) a) (close_decision a.desk number) refusal decided))), tt)
 
 pub returns-clause-orderly : goal.returns-clause-orderly
 returns-clause-orderly g c = subst IsOrderly (sym c.close_replay.ensures) (orderly_close c.args.self.now.desk.state c.args.replay.now c.requires.orderly)
@@ -37,4 +37,4 @@ returns-clause-closed g c a was =
     replayed life life c.args.self.now.storage.log c.args.self.now.desk.state c.close_replay.new.self.state a (without replay_number number a.desk.callers.replays) a.desk.callers.next_replay _ (quiet_life life) was
     (λ obeys. each_without replay_number (IsAtBoundary a.state) number a.desk.callers.replays (was.reading obeys))
     (c.close_replay.ensures ∙ ap (after_close number) was.desk_is)
-    (λ reads. leaves_told a (with_desk (after_close number a.desk) a) (close_decision a.desk number) reply decided)
+    ((λ reads. leaves_told a (with_desk (after_close number a.desk) a) (close_decision a.desk number) reply decided), tt)

@@ -9,7 +9,7 @@ use Rattle.control_core.specs.Changes.{after_poll}
 use Rattle.control_core.specs.Callers.{moved_to, replay_number}
 use Rattle.control_core.specs.Exact.{CallEnds, goes_on}
 use Rattle.control_core.specs.Turns.{is_done_at, poll_decision}
-use Rattle.std.specs.Prelude.{if◌then◌else◌, unsigned_abs}
+use Rattle.std.specs.Prelude.{if◌then◌else◌, is_ok, unsigned_abs}
 use Rattle.engine_core.specs.Calls.{EndsAs}
 use Rattle.engine_core.specs.Orderly.{IsOrderly}
 use Rattle.engine_core.specs.Reading.{IsRead}
@@ -29,7 +29,7 @@ returns-in_err-found-clause-polled g c a was =
     let is : c.from_residual.result ≡ Err refusal = search rules in
     let decided : poll_decision a.desk c.args.replay.now c.args.most.now ≡ Err refusal = ap (λ d. poll_decision d c.args.replay.now c.args.most.now) (sym was.desk_is) ∙ c.in_err-found.ensures.decided in
     untouched life c.args.self.now.storage.log c.args.self.now.desk.state a _ was
-    (λ reads. subst (λ o. CallEnds a event (HasFailed life life) o a) (sym is) (inl (polling_refused a c.args.replay.now c.args.most.now refusal decided)))
+    ((λ reads. subst (λ o. CallEnds a event (HasFailed life life) o a) (sym is) (inl (polling_refused a c.args.replay.now c.args.most.now refusal decided))), refl)
 
 pub returns-in_default-clause-polled : goal.returns-in_default-clause-polled
 returns-in_default-clause-polled g c a was =
@@ -60,11 +60,13 @@ returns-in_err-given-clause-polled g c a was =
     let r = known.recording in
     let refusal = c.in_err-given.field-0.0 in
     let is : c.from_residual-in_err-given.result ≡ Err refusal = search rules in
-    still old new log desk a (EndsAs old new event a c.from_residual-in_err-given.result) c.poll.ensures.quiet was
-    (λ reads.
-    let read = is_read old new log desk a replay.recording c.in-Some.known.now r (g.met.D.Disk.reads_may_stay c.args.self.now.storage.disk) was c.in-Some.ensures.found known.found (reads refl) in
-    let at = open_at a c.args.replay.now replay r opened known.found (was.reading (c.poll.ensures.quiet.obeyed (reads refl))) in
-    outside_read a event (HasFailed old new) c.from_residual-in_err-given.result refusal is (c.in_err-given.ensures.outside r read at) (λ fault. c.in_err-given.ensures.cause (ap Err fault)))
+    still old new log desk a (EndsAs old new event a c.from_residual-in_err-given.result) c.poll.ensures.quiet was (
+      (λ reads.
+          let read = is_read old new log desk a replay.recording c.in-Some.known.now r (g.met.D.Disk.reads_may_stay c.args.self.now.storage.disk) was c.in-Some.ensures.found known.found (reads refl) in
+          let at = open_at a c.args.replay.now replay r opened known.found (was.reading (c.poll.ensures.quiet.obeyed (reads refl))) in
+          outside_read a event (HasFailed old new) c.from_residual-in_err-given.result refusal is (c.in_err-given.ensures.outside r read at) (λ fault. (c.in_err-given.ensures.cause (ap Err fault), ap is_ok decided))),
+      refl,
+    )
 
 pub returns-clause-orderly : goal.returns-clause-orderly
 returns-clause-orderly g c =
@@ -93,4 +95,4 @@ returns-clause-polled g c a was =
     replayed old new log desk c.move_replay.new.self.state a (change replay_number number (moved_to next) a.desk.callers.replays) a.desk.callers.next_replay _ c.poll.ensures.quiet was
     (λ obeys. moved_at a number next replay r opened known.found (c.in_ok-given.ensures.boundary r (read obeys) (at obeys)) (was.reading (c.poll.ensures.quiet.obeyed obeys)))
     (c.move_replay.ensures ∙ ap (after_poll number next) was.desk_is)
-    (λ reads. polled_ends a number c.args.most.now next replay r c.in_ok-given.given.frames c.goes_on-next.result decided known.found (c.in_ok-given.ensures.frames r (read (reads refl)) (at (reads refl)) ∙ ap (λ n. polled replay.next replay.bound (unsigned_abs n) r) most) c.in_ok-given.ensures.next on)
+    ((λ reads. polled_ends a number c.args.most.now next replay r c.in_ok-given.given.frames c.goes_on-next.result decided known.found (c.in_ok-given.ensures.frames r (read (reads refl)) (at (reads refl)) ∙ ap (λ n. polled replay.next replay.bound (unsigned_abs n) r) most) c.in_ok-given.ensures.next on), refl)

@@ -1,10 +1,10 @@
-use Rattle.std.proofs.Common.{rules, ◌≡◌, ◌∙◌, sym, subst, ap, refl, Ok, Err}
+use Rattle.std.proofs.Common.{rules, ◌≡◌, ◌∙◌, sym, subst, ap, Ok, Err}
 use Rattle.std.proofs.Common.{to_z, of_z, w64}
 use Rattle.disk_core.specs.Life.{HasFailed}
 use Rattle.archive_model.specs.declared.reply.Reply.TheVariants as replies
 use Rattle.control_core.specs.declared.event.Event.TheVariants as events
 use Rattle.control_core.specs.declared.turns.Settling.TheVariants as settling
-use Rattle.control_core.specs.Exact.{CallEnds, settled_archive}
+use Rattle.control_core.specs.Exact.{CallEnds, has_blocks, settled_archive}
 use Rattle.control_core.specs.Turns.{settle_decision}
 use Rattle.engine_core.specs.Calls.{EndsAs}
 use Rattle.engine_core.proofs.AskLemmas.{commit_call, ended_as}
@@ -20,7 +20,7 @@ returns-in_err-decided-clause-settled g c a was =
     let is : c.from_residual.result ≡ Err refusal = search rules in
     let decided : settle_decision a.desk n ≡ Err refusal = ap (λ d. settle_decision d n) (sym was.desk_is) ∙ c.in_err-decided.ensures.decided in
     untouched life c.args.self.now.storage.log c.args.self.now.desk.state a _ was
-    (λ reads. subst (λ o. CallEnds a (events.Settle n) (HasFailed life life) o a) (sym is) (refused_ends a n refusal (HasFailed life life) decided))
+    ((λ reads. subst (λ o. CallEnds a (events.Settle n) (HasFailed life life) o a) (sym is) (refused_ends a n refusal (HasFailed life life) decided)), tt)
 
 pub returns-in-Nothing-clause-settled : goal.returns-in-Nothing-clause-settled
 returns-in-Nothing-clause-settled g c a was =
@@ -29,7 +29,7 @@ returns-in-Nothing-clause-settled g c a was =
     let position = to_z w64 (of_z w64 c.in-Nothing.position) in
     let same : c.in-Nothing.position ≡ position = search rules in
     let decided : settle_decision a.desk n ≡ Ok (settling.Nothing position) = ap (λ d. settle_decision d n) (sym was.desk_is) ∙ c.in_ok-decided.ensures.decided ∙ ap Ok c.in-Nothing.is ∙ ap (λ z. Ok (settling.Nothing z)) same in
-    untouched life c.args.self.now.storage.log c.args.self.now.desk.state a _ was (λ reads. nothing_ends a n position (HasFailed life life) decided)
+    untouched life c.args.self.now.storage.log c.args.self.now.desk.state a _ was ((λ reads. nothing_ends a n position (HasFailed life life) decided), tt)
 
 pub returns-in-Blocks-clause-settled : goal.returns-in-Blocks-clause-settled
 returns-in-Blocks-clause-settled g c a was =
@@ -41,5 +41,5 @@ returns-in-Blocks-clause-settled g c a was =
     let same : c.in-Blocks.recording ≡ id = search rules in
     let decided : settle_decision a.desk n ≡ Ok (settling.Blocks id w) = ap (λ d. settle_decision d n) (sym was.desk_is) ∙ c.in_ok-decided.ensures.decided ∙ ap Ok c.in-Blocks.is ∙ ap (λ z. Ok (settling.Blocks z w)) same in
     ended_as old new c.settle_blocks.new.self.storage.log c.settle_blocks.new.self.desk.state a _ (EndsAs old new (events.Settle n) a c.settle_blocks.result)
-    (λ b ends reads. commit_call a (events.Settle n) (replies.Settled w.last) (settled_archive a n id) (HasFailed old new) c.settle_blocks.result b refl (blocks_end a n id w decided) ends)
+    (λ b ends. ((λ reads. commit_call a (events.Settle n) (replies.Settled w.last) (settled_archive a n id) (HasFailed old new) c.settle_blocks.result b (ap has_blocks decided) (blocks_end a n id w decided) ends), tt))
     (c.settle_blocks.ensures.settled a was)

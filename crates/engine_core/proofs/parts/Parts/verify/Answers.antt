@@ -7,6 +7,7 @@ use Rattle.archive_model.specs.Register.{registration_in}
 use Rattle.control_core.specs.declared.event.Event.TheVariants as events
 use Rattle.control_core.specs.Exact.{CallEnds, frames_of_one, recording_at}
 use Rattle.control_core.specs.Turns.{verify_tests}
+use Rattle.control_core.proofs.DecidedLemmas.{held}
 use Rattle.engine_core.specs.Calls.{EndsAs}
 use Rattle.engine_core.proofs.AskLemmas.{known_recording}
 use Rattle.engine_core.proofs.EndedLemmas.{still, untouched}
@@ -23,7 +24,7 @@ returns-in_err-known-clause-verified g c a was =
     let first : checked (verify_tests a.desk id) checks (Ok tt) ≡ Err refusal = ap (λ d. checked (verify_tests d id) checks (Ok tt)) (sym was.desk_is) ∙ c.in_err-known.ensures.decided in
     let decided = checked_err (verify_tests a.desk id) checks tt (Ok (replies.Verified (frames_of_one (recording_at a id)))) refusal first in
     untouched life c.args.self.now.storage.log c.args.self.now.desk.state a _ was
-    (λ reads. subst (λ o. CallEnds a (events.Verify id) (HasFailed life life) o a) (sym is) (inl (leaves_refused a a _ refusal decided)))
+    ((λ reads. subst (λ o. CallEnds a (events.Verify id) (HasFailed life life) o a) (sym is) (inl (leaves_refused a a _ refusal decided))), refl)
 
 pub count_frames-requires : goal.count_frames-requires
 count_frames-requires g c = (laid_found c.args.self.now.desk.state c.args.recording.now c.in_ok-known.known.now c.requires.orderly c.in_ok-known.ensures.found).laid_out
@@ -36,10 +37,14 @@ returns-in_err-frames-clause-verified g c a was =
     let known = known_recording a id c.in_ok-known.known.now was.agrees (ap (λ d. registration_in d.register id) (sym was.desk_is) ∙ sym c.in_ok-known.ensures.found) in
     let refusal = c.in_err-frames.field-0.0 in
     let is : c.from_residual-in_err-frames.result ≡ Err refusal = search rules in
-    still old new c.args.self.now.storage.log c.args.self.now.desk.state a (EndsAs old new (events.Verify id) a c.from_residual-in_err-frames.result) c.count_frames.ensures.quiet was
-    (λ reads.
-    let read = is_read old new c.args.self.now.storage.log c.args.self.now.desk.state a id c.in_ok-known.known.now known.recording (g.met.D.Disk.reads_may_stay c.args.self.now.storage.disk) was c.in_ok-known.ensures.found known.found (reads refl) in
-    outside_read a (events.Verify id) (HasFailed old new) c.from_residual-in_err-frames.result refusal is (c.in_err-frames.ensures.outside known.recording read) (λ fault. c.in_err-frames.ensures.cause (ap Err fault)))
+    let first : checked (verify_tests a.desk id) checks (Ok tt) ≡ Ok tt = ap (λ d. checked (verify_tests d id) checks (Ok tt)) (sym was.desk_is) ∙ c.in_ok-known.ensures.decided in
+    let passed = (held (verify_tests a.desk id) checks tt tt first).0 in
+    still old new c.args.self.now.storage.log c.args.self.now.desk.state a (EndsAs old new (events.Verify id) a c.from_residual-in_err-frames.result) c.count_frames.ensures.quiet was (
+      (λ reads.
+          let read = is_read old new c.args.self.now.storage.log c.args.self.now.desk.state a id c.in_ok-known.known.now known.recording (g.met.D.Disk.reads_may_stay c.args.self.now.storage.disk) was c.in_ok-known.ensures.found known.found (reads refl) in
+          outside_read a (events.Verify id) (HasFailed old new) c.from_residual-in_err-frames.result refusal is (c.in_err-frames.ensures.outside known.recording read) (λ fault. (c.in_err-frames.ensures.cause (ap Err fault), passed))),
+      refl,
+    )
 
 pub returns-clause-verified : goal.returns-clause-verified
 returns-clause-verified g c a was =
@@ -52,9 +57,11 @@ returns-clause-verified g c a was =
     let same : c.in_ok-frames.frames ≡ to_z w64 (of_z w64 c.in_ok-frames.frames) = search rules in
     let first : checked (verify_tests a.desk id) checks (Ok tt) ≡ Ok tt = ap (λ d. checked (verify_tests d id) checks (Ok tt)) (sym was.desk_is) ∙ c.in_ok-known.ensures.decided in
     let decided = checked_ok (verify_tests a.desk id) checks tt tt (Ok (replies.Verified (frames_of_one (recording_at a id)))) first in
-    still old new c.args.self.now.storage.log c.args.self.now.desk.state a (EndsAs old new (events.Verify id) a (Ok reply)) c.count_frames.ensures.quiet was
-    (λ reads.
-    let read = is_read old new c.args.self.now.storage.log c.args.self.now.desk.state a id c.in_ok-known.known.now r (g.met.D.Disk.reads_may_stay c.args.self.now.storage.disk) was c.in_ok-known.ensures.found known.found (reads refl) in
-    let count = c.in_ok-frames.ensures.count r read in
-    let told : replies.Verified (frames_of_one (recording_at a id)) ≡ reply = ap (λ o. replies.Verified (frames_of_one o)) known.found ∙ ap replies.Verified (sym count ∙ same) in
-    leaves_told a a _ reply (decided ∙ ap Ok told))
+    still old new c.args.self.now.storage.log c.args.self.now.desk.state a (EndsAs old new (events.Verify id) a (Ok reply)) c.count_frames.ensures.quiet was (
+      (λ reads.
+          let read = is_read old new c.args.self.now.storage.log c.args.self.now.desk.state a id c.in_ok-known.known.now r (g.met.D.Disk.reads_may_stay c.args.self.now.storage.disk) was c.in_ok-known.ensures.found known.found (reads refl) in
+          let count = c.in_ok-frames.ensures.count r read in
+          let told : replies.Verified (frames_of_one (recording_at a id)) ≡ reply = ap (λ o. replies.Verified (frames_of_one o)) known.found ∙ ap replies.Verified (sym count ∙ same) in
+          leaves_told a a _ reply (decided ∙ ap Ok told)),
+      refl,
+    )

@@ -18,16 +18,18 @@ returns-in_default-clause-written g c a was =
     let at = to_z w64 (of_z w64 c.args.block.now.position) in
     let nothing : Written = record { first = at; last = at } in
     untouched life c.args.self.now.storage.log c.args.self.now.desk.state a _ was
-    (λ reads. none_ends a c.args.session.now c.args.block.now nothing life c.args.self.now.storage.log c.args.self.now.desk.state (HasFailed life life) c.decide_write.result was (search rules) c.decide_write.ensures)
+    ((λ reads. none_ends a c.args.session.now c.args.block.now nothing life c.args.self.now.storage.log c.args.self.now.desk.state (HasFailed life life) c.decide_write.result was (search rules) c.decide_write.ensures), tt)
 
 pub returns-in_err-reply-clause-written : goal.returns-in_err-reply-clause-written
 returns-in_err-reply-clause-written g c a was =
     let life = g.D.Disk.life c.args.self.now.storage.disk in
     let is : c.from_residual.result ≡ Err c.in_err-reply.field-0.0 = search rules in
     let decided : Err c.in_err-reply.field-0.0 ≡ write_decision c.args.self.now.desk.state c.args.session.now (span_to c.args.block.now c.in-Some.target.end) true = search rules in
-    untouched life c.args.self.now.storage.log c.args.self.now.desk.state a _ was
-    (λ reads. subst (λ o. CallEnds a (events.Write c.args.session.now c.args.block.now) (HasFailed life life) o a) (sym is)
-    (refused_ends life c.args.self.now.storage.log c.args.self.now.desk.state a c.args.session.now c.args.block.now c.in-Some.target.layout c.in-Some.target.end was c.in-Some.ensures.target c.in_err-reply.field-0.0 (HasFailed life life) decided))
+    untouched life c.args.self.now.storage.log c.args.self.now.desk.state a _ was (
+      (λ reads. subst (λ o. CallEnds a (events.Write c.args.session.now c.args.block.now) (HasFailed life life) o a) (sym is)
+          (refused_ends life c.args.self.now.storage.log c.args.self.now.desk.state a c.args.session.now c.args.block.now c.in-Some.target.layout c.in-Some.target.end was c.in-Some.ensures.target c.in_err-reply.field-0.0 (HasFailed life life) decided)),
+      tt,
+    )
 
 pub write-requires-clause-layout : goal.write-requires-clause-layout
 write-requires-clause-layout g c = lays_out c.args.self.now.desk.state c.args.session.now c.args.block.now c.in-Some.target.layout c.in-Some.target.end c.requires.orderly c.in-Some.ensures.target
