@@ -1,6 +1,6 @@
 -- Which command the words ask for.
 use Rattle.std.proofs.Common.{◌≡◌, ◌≢◌, ◌∙◌, inl, inr, refl, sym, ap, ap₂, subst, arith, ℕ, true, List, [], ◌∷◌, Option, Some, None, Result, Ok, Err, option_map, codes, Bor, slice_index, rules, ne_eqb}
-use Rattle.std.specs.Prelude.{IfErr, IsSomeAnd}
+use Rattle.std.specs.Prelude.{IfErr, IfOk, IsSomeAnd}
 use Rattle.std.specs.Str.Parse.{ParsesUnsigned}
 use Rattle.clap.specs.Words.{AddsSubcommand, App, FailsBy, HasKind, HasMatchesOf, Kinds, ReadsOne, Row, Text, app_of, fault_of, first_of, first_value, is_simple, is_simple_and_free, kind_of, one_of, one_text, rows_of, subcommand_of, subcommand_rows_of, with_subcommand}
 use Rattle.clap.specs.declared.builder.command.Command.{Command}
@@ -74,8 +74,12 @@ no_frames name rows is none (Verify folder) asked = absurd (differ (codes "frame
 no_frames name rows is none (Frames file) asked = let bad = sym none ∙ asked.words in cc
 
 -- the program's command after one more subcommand
-pub adds : (old sub new : Command) (a s : App) → AddsSubcommand old sub new → app_of old ≡ a → IsCommand s sub → app_of new ≡ with_subcommand a s.top
+adds : (old sub new : Command) (a s : App) → AddsSubcommand old sub new → app_of old ≡ a → IsCommand s sub → app_of new ≡ with_subcommand a s.top
 adds old sub new a s added is is_sub = added.shape is_sub.local ∙ ap₂ with_subcommand is (ap (λ (x : App). x.top) is_sub.app_is)
+
+-- after the one that a result holds
+pub adds_one : {E : Type 0} (old new : Command) (sub : Result Command E) (a s : App) → (one : Command) × (sub ≡ Ok one) × AddsSubcommand old one new → app_of old ≡ a → IfOk sub (IsCommand s) → app_of new ≡ with_subcommand a s.top
+adds_one old new sub a s (one, is, added) was is_sub = adds old one new a s added was (subst (λ r. IfOk r (IsCommand s)) is is_sub)
 
 -- the program is one of which clap gives matches and faults
 tool_is_simple : is_simple tool_app ≡ true

@@ -1,8 +1,8 @@
 //! The program's command line: docs/CONTROL.md, "The program".
 
-ghost use Rattle.std.specs.Prelude.{◌≡◌, ◌∷◌, [], ℕ, List, IfOk, IfErr, MatchOption, codes, false, map, string_bytes};
-ghost use Rattle.clap.specs.Words.{app_of, fault_of, found_of, kind_of, rows_of, rule_of, subcommand_rows_of};
-ghost use Rattle.command_line.specs.CommandLine.{IsAsked, IsCommand, IsHeld, IsMet, IsPlain, IsWordsFault, create_app, history_option, required_word, run_app, tool_app, word_app, words_of};
+ghost use Rattle.std.specs.Prelude.{◌≡◌, ◌∷◌, [], ℕ, List, Ok, IfOk, IfErr, MatchOption, codes, false, map, string_bytes};
+ghost use Rattle.clap.specs.Words.{AddsSubcommand, app_of, fault_of, found_of, kind_of, rows_of, rule_of, subcommand_rows_of};
+ghost use Rattle.command_line.specs.CommandLine.{IsAsked, IsCommand, IsHeld, IsMet, IsPlain, IsWordsFault, create_app, history_option, named_tool, required_word, run_app, tool_app, word_app, words_of};
 
 use clap::error::ErrorKind;
 use clap::{Arg, ArgMatches, Command, Error, value_parser};
@@ -152,8 +152,9 @@ fn frames<'a>(alloc: Global) -> Result<Command<'a>, AllocError>
         .arg(required(alloc, "file", "A segment file of an archive"))
 }
 
-fn tool<'a>(alloc: Global) -> Result<Command<'a>, AllocError>
-    ensures { IfOk result (λ tool. app_of tool ≡ tool_app) }
+/// The program without its commands.
+fn named<'a>(alloc: Global) -> Command<'a>
+    ensures { app_of result ≡ named_tool }
 {
     Command::new(alloc, "archive_tool")
         .about("Records Aeron streams and replays them")
@@ -161,11 +162,26 @@ fn tool<'a>(alloc: Global) -> Result<Command<'a>, AllocError>
         .after_help(STATUSES)
         .subcommand_required(true)
         .arg_required_else_help(true)
-        .subcommand(create(alloc)?)?
-        .subcommand(run(alloc)?)?
-        .subcommand(list(alloc)?)?
-        .subcommand(verify(alloc)?)?
-        .subcommand(frames(alloc)?)
+}
+
+/// The program with one more command, if there was memory for it.
+fn with<'a>(
+    tool: Command<'a>,
+    command: Result<Command<'a>, AllocError>,
+) -> Result<Command<'a>, AllocError>
+    ensures { IfOk result (λ more. (one : Command) × (command.entry ≡ Ok one) × AddsSubcommand tool.entry one more) }
+{
+    tool.subcommand(command?)
+}
+
+fn tool<'a>(alloc: Global) -> Result<Command<'a>, AllocError>
+    ensures { IfOk result (λ tool. app_of tool ≡ tool_app) }
+{
+    let tool = with(named(alloc), create(alloc))?;
+    let tool = with(tool, run(alloc))?;
+    let tool = with(tool, list(alloc))?;
+    let tool = with(tool, verify(alloc))?;
+    with(tool, frames(alloc))
 }
 
 /// The command that a subcommand's name and matches hold, if it is one of the program's.
