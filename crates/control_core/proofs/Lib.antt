@@ -15,3 +15,4 @@ mod CommandLemmas
 pub mod WriteLemmas
 pub mod ConsistentLemmas
 pub mod ExactLemmas
+pub mod FaultLemmas

@@ -1,6 +1,6 @@
 -- What each call of an archive is answered exactly, by its state with the frames, its desk and what its sessions wrote.
 -- docs/CONTROL.md, "Requests", "Recorder sessions" and "Replays".
-use Rattle.std.specs.Prelude.{◌≡◌, ◌⊎◌, ◌++◌, ◌+ℤ◌, ℕ, ℤ, pos, Bool, true, false, IsTrue, IsSomeAnd, MatchBool, List, [], ◌∷◌, length, unsigned_abs, Option, Some, None, is_none, is_some, Result, Ok, Err, is_ok, if◌then◌else◌}
+use Rattle.std.specs.Prelude.{◌≡◌, ◌⊎◌, ◌++◌, ◌+ℤ◌, ℕ, ℤ, pos, Bool, true, false, IsTrue, IsSomeAnd, MatchBool, List, [], ◌∷◌, length, unsigned_abs, Option, Some, None, is_none, is_some, Result, Ok, Err, if◌then◌else◌}
 use Rattle.std.specs.Ordering.{int_eq}
 use Rattle.frame_core.specs.declared.block.Block.{Block}
 use Rattle.frame_core.specs.declared.refusal.Refusal.{Refusal}
@@ -37,7 +37,7 @@ use Rattle.control_core.specs.declared.turns.Settling.TheVariants as settling
 use Rattle.control_core.specs.Desk.{DeskState, opened_desk}
 use Rattle.control_core.specs.Changes.{after_close, after_open, after_poll, after_write, broken_desk, desk_after, reply_after, settled}
 use Rattle.control_core.specs.Decisions.{accepted, command_in, decision_of}
-use Rattle.control_core.specs.Turns.{close_decision, is_done_at, open_decision, poll_decision, replay_in, session_in, settle_decision, sweep_tests, verify_tests, write_decision}
+use Rattle.control_core.specs.Turns.{close_decision, is_done_at, open_decision, poll_decision, poll_tests, replay_in, session_in, settle_decision, sweep_tests, verify_tests, write_decision}
 use Rattle.control_core.specs.Machine.{OrOutside, Outcome}
 
 -- The recordings with their frames, the desk, the blocks that each recorder session wrote and did not settle, and the
@@ -206,7 +206,7 @@ has_blocks _ = false
 abbrev pub reads_files : DeskState → Event → Bool
 reads_files d (events.Ask request) = waits_for_frames (decision_of d request)
 reads_files d (events.ReplayOpen id position size) = opens_by_frames (open_decision d id position size)
-reads_files d (events.ReplayPoll number most) = is_ok (poll_decision d number most)
+reads_files d (events.ReplayPoll number most) = passes (poll_tests d number most) checks
 reads_files d events.Sweep = passes (sweep_tests d) checks
 reads_files d (events.Verify id) = passes (verify_tests d id) checks
 reads_files d _ = false
@@ -223,7 +223,7 @@ abbrev pub Makes : Archive → Event → State → Type 0
 Makes a event u = (reply : Reply) × ((b : Archive) × ArchiveEnds a event (Ok reply) b × (b.state ≡ u))
 
 -- After a device fault in reading nothing has changed; after one in writing what the call makes is in doubt. A call that
--- asks nothing of the device meets none.
+-- asks nothing of the device meets none; a truncation may do both, and may end either way.
 abbrev pub LeftByFault : Archive → Event → Archive → Type 0
 LeftByFault a event b =
     (IsTrue (reads_files a.desk event) × (b ≡ a))

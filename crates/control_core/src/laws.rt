@@ -15,8 +15,8 @@ ghost use Rattle.control_core.specs.Agreement.{Agrees, HasWritten};
 ghost use Rattle.frame_core.specs.declared.refusal.Refusal.{Refusal};
 ghost use Rattle.archive_model.specs.declared.reply.Reply.{Reply};
 ghost use Rattle.control_core.specs.declared.event.Event.{Event};
-ghost use Rattle.control_core.specs.Machine.{Step};
-ghost use Rattle.control_core.specs.Exact.{Archive, ArchiveEnds, archive_after, asked_frames, asked_of, book_of, opened_archive, told_of};
+ghost use Rattle.control_core.specs.Machine.{Step, Stepped};
+ghost use Rattle.control_core.specs.Exact.{Archive, ArchiveEnds, CallEnds, archive_after, asked_frames, asked_of, book_of, opened_archive, told_of};
 ghost use Rattle.control_core.specs.Consistent.{IsAcceptable, IsConsistent, MakesCommand, SettlesByAppend, is_append};
 ghost use Rattle.control_core.specs.Turns.{MayOpen, open_decision, opening_in, settle_decision};
 ghost use Rattle.control_core.specs.declared.turns.Opening.{Opening};
@@ -89,6 +89,15 @@ pub fn an_exact_answer_is_allowed()
     ensures { (a : Archive) (event : Event) (outcome : Result Reply Refusal) (new : Archive) →
         IsConsistent a → ArchiveEnds a event outcome new →
         Step a.desk (asked_of event) (told_of a.desk event outcome) new.desk }
+{}
+
+/// So is whatever a call ends with: also want of memory, which changes nothing, and a device fault, which leaves the desk
+/// as it was or broken; of a consistent archive: docs/CONTROL.md, "Control state".
+#[tactic(auto, using(crate::proofs::FaultLemmas::call_is_allowed))]
+pub fn a_call_is_allowed()
+    ensures { (a : Archive) (event : Event) (outcome : Result Reply Refusal) (new : Archive) →
+        IsConsistent a → CallEnds a event (Unit {0}) outcome new →
+        Stepped a.desk (asked_of event) (told_of a.desk event outcome) new.desk }
 {}
 
 /// A consistent archive still is after an accepted command that is no append: docs/CONTROL.md, "Control state".

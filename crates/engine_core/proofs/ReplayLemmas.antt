@@ -1,5 +1,5 @@
 -- Calls of replays, and calls that only read.
-use Rattle.std.proofs.Common.{◌≡◌, ◌∙◌, inl, inr, sym, ap, subst, refl, cond, ℤ, Bool, true, false, IsTrue, List, [], ◌∷◌, Option, None, Some, arith}
+use Rattle.std.proofs.Common.{◌≡◌, ◌∙◌, inl, inr, sym, ap, subst, refl, cond, ℤ, Bool, true, false, ◌&&◌, IsTrue, List, [], ◌∷◌, Option, None, Some, arith}
 use Rattle.std.specs.Prelude.{IsSomeAnd, Result, Ok, Err, unsigned_abs}
 use Rattle.frame_core.specs.declared.refusal.Refusal.{Refusal}
 use Rattle.frame_core.specs.declared.refusal.Refusal.TheVariants.{DeviceFault, NoMemory}
@@ -7,7 +7,7 @@ use Rattle.disk_core.specs.Life.{IsQuiet, Life}
 use Rattle.archive_model.specs.declared.reply.Reply.{Reply}
 use Rattle.archive_model.specs.declared.reply.PolledFrame.{PolledFrame}
 use Rattle.archive_model.specs.declared.reply.Reply.TheVariants as replies
-use Rattle.archive_model.specs.Checks.{Tests, checked, checks}
+use Rattle.archive_model.specs.Checks.{Tests, checked, checks, passes}
 use Rattle.archive_model.specs.Keyed.{Each, change}
 use Rattle.archive_model.specs.Replay.{is_boundary, polled}
 use Rattle.archive_model.specs.State.{Recording}
@@ -110,6 +110,18 @@ checked_through {X = X} tests (r ∷ rs) y z is = by (tests r) is (checked_throu
     by : (b : Bool) → cond b (checked tests rs y) (Err r) ≡ Ok z → (checked tests rs y ≡ Ok z → y ≡ Ok z) → y ≡ Ok z
     by true e later = later e
     by false e later = absurd cc
+
+-- each test of it holds
+all_pass : {X : Type 0} (tests : Tests) (rs : List Refusal) (y : Result X Refusal) (z : X) → checked tests rs y ≡ Ok z → passes tests rs ≡ true
+all_pass tests [] y z is = refl
+all_pass {X = X} tests (r ∷ rs) y z is = by (tests r) is (all_pass tests rs y z)
+  where
+    by : (b : Bool) → cond b (checked tests rs y) (Err r) ≡ Ok z → (checked tests rs y ≡ Ok z → passes tests rs ≡ true) → (b && passes tests rs) ≡ true
+    by true e later = later e
+    by false e later = absurd cc
+
+pub poll_passes : (d : DeskState) (number most : ℤ) (replay : OpenReplay) → poll_decision d number most ≡ Ok replay → passes (poll_tests d number most) checks ≡ true
+poll_passes d number most replay is = all_pass (poll_tests d number most) checks (replay_of (replay_in d number)) replay is
 
 -- what is polled is open
 pub polled_open : (d : DeskState) (number most : ℤ) (replay : OpenReplay) → poll_decision d number most ≡ Ok replay → replay_in d number ≡ Some replay

@@ -3,9 +3,9 @@ use Rattle.std.proofs.Common.{◌≡◌, ◌∙◌, ◌++◌, ◌+◌, ◌<◌, 
 use Rattle.std.proofs.lemmas.List.{append-nil, append_assoc, length-append, length-take-le, take_all}
 use Rattle.std.proofs.lemmas.List.Sums.{sum_by-append}
 use Rattle.std.proofs.Math.Seq.{take-suc}
-use Rattle.std.specs.Prelude.{Result, Ok, Err}
+use Rattle.std.specs.Prelude.{Result, Err}
 use Rattle.frame_core.specs.declared.refusal.Refusal.{Refusal}
-use Rattle.frame_core.specs.declared.refusal.Refusal.TheVariants.{DeviceFault, NoMemory}
+use Rattle.frame_core.specs.declared.refusal.Refusal.TheVariants.{DeviceFault}
 use Rattle.disk_core.specs.Life.{HasFailed, Life}
 use Rattle.disk_core.proofs.CallerLemmas.{goes_on_part, started, weaker}
 use Rattle.archive_model.specs.declared.reply.Reply.{Reply}
@@ -18,14 +18,8 @@ use Rattle.engine_core.specs.Calls.{Call, Ended, EndsAs, HasFailedOften, Ran, Ru
 use Rattle.engine_core.specs.Consistent.{IsConsistent, MayStand, MayStandIn}
 use Rattle.engine_core.specs.Recovery.{RecoversTo}
 use Rattle.engine_core.proofs.AskLemmas.{ended_as}
+use Rattle.control_core.proofs.FaultLemmas.{other_cause}
 use Rattle.engine_core.proofs.EndedLemmas.{recovers_as}
-
--- of a fault nothing more is asked
-pub call_weaker : (a : Archive) (event : Event) (F : Type 0) (outcome : Result Reply Refusal) (b : Archive) → CallEnds a event F outcome b → CallEnds a event (Unit {0}) outcome b
-call_weaker a event F (Ok reply) b ends = ends
-call_weaker a event F (Err NoMemory) b ends = ends
-call_weaker a event F (Err DeviceFault) b ends = elim ends [ inl exact ↦ inl exact | inr out ↦ inr (tt, out.1) ]
-call_weaker a event F (Err refusal) b ends = ends
 
 -- ---- no call yet
 
@@ -139,7 +133,7 @@ next_run old mid new old_log log new_log old_desk desk new_desk events i event o
       subst (λ (calls : List Call). Ran old new new_log new_desk a calls) (sym (calls_push events outcomes i event outcome within is so_far.answered))
       (ran_more old mid new log new_log desk new_desk a (calls_of (take i events) outcomes) event outcome (so_far.ran a was (obeyed obeys))
       (λ b there. ended_as mid new new_log new_desk b (EndsAs mid new event b outcome) (λ c. CallEnds b event (Unit {0}) outcome c)
-      (λ c ends. call_weaker b event (HasFailed mid new) outcome c (ends.0 (λ reads. obeys))) (step b there (λ cut. obeys))));
+      (λ c ends. other_cause b event (HasFailed mid new) (Unit {0}) outcome c (λ failed. tt) (ends.0 (λ reads. obeys))) (step b there (λ cut. obeys))));
 }
 
 -- all are

@@ -10,7 +10,7 @@ use Rattle.control_core.specs.declared.event.Event.{Event}
 use Rattle.control_core.specs.declared.event.Event.TheVariants as events
 use Rattle.control_core.specs.declared.request.Request.TheVariants.{Truncate}
 use Rattle.control_core.specs.Desk.{DeskState}
-use Rattle.control_core.specs.Exact.{Archive, ArchiveEnd, CallEnds, broken, with_desk}
+use Rattle.control_core.specs.Exact.{Archive, ArchiveEnd, CallEnds, broken, reads_files, with_desk}
 use Rattle.engine_core.specs.Recovery.{RecoversTo}
 use Rattle.engine_core.specs.Consistent.{IsConsistent, MayStand, MayStandIn}
 
@@ -23,15 +23,6 @@ pub record Ended (old new : Life) (log : LogState) (desk : DeskState) (a : Archi
   pub ends : Ends after
   pub consistent : IsConsistent new log desk after
   pub any_moment : LeavesOnly old new (RecoversTo (MayStandIn a after))
-
--- its answer is read from segment files
-abbrev pub is_read : Event → Bool
-is_read (events.ReplayOpen id position size) = true
-is_read (events.ReplayPoll number most) = true
-is_read events.Sweep = true
-is_read (events.Verify id) = true
-is_read (events.Ask (Truncate id position)) = true
-is_read _ = false
 
 -- it changes the archive by what it reads: a truncation, at a position that frames have to have
 abbrev pub is_cut : Event → Bool
@@ -52,7 +43,7 @@ Keeps _ a b = Unit {0}
 
 -- the exact end of a call
 abbrev pub EndsAs : Life → Life → Event → Archive → Result Reply Refusal → Archive → Type 0
-EndsAs old new event a outcome b = IfRead (is_read event) new (CallEnds a event (HasFailed old new) outcome b) × Keeps event a b
+EndsAs old new event a outcome b = IfRead (reads_files a.desk event) new (CallEnds a event (HasFailed old new) outcome b) × Keeps event a b
 
 -- ---- a commit
 

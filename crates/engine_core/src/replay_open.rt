@@ -7,7 +7,7 @@ ghost use Rattle.catalogue_log.specs.LogState.{LogState};
 ghost use Rattle.control_core.specs.declared.event.Event.TheVariants as events;
 ghost use Rattle.control_core.specs.Exact.{Archive, asked_opening, opens_by_frames};
 ghost use Rattle.control_core.specs.Turns.{open_decision, opening_in};
-ghost use Rattle.engine_core.specs.Calls.{Ended, EndsAs};
+ghost use Rattle.engine_core.specs.Calls.{Ended, EndsAs, IfRead};
 ghost use Rattle.engine_core.specs.Consistent.{IsConsistent};
 ghost use Rattle.engine_core.specs.Orderly.{IsOrderly};
 ghost use Rattle.engine_core.specs.Replaying.{IsDecided};
@@ -70,12 +70,12 @@ fn decided_opening<D: Disk>(
     length: &i64,
 ) -> Result<Opening, Refusal>
     requires orderly { IsOrderly desk.now.state }
-    // Where the disk obeys the crash model, the refusal is exact too.
+    // Where no frame is asked, or the disk obeys the crash model, the refusal is exact too.
     ensures decided { (log : LogState) (a : Archive) → IsConsistent (D.life disk.old) log desk.now.state a →
-        IsTrue (D.life disk.new).obeys →
-        IsDecided (asked_opening a recording.now (open_decision a.desk recording.now position.now length.now))
+        IfRead (opens_by_frames (open_decision a.desk recording.now position.now length.now)) (D.life disk.new)
+        (IsDecided (asked_opening a recording.now (open_decision a.desk recording.now position.now length.now))
         (HasFailed (D.life disk.old) (D.life disk.new)
-        × IsTrue (opens_by_frames (open_decision a.desk recording.now position.now length.now))) result }
+        × IsTrue (opens_by_frames (open_decision a.desk recording.now position.now length.now))) result) }
     ensures leads { IfOk result (λ opening.
         opening_in (open_decision desk.now.state recording.now position.now length.now) ≡ Some opening) }
     ensures quiet { IsQuiet (D.life disk.old) (D.life disk.new) }

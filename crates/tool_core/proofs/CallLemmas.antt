@@ -18,8 +18,9 @@ use Rattle.control_core.specs.declared.turns.Settling.{Settling}
 use Rattle.control_core.specs.declared.turns.Settling.TheVariants as settling
 use Rattle.control_core.specs.Decisions.{decision_of}
 use Rattle.control_core.specs.Desk.{DeskState}
-use Rattle.control_core.specs.Exact.{Archive, ArchiveEnds, CallEnds, DecisionEnds, Leaves, OpeningEnds, PolledEnds, PollingEnds, SettlingEnds, SweepEnds, asked_frames, asked_opening, recording_at, with_desk, written}
+use Rattle.control_core.specs.Exact.{Archive, ArchiveEnds, DecisionEnds, Leaves, OpeningEnds, PolledEnds, PollingEnds, SettlingEnds, SweepEnds, asked_frames, asked_opening, recording_at, with_desk, written}
 use Rattle.control_core.specs.Turns.{close_decision, open_decision, poll_decision, settle_decision, sweep_tests}
+use Rattle.control_core.proofs.FaultLemmas.{other_cause}
 use Rattle.engine_core.specs.Calls.{Ended, EndsAs, is_cut}
 use Rattle.engine_core.specs.Consistent.{IsConsistent}
 use Rattle.tool_core.specs.Script.{Works}
@@ -81,13 +82,6 @@ calls_doubt a event (Err refusal) b ends = elim ends [ inl exact ↦ ends_doubt 
 
 -- ---- faults
 
--- where no call of the disk has failed, no fault stands in an answer's place
-steady : (a : Archive) (event : Event) (F : Type 0) (outcome : Result Reply Refusal) (b : Archive) → (F → ⊥) → CallEnds a event F outcome b → Calls event a outcome b
-steady a event F (Ok reply) b none ends = ends
-steady a event F (Err NoMemory) b none ends = ends
-steady a event F (Err DeviceFault) b none ends = elim ends [ inl exact ↦ inl exact | inr out ↦ absurd (none out.0) ]
-steady a event F (Err refusal) b none ends = ends
-
 -- an archive of which none is in doubt, as an event leaves it
 pub record Stepped (new : Life) (log : LogState) (desk : DeskState) (a : Archive) (event : Event) (outcome : Result Reply Refusal) : Type 0 where
   pub after : Archive
@@ -98,7 +92,7 @@ pub record Stepped (new : Life) (log : LogState) (desk : DeskState) (a : Archive
 pub stepped : (old new : Life) (log : LogState) (desk : DeskState) (a : Archive) (event : Event) (outcome : Result Reply Refusal) → Works old new → a.doubt ≡ None
     → Ended old new log desk a (EndsAs old new event a outcome) → Stepped new log desk a event outcome
 stepped old new log desk a event outcome works certain ended =
-    let ends : Calls event a outcome ended.after = steady a event (HasFailed old new) outcome ended.after (not_failed old new works) (ended.ends.0 (λ reads. works.obeys)) in
+    let ends : Calls event a outcome ended.after = other_cause a event (HasFailed old new) ⊥ outcome ended.after (not_failed old new works) (ended.ends.0 (λ reads. works.obeys)) in
     record { after = ended.after; consistent = ended.consistent; certain = calls_doubt a event outcome ended.after ends ∙ certain; ends = ends }
 
 -- ---- a script's archive

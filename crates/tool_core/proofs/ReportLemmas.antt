@@ -15,9 +15,10 @@ use Rattle.archive_model.specs.declared.reply.Reply.{Reply}
 use Rattle.control_core.specs.declared.event.Event.{Event}
 use Rattle.control_core.specs.declared.event.Event.TheVariants.{Verify}
 use Rattle.control_core.specs.Exact.{Archive, CallEnds}
+use Rattle.control_core.proofs.FaultLemmas.{other_cause}
 use Rattle.engine_core.specs.declared.engine.Engine.{Engine}
 use Rattle.engine_core.specs.Calls.{Ended, EndsAs, HasFailedOften, faults_in, is_cut, is_fault}
-use Rattle.engine_core.proofs.RunLemmas.{call_weaker, fault_more}
+use Rattle.engine_core.proofs.RunLemmas.{fault_more}
 use Rattle.tool_core.specs.declared.fault.EarlyEnd.{EarlyEnd}
 use Rattle.tool_core.specs.declared.fault.EarlyEnd.TheVariants as ends
 use Rattle.tool_core.specs.declared.reports.Verdict.{Verdict}
@@ -68,7 +69,7 @@ module _ {D : Type 0} (life : D → Life) where
     stays = λ a was. let ended = stepped a was (λ cut. absurd (true≢false (sym cut))) in subst (λ (b : Archive). IsEngineOf life b new) ended.ends.1 ended.consistent;
     exact = λ a was obeys.
         let ended = stepped a was (λ cut. obeys) in
-        let ends = call_weaker a (Verify id) (HasFailed (life_in life old) (life_in life new)) outcome ended.after (ended.ends.0 (λ reads. obeys)) in
+        let ends = other_cause a (Verify id) (HasFailed (life_in life old) (life_in life new)) (Unit {0}) outcome ended.after (λ failed. tt) (ended.ends.0 (λ reads. obeys)) in
         (subst (λ (b : Archive). CallEnds a (Verify id) (Unit {0}) outcome b) ended.ends.1 ends, tt);
   }
 

@@ -8,13 +8,13 @@ use Rattle.engine_core.proofs.ReplayOpenLemmas.{asked_alone, asked_read, leads_i
 use Rattle.engine_core.proofs.replay_open.decided_opening.Goals as goal
 
 pub returns-in-Decided-clause-decided : goal.returns-in-Decided-clause-decided
-returns-in-Decided-clause-decided g c log a was obeys = inl (sym (asked_alone a c.args.desk.now.state c.args.recording.now c.args.position.now c.args.length.now c.in-Decided.decided was.desk_is c.in-Decided.ensures))
+returns-in-Decided-clause-decided g c log a was reads = inl (sym (asked_alone a c.args.desk.now.state c.args.recording.now c.args.position.now c.args.length.now c.in-Decided.decided was.desk_is c.in-Decided.ensures))
 
 pub returns-in-Decided-clause-leads : goal.returns-in-Decided-clause-leads
 returns-in-Decided-clause-leads g c = leads_to _ c.in-Decided.decided (sym c.in-Decided.ensures)
 
 pub returns-in_default-clause-decided : goal.returns-in_default-clause-decided
-returns-in_default-clause-decided g c log a was obeys =
+returns-in_default-clause-decided g c log a was reads =
     let inside = opens_inside c.args.desk.now.state c.args.recording.now c.args.position.now c.args.length.now c.in-IfBoundary.position c.in-IfBoundary.decided (sym c.in-IfBoundary.ensures) in
     let none : None ≡ Some inside.known = c.in_default.ensures.found ∙ inside.found in
     absurd cc
@@ -23,35 +23,39 @@ pub begins_at-requires : goal.begins_at-requires
 begins_at-requires g c = (laid_found c.args.desk.now.state c.args.recording.now c.in-Some.known.now c.requires.orderly c.in-Some.ensures.found).laid_out
 
 pub returns-in_err-begins_at-in-IfBoundary-clause-decided : goal.returns-in_err-begins_at-in-IfBoundary-clause-decided
-returns-in_err-begins_at-in-IfBoundary-clause-decided g c log a was obeys =
+returns-in_err-begins_at-in-IfBoundary-clause-decided g c log a was reads =
     let old = g.D.Disk.life c.args.disk.now in
     let new = g.D.Disk.life c.begins_at.new.disk in
-    let read = read_known old new log c.args.desk.now.state a c.args.recording.now c.in-Some.known.now (g.met.D.Disk.reads_may_stay c.args.disk.now) was c.in-Some.ensures.found obeys in
-    let is : c.from_residual.result ≡ Err c.in_err-begins_at-in-IfBoundary.field-0.0 = search rules in
-    let fault = c.in_err-begins_at-in-IfBoundary.ensures.fault read.0 read.2 in
     let by_frames : opens_by_frames (open_decision a.desk c.args.recording.now c.args.position.now c.args.length.now) ≡ true = ap (λ d. opens_by_frames (open_decision d c.args.recording.now c.args.position.now c.args.length.now)) (sym was.desk_is)
     ∙ ap opens_by_frames (sym c.in-IfBoundary.ensures) in
+    let read = read_known old new log c.args.desk.now.state a c.args.recording.now c.in-Some.known.now (g.met.D.Disk.reads_may_stay c.args.disk.now) was c.in-Some.ensures.found (reads by_frames) in
+    let is : c.from_residual.result ≡ Err c.in_err-begins_at-in-IfBoundary.field-0.0 = search rules in
+    let fault = c.in_err-begins_at-in-IfBoundary.ensures.fault read.0 read.2 in
     inr (is ∙ ap Err fault, (c.in_err-begins_at-in-IfBoundary.ensures.cause (ap Err fault), by_frames))
 
 pub returns-then-not-branch-clause-decided : goal.returns-then-not-branch-clause-decided
-returns-then-not-branch-clause-decided g c log a was obeys =
+returns-then-not-branch-clause-decided g c log a was reads =
     let old = g.D.Disk.life c.args.disk.now in
     let new = g.D.Disk.life c.begins_at.new.disk in
+    let by_frames : opens_by_frames (open_decision a.desk c.args.recording.now c.args.position.now c.args.length.now) ≡ true = ap (λ d. opens_by_frames (open_decision d c.args.recording.now c.args.position.now c.args.length.now)) (sym was.desk_is)
+    ∙ ap opens_by_frames (sym c.in-IfBoundary.ensures) in
     let place = c.in-IfBoundary.position in
     let same : place ≡ to_z w64 (of_z w64 place) = search rules in
     let no : c.in_ok-begins_at-in-IfBoundary.field-0 ≡ false = search rules in
     inl (sym (asked_read old new log c.args.desk.now.state a c.args.recording.now c.args.position.now c.args.length.now place _ c.in-IfBoundary.decided c.in-Some.known.now c.in_ok-begins_at-in-IfBoundary.field-0
-    (g.met.D.Disk.reads_may_stay c.args.disk.now) was c.in-Some.ensures.found c.in-IfBoundary.ensures same obeys c.in_ok-begins_at-in-IfBoundary.ensures.told ∙ ap (λ t. cond t c.in-IfBoundary.decided (Err BadPosition)) no))
+    (g.met.D.Disk.reads_may_stay c.args.disk.now) was c.in-Some.ensures.found c.in-IfBoundary.ensures same (reads by_frames) c.in_ok-begins_at-in-IfBoundary.ensures.told ∙ ap (λ t. cond t c.in-IfBoundary.decided (Err BadPosition)) no))
 
 pub returns-else-not-branch-clause-decided : goal.returns-else-not-branch-clause-decided
-returns-else-not-branch-clause-decided g c log a was obeys =
+returns-else-not-branch-clause-decided g c log a was reads =
     let old = g.D.Disk.life c.args.disk.now in
     let new = g.D.Disk.life c.begins_at.new.disk in
+    let by_frames : opens_by_frames (open_decision a.desk c.args.recording.now c.args.position.now c.args.length.now) ≡ true = ap (λ d. opens_by_frames (open_decision d c.args.recording.now c.args.position.now c.args.length.now)) (sym was.desk_is)
+    ∙ ap opens_by_frames (sym c.in-IfBoundary.ensures) in
     let place = c.in-IfBoundary.position in
     let same : place ≡ to_z w64 (of_z w64 place) = search rules in
     let yes : c.in_ok-begins_at-in-IfBoundary.field-0 ≡ true = search rules in
     inl (sym (asked_read old new log c.args.desk.now.state a c.args.recording.now c.args.position.now c.args.length.now place _ c.in-IfBoundary.decided c.in-Some.known.now c.in_ok-begins_at-in-IfBoundary.field-0
-    (g.met.D.Disk.reads_may_stay c.args.disk.now) was c.in-Some.ensures.found c.in-IfBoundary.ensures same obeys c.in_ok-begins_at-in-IfBoundary.ensures.told ∙ ap (λ t. cond t c.in-IfBoundary.decided (Err BadPosition)) yes))
+    (g.met.D.Disk.reads_may_stay c.args.disk.now) was c.in-Some.ensures.found c.in-IfBoundary.ensures same (reads by_frames) c.in_ok-begins_at-in-IfBoundary.ensures.told ∙ ap (λ t. cond t c.in-IfBoundary.decided (Err BadPosition)) yes))
 
 pub returns-else-not-branch-clause-leads : goal.returns-else-not-branch-clause-leads
 returns-else-not-branch-clause-leads g c = leads_inside _ c.in-IfBoundary.position c.in-IfBoundary.decided (sym c.in-IfBoundary.ensures)

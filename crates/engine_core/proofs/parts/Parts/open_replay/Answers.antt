@@ -27,7 +27,7 @@ returns-in_err-opening-clause-opened g c a was =
     let refusal = c.in_err-opening.field-0.0 in
     let is : c.from_residual.result ≡ Err refusal = search rules in
     still old new log desk a (EndsAs old new event a c.from_residual.result) c.decided_opening.ensures.quiet was
-    ((λ reads. opening_refused a c.args.recording.now c.args.position.now c.args.length.now (HasFailed old new) c.from_residual.result refusal is (c.in_err-opening.ensures.decided log a was (reads refl))), refl)
+    ((λ reads. opening_refused a c.args.recording.now c.args.position.now c.args.length.now (HasFailed old new) c.from_residual.result refusal is (c.in_err-opening.ensures.decided log a was reads)), refl)
 
 pub returns-in_err-reserve_replay-clause-orderly : goal.returns-in_err-reserve_replay-clause-orderly
 returns-in_err-reserve_replay-clause-orderly g c = subst IsOrderly (sym c.reserve_replay.ensures.state) c.requires.orderly
@@ -72,11 +72,11 @@ returns-clause-opened g c a was =
     let quiet = c.decided_opening.ensures.quiet in
     let next = a.desk.callers.next_replay in
     let replays = a.desk.callers.replays ++ record { number = next; recording = o.recording; next = o.next; bound = o.bound } ∷ [] in
-    let decided = λ (obeys : IsTrue new.obeys). is_opened (asked_opening a id (open_decision a.desk id position size)) (HasFailed old new × IsTrue (opens_by_frames (open_decision a.desk id position size))) o (c.in_ok-opening.ensures.decided log a was obeys) in
+    let decided = λ (reads : IsTrue (opens_by_frames (open_decision a.desk id position size)) → IsTrue new.obeys). is_opened (asked_opening a id (open_decision a.desk id position size)) (HasFailed old new × IsTrue (opens_by_frames (open_decision a.desk id position size))) o (c.in_ok-opening.ensures.decided log a was reads) in
     let state = c.reserve_replay.ensures.state ∙ was.desk_is in
     let number = to_z w64 (of_z w64 c.next_replay-replay.result) in
     let same : number ≡ c.next_replay-replay.result = search rules in
     replayed old new log desk c.open_replay.new.self.state a replays (next +ℤ pos 1) _ quiet was
-    (λ obeys. each_push (IsAtBoundary a.state) a.desk.callers.replays (record { number = next; recording = o.recording; next = o.next; bound = o.bound }) (was.reading (quiet.obeyed obeys)) (opened_at_boundary a id position size o was.agrees (decided obeys)))
+    (λ obeys. each_push (IsAtBoundary a.state) a.desk.callers.replays (record { number = next; recording = o.recording; next = o.next; bound = o.bound }) (was.reading (quiet.obeyed obeys)) (opened_at_boundary a id position size o was.agrees (decided (λ asks. obeys))))
     (c.open_replay.ensures ∙ ap (after_open o.recording o.next o.bound) state)
-    ((λ reads. opening_ends a id position size (HasFailed old new) o number (decided (reads refl)) (same ∙ c.next_replay-replay.ensures ∙ ap (λ d. d.callers.next_replay) state)), refl)
+    ((λ reads. opening_ends a id position size (HasFailed old new) o number (decided reads) (same ∙ c.next_replay-replay.ensures ∙ ap (λ d. d.callers.next_replay) state)), refl)

@@ -9,7 +9,7 @@ use Rattle.control_core.specs.Changes.{after_poll}
 use Rattle.control_core.specs.Callers.{moved_to, replay_number}
 use Rattle.control_core.specs.Exact.{CallEnds, goes_on}
 use Rattle.control_core.specs.Turns.{is_done_at, poll_decision}
-use Rattle.std.specs.Prelude.{if◌then◌else◌, is_ok, unsigned_abs}
+use Rattle.std.specs.Prelude.{if◌then◌else◌, unsigned_abs}
 use Rattle.engine_core.specs.Calls.{EndsAs}
 use Rattle.engine_core.specs.Orderly.{IsOrderly}
 use Rattle.engine_core.specs.Reading.{IsRead}
@@ -18,7 +18,7 @@ use Rattle.engine_core.proofs.EndedLemmas.{still, untouched}
 use Rattle.engine_core.proofs.InsideLemmas.{is_read, laid_found}
 use Rattle.engine_core.proofs.OrderlyAskLemmas.{replay_from_start, replay_recording}
 use Rattle.engine_core.proofs.OrderlyCallLemmas.{orderly_poll}
-use Rattle.engine_core.proofs.ReplayLemmas.{moved_at, open_at, outside_read, polled_ends, polled_open, polling_refused, replayed}
+use Rattle.engine_core.proofs.ReplayLemmas.{moved_at, open_at, outside_read, poll_passes, polled_ends, polled_open, polling_refused, replayed}
 use Rattle.engine_core.proofs.parts.Parts.poll.Goals as goal
 
 pub returns-in_err-found-clause-polled : goal.returns-in_err-found-clause-polled
@@ -56,15 +56,16 @@ returns-in_err-given-clause-polled g c a was =
     let event = events.ReplayPoll c.args.replay.now c.args.most.now in
     let decided : poll_decision a.desk c.args.replay.now c.args.most.now ≡ Ok replay = ap (λ d. poll_decision d c.args.replay.now c.args.most.now) (sym was.desk_is) ∙ c.in_ok-found.ensures.decided in
     let opened = polled_open a.desk c.args.replay.now c.args.most.now replay decided in
+    let passed = poll_passes a.desk c.args.replay.now c.args.most.now replay decided in
     let known = known_recording a replay.recording c.in-Some.known.now was.agrees (ap (λ d. registration_in d.register replay.recording) (sym was.desk_is) ∙ sym c.in-Some.ensures.found) in
     let r = known.recording in
     let refusal = c.in_err-given.field-0.0 in
     let is : c.from_residual-in_err-given.result ≡ Err refusal = search rules in
     still old new log desk a (EndsAs old new event a c.from_residual-in_err-given.result) c.poll.ensures.quiet was (
       (λ reads.
-          let read = is_read old new log desk a replay.recording c.in-Some.known.now r (g.met.D.Disk.reads_may_stay c.args.self.now.storage.disk) was c.in-Some.ensures.found known.found (reads refl) in
-          let at = open_at a c.args.replay.now replay r opened known.found (was.reading (c.poll.ensures.quiet.obeyed (reads refl))) in
-          outside_read a event (HasFailed old new) c.from_residual-in_err-given.result refusal is (c.in_err-given.ensures.outside r read at) (λ fault. (c.in_err-given.ensures.cause (ap Err fault), ap is_ok decided))),
+          let read = is_read old new log desk a replay.recording c.in-Some.known.now r (g.met.D.Disk.reads_may_stay c.args.self.now.storage.disk) was c.in-Some.ensures.found known.found (reads passed) in
+          let at = open_at a c.args.replay.now replay r opened known.found (was.reading (c.poll.ensures.quiet.obeyed (reads passed))) in
+          outside_read a event (HasFailed old new) c.from_residual-in_err-given.result refusal is (c.in_err-given.ensures.outside r read at) (λ fault. (c.in_err-given.ensures.cause (ap Err fault), passed))),
       refl,
     )
 
@@ -85,6 +86,7 @@ returns-clause-polled g c a was =
     let next = c.in_ok-given.given.next in
     let decided : poll_decision a.desk number c.args.most.now ≡ Ok replay = ap (λ d. poll_decision d number c.args.most.now) (sym was.desk_is) ∙ c.in_ok-found.ensures.decided in
     let opened = polled_open a.desk number c.args.most.now replay decided in
+    let passed = poll_passes a.desk number c.args.most.now replay decided in
     let known = known_recording a replay.recording c.in-Some.known.now was.agrees (ap (λ d. registration_in d.register replay.recording) (sym was.desk_is) ∙ sym c.in-Some.ensures.found) in
     let r = known.recording in
     let read : IsTrue new.obeys → IsRead old new c.in-Some.known.now r = λ obeys. is_read old new log desk a replay.recording c.in-Some.known.now r (g.met.D.Disk.reads_may_stay c.args.self.now.storage.disk) was c.in-Some.ensures.found known.found obeys in
@@ -95,4 +97,4 @@ returns-clause-polled g c a was =
     replayed old new log desk c.move_replay.new.self.state a (change replay_number number (moved_to next) a.desk.callers.replays) a.desk.callers.next_replay _ c.poll.ensures.quiet was
     (λ obeys. moved_at a number next replay r opened known.found (c.in_ok-given.ensures.boundary r (read obeys) (at obeys)) (was.reading (c.poll.ensures.quiet.obeyed obeys)))
     (c.move_replay.ensures ∙ ap (after_poll number next) was.desk_is)
-    ((λ reads. polled_ends a number c.args.most.now next replay r c.in_ok-given.given.frames c.goes_on-next.result decided known.found (c.in_ok-given.ensures.frames r (read (reads refl)) (at (reads refl)) ∙ ap (λ n. polled replay.next replay.bound (unsigned_abs n) r) most) c.in_ok-given.ensures.next on), refl)
+    ((λ reads. polled_ends a number c.args.most.now next replay r c.in_ok-given.given.frames c.goes_on-next.result decided known.found (c.in_ok-given.ensures.frames r (read (reads passed)) (at (reads passed)) ∙ ap (λ n. polled replay.next replay.bound (unsigned_abs n) r) most) c.in_ok-given.ensures.next on), refl)

@@ -41,7 +41,7 @@ returns-in_err-frames-clause-verified g c a was =
     let passed = (held (verify_tests a.desk id) checks tt tt first).0 in
     still old new c.args.self.now.storage.log c.args.self.now.desk.state a (EndsAs old new (events.Verify id) a c.from_residual-in_err-frames.result) c.count_frames.ensures.quiet was (
       (λ reads.
-          let read = is_read old new c.args.self.now.storage.log c.args.self.now.desk.state a id c.in_ok-known.known.now known.recording (g.met.D.Disk.reads_may_stay c.args.self.now.storage.disk) was c.in_ok-known.ensures.found known.found (reads refl) in
+          let read = is_read old new c.args.self.now.storage.log c.args.self.now.desk.state a id c.in_ok-known.known.now known.recording (g.met.D.Disk.reads_may_stay c.args.self.now.storage.disk) was c.in_ok-known.ensures.found known.found (reads passed) in
           outside_read a (events.Verify id) (HasFailed old new) c.from_residual-in_err-frames.result refusal is (c.in_err-frames.ensures.outside known.recording read) (λ fault. (c.in_err-frames.ensures.cause (ap Err fault), passed))),
       refl,
     )
@@ -56,10 +56,11 @@ returns-clause-verified g c a was =
     let reply = replies.Verified (to_z w64 (of_z w64 c.in_ok-frames.frames)) in
     let same : c.in_ok-frames.frames ≡ to_z w64 (of_z w64 c.in_ok-frames.frames) = search rules in
     let first : checked (verify_tests a.desk id) checks (Ok tt) ≡ Ok tt = ap (λ d. checked (verify_tests d id) checks (Ok tt)) (sym was.desk_is) ∙ c.in_ok-known.ensures.decided in
+    let passed = (held (verify_tests a.desk id) checks tt tt first).0 in
     let decided = checked_ok (verify_tests a.desk id) checks tt tt (Ok (replies.Verified (frames_of_one (recording_at a id)))) first in
     still old new c.args.self.now.storage.log c.args.self.now.desk.state a (EndsAs old new (events.Verify id) a (Ok reply)) c.count_frames.ensures.quiet was (
       (λ reads.
-          let read = is_read old new c.args.self.now.storage.log c.args.self.now.desk.state a id c.in_ok-known.known.now r (g.met.D.Disk.reads_may_stay c.args.self.now.storage.disk) was c.in_ok-known.ensures.found known.found (reads refl) in
+          let read = is_read old new c.args.self.now.storage.log c.args.self.now.desk.state a id c.in_ok-known.known.now r (g.met.D.Disk.reads_may_stay c.args.self.now.storage.disk) was c.in_ok-known.ensures.found known.found (reads passed) in
           let count = c.in_ok-frames.ensures.count r read in
           let told : replies.Verified (frames_of_one (recording_at a id)) ≡ reply = ap (λ o. replies.Verified (frames_of_one o)) known.found ∙ ap replies.Verified (sym count ∙ same) in
           leaves_told a a _ reply (decided ∙ ap Ok told)),
