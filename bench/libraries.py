@@ -4,7 +4,8 @@
 Usage: bench/libraries.py            its exit status is 0 where each library is proved
 `rt run` proves them too, but one after another, which leaves half of four processors idle: rt works in a library and in
 all below it alone. So each library is proved by `rt lib` in a copy of its own below out/ (of links to the files, which take
-no room), and what that leaves in out/ is put back where rt looks for it. What is proved already is not proved again.
+no room), and what that leaves is put back where rt looks for it. What is proved already is not proved again. Where a library
+is not proved, what rt said of it is printed, and what runs beside it ends first.
 """
 import os
 import shutil
@@ -31,11 +32,14 @@ def below(crate: str, uses: dict[str, list[str]]) -> list[str]:
     return found
 
 
-def waiting(crate: str, uses: dict[str, list[str]]) -> tuple[int, int]:
-    """How many proofs wait for one another above a library, up to the program's, and the lines of its own code."""
-    above = [it for it in uses if crate in uses[it]]
-    files = (ROOT / "crates" / crate / "src").rglob("*.rt")
-    return max((1 + waiting(it, uses)[0] for it in above), default=0), sum(it.read_bytes().count(b"\n") for it in files)
+def levels(crate: str, uses: dict[str, list[str]]) -> int:
+    """How many proofs wait for one another above a library, up to the program's."""
+    return max((1 + levels(it, uses) for it in uses if crate in uses[it]), default=0)
+
+
+def lines(crate: str) -> int:
+    """The lines of a crate's code."""
+    return sum(it.read_bytes().count(b"\n") for it in (ROOT / "crates" / crate / "src").rglob("*.rt"))
 
 
 def link(crate: str, part: str, copy: Path) -> None:
@@ -46,7 +50,7 @@ def link(crate: str, part: str, copy: Path) -> None:
 
 
 def copied(crate: str, uses: dict[str, list[str]], room: Path) -> Path:
-    """A copy of the repository with a crate, what an earlier run left of it, and the libraries below, built."""
+    """A copy of the repository with a crate and the libraries below, built. Gives the crate's folder there."""
     copy, there = room / crate, [*below(crate, uses), crate]
     copy.mkdir()
     listed = [it for it in (ROOT / "crates.txt").read_text().splitlines() if it.split(":")[0] in there]
@@ -54,20 +58,24 @@ def copied(crate: str, uses: dict[str, list[str]], room: Path) -> Path:
     for name in there[:-1]:
         for part in (*SOURCES, "out/rlib"):
             link(name, part, copy)
-    for part in (*SOURCES, "out"):
+    for part in SOURCES:
         link(crate, part, copy)
     return copy / "crates" / crate
 
 
 def prove(crate: str, uses: dict[str, list[str]], room: Path, late: int, jobs: int) -> tuple[int, str]:
-    """Proves a library in a copy of its own and puts back what that leaves. Gives rt's status and what it said."""
+    """Proves a library in a copy of its own, in which its out/ is meanwhile. Gives rt's status and what it said."""
     folder, began = copied(crate, uses, room), time.time()
+    kept, there = ROOT / "crates" / crate / "out", folder / "out"
+    if kept.is_dir():
+        os.rename(kept, there)
     words = ["nice", "-n", str(min(5 * late, 19)), "rt", "lib", "--jobs", str(jobs)]
-    ran = subprocess.run(words, cwd=folder, capture_output=True, text=True)
+    try:
+        ran = subprocess.run(words, cwd=folder, capture_output=True, text=True)
+    finally:
+        if there.is_dir():
+            os.rename(there, kept)
     if ran.returncode == 0:
-        kept = ROOT / "crates" / crate / "out"
-        shutil.rmtree(kept, ignore_errors=True)
-        os.rename(folder / "out", kept)
         print(f"{crate} proved, {time.time() - began:.0f} s", flush=True)
     return ran.returncode, ran.stdout + ran.stderr
 
@@ -89,7 +97,7 @@ def main() -> int:
     listed = dependencies()
     left = below(PROGRAM, listed)
     uses = {it: listed[it] for it in [*left, PROGRAM]}
-    rank = {it: waiting(it, uses) for it in left}
+    rank = {it: (levels(it, uses), lines(it)) for it in left}
     running, proved = {}, set()
     with empty_room() as room, ThreadPoolExecutor(len(left)) as pool:
         while left or running:
