@@ -22,11 +22,11 @@ shown b c said (Ok reply) says is = (said, says, sym is)
 shown b c said (Err refusal) says is = (said, says, refuses refusal _ is)
 
 -- where each test holds, the answer is given; where it is given, each holds
-all_hold : {X : Type 0} (tests : Tests) (rs : List Refusal) (x y : X) → checked tests rs (Ok x) ≡ Ok y → (passes tests rs ≡ true) × (y ≡ x)
-all_hold tests [] x y is = (refl, let same : Ok x ≡ Ok y = is in cc)
-all_hold tests (r ∷ rs) x y is = by (tests r) is (all_hold tests rs x y)
+pub all_hold : {X : Type 0} (tests : Tests) (rs : List Refusal) (answer : Result X Refusal) (x : X) → checked tests rs answer ≡ Ok x → (passes tests rs ≡ true) × (answer ≡ Ok x)
+all_hold tests [] answer x is = (refl, is)
+all_hold {X = X} tests (r ∷ rs) answer x is = by (tests r) is (all_hold tests rs answer x)
   where
-    by : (b : Bool) → cond b (checked tests rs (Ok x)) (Err r) ≡ Ok y → (checked tests rs (Ok x) ≡ Ok y → (passes tests rs ≡ true) × (y ≡ x)) → (b && passes tests rs ≡ true) × (y ≡ x)
+    by : (b : Bool) → cond b (checked tests rs answer) (Err r) ≡ Ok x → (checked tests rs answer ≡ Ok x → (passes tests rs ≡ true) × (answer ≡ Ok x)) → (b && passes tests rs ≡ true) × (answer ≡ Ok x)
     by true is rest = rest is
     by false is rest = absurd cc
 
@@ -40,7 +40,8 @@ passed tests (r ∷ rs) answer all = by (tests r) all (passed tests rs answer)
 
 pub answer_accepts : (b : BookState) (c : Command) (reply : Reply) → Answers b c (Ok reply) → Accepts b c × (reply ≡ reply_to b.state c)
 answer_accepts b c reply (said, says, gives) =
-    let held = all_hold (tests_of b said c) checks (reply_to b.state c) reply gives in ((said, says, held.0), held.1)
+    let held = all_hold (tests_of b said c) checks (Ok (reply_to b.state c)) reply gives in
+    let same : Ok (reply_to b.state c) ≡ Ok reply = held.1 in ((said, says, held.0), cc)
 
 pub accepts_answer : (b : BookState) (c : Command) (reply : Reply) → Accepts b c × (reply ≡ reply_to b.state c) → Answers b c (Ok reply)
 accepts_answer b c reply ((said, says, pass), is) = (said, says, passed (tests_of b said c) checks (Ok (reply_to b.state c)) pass ∙ ap Ok (sym is))

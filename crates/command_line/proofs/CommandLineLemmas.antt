@@ -73,13 +73,11 @@ no_frames name rows is none (AskList folder) asked = absurd (differ (codes "fram
 no_frames name rows is none (Verify folder) asked = absurd (differ (codes "frames") (codes "verify") (λ e. omega arith) (sym is ∙ asked.named))
 no_frames name rows is none (Frames file) asked = let bad = sym none ∙ asked.words in cc
 
--- the program's command after one more subcommand
-adds : (old sub new : Command) (a s : App) → AddsSubcommand old sub new → app_of old ≡ a → IsCommand s sub → app_of new ≡ with_subcommand a s.top
-adds old sub new a s added is is_sub = added.shape is_sub.local ∙ ap₂ with_subcommand is (ap (λ (x : App). x.top) is_sub.app_is)
-
--- after the one that a result holds
+-- the program's command after one more subcommand, which a result holds
 pub adds_one : {E : Type 0} (old new : Command) (sub : Result Command E) (a s : App) → (one : Command) × (sub ≡ Ok one) × AddsSubcommand old one new → app_of old ≡ a → IfOk sub (IsCommand s) → app_of new ≡ with_subcommand a s.top
-adds_one old new sub a s (one, is, added) was is_sub = adds old one new a s added was (subst (λ r. IfOk r (IsCommand s)) is is_sub)
+adds_one old new sub a s (one, is, added) was held =
+    let is_sub : IsCommand s one = subst (λ r. IfOk r (IsCommand s)) is held in
+    added.shape is_sub.local ∙ ap₂ with_subcommand was (ap (λ (x : App). x.top) is_sub.app_is)
 
 -- the program is one of which clap gives matches and faults
 tool_is_simple : is_simple tool_app ≡ true

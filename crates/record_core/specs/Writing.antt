@@ -1,4 +1,4 @@
--- Which block a recorder session writes next: docs/CONTROL.md, "Recorder sessions" and "Blocks".
+-- Which block a recorder session writes next: docs/CONTROL.md, "Recorder sessions", and docs/PROTOCOL.md, "Blocks".
 use Rattle.std.specs.Prelude.{◌≡◌, Bool, true, false, not, Result, Ok, Err}
 use Rattle.std.specs.Ordering.{int_eq}
 use Rattle.frame_core.specs.declared.block.Block.{Block}

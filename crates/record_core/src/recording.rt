@@ -20,7 +20,7 @@ pub struct Recording {
 impl Recording {
     /// Whether a block may be written: `BadBlock` where it is no block of the descriptor's publication that begins where
     /// the last written one ends; `NeedSettle` where something is written that is not settled. Does not allocate. Costs a
-    /// step for each of the block's frames. docs/CONTROL.md, "Blocks".
+    /// step for each of the block's frames. docs/PROTOCOL.md, "Blocks".
     pub fn next_write(&self, descriptor: &Descriptor, block: &Block) -> Result<(), Refusal>
         ensures { MayWrite self.now descriptor.now block.now result }
     {

@@ -1,4 +1,4 @@
-//! Readers and writers that fail, and requests for memory that are refused.
+//! Readers and writers that fail.
 
 use disk_core::MemoryDisk;
 use std::io::{Error, ErrorKind, Read, Write};

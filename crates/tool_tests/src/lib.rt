@@ -1,6 +1,6 @@
 //! Tests of what the program's commands do, without its command line: the worked scenarios, listings of files, and what
-//! failing readers, writers, disks and requests for memory lead to. They stand apart from the crate that they test, so that
-//! it is not proved a second time for its tests.
+//! failing readers, writers and disks lead to. They stand apart from the crate that they test, so that it is not proved a
+//! second time for its tests.
 #![tactic(auto)]
 
 #[cfg(test)]
