@@ -46,6 +46,12 @@ RefusesPoll obeys image l g recorded bound most from (Damaged recording at) =
     (recording ≡ l.recording) × (IsTrue obeys → BreaksOff image l g recorded bound most from at)
 RefusesPoll obeys image l g recorded bound most from _ = ⊥
 
+-- where a replay goes on, of which frames were asked for: further, and no further than what is recorded, from before its
+-- bound; or where it stood, at its bound or where the recording ends
+abbrev pub MovesTo : ℤ → ℤ → ℤ → ℤ → Type 0
+MovesTo recorded bound next new =
+    ((next <ℤ new) × (new ≤ℤ recorded) × (next <ℤ bound)) ⊎ ((new ≡ next) × ((bound ≤ℤ next) ⊎ (recorded ≤ℤ next)))
+
 -- a frame is asked for, and begins before the bound and the recorded position
 pub record IsDue (recorded bound : ℤ) (most : ℕ) (from : ℤ) : Type 0 where
   pub asked : 0 < most

@@ -1,12 +1,12 @@
 //! Frames read back for a replay. docs/CONTROL.md, "Replays"; docs/STORAGE.md, "Damaged frames".
 
-ghost use Rattle.std.specs.Prelude.{◌≡◌, ◌≤ℤ◌, ◌+ℤ◌, pos, IfOk, IfErr, OnOk, OnErr, IsErrOf, IsTrue, unsigned_abs};
+ghost use Rattle.std.specs.Prelude.{◌≡◌, ◌<◌, ◌≤ℤ◌, ◌+ℤ◌, pos, IfOk, IfErr, OnOk, OnErr, IsErrOf, IsTrue, unsigned_abs};
 ghost use Rattle.disk_core.specs.DiskImage.{reads};
 ghost use Rattle.disk_core.specs.Life.{HasFailed, IsQuiet};
 ghost use Rattle.frame_core.specs.declared.refusal.Refusal.TheVariants.{DeviceFault};
 ghost use Rattle.frame_core.specs.Block.{covered};
 ghost use Rattle.segment_store.specs.Layout.{IsFromStart, IsGeometryOf, IsLayout};
-ghost use Rattle.replay_core.specs.Poll.{IsDue, Polls, RefusesPoll};
+ghost use Rattle.replay_core.specs.Poll.{IsDue, MovesTo, Polls, RefusesPoll};
 
 use crate::replay::Replay;
 use disk_core::Disk;
@@ -46,6 +46,8 @@ impl Replay {
         ensures onwards { self.old.next ≤ℤ self.new.next }
         // Also where the disk does not obey.
         ensures covers { IfOk result (λ frames. self.new.next ≡ self.old.next +ℤ pos (covered frames.items)) }
+        ensures moves { IfOk result (λ frames. 0 < most →
+            MovesTo recorded self.old.bound self.old.next self.new.next) }
         ensures same { self.new ≡ record self.old { next = self.new.next } }
         ensures err { OnErr result (self.new ≡ self.old) }
         ensures refused { IfErr result (RefusesPoll (D.life store.new.disk.now).obeys

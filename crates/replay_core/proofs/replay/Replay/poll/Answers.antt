@@ -1,4 +1,4 @@
-use Rattle.std.proofs.Common.{rules, IsTrue, ◌≡◌, sym, subst, ℤ, pos, ◌+ℤ◌, ◌≤ℤ◌, to_z, of_z, w64, arith}
+use Rattle.std.proofs.Common.{rules, IsTrue, inl, inr, ◌≡◌, sym, subst, ℤ, pos, ◌+ℤ◌, ◌≤ℤ◌, to_z, of_z, w64, arith}
 use Rattle.std.proofs.lemmas.Int.{ints}
 use Rattle.std.specs.Prelude.{unsigned_abs}
 use Rattle.disk_core.specs.DiskImage.{DiskImage, reads}
@@ -7,8 +7,9 @@ use Rattle.frame_core.specs.declared.geometry.Geometry.{Geometry}
 use Rattle.frame_core.specs.FrameEncoding.{aligned_length}
 use Rattle.segment_store.specs.declared.layout.Layout.{Layout}
 use Rattle.segment_store.specs.DamagedFrame.{ShowsFrame}
-use Rattle.replay_core.specs.Poll.{IsDue}
-use Rattle.replay_core.proofs.PollLemmas.{HasRead, one_more}
+use Rattle.replay_core.specs.Poll.{IsDue, MovesTo}
+use Rattle.replay_core.proofs.PollLemmas.{HasRead, one_more, moves_to}
+use Rattle.replay_core.proofs.replay.Replay.poll.Goals.{then-loop-alloc-test+then-at-self+else-at-recorded, then-loop-alloc-test+else-at-self, else-loop-alloc-test}
 use Rattle.replay_core.proofs.replay.Replay.poll.Goals as goal
 
 pub loop-alloc-preserved : goal.loop-alloc-preserved
@@ -25,7 +26,7 @@ loop-alloc-preserved g c =
     let end : to_z w64 (of_z w64 (at +ℤ to_z w64 c.aligned_length.result)) ≡ at +ℤ pos (aligned_length frame) = search rules in (
       subst (HasRead (g.D.Disk.life c.args.store.now.disk.now) (g.D.Disk.life c.read_frame.new.disk) l geometry (to_z w64 (of_z w64 c.args.recorded)) c.args.self.now.bound c.args.most c.args.self.now.next _) (sym c.in_ok-push.ensures.items)
           (one_more _ _ _ _ _ _ _ _ _ _ _ _ frame c.loop-alloc.invariant.0 c.read_frame.ensures.quiet start (omega (arith, c.loop-alloc-test.true, c.len.ensures))
-          (omega (arith, ints, c.if-at-self.true)) shown end),
+          (omega (arith, ints, c.if-at-self.true)) shown end c.in_ok-frame.ensures.ends c.in_ok-frame.ensures.covers),
       c.loop-alloc.invariant.1,
       c.loop-alloc.invariant.2,
       c.loop-alloc.invariant.3,
@@ -39,3 +40,14 @@ returns-in_err-push-clause-due g c =
       within = omega (arith, ints, c.loop-alloc.invariant.0.onwards, c.if-at-recorded.true);
     } in
     search rules
+
+pub returns-clause-moves : goal.returns-clause-moves
+returns-clause-moves g c asked =
+    let same : to_z w64 (of_z w64 c.args.recorded) ≡ c.args.recorded = search rules in
+    subst (λ (recorded : ℤ). MovesTo recorded c.args.self.now.bound c.args.self.now.next (to_z w64 c.loop-alloc.at-bits)) same
+    (moves_to _ _ c.args.most _ _ c.loop-alloc.frames.items c.loop-alloc.invariant.0.moved asked
+    (elim c.loop-alloc-test.branch [
+      | then-loop-alloc-test+then-at-self+else-at-recorded w ↦ inr (inr (omega (arith, ints, w.if-at-recorded, same)))
+      | then-loop-alloc-test+else-at-self w ↦ inr (inl (omega (arith, ints, w.if-at-self)))
+      | else-loop-alloc-test w ↦ inl (omega (arith, w.loop-alloc-test, c.len.ensures))
+    ]))
