@@ -3,9 +3,9 @@
 ghost use Rattle.std.specs.Prelude.{◌≡◌, ◌⊎◌, true, None, All, IfOk, IfErr, IsErrOf, IsTrue, OnOk, OnErr};
 ghost use Rattle.std.specs.List.{list_any};
 ghost use Rattle.disk_core.specs.DiskImage.{durable, reads};
-ghost use Rattle.disk_core.specs.Life.{HasFailed, IsQuiet};
+ghost use Rattle.disk_core.specs.Life.{HasFailed, IsQuiet, IsSteady};
 ghost use Rattle.disk_core.specs.declared.file_id.FileId.{FileId};
-ghost use Rattle.frame_core.specs.declared.refusal.Refusal.TheVariants.{DeviceFault};
+ghost use Rattle.frame_core.specs.declared.refusal.Refusal.TheVariants.{DeviceFault, NoMemory};
 ghost use Rattle.segment_store.specs.Reading.{IsFaultOrMemory};
 ghost use Rattle.segment_store.specs.Stale.{AreStale, HasSwept, IsFirst, IsKeep, SweepsAtMost, TouchesOnly, is_base_of_recorded, is_given, is_kept, is_recording, is_stale, keeps_base};
 ghost use Rattle.segment_store.specs.Layout.{IsLayout};
@@ -27,6 +27,7 @@ pub fn stale_files<D: Disk>(disk: &mut D, keeps: &[Keep]) -> Result<Vec<FileId>,
     ensures refused { IfErr result IsFaultOrMemory }
     ensures quiet { IsQuiet (D.life disk.old) (D.life disk.new) }
     ensures cause { IsErrOf result DeviceFault → HasFailed (D.life disk.old) (D.life disk.new) }
+    ensures steady { IsSteady result (D.life disk.old) (D.life disk.new) }
 {
     let mut files = disk.list()?;
     files.retain(|file| is_stale(keeps, file));
@@ -44,7 +45,10 @@ pub fn sweep_one<D: Disk>(disk: &mut D, keeps: &[Keep]) -> Result<bool, Refusal>
     ensures bounded { IsQuiet (D.life disk.old) (D.life disk.new)
         ⊎ ((file : FileId) × SweepsAtMost keeps.now file (D.life disk.old) (D.life disk.new)) }
     ensures refused { IfErr result IsFaultOrMemory }
+    // Want of memory comes before the first change.
+    ensures unchanged { IsErrOf result NoMemory → IsQuiet (D.life disk.old) (D.life disk.new) }
     ensures cause { IsErrOf result DeviceFault → HasFailed (D.life disk.old) (D.life disk.new) }
+    ensures steady { IsSteady result (D.life disk.old) (D.life disk.new) }
 {
     match first_stale(disk, keeps)? {
         Some(file) => {
@@ -62,6 +66,7 @@ fn first_stale<D: Disk>(disk: &mut D, keeps: &[Keep]) -> Result<Option<FileId>, 
     ensures refused { IfErr result IsFaultOrMemory }
     ensures quiet { IsQuiet (D.life disk.old) (D.life disk.new) }
     ensures cause { IsErrOf result DeviceFault → HasFailed (D.life disk.old) (D.life disk.new) }
+    ensures steady { IsSteady result (D.life disk.old) (D.life disk.new) }
 {
     let stale = stale_files(disk, keeps)?;
     Ok(stale.first().copied())
@@ -73,6 +78,7 @@ fn remove_file<D: Disk>(disk: &mut D, file: FileId) -> Result<(), Refusal>
     ensures bounded { TouchesOnly file (D.life disk.old) (D.life disk.new) }
     ensures refused { IfErr result (λ refusal. refusal ≡ DeviceFault) }
     ensures cause { OnErr result (HasFailed (D.life disk.old) (D.life disk.new)) }
+    ensures steady { IsSteady result (D.life disk.old) (D.life disk.new) }
 {
     disk.remove(file)?;
     disk.sync(file)?;
