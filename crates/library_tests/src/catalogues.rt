@@ -120,6 +120,18 @@ fn a_start_is_committed_byte_for_byte(rt: HostRuntime) -> Result<(), Fail> {
 }
 
 #[test]
+fn prepared_entries_are_added(rt: HostRuntime) -> Result<(), Fail> {
+    let mut disk = MemoryDisk::new(rt.alloc());
+    let mut log = create(rt.alloc(), &mut disk, 3)?;
+    for entry in [start(rt.alloc())?, SETTLE] {
+        log.prepare(&entry)?;
+        log.append(&mut disk, &entry)?;
+    }
+    assert!(rt; bytes_of(rt.alloc(), &mut disk, FileId::BankA)?.as_slice() == BANK.as_slice());
+    Ok(())
+}
+
+#[test]
 fn entries_make_a_register(rt: HostRuntime) -> Result<(), Fail> {
     let mut disk = MemoryDisk::new(rt.alloc());
     disk.write_at(FileId::BankA, 0, &BANK)?;
@@ -358,5 +370,22 @@ fn refused_memory_leaves_the_catalogue(rt: HostRuntime) -> Result<(), Fail> {
         Err(_) => open(rt.alloc(), &mut disk)?,
     };
     assert!(rt; entries.len() == 2 && log_again.counted() == log.counted());
+    Ok(())
+}
+
+/// Where memory is refused once, an entry is prepared again, and what is prepared is not refused for want of memory: a
+/// disk that finds none answers a fault.
+#[test]
+fn refused_memory_comes_before_a_prepared_entry(rt: HostRuntime) -> Result<(), Fail> {
+    let mut disk = MemoryDisk::new(rt.alloc());
+    let mut log = match create(rt.alloc(), &mut disk, 3) {
+        Ok(log) => log,
+        Err(_) => create(rt.alloc(), &mut disk, 3)?,
+    };
+    if log.prepare(&Entry::Restart).is_err() {
+        assert!(rt; log.counted() == 0);
+        log.prepare(&Entry::Restart)?;
+    }
+    assert!(rt; log.append(&mut disk, &Entry::Restart) != Err(Refusal::NoMemory));
     Ok(())
 }
