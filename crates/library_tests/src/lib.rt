@@ -5,6 +5,8 @@
 #[cfg(test)]
 mod archives;
 #[cfg(test)]
+mod boards;
+#[cfg(test)]
 mod catalogues;
 #[cfg(test)]
 mod disks;
