@@ -19,6 +19,8 @@ mod images;
 #[cfg(test)]
 mod merges;
 #[cfg(test)]
+mod pairs;
+#[cfg(test)]
 mod replays;
 #[cfg(test)]
 mod segments;

@@ -1,0 +1,3 @@
+pub mod SlotLemmas
+pub mod PairLemmas
+pub mod RunLemmas

@@ -1,0 +1,251 @@
+-- What comes, one after another.
+use Rattle.std.proofs.Common.{◌≡◌, ◌≢◌, ℕ, zero, suc, ◌⊎◌, inl, inr, ⊎_elim, Bool, true, false, List, [], ◌∷◌, ◌++◌, length, get_or, set, ◌<◌, ◌≤◌, sym, refl, ap, ◌∙◌, subst, arith, get_or-set_same}
+use Rattle.std.specs.Prelude.{ℤ, Option, Some, None, is_some, slice_get, replicate, if◌then◌else◌}
+use Rattle.std.specs.List.{position}
+use Rattle.std.proofs.lemmas.List.{get_or_past}
+use native.Mathlib.Decide.{dec_le, ℕ_discrete}
+use Rattle.stream_pairs.specs.declared.points.StreamPoint.{StreamPoint}
+use Rattle.stream_pairs.specs.declared.pairs.SessionSlot.{SessionSlot}
+use Rattle.stream_pairs.specs.declared.pairs.JoinedImage.{JoinedImage}
+use Rattle.stream_pairs.specs.Pairs.{PairsState, after_joined, after_opened, after_refused, after_settled, after_stopped, ended, ended_at, fed_by, image_at, image_of_slot, joined, lost, may_join, moved, no_pairs, noted, opened_slot, pair_all, slot_of, with_slot, without_image, writes}
+use Rattle.stream_pairs.specs.Laws.{Coming, opens, joins, settles, stops, refuses, FeedsOne, IsLost, NoneWaits, Stays, after, after_all}
+use Rattle.stream_pairs.proofs.SlotLemmas.{changed, moved_image, ended_image, unfed_image, is_none}
+use Rattle.stream_pairs.proofs.PairLemmas.{LostFeedNone, first_images, first_keeps, first_feeds_one, first_lost, lost_there, none_waits}
+
+-- each session has the image that it had, and the images are the same
+record SameImages (s t : PairsState) : Type 0 where
+  image : (m : ℕ) → image_at m t ≡ image_at m s
+  images : t.images ≡ s.images
+
+with_same : (n : ℕ) (slot : Option SessionSlot) (s : PairsState) → image_of_slot slot ≡ image_at n s → SameImages s (with_slot n slot s)
+with_same n slot s same = record {
+  image = λ m. ⊎_elim (λ c. ap image_of_slot c.2 ∙ same ∙ ap (λ (k : ℕ). image_at k s) (sym c.0)) (λ c. ap image_of_slot c) (changed n slot s m);
+  images = refl;
+}
+
+unchanged : (s : PairsState) → SameImages s s
+unchanged s = record { image = λ m. refl; images = refl }
+
+noted_by : (n : ℕ) (recording : ℤ) (point : StreamPoint) (s : PairsState) (there : Bool) → is_some (slot_of n s) ≡ there
+    → SameImages s (if there then s else with_slot n (Some (opened_slot recording point)) s)
+noted_by n recording point s true e = unchanged s
+noted_by n recording point s false e = with_same n (Some (opened_slot recording point)) s (sym (ap image_of_slot (is_none (slot_of n s) e)))
+
+noted_same : (n : ℕ) (recording : ℤ) (point : StreamPoint) (s : PairsState) → SameImages s (noted n (opened_slot recording point) s)
+noted_same n recording point s = noted_by n recording point s (is_some (slot_of n s)) refl
+
+settled_same : (n : ℕ) (position : ℤ) (s : PairsState) → SameImages s (after_settled n position s)
+settled_same n position s = with_same n (moved position (slot_of n s)) s (moved_image position (slot_of n s))
+
+ended_same : (o : Option ℕ) (s : PairsState) → SameImages s (ended_at o s)
+ended_same None s = unchanged s
+ended_same (Some n) s = with_same n (ended (slot_of n s)) s (ended_image (slot_of n s))
+
+-- ---- where nothing new is fed
+
+shrinks : (s t : PairsState) → ((m j : ℕ) → image_at m t ≡ Some j → image_at m s ≡ Some j) → FeedsOne s → FeedsOne t
+shrinks s t less feeds m n j at also = feeds m n j (less m j at) (less n j also)
+
+same_feeds_one : (s t : PairsState) → SameImages s t → FeedsOne s → FeedsOne t
+same_feeds_one s t same feeds = shrinks s t (λ m j e. sym (same.image m) ∙ e) feeds
+
+same_lost : (s t : PairsState) → SameImages s t → LostFeedNone s → LostFeedNone t
+same_lost s t same none i n lost at = none i n (lost_there i t s (sym same.images) lost) (sym (same.image n) ∙ at)
+
+-- ---- an image more
+
+pushed : (xs : List JoinedImage) (x : JoinedImage) (i : ℕ) (y : JoinedImage) → slice_get (xs ++ x ∷ []) i ≡ Some y → (slice_get xs i ≡ Some y) ⊎ (x ≡ y)
+pushed [] x zero y e = inr cc
+pushed [] x (suc i) y e = cc
+pushed (z ∷ xs) x zero y e = inl e
+pushed (z ∷ xs) x (suc i) y e = pushed xs x i y e
+
+kept_push : (xs : List JoinedImage) (x : JoinedImage) (i : ℕ) (y : JoinedImage) → slice_get xs i ≡ Some y → slice_get (xs ++ x ∷ []) i ≡ Some y
+kept_push [] x i y e = cc
+kept_push (z ∷ xs) x zero y e = e
+kept_push (z ∷ xs) x (suc i) y e = kept_push xs x i y e
+
+joined_lost : (join : StreamPoint) (s : PairsState) → LostFeedNone s → LostFeedNone (joined join s)
+joined_lost join s none i n lost at =
+    ⊎_elim (λ e. none i n (record { image = lost.image; there = e; lost = lost.lost }) at)
+    (λ e. let yes = lost.lost in let no : lost.image.is_lost ≡ false = ap (λ (x : JoinedImage). x.is_lost) (sym e) in absurd (cc))
+    (pushed s.images (record { join = join; is_lost = false }) i lost.image lost.there)
+
+-- ---- a session that was refused
+
+set_or_same : (xs : List JoinedImage) (i : ℕ) (y : JoinedImage) (j : ℕ) (z : JoinedImage) → slice_get (set xs i y) j ≡ Some z → (j ≡ i) ⊎ (slice_get xs j ≡ Some z)
+set_or_same [] i y j z e = inr e
+set_or_same (x ∷ xs) zero y zero z e = inl refl
+set_or_same (x ∷ xs) zero y (suc j) z e = inr e
+set_or_same (x ∷ xs) (suc i) y zero z e = inr e
+set_or_same (x ∷ xs) (suc i) y (suc j) z e = ⊎_elim (λ same. inl (ap suc same)) (λ r. inr r) (set_or_same xs i y j z e)
+
+set_here : (xs : List JoinedImage) (i : ℕ) (x y : JoinedImage) → slice_get xs i ≡ Some x → slice_get (set xs i y) i ≡ Some y
+set_here [] i x y e = cc
+set_here (z ∷ xs) zero x y e = refl
+set_here (z ∷ xs) (suc i) x y e = set_here xs i x y e
+
+set_elsewhere : (xs : List JoinedImage) (i : ℕ) (y : JoinedImage) (j : ℕ) → j ≢ i → slice_get (set xs i y) j ≡ slice_get xs j
+set_elsewhere [] i y j other = refl
+set_elsewhere (z ∷ xs) zero y zero other = absurd (other refl)
+set_elsewhere (z ∷ xs) zero y (suc j) other = refl
+set_elsewhere (z ∷ xs) (suc i) y zero other = refl
+set_elsewhere (z ∷ xs) (suc i) y (suc j) other = set_elsewhere xs i y j (λ same. other (ap suc same))
+
+session_within : (n i : ℕ) (s : PairsState) → image_at n s ≡ Some i → Dec (length s.slots ≤ n) → n < length s.slots
+session_within n i s e (no inside) = omega arith
+session_within n i s e (yes past) = let none = ap image_of_slot (get_or_past s.slots n None past) in absurd (cc)
+
+-- a session loses its image
+module _ (n i : ℕ) (s : PairsState) (has : image_at n s ≡ Some i) where
+  refused_none : image_at n (without_image n (Some i) s) ≡ None
+  refused_none =
+      ap image_of_slot (get_or-set_same s.slots n (fed_by None (slot_of n s)) None (session_within n i s has (dec_le (length s.slots) n)))
+      ∙ unfed_image (slot_of n s)
+
+  refused_less : (m j : ℕ) → image_at m (without_image n (Some i) s) ≡ Some j → image_at m s ≡ Some j
+  refused_less m j e =
+      ⊎_elim (λ c. let none = ap image_of_slot c.2 ∙ unfed_image (slot_of n s) in absurd (cc)) (λ c. sym (ap image_of_slot c) ∙ e) (changed n (fed_by None (slot_of n s)) s m)
+
+  refused_keeps : (m j : ℕ) → m ≢ n → image_at m s ≡ Some j → image_at m (without_image n (Some i) s) ≡ Some j
+  refused_keeps m j other e = ⊎_elim (λ c. absurd (other c.0)) (λ c. ap image_of_slot c ∙ e) (changed n (fed_by None (slot_of n s)) s m)
+
+  lost_by : (o : Option JoinedImage) → slice_get s.images i ≡ o → (j : ℕ) (y : JoinedImage) → slice_get (lost o i s.images) j ≡ Some y → (j ≡ i) ⊎ (slice_get s.images j ≡ Some y)
+  lost_by None there j y e = inr e
+  lost_by (Some image) there j y e = set_or_same s.images i (record image { is_lost = true }) j y e
+
+  refused_lost : LostFeedNone s → FeedsOne s → LostFeedNone (without_image n (Some i) s)
+  refused_lost none feeds j m gone at =
+      let before = refused_less m j at in
+      ⊎_elim (λ same.
+      let one : m ≡ n = feeds m n i (before ∙ ap (λ (k : ℕ). Some k) same) has in
+      let empty = ap (λ (k : ℕ). image_at k (without_image n (Some i) s)) one ∙ refused_none in
+      absurd (cc))
+      (λ there. none j m (record { image = gone.image; there = there; lost = gone.lost }) before)
+      (lost_by (slice_get s.images i) refl j gone.image gone.there)
+
+  still_by : (o : Option JoinedImage) → slice_get s.images i ≡ o → (j : ℕ) → IsLost j s → Dec (j ≡ i) → (y : JoinedImage) × (slice_get (lost o i s.images) j ≡ Some y) × (y.is_lost ≡ true)
+  still_by None there j gone _ = (gone.image, gone.there, gone.lost)
+  still_by (Some image) there j gone (no other) = (gone.image, set_elsewhere s.images i (record image { is_lost = true }) j other ∙ gone.there, gone.lost)
+  still_by (Some image) there j gone (yes same) =
+      (record image { is_lost = true }, ap (slice_get (set s.images i (record image { is_lost = true }))) same ∙ set_here s.images i image (record image { is_lost = true }) there, refl)
+
+  still_lost : (j : ℕ) → IsLost j s → IsLost j (without_image n (Some i) s)
+  still_lost j gone = let found = still_by (slice_get s.images i) refl j gone (ℕ_discrete j i) in record { image = found.0; there = found.1; lost = found.2 }
+
+-- ---- whatever comes
+
+-- what holds of the pairs over all runs
+record Inv (s : PairsState) : Type 0 where
+  feeds : FeedsOne s
+  none : LostFeedNone s
+
+all_paired : (s : PairsState) → Inv s → Inv (pair_all s)
+all_paired s inv = record { feeds = first_feeds_one (length s.images) s inv.feeds; none = first_lost (length s.images) s inv.none }
+
+same_inv : (s t : PairsState) → SameImages s t → Inv s → Inv t
+same_inv s t same inv = record { feeds = same_feeds_one s t same inv.feeds; none = same_lost s t same inv.none }
+
+joins_by : (join : StreamPoint) (s : PairsState) → Inv s → (b : Bool) → Inv (if b then pair_all (joined join s) else s)
+joins_by join s inv true = all_paired (joined join s) (record { feeds = inv.feeds; none = joined_lost join s inv.none })
+joins_by join s inv false = inv
+
+refused_by : (n : ℕ) (s : PairsState) → Inv s → (o : Option ℕ) → image_at n s ≡ o → Inv (without_image n o s)
+refused_by n s inv None e = inv
+refused_by n s inv (Some i) e = record {
+  feeds = shrinks s (without_image n (Some i) s) (refused_less n i s e) inv.feeds;
+  none = refused_lost n i s e inv.none inv.feeds;
+}
+
+kept_inv : (s : PairsState) (e : Coming) → Inv s → Inv (after s e)
+kept_inv s (opens n recording point) inv =
+    all_paired (noted n (opened_slot recording point) s) (same_inv s (noted n (opened_slot recording point) s) (noted_same n recording point s) inv)
+kept_inv s (joins join) inv = joins_by join s inv (may_join join.publication s)
+kept_inv s (settles n position) inv = same_inv s (after_settled n position s) (settled_same n position s) inv
+kept_inv s (stops recording) inv = same_inv s (after_stopped recording s) (ended_same (position (writes recording) s.slots) s) inv
+kept_inv s (refuses n) inv = refused_by n s inv (image_at n s) refl
+
+all_inv : (es : List Coming) (s : PairsState) → Inv s → Inv (after_all s es)
+all_inv [] s inv = inv
+all_inv (e ∷ es) s inv = all_inv es (after s e) (kept_inv s e inv)
+
+nothing : (k n : ℕ) → get_or {A = Option SessionSlot} (replicate k None) n None ≡ None
+nothing zero n = refl
+nothing (suc k) zero = refl
+nothing (suc k) (suc n) = nothing k n
+
+begins : Inv no_pairs
+begins = record {
+  feeds = λ m n i at also. let none = ap image_of_slot (nothing 64 m) in absurd (cc);
+  none = λ i n gone at. let none = ap image_of_slot (nothing 64 n) in cc;
+}
+
+pub feeds_one : (es : List Coming) → FeedsOne (after_all no_pairs es)
+feeds_one es = (all_inv es no_pairs begins).feeds
+
+-- ---- what was lost stays lost
+
+all_paired_lost : (i : ℕ) (s : PairsState) → IsLost i s → IsLost i (pair_all s)
+all_paired_lost i s gone = lost_there i s (pair_all s) (first_images (length s.images) s) gone
+
+joins_lost : (i : ℕ) (join : StreamPoint) (s : PairsState) → IsLost i s → (b : Bool) → IsLost i (if b then pair_all (joined join s) else s)
+joins_lost i join s gone true = all_paired_lost i (joined join s) (record {
+  image = gone.image;
+  there = kept_push s.images (record { join = join; is_lost = false }) i gone.image gone.there;
+  lost = gone.lost;
+})
+joins_lost i join s gone false = gone
+
+refuses_lost : (i n : ℕ) (s : PairsState) → IsLost i s → (o : Option ℕ) → image_at n s ≡ o → IsLost i (without_image n o s)
+refuses_lost i n s gone None e = gone
+refuses_lost i n s gone (Some j) e = still_lost n j s e i gone
+
+after_lost : (i : ℕ) (s : PairsState) (e : Coming) → IsLost i s → IsLost i (after s e)
+after_lost i s (opens n recording point) gone =
+    all_paired_lost i (noted n (opened_slot recording point) s) (lost_there i s (noted n (opened_slot recording point) s) (noted_same n recording point s).images gone)
+after_lost i s (joins join) gone = joins_lost i join s gone (may_join join.publication s)
+after_lost i s (settles n position) gone = lost_there i s (after_settled n position s) (settled_same n position s).images gone
+after_lost i s (stops recording) gone = lost_there i s (after_stopped recording s) (ended_same (position (writes recording) s.slots) s).images gone
+after_lost i s (refuses n) gone = refuses_lost i n s gone (image_at n s) refl
+
+never_again : (more : List Coming) (i n : ℕ) (s : PairsState) → Inv s → IsLost i s → image_at n (after_all s more) ≢ Some i
+never_again [] i n s inv gone at = inv.none i n gone at
+never_again (e ∷ more) i n s inv gone at = never_again more i n (after s e) (kept_inv s e inv) (after_lost i s e gone) at
+
+one_after_another : (es more : List Coming) (s : PairsState) → after_all s (es ++ more) ≡ after_all (after_all s es) more
+one_after_another [] more s = refl
+one_after_another (e ∷ es) more s = one_after_another es more (after s e)
+
+pub lost_feeds_none : (es more : List Coming) (i n : ℕ) → IsLost i (after_all no_pairs es) → image_at n (after_all no_pairs (es ++ more)) ≢ Some i
+lost_feeds_none es more i n gone at =
+    never_again more i n (after_all no_pairs es) (all_inv es no_pairs begins) gone (sym (ap (image_at n) (one_after_another es more no_pairs)) ∙ at)
+
+-- ---- a pair ends by a refusal alone
+
+joins_keep : (join : StreamPoint) (s : PairsState) (n i : ℕ) → image_at n s ≡ Some i → (b : Bool) → image_at n (if b then pair_all (joined join s) else s) ≡ Some i
+joins_keep join s n i e true = first_keeps (length (joined join s).images) (joined join s) n i e
+joins_keep join s n i e false = e
+
+refuses_keep : (m : ℕ) (s : PairsState) (n i : ℕ) → image_at n s ≡ Some i → n ≢ m → (o : Option ℕ) → image_at m s ≡ o → image_at n (without_image m o s) ≡ Some i
+refuses_keep m s n i e other None at = e
+refuses_keep m s n i e other (Some j) at = refused_keeps m j s at n i other e
+
+refuses_or : (m : ℕ) (s : PairsState) (n i : ℕ) → image_at n s ≡ Some i → Dec (n ≡ m) → (image_at n (after_refused m s) ≡ Some i) ⊎ (refuses m ≡ refuses n)
+refuses_or m s n i e (yes same) = inr (ap refuses (sym same))
+refuses_or m s n i e (no other) = inl (refuses_keep m s n i e other (image_at m s) refl)
+
+pub stays : (s : PairsState) (e : Coming) (n : ℕ) → Stays n e s
+stays s (opens m recording point) n i e =
+    inl (first_keeps (length (noted m (opened_slot recording point) s).images) (noted m (opened_slot recording point) s) n i ((noted_same m recording point s).image n ∙ e))
+stays s (joins join) n i e = inl (joins_keep join s n i e (may_join join.publication s))
+stays s (settles m position) n i e = inl ((settled_same m position s).image n ∙ e)
+stays s (stops recording) n i e = inl ((ended_same (position (writes recording) s.slots) s).image n ∙ e)
+stays s (refuses m) n i e = refuses_or m s n i e (ℕ_discrete n m)
+
+-- ---- none waits
+
+pub opened_waits : (n : ℕ) (recording : ℤ) (point : StreamPoint) (s : PairsState) → NoneWaits (after_opened n recording point s)
+opened_waits n recording point s = none_waits (noted n (opened_slot recording point) s)
+
+pub joined_waits : (join : StreamPoint) (s : PairsState) → may_join join.publication s ≡ true → NoneWaits (after_joined join s)
+joined_waits join s may = subst (λ b. NoneWaits (if b then pair_all (joined join s) else s)) (sym may) (none_waits (joined join s))

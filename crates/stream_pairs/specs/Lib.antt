@@ -1,0 +1,4 @@
+-- What a reader has to believe: which image feeds which recorder session.
+pub mod Pairs
+-- What follows over all runs.
+pub mod Laws

@@ -1,0 +1,171 @@
+-- Which image feeds which recorder session: docs/ARCHITECTURE.md, "Images and recorder sessions".
+use Rattle.std.specs.Prelude.{◌&&◌, ◌||◌, ◌==◌, ◌++◌, ℕ, ℤ, nat_lt, not, length, slice_get, slice_set, slice_index_or, Bool, true, false, if◌then◌else◌, List, [], ◌∷◌, Option, Some, None, is_some, replicate, zero, suc}
+use Rattle.std.specs.List.{position}
+use Rattle.std.specs.Ordering.{int_eq}
+use Rattle.frame_core.specs.declared.block.Publication.{Publication}
+use Rattle.frame_core.specs.declared.geometry.Geometry.{Geometry}
+use Rattle.stream_pairs.specs.declared.points.StreamPoint.{StreamPoint}
+use Rattle.stream_pairs.specs.declared.pairs.SessionSlot.{SessionSlot}
+use Rattle.stream_pairs.specs.declared.pairs.JoinedImage.{JoinedImage}
+
+-- of this publication
+abbrev pub has_publication : Publication → StreamPoint → Bool
+has_publication publication p =
+    int_eq p.publication.session_id publication.session_id && int_eq p.publication.stream_id publication.stream_id
+
+-- with these terms: the same initial term id, term length and MTU
+abbrev pub has_terms : Geometry → StreamPoint → Bool
+has_terms g p =
+    int_eq p.geometry.initial_term_id g.initial_term_id
+    && int_eq p.geometry.term_length g.term_length
+    && int_eq p.geometry.mtu g.mtu
+
+-- of the same publication, with the same terms, and at the same position
+abbrev pub is_point : StreamPoint → StreamPoint → Bool
+is_point q p = has_publication q.publication p && has_terms q.geometry p && int_eq p.position q.position
+
+-- the recorder sessions of the numbers 0 to 63, of which some were not opened yet, and the images in the order in which
+-- they came
+pub record PairsState : Type 0 where
+  pub slots : List (Option SessionSlot)
+  pub images : List JoinedImage
+
+-- no session was opened, and no image came
+abbrev pub no_pairs : PairsState
+no_pairs = record { slots = replicate 64 None; images = [] }
+
+-- the session of a number, if it was opened
+abbrev pub slot_of : ℕ → PairsState → Option SessionSlot
+slot_of n s = slice_index_or s.slots n None
+
+-- the session of a number is another
+abbrev pub with_slot : ℕ → Option SessionSlot → PairsState → PairsState
+with_slot n slot s = record s { slots = slice_set s.slots n slot }
+
+abbrev pub image_of_slot : Option SessionSlot → Option ℕ
+image_of_slot None = None
+image_of_slot (Some slot) = slot.image
+
+-- the image that feeds the session of a number, by its index
+abbrev pub image_at : ℕ → PairsState → Option ℕ
+image_at n s = image_of_slot (slot_of n s)
+
+-- ---- pairing
+
+abbrev pub is_index : ℕ → Option ℕ → Bool
+is_index i None = false
+is_index i (Some j) = j == i
+
+-- the image of an index feeds the session
+abbrev pub feeds : ℕ → Option SessionSlot → Bool
+feeds i slot = is_index i (image_of_slot slot)
+
+-- the session is open, has no image, and its recording stands where an image joined
+abbrev pub takes : StreamPoint → Option SessionSlot → Bool
+takes join None = false
+takes join (Some slot) = slot.is_open && not (is_some slot.image) && is_point join slot.point
+
+-- the session with this image, or with none
+abbrev pub fed_by : Option ℕ → Option SessionSlot → Option SessionSlot
+fed_by image None = None
+fed_by image (Some slot) = Some (record slot { image = image })
+
+-- the session of a number, if one was found, has this image
+abbrev pub paired_with : ℕ → Option ℕ → PairsState → PairsState
+paired_with i None s = s
+paired_with i (Some n) s = with_slot n (fed_by (Some i) (slot_of n s)) s
+
+-- the image of an index feeds a session
+abbrev pub is_fed : ℕ → PairsState → Bool
+is_fed i s = is_some (position (feeds i) s.slots)
+
+-- an image, unless it has lost its session or has one, is paired with the least session that takes it
+abbrev pub pair_image : Option JoinedImage → ℕ → PairsState → PairsState
+pair_image None i s = s
+pair_image (Some image) i s =
+    if image.is_lost || is_fed i s then s else paired_with i (position (takes image.join) s.slots) s
+
+abbrev pub pair_one : ℕ → PairsState → PairsState
+pair_one i s = pair_image (slice_get s.images i) i s
+
+-- so many images, the first of them first
+abbrev pub pair_first : ℕ → PairsState → PairsState
+pair_first zero s = s
+pair_first (suc k) s = pair_one k (pair_first k s)
+
+abbrev pub pair_all : PairsState → PairsState
+pair_all s = pair_first (length s.images) s
+
+-- ---- what comes
+
+-- a session that was opened: which recording it writes, and where that stands
+abbrev pub opened_slot : ℤ → StreamPoint → SessionSlot
+opened_slot recording point = record { recording = recording; point = point; is_open = true; image = None }
+
+-- a session of this number is noted, unless one is
+abbrev pub noted : ℕ → SessionSlot → PairsState → PairsState
+noted n slot s = if is_some (slot_of n s) then s else with_slot n (Some slot) s
+
+abbrev pub after_opened : ℕ → ℤ → StreamPoint → PairsState → PairsState
+after_opened n recording point s = pair_all (noted n (opened_slot recording point) s)
+
+-- the image of a publication, by its index
+abbrev pub image_with : Publication → PairsState → Option ℕ
+image_with publication s = position (λ (image : JoinedImage). has_publication publication image.join) s.images
+
+-- an image may come of a publication that has none, where there are fewer than 64
+abbrev pub may_join : Publication → PairsState → Bool
+may_join publication s = nat_lt (length s.images) 64 && not (is_some (image_with publication s))
+
+-- the index of an image that may come
+abbrev pub joined_index : Publication → PairsState → Option ℕ
+joined_index publication s = if may_join publication s then Some (length s.images) else None
+
+abbrev pub joined : StreamPoint → PairsState → PairsState
+joined join s = record s { images = s.images ++ (record { join = join; is_lost = false }) ∷ [] }
+
+abbrev pub after_joined : StreamPoint → PairsState → PairsState
+after_joined join s = if may_join join.publication s then pair_all (joined join s) else s
+
+-- a session whose recording stands elsewhere now
+abbrev pub moved : ℤ → Option SessionSlot → Option SessionSlot
+moved position None = None
+moved position (Some slot) = Some (record slot { point = record slot.point { position = position } })
+
+abbrev pub after_settled : ℕ → ℤ → PairsState → PairsState
+after_settled n position s = with_slot n (moved position (slot_of n s)) s
+
+-- the session is open and writes this recording
+abbrev pub writes : ℤ → Option SessionSlot → Bool
+writes recording None = false
+writes recording (Some slot) = slot.is_open && int_eq slot.recording recording
+
+-- a session that has ended keeps its image
+abbrev pub ended : Option SessionSlot → Option SessionSlot
+ended None = None
+ended (Some slot) = Some (record slot { is_open = false })
+
+abbrev pub ended_at : Option ℕ → PairsState → PairsState
+ended_at None s = s
+ended_at (Some n) s = with_slot n (ended (slot_of n s)) s
+
+-- a recording was stopped, and its session has ended
+abbrev pub after_stopped : ℤ → PairsState → PairsState
+after_stopped recording s = ended_at (position (writes recording) s.slots) s
+
+abbrev pub lost : Option JoinedImage → ℕ → List JoinedImage → List JoinedImage
+lost None i images = images
+lost (Some image) i images = slice_set images i (record image { is_lost = true })
+
+-- the image of an index was lost
+abbrev pub with_lost : ℕ → PairsState → PairsState
+with_lost i s = record s { images = lost (slice_get s.images i) i s.images }
+
+-- the session of a number loses this image, if it has one
+abbrev pub without_image : ℕ → Option ℕ → PairsState → PairsState
+without_image n None s = s
+without_image n (Some i) s = with_lost i (with_slot n (fed_by None (slot_of n s)) s)
+
+-- a session was refused, and loses its image, which is not paired again
+abbrev pub after_refused : ℕ → PairsState → PairsState
+after_refused n s = without_image n (image_at n s) s
