@@ -15,6 +15,8 @@ mod folders;
 #[cfg(test)]
 mod frames;
 #[cfg(test)]
+mod histories;
+#[cfg(test)]
 mod images;
 #[cfg(test)]
 mod merges;
