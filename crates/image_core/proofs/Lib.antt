@@ -1,4 +1,6 @@
 mod ChainLemmas
+mod RunLemmas
+mod LongestLemmas
 mod FateLemmas
 mod ReceivedLemmas
 mod InsertLemmas

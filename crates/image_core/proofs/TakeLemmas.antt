@@ -1,6 +1,6 @@
 -- Blocks that are taken of the first frames that are held.
 use Rattle.std.proofs.Common.{◌≡◌, ◌∙◌, sym, ap, refl, ◌+◌, ◌<◌, ◌≤◌, ◌≤ℤ◌, ◌^◌, ℕ, ℤ, pos, List, [], ◌∷◌, ◌++◌, true, Some, None, ◌⊎◌, inl, inr, append_assoc, arith}
-use Rattle.std.specs.Prelude.{map, min, unsigned_abs}
+use Rattle.std.specs.Prelude.{map, min, slice_get, unsigned_abs}
 use Rattle.std.proofs.lemmas.Bool.{cond-true}
 use Rattle.std.proofs.lemmas.Bool.Decides.{Decides-int_eq}
 use Rattle.std.proofs.lemmas.Int.{ints}
@@ -13,28 +13,17 @@ use Rattle.frame_core.specs.declared.frame.FrameKind.{FrameKind}
 use Rattle.frame_core.specs.declared.frame.FrameKind.TheVariants.{Heartbeat, Message, Pad}
 use Rattle.frame_core.specs.declared.geometry.Geometry.{Geometry}
 use Rattle.frame_core.specs.Block.{AreEncodable, IsMessageBlock, IsPadBlock, has_ids, is_part, block_ids, run_end}
-use Rattle.frame_core.specs.FrameEncoding.{HasLength, IsEncodable, aligned, aligned_length}
-use Rattle.frame_core.specs.Position.{HasPosition}
+use Rattle.frame_core.specs.FrameEncoding.{HasLength, aligned, aligned_length}
 use Rattle.frame_core.proofs.PositionLemmas.{given}
 use Rattle.image_core.specs.Rebuild.{chain_end, end_of}
 use Rattle.image_core.specs.Received.{IsChain, Received, is_inside, is_of, is_within}
-use Rattle.image_core.specs.Kept.{AreMembers, AreSpaced, HasTerms, IsKept, MovesFirst, TakesMessages, next_size}
-use Rattle.image_core.specs.Take.{GivesBlock, TakesBlock}
+use Rattle.image_core.specs.Kept.{AreMembers, AreSpaced, HasTerms, IsKept, MovesFirst, TakesMessages, block_length, next_size, run_length}
+use Rattle.image_core.specs.Take.{GivesBlock, IsLongest, TakesBlock}
 use Rattle.image_core.proofs.ChainLemmas.{chain_append, chain_below, chain_over}
+use Rattle.image_core.proofs.RunLemmas.{run_behind}
 use Rattle.image_core.proofs.ReceivedLemmas.{taken_stands}
 use Rattle.image_core.proofs.KeptLemmas.{IsAdmitted, admitted}
-
--- the first frame that is held, where a chain begins with it
-pub record IsFirst (g : Geometry) (publication : Publication) (from high : ℕ) (m : ℕ × Frame) (behind : List (ℕ × Frame)) : Type 0 where
-  pub begins : from ≡ m.0
-  pub some : 0 < aligned_length m.1
-  pub ends : end_of m ≤ high
-  pub spaced : AreSpaced (end_of m) high behind
-  pub encodable : IsEncodable m.1
-  pub members : AreMembers g publication behind
-  pub admitted : IsAdmitted g publication m.1 m.0
-  pub position : HasPosition g m.1.term_id m.1.term_offset (pos from)
-  pub inside : unsigned_abs m.1.term_offset + aligned_length m.1 ≤ unsigned_abs g.term_length
+use Rattle.image_core.proofs.LongestLemmas.{IsFirst, message_longest, pad_longest, run_on}
 
 pub first_is : (g : Geometry) (publication : Publication) (from high : ℕ) (m : ℕ × Frame) (behind before : List (ℕ × Frame)) → before ≡ m ∷ behind → AreSpaced from high before
     → AreMembers g publication before → from < chain_end from before → IsFirst g publication from high m behind
@@ -87,6 +76,25 @@ first_few g publication from high limit m behind terms first kind limit_is =
     let size = message_size m.1.kind g.mtu m.1.length m.1.payload kind first.encodable.length first.admitted.within terms.mtu in
     omega (arith, first.inside, size, limit_is)
 
+-- the first frame, as it is found
+pub head_is : (ms : List (ℕ × Frame)) (m : ℕ × Frame) → slice_get ms 0 ≡ Some m → (behind : List (ℕ × Frame)) × (ms ≡ m ∷ behind)
+head_is [] m is = absurd cc
+head_is (x ∷ xs) m is = (xs, cc)
+
+-- how many frames the block of a message has
+pub length_is : (g : Geometry) (publication : Publication) (from high limit : ℕ) (m : ℕ × Frame) (behind before : List (ℕ × Frame)) → before ≡ m ∷ behind → IsFirst g publication from high m behind → m.1.kind ≡ Message
+    → limit ≡ min (unsigned_abs m.1.term_offset + 65536) (unsigned_abs g.term_length)
+    → block_length g publication before ≡ run_length (block_ids g publication m.1) (from + aligned_length m.1) (unsigned_abs m.1.term_offset + aligned_length m.1) limit behind + 1
+length_is g publication from high limit m behind before is first kind limit_is = rw (is, kind, limit_is, first.begins) refl
+
+-- the same, counted over all that are held
+pub length_in : (g : Geometry) (publication : Publication) (from high limit : ℕ) (m : ℕ × Frame) (behind before : List (ℕ × Frame)) → before ≡ m ∷ behind → IsFirst g publication from high m behind → m.1.kind ≡ Message
+    → limit ≡ min (unsigned_abs m.1.term_offset + 65536) (unsigned_abs g.term_length)
+    → run_length (block_ids g publication m.1) (from + aligned_length m.1) (unsigned_abs m.1.term_offset + aligned_length m.1) limit before + 1 ≡ block_length g publication before
+length_in g publication from high limit m behind before is first kind limit_is =
+    let over = run_behind (block_ids g publication m.1) (from + aligned_length m.1) (unsigned_abs m.1.term_offset + aligned_length m.1) limit m behind (omega (arith, first.begins, first.some)) in
+    ap (λ (n : ℕ). n + 1) (rw is over) ∙ sym (length_is g publication from high limit m behind before is first kind limit_is)
+
 -- what is left where some of the first frames were taken, and that those have an encoding
 members_rest : (g : Geometry) (publication : Publication) (taken after : List (ℕ × Frame)) → AreMembers g publication (taken ++ after) → AreMembers g publication after × AreEncodable (map (λ m. m.1) taken)
 members_rest g publication [] after members = (members, tt)
@@ -96,13 +104,15 @@ members_rest g publication (m ∷ taken) after members = let rest = members_rest
 takes_block : (g : Geometry) (publication : Publication) (from high to : ℕ) (m : ℕ × Frame) (behind before taken after : List (ℕ × Frame)) (given : List Frame) → before ≡ m ∷ behind
     → IsFirst g publication from high m behind → behind ≡ taken ++ after → IsChain (end_of m) taken to → given ≡ m.1 ∷ map (λ x. x.1) taken
     → IsPadBlock g (block_ids g publication m.1) m.1 (map (λ x. x.1) taken) ⊎ IsMessageBlock g (block_ids g publication m.1) m.1 (map (λ x. x.1) taken)
+    → IsLongest g publication (m.1 ∷ map (λ x. x.1) taken) (pos from) after
     → TakesBlock g publication from before given to after
-takes_block g publication from high to m behind before taken after given is first left chain frames block = record {
+takes_block g publication from high to m behind before taken after given is first left chain frames block longest = record {
   taken = m ∷ taken;
   left = is ∙ ap (λ (ms : List (ℕ × Frame)). m ∷ ms) left;
   chain = (first.begins, first.some, chain);
   frames = frames;
   block = rw frames (first.position, (first.encodable, (members_rest g publication taken after (rw left at first.members)).1), block);
+  longest = rw frames longest;
 }
 
 -- a pad that is first is a block
@@ -116,16 +126,21 @@ takes_pad g publication from high m behind before given terms is first kind fram
       ids = same_ids g publication m.1 first.admitted.of;
       inside = omega (arith, ints, first.position.low, terms.least, first.inside);
     }))
+    (pad_longest g publication (pos from) m.1 behind (pad_kind m.1.kind g.mtu m.1.length kind first.admitted.within))
 
 -- a message that is first is a block with the messages that were taken behind it
 pub takes_messages : (g : Geometry) (publication : Publication) (from high limit covered : ℕ) (m : ℕ × Frame) (behind before after : List (ℕ × Frame)) (lent given : List Frame) → HasTerms g
     → before ≡ m ∷ behind → IsFirst g publication from high m behind → m.1.kind ≡ Message → limit ≡ min (unsigned_abs m.1.term_offset + 65536) (unsigned_abs g.term_length) → lent ≡ m.1 ∷ []
     → TakesMessages (block_ids g publication m.1) (from + aligned_length m.1) (unsigned_abs m.1.term_offset + aligned_length m.1) limit behind lent covered after given
+    → next_size (block_ids g publication m.1) (from + aligned_length m.1 + covered) (unsigned_abs m.1.term_offset + aligned_length m.1 + covered) limit after ≡ None
     → TakesBlock g publication from before given (from + aligned_length m.1 + covered) after
-takes_messages g publication from high limit covered m behind before after lent given terms is first kind limit_is alone takes =
+takes_messages g publication from high limit covered m behind before after lent given terms is first kind limit_is alone takes stops =
     let offset : ℕ = unsigned_abs m.1.term_offset in
     let begins : m.1.term_offset ≡ pos offset = omega (arith, ints, first.position.low) in
     let few = takes.few in
+    let run : run_end (block_ids g publication m.1) offset (m.1 ∷ map (λ x. x.1) takes.taken) ≡ Some (offset + aligned_length m.1 + covered) =
+    cond-true (is_part (block_ids g publication m.1) offset m.1) (run_end (block_ids g publication m.1) (offset + aligned_length m.1) (map (λ x. x.1) takes.taken)) None
+    (first_part g publication m.1 m.0 offset kind first.admitted begins) ∙ takes.ends in
     takes_block g publication from high (from + aligned_length m.1 + covered) m behind before takes.taken after given is first takes.left
     (rw (sym first.begins) takes.chain)
     (takes.frames ∙ ap (λ (fs : List Frame). fs ++ map (λ x. x.1) takes.taken) alone)
@@ -133,16 +148,12 @@ takes_messages g publication from high limit covered m behind before after lent 
       offset = offset;
       begins = begins;
       end = offset + aligned_length m.1 + covered;
-      ends = cond-true (is_part (block_ids g publication m.1) offset m.1) (run_end (block_ids g publication m.1) (offset + aligned_length m.1) (map (λ x. x.1) takes.taken)) None
-          (first_part g publication m.1 m.0 offset kind first.admitted begins) ∙ takes.ends;
+      ends = run;
       inside = omega (arith, ints, few, limit_is, terms.least);
       covers = omega (arith, few, limit_is);
     }))
-
--- a run goes on with the frames behind those that it has come over
-run_on : (ids : BlockIds) (offset end : ℕ) (fs others : List Frame) → run_end ids offset fs ≡ Some end → run_end ids offset (fs ++ others) ≡ run_end ids end others
-run_on ids offset end [] others is = let same : offset ≡ end = cc in ap (λ (o : ℕ). run_end ids o others) same
-run_on ids offset end (f ∷ fs) others is = grind (arith, run_on ids (offset + aligned_length f) end fs others)
+    (message_longest g publication from limit (from + aligned_length m.1 + covered) (offset + aligned_length m.1 + covered) m.1 (map (λ x. x.1) takes.taken) after kind first.position limit_is run
+    (omega arith) stops (members_rest g publication takes.taken after (rw takes.left at first.members)).0)
 
 -- some messages were taken, and what is left is spaced
 pub record HasTaken (ids : BlockIds) (from offset limit : ℕ) (before : List (ℕ × Frame)) (old : List Frame) (covered : ℕ) (after : List (ℕ × Frame)) (new : List Frame) : Type 0 where

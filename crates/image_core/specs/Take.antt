@@ -1,5 +1,5 @@
 -- What is given of a stream, and what is missing: docs/PROTOCOL.md, "Images".
-use Rattle.std.specs.Prelude.{◌≡◌, ◌<◌, ◌+ℤ◌, ◌++◌, ℕ, pos, List, map}
+use Rattle.std.specs.Prelude.{◌≡◌, ◌<◌, ◌+ℤ◌, ◌++◌, ℕ, ℤ, pos, List, [], ◌∷◌, map}
 use Rattle.frame_core.specs.declared.frame.Frame.{Frame}
 use Rattle.frame_core.specs.declared.block.Block.{Block}
 use Rattle.frame_core.specs.declared.block.Publication.{Publication}
@@ -11,13 +11,19 @@ use Rattle.frame_core.specs.Position.{HasPosition}
 use Rattle.image_core.specs.Received.{IsChain, StandsFor}
 use Rattle.image_core.specs.Received.{Received, gap_end, rebuilt}
 
--- the first frames were taken from those that are held: a block of the publication, whose frames follow one another from where it begins to where the rest does
+-- with the first frame of those that are left, if there is one, frames would be no block at a position
+abbrev pub IsLongest : Geometry → Publication → List Frame → ℤ → List (ℕ × Frame) → Type 0
+IsLongest g publication fs position [] = Unit {0}
+IsLongest g publication fs position (m ∷ ms) = AreBlockOf g publication (fs ++ m.1 ∷ []) position → ⊥
+
+-- the first frames were taken from those that are held: a block of the publication, as long as it can be, whose frames follow one another from where it begins to where the rest does
 pub record TakesBlock (g : Geometry) (publication : Publication) (from : ℕ) (before : List (ℕ × Frame)) (given : List Frame) (to : ℕ) (after : List (ℕ × Frame)) : Type 0 where
   pub taken : List (ℕ × Frame)
   pub left : before ≡ taken ++ after
   pub chain : IsChain from taken to
   pub frames : given ≡ map (λ m. m.1) taken
   pub block : AreBlockOf g publication given (pos from)
+  pub longest : IsLongest g publication given (pos from) after
 
 -- a block was given of the first frames that were held, and they are held no more. What an image held of all that it received it holds still, apart from what was taken
 pub record GivesBlock (old : Received) (b : Block) (new : Received) : Type 0 where

@@ -19,7 +19,7 @@ use crate::gaps::{nak_over, term_end};
 use crate::held::{chain_end, is_free, next_start, put, withdraw};
 use crate::inserted::Inserted;
 use crate::joining::{heartbeat_position, joining_position, window};
-use crate::taking::take_frames;
+use crate::taking::{block_length, take_frames};
 use byteorder::{ByteOrder, LittleEndian};
 use frame_core::{
     Block, Frame, FrameKind, FrameRef, Geometry, Items, Nak, Publication, Refusal, Setup,
@@ -101,6 +101,21 @@ impl Image {
         }
     }
 
+    /// Where what was not taken yet begins, in bytes of the stream. Takes no memory.
+    pub fn taken(&self) -> i64
+        ensures value { result ≡ pos self.now.from }
+        ensures small { self.now.from ≤ 2 ^ 61 }
+    {
+        self.from as i64
+    }
+
+    /// The terms of the publication. Takes no memory.
+    pub fn geometry(&self) -> &Geometry
+        ensures { result.now ≡ self.now.geometry }
+    {
+        &self.geometry
+    }
+
     /// The rebuild position, in bytes of the stream: the end of the longest chain of received frames from where the
     /// image joined. Takes no memory.
     pub fn rebuilt(&self) -> i64
@@ -169,10 +184,10 @@ impl Image {
     }
 
     /// A block of the first frames that were not taken, up to the rebuild position: messages that follow one another in
-    /// their term within a block's bytes, as many as the list of them can grow to, or one pad: docs/PROTOCOL.md,
-    /// "Blocks". None where all frames up to the rebuild position were taken. NoMemory where there is no room for one
-    /// frame; nothing changes then. The image keeps the frames no more. Costs for each frame of the block the logarithm
-    /// of how many are held.
+    /// their term within a block's bytes, as many as there are, or one pad: docs/PROTOCOL.md, "Blocks". None where all
+    /// frames up to the rebuild position were taken. NoMemory where there is no room for the list of them; nothing
+    /// changes then. The image keeps the frames no more. Costs for each frame of the block the logarithm of how many are
+    /// held.
     pub fn take_block(&mut self) -> Result<Option<Block>, Refusal>
         ensures block { IfOk result (λ found. MatchOption found
             ((rebuilt self.old ≡ self.old.from) × (self.new ≡ self.old))
@@ -184,7 +199,8 @@ impl Image {
         if self.from == self.rebuilt {
             return Ok(None);
         }
-        let mut frames = Vec::with_capacity(self.alloc, 1)?;
+        let count = block_length(&self.held, &self.geometry, &self.publication, self.from);
+        let mut frames = Vec::with_capacity(self.alloc, count)?;
         let position = self.from as i64;
         let end = take_frames(
             &mut self.held,

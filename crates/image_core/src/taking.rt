@@ -1,8 +1,11 @@
 //! A block of the frames that are held, and how it is taken.
 
-ghost use Rattle.std.specs.Prelude.{◌≡◌, ◌<◌, ◌≤◌, ◌+◌, ◌^◌, [], length, min, unsigned_abs, vec_len, IfSome, MatchOption};
+ghost use Rattle.std.specs.Prelude.{◌≡◌, ◌<◌, ◌≤◌, ◌+◌, ◌^◌, [], length, min, unsigned_abs, vec_len, IfSome, MatchOption, None};
+ghost use Rattle.std.specs.Ordering.{nat_cmp};
+ghost use Rattle.std.specs.Map.{lookup};
+ghost use Rattle.std.specs.BTreeMap.{is_at};
 ghost use Rattle.std.specs.Vec.{vec_capacity};
-ghost use Rattle.image_core.specs.Kept.{AreMembers, AreSpaced, HasTerms, MovesFirst, TakesMessages, next_size};
+ghost use Rattle.image_core.specs.Kept.{AreMembers, AreSpaced, HasTerms, MovesFirst, TakesMessages, block_length, next_size, run_length, size_of_next};
 ghost use Rattle.image_core.specs.Rebuild.{chain_end};
 ghost use Rattle.image_core.specs.Take.{TakesBlock};
 
@@ -10,9 +13,79 @@ use frame_core::limits::MAX_BLOCK_LENGTH;
 use frame_core::{BlockIds, Frame, FrameKind, Geometry, Publication, block_ids, is_next};
 use std::collections::BTreeMap;
 
-/// Takes the first frames of a chain as a block into a list that has room for one, as many as follow one another in it
-/// and the list can grow to. Answers where the block ends.
-pub fn take_frames(
+/// How many frames the block has that begins with the first frame of a chain.
+pub(crate) fn block_length(
+    held: &BTreeMap<u64, Frame>,
+    geometry: &Geometry,
+    publication: &Publication,
+    from: u64,
+) -> usize
+    requires terms { HasTerms geometry.now }
+    requires spaced { AreSpaced from (2 ^ 62) held.now.entries }
+    requires members { AreMembers geometry.now publication.now held.now.entries }
+    requires some { from < chain_end from held.now.entries }
+    ensures { result ≡ block_length geometry.now publication.now held.now.entries }
+{
+    let Some((_, first)) = held.first_key_value() else {
+        return 0;
+    };
+    match first.kind {
+        FrameKind::Pad | FrameKind::Heartbeat => 1,
+        FrameKind::Message => {
+            let ids = block_ids(geometry, publication, first);
+            let offset = offset_of(first);
+            let limit = limit_behind(geometry, offset);
+            let size = first.aligned_length();
+            run_length(held, &ids, from + size, offset + size, limit) + 1
+        }
+    }
+}
+
+/// How many frames from a position on are messages of a block that follow one another, from an offset in their term up to
+/// a limit.
+fn run_length(
+    held: &BTreeMap<u64, Frame>,
+    ids: &BlockIds,
+    from: u64,
+    offset: u64,
+    limit: u64,
+) -> usize
+    requires spaced { AreSpaced 0 (2 ^ 62) held.now.entries }
+    requires from { from ≤ 2 ^ 62 }
+    requires within { offset ≤ limit }
+    requires small { limit ≤ 2 ^ 31 }
+    ensures length { result ≡ run_length ids.now from offset limit held.now.entries }
+    ensures few { result ≤ 2 ^ 31 }
+{
+    let mut count = 0;
+    let mut covered = 0;
+    'each: while let Some(size) = size_at(held, ids, from + covered, offset + covered, limit) {
+        covered += size;
+        count += 1;
+    }
+    count
+}
+
+/// How many bytes the frame at a position covers, if it is a message of a block, at an offset in its term and within a
+/// limit there.
+fn size_at(
+    held: &BTreeMap<u64, Frame>,
+    ids: &BlockIds,
+    at: u64,
+    offset: u64,
+    limit: u64,
+) -> Option<u64>
+    requires { offset < 2 ^ 33 }
+    ensures { result ≡ size_of_next ids.now offset limit
+        (lookup (is_at (nat_cmp at)) held.now.entries) }
+{
+    let frame = held.get(&at)?;
+    let size = frame.aligned_length();
+    (is_next(ids, offset, frame) && offset + size <= limit).then_some(size)
+}
+
+/// Takes the first frames of a chain as a block into a list that has room for them. Answers where the block ends.
+pub(crate) fn take_frames(
     held: &mut BTreeMap<u64, Frame>,
     geometry: &Geometry,
     publication: &Publication,
@@ -24,7 +97,8 @@ pub fn take_frames(
     requires members { AreMembers geometry.now publication.now held.old.entries }
     requires some { from < chain_end from held.old.entries }
     requires empty { frames.old.items ≡ [] }
-    requires room { 1 ≤ vec_capacity frames.old }
+    requires room { block_length geometry.now publication.now held.old.entries
+        ≤ vec_capacity frames.old }
     ensures { TakesBlock geometry.now publication.now from held.old.entries
         frames.new.items result held.new.entries }
 {
@@ -63,7 +137,7 @@ fn limit_behind(geometry: &Geometry, offset: u64) -> u64
 }
 
 /// Takes the first frames behind those of a list, as long as they are messages of a block that follow one another from a
-/// position and an offset in their term up to a limit, and the list can grow. Answers how many bytes they cover.
+/// position and an offset in their term up to a limit. Answers how many bytes they cover.
 fn take_messages(
     held: &mut BTreeMap<u64, Frame>,
     ids: &BlockIds,
@@ -76,15 +150,16 @@ fn take_messages(
     requires from { from ≤ 2 ^ 62 }
     requires within { offset ≤ limit }
     requires small { limit ≤ 2 ^ 31 }
+    requires room { run_length ids.now from offset limit held.old.entries + vec_len frames.old
+        ≤ vec_capacity frames.old }
     ensures takes { TakesMessages ids.now from offset limit held.old.entries frames.old.items
         result held.new.entries frames.new.items }
+    ensures stops { next_size ids.now (from + result) (offset + result) limit held.new.entries
+        ≡ None }
     ensures few { result ≤ 2 ^ 31 }
 {
     let mut covered = 0;
     'each: while let Some(size) = next_size(held, ids, from + covered, offset + covered, limit) {
-        if frames.reserve(1).is_err() {
-            return covered;
-        }
         take_first(held, frames);
         covered += size;
     }
@@ -112,7 +187,9 @@ fn next_size(
 fn take_first(held: &mut BTreeMap<u64, Frame>, frames: &mut Vec<Frame>)
     requires some { 0 < length held.old.entries }
     requires room { vec_len frames.old < vec_capacity frames.old }
-    ensures { MovesFirst held.old.entries held.new.entries frames.old.items frames.new.items }
+    ensures moves { MovesFirst held.old.entries held.new.entries frames.old.items frames.new.items }
+    ensures len { vec_len frames.new ≡ vec_len frames.old + 1 }
+    ensures capacity { vec_capacity frames.new ≡ vec_capacity frames.old }
 {
     let Some((_, frame)) = held.pop_first() else {
         return;

@@ -96,17 +96,16 @@ fn three_frames(alloc: Global) -> Result<Vec<u8>, AllocError> {
     Ok(bytes)
 }
 
-/// Takes a block, once more where memory is refused, and counts its frames to those before. One whose list can't grow is
-/// short.
-fn frames_taken(rt: &impl Abort, image: &mut Image, before: usize) -> Result<usize, Fail> {
+/// Takes a block, once more where memory is refused, and counts its frames.
+fn frames_taken(rt: &impl Abort, image: &mut Image) -> Result<usize, Fail> {
     let first = image.take_block();
     if first.is_err() {
         assert!(rt; stands(image, 192, 192, None));
     }
     let Some(block) = first.or_else(|_| image.take_block())? else {
-        return Ok(before);
+        return Ok(0);
     };
-    Ok(before.wrapping_add(block.frames.len()))
+    Ok(block.frames.len())
 }
 
 /// Where memory is refused once, nothing has changed, and the call may be made again: bench/refused_test_memory.py runs
@@ -121,11 +120,7 @@ fn refused_memory_changes_nothing(rt: HostRuntime) -> Result<(), Fail> {
         image.insert(&bytes)?;
     }
     assert!(rt; stands(&image, 192, 192, None));
-    let mut taken = 0;
-    for _ in 0..3 {
-        taken = frames_taken(&rt, &mut image, taken)?;
-    }
-    assert!(rt; taken == 3);
+    assert!(rt; frames_taken(&rt, &mut image)? == 3);
     assert!(rt; matches!(image.take_block(), Ok(None)));
     Ok(())
 }

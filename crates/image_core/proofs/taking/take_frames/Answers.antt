@@ -1,5 +1,6 @@
-use Rattle.std.proofs.Common.{◌^◌, arith}
-use Rattle.image_core.proofs.TakeLemmas.{IsFirst, first_few, first_is, takes_messages, takes_pad}
+use Rattle.std.proofs.Common.{◌^◌, ap, length, arith}
+use Rattle.image_core.proofs.LongestLemmas.{IsFirst}
+use Rattle.image_core.proofs.TakeLemmas.{first_few, first_is, length_is, takes_messages, takes_pad}
 use Rattle.image_core.proofs.taking.take_frames.Goals.{In-Some}
 use Rattle.image_core.proofs.taking.take_frames.Goals as goal
 
@@ -32,4 +33,13 @@ returns-in-Message c =
     rw c.aligned_length-size.ensures.value
     (takes_messages _ _ _ _ c.limit_behind-limit.result _ _ _ _ _ _ _ c.requires.terms c.in-Some.ensures.removal it c.in-Message.is
     (rw c.offset_of-offset.ensures.offset at c.limit_behind-limit.ensures.limit) (rw c.requires.empty at c.push_reserved.ensures.items)
-    (rw (c.block_ids-ids.ensures, c.offset_of-offset.ensures.offset, c.aligned_length-size.ensures.value) at c.take_messages.ensures.takes))
+    (rw (c.block_ids-ids.ensures, c.offset_of-offset.ensures.offset, c.aligned_length-size.ensures.value) at c.take_messages.ensures.takes)
+    (rw (c.block_ids-ids.ensures, c.offset_of-offset.ensures.offset, c.aligned_length-size.ensures.value) at c.take_messages.ensures.stops))
+
+pub take_messages-requires-clause-room : goal.take_messages-requires-clause-room
+take_messages-requires-clause-room c =
+    let it = first (goal.at.take_messages-requires-clause-room c).In-Some in
+    let fits = length_is c.args.geometry.now c.args.publication.now c.args.from (2 ^ 62) c.limit_behind-limit.result (c.in-Some.field-0-0, c.in-Some.first) c.pop_first.new.self.entries c.args.held.now.entries
+    c.in-Some.ensures.removal it c.in-Message.is (rw c.offset_of-offset.ensures.offset at c.limit_behind-limit.ensures.limit) in
+    rw (c.block_ids-ids.ensures, c.offset_of-offset.ensures.offset, c.aligned_length-size.ensures.value)
+    (omega (arith, fits, c.requires.room, c.push_reserved.ensures.len, c.push_reserved.ensures.capacity, ap length c.requires.empty))

@@ -19,3 +19,9 @@ returns-clause-block c =
     let small = kept_small _ c.self.inside.rebuilt c.self.invariant in
     let is = to_z_pos w64 c.self.inside.from (omega (arith, small.high, c.self.invariant.begins)) in
     rw (← c.self.view_is) (gives_block _ _ _ _ is c.from_vec.ensures c.take_frames-end.ensures refl)
+
+pub block_length-count-requires-clause-spaced : goal.block_length-count-requires-clause-spaced
+block_length-count-requires-clause-spaced c = (kept_small _ c.self.inside.rebuilt c.self.invariant).from
+
+pub block_length-count-requires-clause-some : goal.block_length-count-requires-clause-some
+block_length-count-requires-clause-some c = let low = chain_low c.self.inside.from c.self.inside.held.entries in omega (arith, low, c.self.invariant.rebuilt, c.if-self.false)
