@@ -1,0 +1,137 @@
+-- What is held stays within the stock.
+use Rattle.std.proofs.Common.{◌≡◌, refl, ◌+◌, ◌<◌, ◌≤◌, ℕ, pos, List, [], ◌∷◌, ◌++◌, true, false, Some, None, Bool, cond, ⊎_elim, arith}
+use Rattle.std.specs.Prelude.{◌&&◌, ◌-◌, IfOk, MatchOption, OnErr, Option, Result, Ok, Err, min, unsigned_abs}
+use Rattle.std.proofs.lemmas.Int.{ints}
+use Rattle.frame_core.specs.declared.nak.Nak.{Nak}
+use Rattle.frame_core.specs.declared.refusal.Refusal.{Refusal}
+use Rattle.std.specs.List.{list_all}
+use Rattle.std.specs.Ordering.{nat_cmp}
+use Rattle.std.specs.BTreeMap.{insert_entry}
+use Rattle.std.proofs.lemmas.Bool.Decides.{nat_tests}
+use Rattle.frame_core.specs.declared.frame.Frame.{Frame}
+use Rattle.frame_core.specs.declared.frame.FrameKind.{FrameKind}
+use Rattle.frame_core.specs.declared.frame.FrameKind.TheVariants.{Heartbeat, Message, Pad}
+use Rattle.frame_core.specs.declared.block.Block.{Block}
+use Rattle.frame_core.specs.declared.block.Publication.{Publication}
+use Rattle.frame_core.specs.declared.geometry.Geometry.{Geometry}
+use Rattle.frame_core.specs.declared.setup.Setup.{Setup}
+use Rattle.frame_core.specs.Datagram.{IsDatagram}
+use Rattle.frame_core.specs.FrameEncoding.{aligned_length}
+use Rattle.frame_core.specs.Position.{frame_position}
+use Rattle.image_core.specs.declared.fate.Fate.TheVariants.{Drops, Joins}
+use Rattle.image_core.specs.declared.inserted.Inserted.{Inserted}
+use Rattle.image_core.specs.Insert.{Inserts}
+use Rattle.image_core.specs.Rebuild.{end_of}
+use Rattle.image_core.specs.Received.{IsBegun, IsChain, Received, after, fate_of, frame_fate, gap_end, heartbeat_fate, is_open, joining_position, rebuilt, received, received_all}
+use Rattle.image_core.specs.Take.{GivesBlock, IsGap}
+use Rattle.image_feed.specs.Stock.{Asks, HoldsItsStock, are_near, ends_by, is_near, is_near_of, is_stocked, reach, stock_end}
+
+-- nothing is held of what has just begun
+pub begun_stock : (s : Setup) (r : Received) → IsBegun s r → HoldsItsStock r
+begun_stock s r begun = rw begun.begins refl
+
+-- one frame more
+stock_insert : (limit p : ℕ) (f : Frame) (ms : List (ℕ × Frame)) → list_all (is_stocked limit) ms ≡ true → p + aligned_length f ≤ limit
+    → list_all (is_stocked limit) (insert_entry nat_cmp ms p f) ≡ true
+stock_insert limit p f [] all fits = grind (arith, nat_tests)
+stock_insert limit p f (m ∷ ms) all fits = grind (arith, nat_tests, stock_insert limit p f ms)
+
+-- what is received of a frame that is near keeps the stock, and where it ends
+pub record Keeps (old new : Received) : Type 0 where
+  pub from : new.from ≡ old.from
+  pub geometry : new.geometry ≡ old.geometry
+  pub stock : HoldsItsStock new
+
+-- where a frame may join, that is its position
+joins_at : (g : Geometry) (publication : Publication) (f : Frame) (p : ℕ) → joining_position g publication f ≡ Some p → frame_position g f ≡ Some p
+unfolding joining_position
+joins_at g publication f p is = grind arith
+
+keeps_joining : (r : Received) (f : Frame) (found : Option ℕ) → HoldsItsStock r → ((p : ℕ) → found ≡ Some p → p + aligned_length f ≤ stock_end r) → Keeps r (after r f (frame_fate r f found))
+keeps_joining r f None stock fits = record { from = refl; geometry = refl; stock = stock }
+keeps_joining r f (Some p) stock fits = joined (is_open r p (p + aligned_length f))
+  where
+    joined : (b : Bool) → Keeps r (after r f (cond b (Joins p) Drops))
+    joined true = record { from = refl; geometry = refl; stock = stock_insert (stock_end r) p f r.joined stock (fits p refl) }
+    joined false = record { from = refl; geometry = refl; stock = stock }
+
+near_ends : (limit p : ℕ) (f : Frame) (found : Option ℕ) → ends_by limit f found ≡ true → found ≡ Some p → p + aligned_length f ≤ limit
+near_ends limit p f None near is = absurd cc
+near_ends limit p f (Some q) near is = let same : q ≡ p = cc in grind (arith, nat_tests)
+
+keeps_told : (r : Received) (f : Frame) (found : Option ℕ) → HoldsItsStock r → Keeps r (after r f (heartbeat_fate found))
+keeps_told r f None stock = record { from = refl; geometry = refl; stock = stock }
+keeps_told r f (Some p) stock = record { from = refl; geometry = refl; stock = stock }
+
+keeps_of : (kind : FrameKind) (r : Received) (f : Frame) → HoldsItsStock r → is_near_of kind r.geometry (stock_end r) f ≡ true → Keeps r (after r f (fate_of kind r f))
+keeps_of Pad r f stock near =
+    keeps_joining r f (joining_position r.geometry r.publication f) stock (λ p is. near_ends (stock_end r) p f (frame_position r.geometry f) near (joins_at r.geometry r.publication f p is))
+keeps_of Message r f stock near =
+    keeps_joining r f (joining_position r.geometry r.publication f) stock (λ p is. near_ends (stock_end r) p f (frame_position r.geometry f) near (joins_at r.geometry r.publication f p is))
+keeps_of Heartbeat r f stock near = keeps_told r f _ stock
+
+both_true : (a b : Bool) → a && b ≡ true → (a ≡ true) × (b ≡ true)
+both_true true b is = (refl, is)
+both_true false b is = absurd cc
+
+-- so do all frames of a datagram
+pub keeps_all : (r : Received) (fs : List Frame) → HoldsItsStock r → are_near r fs ≡ true → HoldsItsStock (received_all r fs)
+keeps_all r [] stock near = stock
+keeps_all r (f ∷ fs) stock near =
+    let parts = both_true (is_near r.geometry (stock_end r) f) (are_near r fs) near in
+    let one = keeps_of f.kind r f stock parts.0 in
+    keeps_all (received r f) fs one.stock (rw (one.geometry, one.from) parts.1)
+
+-- what is inserted of frames that are near
+pub inserted_stock : (old : Received) (bytes : List ℕ) (i : Inserted) (new : Received) (fs : List Frame) → HoldsItsStock old → are_near old fs ≡ true → ((gs : List Frame) → IsDatagram bytes gs → gs ≡ fs)
+    → Inserts old bytes i new → HoldsItsStock new
+inserted_stock old bytes i new fs stock near one inserts =
+    ⊎_elim
+    (λ foreign. rw foreign.2 stock)
+    (λ own. rw own.3.after (keeps_all old own.1 stock (rw (one own.1 own.2) near)))
+    inserts
+
+-- the rest of what is held, where the stock goes further
+stock_rest : (low high : ℕ) (taken ms : List (ℕ × Frame)) → low ≤ high → list_all (is_stocked low) (taken ++ ms) ≡ true → list_all (is_stocked high) ms ≡ true
+stock_rest low high [] [] le all = refl
+stock_rest low high [] (m ∷ ms) le all = grind (arith, nat_tests, stock_rest low high [] ms le)
+stock_rest low high (x ∷ taken) ms le all = stock_rest low high taken ms le (both_true _ _ all).1
+
+chain_up : (p q : ℕ) (ms : List (ℕ × Frame)) → IsChain p ms q → p ≤ q
+chain_up p q [] chain = omega (arith, chain)
+chain_up p q (m ∷ ms) chain = let low = chain_up (end_of m) q ms chain.2 in omega (arith, chain.0)
+
+-- a block that is taken moves the stock on
+pub taken_stock : (old : Received) (b : Block) (new : Received) → HoldsItsStock old → GivesBlock old b new → HoldsItsStock new
+taken_stock old b new stock gives =
+    stock_rest (stock_end old) (stock_end new) gives.takes.taken new.joined
+    (let up = chain_up old.from new.from gives.takes.taken gives.takes.chain in omega arith)
+    (rw (← gives.takes.left) stock)
+
+-- the same, whatever a call answered
+pub taken_any : (old new : Received) (result : Result (Option Block) Refusal) → HoldsItsStock old
+    → IfOk result (λ found. MatchOption found ((rebuilt old ≡ old.from) × (new ≡ old)) (λ b. GivesBlock old b new)) → OnErr result (new ≡ old) → HoldsItsStock new
+taken_any old new (Ok None) stock block same = rw block.1 stock
+taken_any old new (Ok (Some b)) stock block same = taken_stock old b new stock block
+taken_any old new (Err refusal) stock block same = rw same stock
+
+pub inserted_any : (old new : Received) (bytes : List ℕ) (fs : List Frame) (result : Result Inserted Refusal) → HoldsItsStock old → are_near old fs ≡ true → ((gs : List Frame) → IsDatagram bytes gs → gs ≡ fs)
+    → IfOk result (λ i. Inserts old bytes i new) → OnErr result (new ≡ old) → HoldsItsStock new
+inserted_any old new bytes fs (Ok i) stock near one inserted same = inserted_stock old bytes i new fs stock near one inserted
+inserted_any old new bytes fs (Err refusal) stock near one inserted same = rw same stock
+
+-- ---- requests
+
+-- a gap that is cut where there is no room
+pub asks_for : (r : Received) (gap n : Nak) (size : ℕ) → IsGap r gap → rebuilt r < reach r → size ≡ min (unsigned_abs gap.length) (reach r - rebuilt r) → n ≡ record gap { length = pos size } → Asks r n
+asks_for r gap n size is room size_is same =
+    let ends : rebuilt r + unsigned_abs gap.length ≡ gap_end r = omega (arith, ints, is.ends, is.range.covers) in
+    rw same (record {
+      missing = is.missing;
+      room = omega (arith, ints, ends, is.range.covers, room);
+      session_id = is.session_id;
+      stream_id = is.stream_id;
+      begins = is.begins;
+      ends = omega (arith, ints, ends, size_is, room);
+      range = record { begins = is.range.begins; covers = omega (arith, ints, size_is, room, is.range.covers) };
+    })

@@ -1,0 +1,76 @@
+-- What an image is offered, so that what nobody takes is bounded: docs/PROTOCOL.md, "Stock".
+use Rattle.std.specs.Prelude.{◌≡◌, ◌<◌, ◌≤◌, ◌+◌, ◌⊎◌, ◌+ℤ◌, ℕ, pos, min, nat_le, Bool, true, false, List, Option, Some, None}
+use Rattle.std.specs.List.{list_all}
+use Rattle.frame_core.specs.declared.frame.FrameKind.{FrameKind}
+use Rattle.frame_core.specs.declared.frame.FrameKind.TheVariants.{Pad, Message, Heartbeat}
+use Rattle.frame_core.specs.declared.frame.Frame.{Frame}
+use Rattle.frame_core.specs.declared.geometry.Geometry.{Geometry}
+use Rattle.frame_core.specs.declared.nak.Nak.{Nak}
+use Rattle.frame_core.specs.FrameEncoding.{aligned_length}
+use Rattle.frame_core.specs.Datagram.{IsDatagram}
+use Rattle.frame_core.specs.Nak.{HasRange}
+use Rattle.frame_core.specs.Position.{HasPosition, frame_position}
+use Rattle.image_core.specs.declared.inserted.Inserted.{Inserted}
+use Rattle.image_core.specs.Insert.{Inserts}
+use Rattle.image_core.specs.Rebuild.{end_of}
+use Rattle.image_core.specs.Received.{Received, gap_end, rebuilt, window}
+
+-- where the stock of an image ends: 1,048,576 bytes of the stream past what was taken
+abbrev pub stock_end : Received → ℕ
+stock_end r = r.from + 1048576
+
+-- a frame that begins there, if it has a position, ends at a limit at most
+abbrev pub ends_by : ℕ → Frame → Option ℕ → Bool
+ends_by limit f None = true
+ends_by limit f (Some p) = nat_le (p + aligned_length f) limit
+
+-- it is never held, or ends at a limit at most
+abbrev pub is_near_of : FrameKind → Geometry → ℕ → Frame → Bool
+is_near_of Pad g limit f = ends_by limit f (frame_position g f)
+is_near_of Message g limit f = ends_by limit f (frame_position g f)
+is_near_of Heartbeat g limit f = true
+
+abbrev pub is_near : Geometry → ℕ → Frame → Bool
+is_near g limit f = is_near_of f.kind g limit f
+
+-- each of the frames is never held, or ends within the stock
+abbrev pub are_near : Received → List Frame → Bool
+are_near r fs = list_all (is_near r.geometry (stock_end r)) fs
+
+-- ---- offers
+
+-- A datagram is inserted where each of its frames ends within the stock or is never held; else it is lost.
+abbrev pub Offers : Received → List ℕ → Option Inserted → Received → Type 0
+Offers old bytes None new = (new ≡ old) × (fs : List Frame) × IsDatagram bytes fs × (are_near old fs ≡ false)
+Offers old bytes (Some i) new = Inserts old bytes i new × ((fs : List Frame) → IsDatagram bytes fs → are_near old fs ≡ true)
+
+-- no frame that is held ends past the stock
+abbrev pub is_stocked : ℕ → ℕ × Frame → Bool
+is_stocked limit m = nat_le (end_of m) limit
+
+abbrev pub HoldsItsStock : Received → Type 0
+HoldsItsStock r = list_all (is_stocked (stock_end r)) r.joined ≡ true
+
+-- ---- requests
+
+-- how far frames may be asked for: where the window and the stock end, whichever is first
+abbrev pub reach : Received → ℕ
+reach r = min (rebuilt r + window r.geometry) (stock_end r)
+
+-- where a request ends
+abbrev pub asked_end : Received → ℕ
+asked_end r = min (gap_end r) (reach r)
+
+-- nothing is missing, or there is no room for it
+abbrev pub AsksNothing : Received → Type 0
+AsksNothing r = (rebuilt r ≡ r.high) ⊎ (reach r ≤ rebuilt r)
+
+-- a request for the part of the gap that there is room for
+pub record Asks (r : Received) (n : Nak) : Type 0 where
+  pub missing : rebuilt r < r.high
+  pub room : rebuilt r < asked_end r
+  pub session_id : n.session_id ≡ r.publication.session_id
+  pub stream_id : n.stream_id ≡ r.publication.stream_id
+  pub begins : HasPosition r.geometry n.term_id n.term_offset (pos (rebuilt r))
+  pub ends : pos (rebuilt r) +ℤ n.length ≡ pos (asked_end r)
+  pub range : HasRange n
