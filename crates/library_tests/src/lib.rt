@@ -11,6 +11,8 @@ mod catalogues;
 #[cfg(test)]
 mod disks;
 #[cfg(test)]
+mod feeds;
+#[cfg(test)]
 mod folders;
 #[cfg(test)]
 mod frames;
