@@ -2,3 +2,4 @@ pub mod OpenFileLemmas
 pub mod ReplayLemmas
 pub mod ReadLemmas
 pub mod RecordWalks
+pub mod NameLemmas

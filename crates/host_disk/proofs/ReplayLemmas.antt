@@ -13,7 +13,8 @@ use Rattle.disk_core.specs.Calls.{write_to, cut_to, removed, synced, IsWritten, 
 use Rattle.disk_core.specs.Life.{Steps}
 use Rattle.disk_core.proofs.CallerLemmas.{equal_files, file_cmp_self, write_is_written}
 use Rattle.disk_core.proofs.DiskLemmas.{in_list}
-use Rattle.host_disk.specs.Events.{Held, Event, opened, measured, asked, gave, wrote, write_failed, cut, cut_failed, gone, remove_failed, flushed, flush_failed, listed}
+use Rattle.host_disk.specs.Events.{Held, Event, opened, locked, measured, measure_failed, asked, gave, read_failed, wrote, write_failed, cut, cut_failed, gone, remove_failed, flushed, flush_failed, listed, list_failed, refused}
+use Rattle.host_disk.specs.Faults.{after_list_fault}
 use Rattle.host_disk.specs.Replay.{image_of, is_in, is_there, are_there, write_lost, cut_lost, remove_lost, with_change, replay, life_at}
 
 -- the file that a call is of
@@ -111,9 +112,12 @@ written_known this file change files known before there = one_written (is_eq (fi
 pub all_known : (events : List Event) (file : FileId) → is_there (replay events).now file ≡ true → is_in (replay events).known file ≡ true
 all_known [] file there = absurd (cc)
 all_known (opened held ∷ earlier) file there = held_known held file there
+all_known (locked path ∷ earlier) file there = all_known earlier file there
 all_known (measured this n ∷ earlier) file there = all_known earlier file there
+all_known (measure_failed this ∷ earlier) file there = all_known earlier file there
 all_known (asked bytes ∷ earlier) file there = all_known earlier file there
 all_known (gave this at n bytes ∷ earlier) file there = all_known earlier file there
+all_known (read_failed this at ∷ earlier) file there = all_known earlier file there
 all_known (wrote this at bytes ∷ earlier) file there = written_known this file (write_to at bytes) (replay earlier).now (replay earlier).known (all_known earlier file) there
 all_known (write_failed this at n ∷ earlier) file there = all_known earlier file (was_there this file (write_lost at n) (replay earlier).now (write_lost_reads at n) there)
 all_known (cut this len ∷ earlier) file there = all_known earlier file (was_there this file (cut_to len) (replay earlier).now (λ state. some_taken state.reads len) there)
@@ -123,6 +127,8 @@ all_known (remove_failed this ∷ earlier) file there = all_known earlier file (
 all_known (flushed this ∷ earlier) file there = all_known earlier file (was_there this file synced (replay earlier).now (λ state there. there) there)
 all_known (flush_failed this ∷ earlier) file there = all_known earlier file there
 all_known (listed files ∷ earlier) file there = all_known earlier file there
+all_known (list_failed ∷ earlier) file there = all_known earlier file there
+all_known (refused this at ∷ earlier) file there = all_known earlier file there
 
 first_of : (a b : Bool) → (a && b) ≡ true → a ≡ true
 first_of true b both = refl
@@ -162,7 +168,7 @@ listed_files files known now sorted are known_all = record {
 
 -- a listing of a folder gives the files that are there, where the folder obeys
 pub listing_is : (result : Result (Vec FileId Global) ListFault) (before after : List Event) → IfOk result (λ files. IsStrictlySortedBy file_cmp files.items)
-    → MatchResult result (λ files. after ≡ listed files.items ∷ before) (λ _. after ≡ before)
+    → MatchResult result (λ files. after ≡ listed files.items ∷ before) (λ fault. after ≡ after_list_fault fault before)
     → IfOk result (λ files. IsTrue (replay after).obeys → AreFilesWith (λ file. IsSome (reads (replay before).now file)) files.items)
 listing_is (Err fault) before after sorted noted = tt
 listing_is (Ok files) before after sorted noted = λ obeys.

@@ -10,12 +10,18 @@ Held = FileId × List ℕ
 pub data Event : Type 0 where
   -- the folder was opened, and these were its files
   opened : List Held → Event
+  -- the folder of this path was locked
+  locked : List ℕ → Event
   -- a file had this length, 0 if it was absent
   measured : FileId → ℕ → Event
+  -- a file's length was not told
+  measure_failed : FileId → Event
   -- a read is to come, into a buffer that holds these bytes
   asked : List ℕ → Event
   -- a read from an offset gave so many bytes, and the buffer then held these
   gave : FileId → ℕ → ℕ → List ℕ → Event
+  -- a read from an offset failed
+  read_failed : FileId → ℕ → Event
   -- these bytes were written at an offset
   wrote : FileId → ℕ → List ℕ → Event
   -- a write of so many bytes at an offset failed
@@ -34,3 +40,7 @@ pub data Event : Type 0 where
   flush_failed : FileId → Event
   -- these files were there
   listed : List FileId → Event
+  -- a listing failed
+  list_failed : Event
+  -- a call of a file, from this offset, was refused, and the system not asked
+  refused : FileId → ℕ → Event

@@ -2,12 +2,15 @@
 pub mod Events
 pub mod Replay
 pub mod Lost
+pub mod Faults
+pub mod ArchiveFiles
 pub mod FolderDisk
 pub mod HostDisk
 -- what only private functions say, representation, and the proof of a law
 pub mod Noted
 pub mod EventCodes
 pub mod Places
+pub mod Paths
 pub mod OpenFiles
 pub mod HostFolder
 pub mod WellFormed

@@ -1,11 +1,11 @@
 -- Files of which a call has failed, so that what they hold is not known.
-use Rattle.std.specs.Prelude.{Bool, true, false, not, ◌&&◌, if◌then◌else◌, List, [], ◌∷◌}
+use Rattle.std.specs.Prelude.{Bool, true, false, not, ◌&&◌, ◌||◌, ◌^◌, nat_le, if◌then◌else◌, List, [], ◌∷◌}
 use Rattle.std.specs.Ordering.{is_eq}
 use Rattle.disk_core.specs.declared.file_id.FileId.{FileId}
 use Rattle.disk_core.specs.FileNames.{file_cmp}
 use Rattle.host_disk.specs.declared.lost.Lost.{Lost}
 use Rattle.host_disk.specs.declared.lost.Lost.TheVariants.{Nothing, One, All}
-use Rattle.host_disk.specs.Events.{Event, opened, measured, asked, gave, wrote, write_failed, cut, cut_failed, gone, remove_failed, flushed, flush_failed, listed}
+use Rattle.host_disk.specs.Events.{Event, opened, locked, measured, measure_failed, asked, gave, read_failed, wrote, write_failed, cut, cut_failed, gone, remove_failed, flushed, flush_failed, listed, list_failed, refused}
 
 -- the file counts as lost
 abbrev pub covers : Lost → FileId → Bool
@@ -22,9 +22,12 @@ with_lost file All = All
 -- what counts as lost after a call
 abbrev pub lost_by : Event → Lost → Lost
 lost_by (opened held) lost = lost
+lost_by (locked path) lost = lost
 lost_by (measured file n) lost = lost
+lost_by (measure_failed file) lost = lost
 lost_by (asked bytes) lost = lost
 lost_by (gave file at n bytes) lost = lost
+lost_by (read_failed file at) lost = lost
 lost_by (wrote file at bytes) lost = lost
 lost_by (write_failed file at n) lost = with_lost file lost
 lost_by (cut file len) lost = lost
@@ -34,6 +37,8 @@ lost_by (remove_failed file) lost = with_lost file lost
 lost_by (flushed file) lost = lost
 lost_by (flush_failed file) lost = with_lost file lost
 lost_by (listed files) lost = lost
+lost_by list_failed lost = lost
+lost_by (refused file at) lost = lost
 
 -- what counts as lost after these calls
 abbrev pub lost_after : List Event → Lost
@@ -45,12 +50,16 @@ is_nothing Nothing = true
 is_nothing (One file) = false
 is_nothing All = false
 
--- the call is of no lost file; a listing is of every file
+-- The call is of no lost file; a listing is of every file. Refused is what is of a lost file, and a read at
+-- an offset past the last one.
 abbrev pub is_allowed : Lost → Event → Bool
 is_allowed lost (opened held) = true
+is_allowed lost (locked path) = true
 is_allowed lost (measured file n) = not (covers lost file)
+is_allowed lost (measure_failed file) = not (covers lost file)
 is_allowed lost (asked bytes) = true
 is_allowed lost (gave file at n bytes) = not (covers lost file)
+is_allowed lost (read_failed file at) = not (covers lost file)
 is_allowed lost (wrote file at bytes) = not (covers lost file)
 is_allowed lost (write_failed file at n) = not (covers lost file)
 is_allowed lost (cut file len) = not (covers lost file)
@@ -60,6 +69,8 @@ is_allowed lost (remove_failed file) = not (covers lost file)
 is_allowed lost (flushed file) = not (covers lost file)
 is_allowed lost (flush_failed file) = not (covers lost file)
 is_allowed lost (listed files) = is_nothing lost
+is_allowed lost list_failed = is_nothing lost
+is_allowed lost (refused file at) = covers lost file || nat_le (2 ^ 64) at
 
 -- no call was of a file that was lost before it
 abbrev pub is_careful : List Event → Bool

@@ -8,7 +8,7 @@ use Rattle.disk_core.specs.DiskImage.{FileState, Files}
 use Rattle.disk_core.specs.Calls.{write_to, cut_to, removed, synced}
 use Rattle.disk_core.specs.Memory.{IsWell}
 use Rattle.disk_core.proofs.DiskLemmas.{durable_well, write_well, cut_well, removed_well, either_well}
-use Rattle.host_disk.specs.Events.{Event, opened, measured, asked, gave, wrote, write_failed, cut, cut_failed, gone, remove_failed, flushed, flush_failed, listed}
+use Rattle.host_disk.specs.Events.{Event, opened, locked, measured, measure_failed, asked, gave, read_failed, wrote, write_failed, cut, cut_failed, gone, remove_failed, flushed, flush_failed, listed, list_failed, refused}
 use Rattle.host_disk.specs.Replay.{Replayed, image_of, write_lost, cut_lost, remove_lost, with_change, after_event, replay}
 
 -- each of the files is well formed
@@ -32,9 +32,12 @@ change_well this change files made well file =
 
 event_well : (event : Event) (before : Replayed) → AreWell before.now → (file : FileId) → IsWell ((after_event event before).now file)
 event_well (opened held) before well file = durable_well (image_of held file)
+event_well (locked path) before well file = well file
 event_well (measured this n) before well file = well file
+event_well (measure_failed this) before well file = well file
 event_well (asked bytes) before well file = well file
 event_well (gave this at n bytes) before well file = well file
+event_well (read_failed this at) before well file = well file
 event_well (wrote this at bytes) before well file = change_well this (write_to at bytes) before.now (write_well at bytes) well file
 event_well (write_failed this at n) before well file = change_well this (write_lost at n) before.now (write_lost_well at n) well file
 event_well (cut this len) before well file = change_well this (cut_to len) before.now (cut_well len) well file
@@ -44,6 +47,8 @@ event_well (remove_failed this) before well file = change_well this remove_lost 
 event_well (flushed this) before well file = change_well this synced before.now (λ state _. durable_well state.reads) well file
 event_well (flush_failed this) before well file = well file
 event_well (listed files) before well file = well file
+event_well list_failed before well file = well file
+event_well (refused this at) before well file = well file
 
 -- the files that a record gives are well formed
 pub all_well : (events : List Event) (file : FileId) → IsWell ((replay events).now file)

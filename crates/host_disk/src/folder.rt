@@ -1,8 +1,9 @@
 //! What is asked of a folder: that each call is noted with its answer, whatever that is.
-ghost use Rattle.std.specs.Prelude.{◌≡◌, ◌≤◌, List, ◌∷◌, length, IfOk, MatchResult};
+ghost use Rattle.std.specs.Prelude.{◌≡◌, ◌+◌, ◌≤◌, List, ◌∷◌, length, IfOk, MatchResult};
 ghost use Rattle.std.specs.List.Sorted.{IsStrictlySortedBy};
 ghost use Rattle.disk_core.specs.FileNames.{file_cmp};
-ghost use Rattle.host_disk.specs.Events.{Event, measured, asked, gave, wrote, write_failed, cut, cut_failed, gone, remove_failed, flushed, flush_failed, listed};
+ghost use Rattle.host_disk.specs.Faults.{after_list_fault};
+ghost use Rattle.host_disk.specs.Events.{Event, measured, measure_failed, asked, gave, read_failed, wrote, write_failed, cut, cut_failed, gone, remove_failed, flushed, flush_failed, listed, refused};
 
 use disk_core::{Fault, FileId, ListFault};
 
@@ -15,14 +16,14 @@ pub trait Folder {
     fn len(&mut self, file: FileId) -> Result<u64, Fault>
         ensures noted { MatchResult result
             (λ n. events self.new ≡ measured file n ∷ events self.old)
-            (λ _. events self.new ≡ events self.old) };
+            (λ _. events self.new ≡ measure_failed file ∷ events self.old) };
 
     /// Reads once from an offset, and answers how many bytes came: none only at the end.
     fn read_some(&mut self, file: FileId, at: u64, into: &mut [u8]) -> Result<usize, Fault>
         ensures within { IfOk result (λ n. n ≤ length into.old) }
         ensures noted { MatchResult result
             (λ n. events self.new ≡ gave file at n into.new ∷ asked into.old ∷ events self.old)
-            (λ _. events self.new ≡ asked into.old ∷ events self.old) };
+            (λ _. events self.new ≡ read_failed file at ∷ events self.old) };
 
     /// Writes all of the bytes at an offset.
     fn write(&mut self, file: FileId, at: u64, bytes: &[u8]) -> Result<(), Fault>
@@ -53,5 +54,9 @@ pub trait Folder {
         ensures in_order { IfOk result (λ files. IsStrictlySortedBy file_cmp files.items) }
         ensures noted { MatchResult result
             (λ files. events self.new ≡ listed files.items ∷ events self.old)
-            (λ _. events self.new ≡ events self.old) };
+            (λ fault. events self.new ≡ after_list_fault fault (events self.old)) };
+
+    /// Refuses a call of a file, so many bytes behind an offset, and asks the system nothing.
+    fn refuse(&mut self, file: FileId, at: u64, done: usize)
+        ensures { events self.new ≡ refused file (at + done) ∷ events self.old };
 }

@@ -1,7 +1,8 @@
 //! A disk over a folder, of which nothing is kept in memory.
-ghost use Rattle.std.specs.Prelude.{◌≡◌, ◌≤◌, ◌+◌, ◌-◌, ◌^◌, [], ◌∷◌, List, min, refl, true, false, IsTrue, IfOk, OnErr, OnOk};
+ghost use Rattle.std.specs.Prelude.{◌≡◌, ◌≤◌, ◌+◌, ◌-◌, ◌^◌, [], ◌∷◌, List, ℕ, min, refl, true, false, IsTrue, IfOk, OnErr, OnOk};
 ghost use Rattle.disk_core.specs.Memory.{well_stays};
-ghost use Rattle.host_disk.specs.Events.{Held, opened};
+ghost use Rattle.host_disk.specs.Events.{Held, opened, locked, refused};
+ghost use Rattle.host_disk.specs.Faults.{failures};
 ghost use Rattle.host_disk.specs.Replay.{replay, life_at};
 ghost use Rattle.host_disk.specs.Lost.{covers, lost_after, is_careful, with_lost};
 ghost use Rattle.host_disk.specs.WellFormed.{all_well};
@@ -18,6 +19,7 @@ pub struct FolderDisk<F: Folder> {
     lost: Lost,
     ghost tied: { lost ≡ lost_after (F.Folder.events folder) },
     ghost careful: { is_careful (F.Folder.events folder) ≡ true },
+    ghost counted: { faults ≡ min (failures (F.Folder.events folder)) (2 ^ 64 - 1) },
 }
 
 fn one_more(n: u64) -> u64
@@ -26,19 +28,15 @@ fn one_more(n: u64) -> u64
     n.saturating_add(1)
 }
 
-/// Refuses a call of a file that counts as lost, and counts that as a fault.
-fn refuse_lost(faults: &mut u64, lost: &Lost, file: FileId) -> Result<(), Fault>
-    ensures kept { OnOk result (covers lost.now file ≡ false) }
-    ensures lost { OnErr result (covers lost.now file ≡ true) }
+/// Refuses a call of a file, so many bytes behind an offset, and counts that as a fault.
+fn refuse<F: Folder>(folder: &mut F, faults: &mut u64, file: FileId, at: u64, done: usize) -> Fault
     ensures more { faults.old ≤ faults.new }
-    ensures steady { OnOk result (faults.new ≡ faults.old) }
-    ensures counted { OnErr result (faults.new ≡ min (faults.old + 1) (2 ^ 64 - 1)) }
+    ensures counted { faults.new ≡ min (faults.old + 1) (2 ^ 64 - 1) }
+    ensures noted { F.Folder.events folder.new ≡ refused file (at + done) ∷ F.Folder.events folder.old }
 {
-    if lost.covers(file) {
-        *faults = one_more(*faults);
-        return Err(Fault);
-    }
-    Ok(())
+    folder.refuse(file, at, done);
+    *faults = one_more(*faults);
+    Fault
 }
 
 /// Counts a call of a file that has failed, and takes the file as lost.
@@ -56,7 +54,7 @@ impl<F: Folder> FolderDisk<F> {
 
     /// A disk over a folder that was just opened.
     pub fn new(folder: F) -> FolderDisk<F>
-        requires { (held : List Held) × (F.Folder.events folder ≡ opened held ∷ []) }
+        requires { (path : List ℕ) × (held : List Held) × (F.Folder.events folder ≡ locked path ∷ opened held ∷ []) }
         ensures folder { folder_of result ≡ folder }
         ensures faults { faults_of result ≡ 0 }
     {
@@ -71,6 +69,11 @@ impl<F: Folder> FolderDisk<F> {
     pub fn asks_no_lost_file(&self)
         ensures { is_careful (F.Folder.events (folder_of self.now)) ≡ true }
     {}
+
+    /// The count of faults is that of the calls that have failed or were refused, up to the last `u64`.
+    pub fn counts_failed_calls(&self)
+        ensures { faults_of self.now ≡ min (failures (F.Folder.events (folder_of self.now))) (2 ^ 64 - 1) }
+    {}
 }
 
 impl<F: Folder> Disk for FolderDisk<F> {
@@ -80,7 +83,9 @@ impl<F: Folder> Disk for FolderDisk<F> {
         well_stays ((replay events).now file) ((replay events).now file).reads refl (all_well events file) };
 
     fn len(&mut self, file: FileId) -> Result<u64, Fault> {
-        refuse_lost(&mut self.faults, &self.lost, file)?;
+        if self.lost.covers(file) {
+            return Err(refuse(&mut self.folder, &mut self.faults, file, 0, 0));
+        }
         let answer = self.folder.len(file);
         if answer.is_err() {
             self.faults = one_more(self.faults);
@@ -89,12 +94,13 @@ impl<F: Folder> Disk for FolderDisk<F> {
     }
 
     fn read_at(&mut self, file: FileId, at: u64, into: &mut [u8]) -> Result<usize, Fault> {
-        refuse_lost(&mut self.faults, &self.lost, file)?;
+        if self.lost.covers(file) {
+            return Err(refuse(&mut self.folder, &mut self.faults, file, 0, 0));
+        }
         let mut done = 0;
         while done < into.len() {
             let Some(from) = at.checked_add(done as u64) else {
-                self.faults = one_more(self.faults);
-                return Err(Fault);
+                return Err(refuse(&mut self.folder, &mut self.faults, file, at, done));
             };
             let Ok(count) = self.folder.read_some(file, from, &mut into[done..]) else {
                 self.faults = one_more(self.faults);
@@ -112,7 +118,9 @@ impl<F: Folder> Disk for FolderDisk<F> {
         if bytes.is_empty() {
             return Ok(());
         }
-        refuse_lost(&mut self.faults, &self.lost, file)?;
+        if self.lost.covers(file) {
+            return Err(refuse(&mut self.folder, &mut self.faults, file, 0, 0));
+        }
         let answer = self.folder.write(file, at, bytes);
         if answer.is_err() {
             note_failure(&mut self.faults, &mut self.lost, file);
@@ -121,7 +129,9 @@ impl<F: Folder> Disk for FolderDisk<F> {
     }
 
     fn cut(&mut self, file: FileId, len: u64) -> Result<(), Fault> {
-        refuse_lost(&mut self.faults, &self.lost, file)?;
+        if self.lost.covers(file) {
+            return Err(refuse(&mut self.folder, &mut self.faults, file, 0, 0));
+        }
         let answer = self.folder.cut(file, len);
         if answer.is_err() {
             note_failure(&mut self.faults, &mut self.lost, file);
@@ -130,7 +140,9 @@ impl<F: Folder> Disk for FolderDisk<F> {
     }
 
     fn remove(&mut self, file: FileId) -> Result<(), Fault> {
-        refuse_lost(&mut self.faults, &self.lost, file)?;
+        if self.lost.covers(file) {
+            return Err(refuse(&mut self.folder, &mut self.faults, file, 0, 0));
+        }
         let answer = self.folder.remove(file);
         if answer.is_err() {
             note_failure(&mut self.faults, &mut self.lost, file);
@@ -139,7 +151,9 @@ impl<F: Folder> Disk for FolderDisk<F> {
     }
 
     fn sync(&mut self, file: FileId) -> Result<(), Fault> {
-        refuse_lost(&mut self.faults, &self.lost, file)?;
+        if self.lost.covers(file) {
+            return Err(refuse(&mut self.folder, &mut self.faults, file, 0, 0));
+        }
         let answer = self.folder.sync(file);
         if answer.is_err() {
             note_failure(&mut self.faults, &mut self.lost, file);
@@ -148,8 +162,8 @@ impl<F: Folder> Disk for FolderDisk<F> {
     }
 
     fn list(&mut self) -> Result<Vec<FileId>, ListFault> {
-        if !self.lost.is_nothing() {
-            self.faults = one_more(self.faults);
+        if let Some(file) = self.lost.any() {
+            let Fault = refuse(&mut self.folder, &mut self.faults, file, 0, 0);
             return Err(ListFault::Device);
         }
         let answer = self.folder.list();

@@ -1,6 +1,7 @@
 //! A real folder, with the files that are open in it.
-ghost use Rattle.std.specs.Prelude.{◌≡◌, [], ◌∷◌, List, IfOk, OnOk};
-ghost use Rattle.host_disk.specs.Events.{Held, opened};
+ghost use Rattle.std.specs.Prelude.{◌≡◌, [], ◌∷◌, List, ℕ, string_bytes, IfOk, OnOk};
+ghost use Rattle.host_disk.specs.Events.{Held, opened, locked};
+ghost use Rattle.host_disk.specs.Paths.{path_in};
 
 use crate::open_files::OpenFiles;
 use crate::record::{Note, Record};
@@ -27,6 +28,7 @@ pub struct HostFolder {
     path: String,
     open_files: OpenFiles,
     record: Record,
+    ghost kept: { string_bytes folder_path ≡ path_in record.events },
 }
 
 // Where a file was found: among the open ones, or nowhere.
@@ -41,7 +43,7 @@ impl HostFolder {
 
     /// Opens a folder and locks it. What the folder holds is not said. Nothing is made or changed.
     pub fn open(rt: HostRuntime, alloc: Global, path: &str) -> Result<HostFolder, OpenFault>
-        ensures { IfOk result (λ folder. (held : List Held) × (events_of folder ≡ opened held ∷ [])) }
+        ensures { IfOk result (λ folder. (path : List ℕ) × (held : List Held) × (events_of folder ≡ locked path ∷ opened held ∷ [])) }
     {
         let real = fs::canonicalize(&rt, path).map_err(|_| OpenFault::Device)?;
         let folder = File::open(&rt, &real).map_err(|_| OpenFault::Device)?;
@@ -54,6 +56,7 @@ impl HostFolder {
         path.reserve(folder_path.len().saturating_add(NAME_LENGTH))
             .map_err(|_| OpenFault::NoMemory)?;
         let open_files = OpenFiles::new(alloc).map_err(|_| OpenFault::NoMemory)?;
+        let record = Record::begin().then(&Note::Locked(folder_path.as_bytes()));
         Ok(HostFolder {
             rt,
             alloc,
@@ -61,7 +64,7 @@ impl HostFolder {
             folder_path,
             path,
             open_files,
-            record: Record::begin(),
+            record,
         })
     }
 
@@ -136,16 +139,21 @@ impl Folder for HostFolder {
         match self.find(file) {
             Ok(Place::At(place)) => self.open_files.at(place).len(&mut self.record),
             Ok(Place::Nowhere(absent)) => Ok(absent.len(&mut self.record)),
-            Err(_) => Err(Fault),
+            Err(_) => {
+                self.record = self.record.then(&Note::MeasureFailed(file));
+                Err(Fault)
+            }
         }
     }
 
     fn read_some(&mut self, file: FileId, at: u64, into: &mut [u8]) -> Result<usize, Fault> {
-        self.record = self.record.then(&Note::Asked(into));
         match self.find(file) {
             Ok(Place::At(place)) => self.open_files.at(place).read(&mut self.record, at, into),
             Ok(Place::Nowhere(absent)) => Ok(absent.read(&mut self.record, at, into)),
-            Err(_) => Err(Fault),
+            Err(_) => {
+                self.record = self.record.then(&Note::ReadFailed(file, at));
+                Err(Fault)
+            }
         }
     }
 
@@ -218,5 +226,9 @@ impl Folder for HostFolder {
             self.folder_path.as_str(),
             &mut self.record,
         )
+    }
+
+    fn refuse(&mut self, file: FileId, at: u64, done: usize) {
+        self.record = self.record.then(&Note::Refused(file, at, done));
     }
 }

@@ -1,5 +1,5 @@
 //! Files of which a call has failed.
-ghost use Rattle.std.specs.Prelude.{◌≡◌};
+ghost use Rattle.std.specs.Prelude.{◌≡◌, ◌↔◌, true, IfSome, IsNone};
 
 use disk_core::FileId;
 
@@ -42,14 +42,15 @@ impl Lost {
         }
     }
 
-    /// Whether no file is lost.
-    pub fn is_nothing(&self) -> bool
-        ensures { result ≡ is_nothing self.now }
+    /// One of the lost files, if there are any.
+    pub fn any(&self) -> Option<FileId>
+        ensures lost { IfSome result (λ file. covers self.now file ≡ true) }
+        ensures none { IsNone result ↔ (is_nothing self.now ≡ true) }
     {
         match self {
-            Lost::Nothing => true,
-            Lost::One(_) => false,
-            Lost::All => false,
+            Lost::Nothing => None,
+            Lost::One(this) => Some(*this),
+            Lost::All => Some(FileId::BankA),
         }
     }
 }

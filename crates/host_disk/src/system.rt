@@ -9,7 +9,8 @@ ghost use Rattle.std.specs.List.{Contains};
 ghost use Rattle.std.specs.List.Sorted.{IsStrictlySortedBy};
 ghost use Rattle.disk_core.specs.FileNames.{file_cmp, name_of};
 ghost use Rattle.host_disk.specs.Places.{IsFoundOf};
-ghost use Rattle.host_disk.specs.Events.{measured, gave, wrote, write_failed, cut, cut_failed, gone, remove_failed, flushed, flush_failed, listed};
+ghost use Rattle.host_disk.specs.Events.{measured, measure_failed, asked, gave, read_failed, wrote, write_failed, cut, cut_failed, gone, remove_failed, flushed, flush_failed, listed};
+ghost use Rattle.host_disk.specs.Faults.{after_list_fault};
 
 use crate::OpenFault;
 use crate::file_names::file_named;
@@ -18,7 +19,7 @@ use crate::record::{Note, Record};
 use disk_core::{Fault, FileId, ListFault};
 use std::alloc::{AllocError, Global};
 use std::collections::BTreeSet;
-use std::fs::{self, DirEntry, File, OpenOptions};
+use std::fs::{self, DirEntry, File, Metadata, OpenOptions};
 use std::io;
 use std::os::unix::fs::{FileExt, MetadataExt};
 
@@ -109,7 +110,7 @@ impl Names {
     }
 
     /// Removes a file, if it is there, which is not held open: what is made under its name later is another
-    /// file. The path is the folder's with the file's name behind it.
+    /// file. Whatever else has that name is refused, and stays. The path is the folder's with the file's name behind it.
     pub(crate) fn remove(
         &mut self,
         rt: &HostRuntime,
@@ -126,16 +127,30 @@ impl Names {
             (λ _. notes.new.events ≡ remove_failed file ∷ notes.old.events) }
     {
         self.are_new = true;
-        match fs::remove_file(rt, path) {
-            Err(error) if error.kind() != io::ErrorKind::NotFound => {
-                *notes = notes.then(&Note::RemoveFailed(file));
-                Err(Fault)
-            }
-            _ => {
-                *notes = notes.then(&Note::Removed(file));
-                Ok(())
-            }
+        if remove_file(rt, path).is_err() {
+            *notes = notes.then(&Note::RemoveFailed(file));
+            return Err(Fault);
         }
+        *notes = notes.then(&Note::Removed(file));
+        Ok(())
+    }
+}
+
+/// Removes what has this name, if it is there and a file.
+fn remove_file(rt: &HostRuntime, path: &str) -> io::Result<()> {
+    match kind_of(rt, path)? {
+        Some(_) => fs::remove_file(rt, path),
+        None => Ok(()),
+    }
+}
+
+/// What has this name, if it is there. Whatever is no file is refused.
+fn kind_of(rt: &HostRuntime, path: &str) -> io::Result<Option<Metadata>> {
+    match fs::symlink_metadata(rt, path) {
+        Ok(named) if named.is_file() => Ok(Some(named)),
+        Ok(_) => Err(io::ErrorKind::Unsupported.into()),
+        Err(error) if error.kind() == io::ErrorKind::NotFound => Ok(None),
+        Err(error) => Err(error),
     }
 }
 
@@ -150,16 +165,9 @@ pub(crate) fn open_file(
     requires { path.now ≡ folder.now ++ name_of file }
     ensures { IfOk result (IsFoundOf file) }
 {
-    let named = match fs::symlink_metadata(rt, path) {
-        Ok(named) => named,
-        Err(error) if error.kind() == io::ErrorKind::NotFound => {
-            return Ok(Found::Missing(Absent { file }));
-        }
-        Err(error) => return Err(error),
+    let Some(named) = kind_of(rt, path)? else {
+        return Ok(Found::Missing(Absent { file }));
     };
-    if !named.is_file() {
-        return Err(io::ErrorKind::Unsupported.into());
-    }
     let handle = OpenOptions::new().read(true).write(true).open(rt, path)?;
     // The name might have come to be a link's in between.
     let found = handle.metadata()?;
@@ -178,9 +186,13 @@ impl OpenFile {
     pub(crate) fn len(&self, notes: &mut Record) -> Result<u64, Fault>
         ensures { MatchResult result
             (λ n. notes.new.events ≡ measured self.now.file n ∷ notes.old.events)
-            (λ _. notes.new.events ≡ notes.old.events) }
+            (λ _. notes.new.events ≡ measure_failed self.now.file ∷ notes.old.events) }
     {
-        let len = self.handle.metadata().map_err(|_| Fault)?.len();
+        let Ok(found) = self.handle.metadata() else {
+            *notes = notes.then(&Note::MeasureFailed(self.file));
+            return Err(Fault);
+        };
+        let len = found.len();
         *notes = notes.then(&Note::Measured(self.file, len));
         Ok(len)
     }
@@ -189,11 +201,15 @@ impl OpenFile {
     pub(crate) fn read(&self, notes: &mut Record, at: u64, into: &mut [u8]) -> Result<usize, Fault>
         ensures within { IfOk result (λ n. n ≤ length into.old) }
         ensures noted { MatchResult result
-            (λ n. notes.new.events ≡ gave self.now.file at n into.new ∷ notes.old.events)
-            (λ _. notes.new.events ≡ notes.old.events) }
+            (λ n. notes.new.events ≡ gave self.now.file at n into.new ∷ asked into.old ∷ notes.old.events)
+            (λ _. notes.new.events ≡ read_failed self.now.file at ∷ notes.old.events) }
     {
-        let count = self.handle.read_at(into, at).map_err(|_| Fault)?;
-        *notes = notes.then(&Note::Gave(self.file, at, count, into));
+        let asked = notes.then(&Note::Asked(into));
+        let Ok(count) = self.handle.read_at(into, at) else {
+            *notes = notes.then(&Note::ReadFailed(self.file, at));
+            return Err(Fault);
+        };
+        *notes = asked.then(&Note::Gave(self.file, at, count, into));
         Ok(count)
     }
 
@@ -261,8 +277,9 @@ impl Absent {
     /// Reads nothing of an absent file.
     pub(crate) fn read(&self, notes: &mut Record, at: u64, into: &[u8]) -> usize
         ensures within { result ≤ length into.now }
-        ensures noted { notes.new.events ≡ gave self.now.file at result into.now ∷ notes.old.events }
+        ensures noted { notes.new.events ≡ gave self.now.file at result into.now ∷ asked into.now ∷ notes.old.events }
     {
+        *notes = notes.then(&Note::Asked(into));
         *notes = notes.then(&Note::Gave(self.file, at, 0, into));
         0
     }
@@ -299,7 +316,20 @@ pub(crate) fn list_files(
     ensures in_order { IfOk result (λ files. IsStrictlySortedBy file_cmp files.items) }
     ensures noted { MatchResult result
         (λ files. notes.new.events ≡ listed files.items ∷ notes.old.events)
-        (λ _. notes.new.events ≡ notes.old.events) }
+        (λ fault. notes.new.events ≡ after_list_fault fault notes.old.events) }
+{
+    let answer = names_in(rt, alloc, folder);
+    match &answer {
+        Ok(files) => *notes = notes.then(&Note::Listed(files)),
+        Err(ListFault::Device) => *notes = notes.then(&Note::ListFailed),
+        Err(ListFault::NoMemory) => {}
+    }
+    answer
+}
+
+/// The files of a folder, in order.
+fn names_in(rt: &HostRuntime, alloc: Global, folder: &str) -> Result<Vec<FileId>, ListFault>
+    ensures { IfOk result (λ files. IsStrictlySortedBy file_cmp files.items) }
 {
     let mut found = BTreeSet::new(alloc);
     for entry in fs::read_dir(rt, folder).map_err(list_fault)? {
@@ -309,9 +339,7 @@ pub(crate) fn list_files(
             }
         }
     }
-    let files = in_order(alloc, &found)?;
-    *notes = notes.then(&Note::Listed(&files));
-    Ok(files)
+    in_order(alloc, &found)
 }
 
 /// The file of an entry of the folder, none for another name.

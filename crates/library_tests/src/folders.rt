@@ -84,6 +84,13 @@ fn files_are_listed_in_order_and_other_names_ignored(rt: HostRuntime) -> Result<
     for name in [
         "note.txt",
         "03-0.rec",
+        "00-0.rec",
+        "+3-0.rec",
+        "0--64.rec",
+        "-3-0.rec",
+        "-0-0.rec",
+        "9223372036854775808-0.rec",
+        "3-0.rec.rec",
         "3-x.rec",
         "3-0.rec~",
         "catalogue-c.bank",
@@ -132,19 +139,17 @@ fn links_and_folders_are_refused(rt: HostRuntime) -> Result<(), Fail> {
     let path = scratch(rt, "links")?;
     let outside = within(rt, path.as_str(), "outside.txt")?;
     fs::write(&rt, outside.as_str(), "outside")?;
-    symlink(
-        &rt,
-        outside.as_str(),
-        within(rt, path.as_str(), "3-131072.rec")?.as_str(),
-    )?;
+    let link = within(rt, path.as_str(), "3-131072.rec")?;
+    symlink(&rt, outside.as_str(), link.as_str())?;
     fs::create_dir(&rt, within(rt, path.as_str(), "catalogue-b.bank")?.as_str())?;
     let mut disk = opened(&rt, rt, path.as_str());
     assert!(rt; disk.len(SEGMENT).is_err());
     assert!(rt; disk.list() == Err(ListFault::Device));
     assert!(rt; disk.len(FileId::BankB).is_err());
-    assert!(rt; disk.write_at(SEGMENT, 0, b"x").is_err());
+    assert!(rt; disk.remove(SEGMENT).is_err());
     assert!(rt; disk.faults() == 4);
     drop(disk);
+    assert!(rt; !fs::symlink_metadata(&rt, link.as_str())?.is_file());
     assert!(rt; fs::read(&rt, outside.as_str())?.as_slice() == b"outside".as_slice());
     fs::remove_dir_all(&rt, path.as_str())?;
     Ok(())
