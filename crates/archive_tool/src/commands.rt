@@ -11,6 +11,7 @@ use frame_core::Refusal;
 use host_disk::HostDisk;
 use std::fs::{self, File};
 use std::io::{self, IsTerminal, Write};
+use std::path::Path;
 use tool_core::{
     EarlyEnd, Listing, Progress, Verdict, Watched, list_frames, list_recordings, run_script,
     verify_recordings,
@@ -133,7 +134,7 @@ fn frames<W: Write>(rt: HostRuntime, file: &str, writer: &mut W) -> Result<(), E
 
 /// The disk of a folder, which no other process has.
 fn disk_of(rt: HostRuntime, folder: &str) -> Result<HostDisk, Ending> {
-    Ok(HostDisk::open(rt, rt.alloc(), folder)?)
+    Ok(HostDisk::open(rt, rt.alloc(), Path::new(folder))?)
 }
 
 /// The archive of a disk, opened.

@@ -13,7 +13,6 @@ use Rattle.host_disk.specs.HostFolder.{events_of}
 abbrev pub host_life : FolderDisk HostFolder folder.ghosts → Life
 host_life disk = life_at (events_of disk.folder) disk.faults
 
--- it begins with some files, all of them durable
-abbrev pub IsBegun : FolderDisk HostFolder folder.ghosts → Type 0
-IsBegun disk =
-    (held : List Held) × (host_life disk ≡ record { obeys = true; past = []; now = begun (image_of held); faults = 0 })
+-- it begins with these files, all of them durable
+abbrev pub IsBegun : List Held → FolderDisk HostFolder folder.ghosts → Type 0
+IsBegun held disk = host_life disk ≡ record { obeys = true; past = []; now = begun (image_of held); faults = 0 }

@@ -1,8 +1,10 @@
 //! A disk over a real folder.
-ghost use Rattle.std.specs.Prelude.{IfOk};
+ghost use Rattle.std.specs.Prelude.{List, IfOk};
+ghost use Rattle.host_disk.specs.Events.{Held};
 
 use crate::{FolderDisk, HostFolder, OpenFault};
 use std::alloc::Global;
+use std::path::Path;
 
 /// A disk over a real folder.
 pub type HostDisk = FolderDisk<HostFolder>;
@@ -10,12 +12,13 @@ pub type HostDisk = FolderDisk<HostFolder>;
 impl FolderDisk<HostFolder> {
     ghost use Rattle.host_disk.specs.HostDisk.{IsBegun};
 
-    /// Opens a folder as a disk, and locks it. What the folder holds is not said, but all of it counts as
-    /// durable: docs/STORAGE.md, "Folders", says why that is right once a new disk has synced. `Busy`
-    /// where another disk has it open, `NoMemory` where its table of open files finds none, `Device` where
-    /// the system refuses; nothing is made or changed then.
-    pub fn open(rt: HostRuntime, alloc: Global, path: &str) -> Result<HostDisk, OpenFault>
-        ensures begun { IfOk result (λ disk. IsBegun disk) }
+    /// Opens a folder as a disk, and locks it. Whatever files the folder holds, the disk begins with them, and
+    /// all of them count as durable: docs/STORAGE.md, "Folders", says why that is right once a new disk has
+    /// synced. `Busy` where another disk has it open, `NoMemory` where its table of open files finds none,
+    /// `Device` where the system refuses; nothing is made or changed then.
+    pub fn open(rt: HostRuntime, alloc: Global, path: Path<'_>) -> Result<HostDisk, OpenFault>
+        ghost held: { List Held }
+        ensures begun { IfOk result (IsBegun held) }
     {
         Ok(FolderDisk::new(HostFolder::open(rt, alloc, path)?))
     }

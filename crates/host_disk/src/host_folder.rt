@@ -12,6 +12,7 @@ use std::alloc::Global;
 use std::fmt::Write;
 use std::fs::{self, File};
 use std::io;
+use std::path::Path;
 
 /// The longest name of a file of an archive, in bytes.
 const NAME_LENGTH: usize = 48;
@@ -41,9 +42,10 @@ enum Place {
 impl HostFolder {
     ghost use Rattle.host_disk.specs.HostFolder.{events_of, IsHeldAt, IsPlaceOf, IsPathOf};
 
-    /// Opens a folder and locks it. What the folder holds is not said. Nothing is made or changed.
-    pub fn open(rt: HostRuntime, alloc: Global, path: &str) -> Result<HostFolder, OpenFault>
-        ensures { IfOk result (λ folder. (path : List ℕ) × (held : List Held) × (events_of folder ≡ locked path ∷ opened held ∷ [])) }
+    /// Opens a folder and locks it, whatever files it holds. Nothing is made or changed.
+    pub fn open(rt: HostRuntime, alloc: Global, path: Path<'_>) -> Result<HostFolder, OpenFault>
+        ghost held: { List Held }
+        ensures { IfOk result (λ folder. (path : List ℕ) × (events_of folder ≡ locked path ∷ opened held ∷ [])) }
     {
         let real = fs::canonicalize(&rt, path).map_err(|_| OpenFault::Device)?;
         let folder = File::open(&rt, &real).map_err(|_| OpenFault::Device)?;
@@ -56,7 +58,7 @@ impl HostFolder {
         path.reserve(folder_path.len().saturating_add(NAME_LENGTH))
             .map_err(|_| OpenFault::NoMemory)?;
         let open_files = OpenFiles::new(alloc).map_err(|_| OpenFault::NoMemory)?;
-        let record = Record::begin().then(&Note::Locked(folder_path.as_bytes()));
+        let noted = Record::begin().then(&Note::Locked(folder_path.as_bytes()));
         Ok(HostFolder {
             rt,
             alloc,
@@ -64,7 +66,7 @@ impl HostFolder {
             folder_path,
             path,
             open_files,
-            record,
+            record: noted,
         })
     }
 

@@ -4,6 +4,7 @@
 use disk_core::{Disk, FileId, ListFault};
 use host_disk::{HostDisk, OpenFault};
 use std::os::unix::fs::symlink;
+use std::path::Path;
 use std::process::Abort;
 use std::test::Fail;
 use std::{env, fs};
@@ -27,8 +28,12 @@ fn within(rt: HostRuntime, folder: &str, name: &str) -> Result<String, Fail> {
     Ok(format!(in rt.alloc(); "{folder}/{name}")?)
 }
 
+fn disk_at(rt: HostRuntime, path: &str) -> Result<HostDisk, OpenFault> {
+    HostDisk::open(rt, rt.alloc(), Path::new(path))
+}
+
 fn opened(abort: &impl Abort, rt: HostRuntime, path: &str) -> HostDisk {
-    match HostDisk::open(rt, rt.alloc(), path) {
+    match disk_at(rt, path) {
         Ok(disk) => disk,
         Err(fault) => panic!(abort; "{fault}"),
     }
@@ -116,21 +121,11 @@ fn files_are_listed_in_order_and_other_names_ignored(rt: HostRuntime) -> Result<
 fn a_folder_is_opened_once(rt: HostRuntime) -> Result<(), Fail> {
     let path = scratch(rt, "opened")?;
     let disk = opened(&rt, rt, path.as_str());
-    assert!(rt;
-        matches!(
-            HostDisk::open(rt, rt.alloc(), path.as_str()),
-            Err(OpenFault::Busy)
-        )
-    );
+    assert!(rt; matches!(disk_at(rt, path.as_str()), Err(OpenFault::Busy)));
     drop(disk);
     drop(opened(&rt, rt, path.as_str()));
     fs::remove_dir_all(&rt, path.as_str())?;
-    assert!(rt;
-        matches!(
-            HostDisk::open(rt, rt.alloc(), path.as_str()),
-            Err(OpenFault::Device)
-        )
-    );
+    assert!(rt; matches!(disk_at(rt, path.as_str()), Err(OpenFault::Device)));
     Ok(())
 }
 

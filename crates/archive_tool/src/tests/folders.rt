@@ -6,6 +6,7 @@ use command_line::ToolCommand;
 use disk_core::{Disk, FileId};
 use host_disk::HostDisk;
 use std::io::{self, Write};
+use std::path::Path;
 use std::test::*;
 use std::{env, fs};
 use tool_core::run_script;
@@ -43,7 +44,7 @@ fn check(rt: HostRuntime, command: ToolCommand<'_>, told: &str, status: u8) -> R
 }
 
 fn disk_of(rt: HostRuntime, folder: &str) -> Result<HostDisk, Fail> {
-    match HostDisk::open(rt, rt.alloc(), folder) {
+    match HostDisk::open(rt, rt.alloc(), Path::new(folder)) {
         Ok(disk) => Ok(disk),
         Err(_) => Err(Fail::new(folder)),
     }
