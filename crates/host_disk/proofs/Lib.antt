@@ -3,3 +3,4 @@ pub mod ReplayLemmas
 pub mod ReadLemmas
 pub mod RecordWalks
 pub mod NameLemmas
+pub mod MarkLemmas

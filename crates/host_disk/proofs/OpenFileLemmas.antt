@@ -1,6 +1,6 @@
 -- Places of open files.
-use Rattle.std.proofs.Common.{◌≡◌, ◌≢◌, ℕ, zero, suc, ◌+◌, ◌-◌, ◌<◌, ◌≤◌, List, [], ◌∷◌, ◌++◌, Some, map, length, get_or, slice_get, slice_set, remove, option_map, Contains, inl, inr, sym, ap, ◌∙◌, subst, refl, arith, length-append}
-use Rattle.std.proofs.lemmas.List.{length-map, get_or_push}
+use Rattle.std.proofs.Common.{◌≡◌, ◌≢◌, ℕ, zero, suc, ◌+◌, ◌-◌, ◌<◌, ◌≤◌, List, [], ◌∷◌, ◌++◌, Some, map, length, get_or, slice_get, slice_set, remove, option_map, Contains, ◌⊎◌, inl, inr, sym, ap, ◌∙◌, subst, refl, arith, length-append}
+use Rattle.std.proofs.lemmas.List.{length-map, get_or_push, length-set, get_or-set_same, get_or-set_other}
 use Rattle.std.proofs.lemmas.Bool.{cases_eq, cases_lt}
 use Rattle.std.proofs.lemmas.Option.{slice_get-map, slice_get_read, slice_get-get_or, slice_get_within, get_or_from_slice_get}
 use Rattle.std.proofs.lemmas.List.Edits.{length-remove, get_or-remove_below, get_or-remove_above}
@@ -73,3 +73,17 @@ last_of_map f items pushed item n is long =
     let one_more : length pushed ≡ length items + 1 = ap length is ∙ length-append items (item ∷ []) in
     let there : item ≡ get_or pushed (n - 1) item = sym (get_or_push items item item (n - 1) (omega (arith, one_more, long))) ∙ ap (λ (l : List _). get_or l (n - 1) item) (sym is) in
     place_of_map f pushed (n - 1) item (omega (arith, one_more, long)) there
+
+-- an item of a list in which one was replaced stays, or the new one stands where it was
+pub stays_or_replaced : {X : Type 0} (items : List X) (place : ℕ) (new item : X) → place < length items → Contains items item
+    → ((item ≡ get_or items place item) × Contains (slice_set items place new) new) ⊎ Contains (slice_set items place new) item
+stays_or_replaced items place new item within there = elim (cases_eq there.0 place) [
+  | inl is ↦ inl (subst (λ (n : ℕ). item ≡ get_or items n item) is (sym there.2), (place, omega (arith, length-set items place new), get_or-set_same items place new new within))
+  | inr not ↦ inr (there.0, omega (arith, there.1, length-set items place new), get_or-set_other items place there.0 new item not ∙ there.2)
+]
+
+pub new_item : {X : Type 0} (items : List X) (place : ℕ) (new : X) → place < length items → Contains (slice_set items place new) new
+new_item items place new within = (place, omega (arith, within, length-set items place new), get_or-set_same items place new new within)
+
+pub same_item : {X : Type 0} (items : List X) (i : ℕ) (a b : X) → i < length items → get_or items i a ≡ get_or items i b
+same_item items i a b within = let both : Some (get_or items i a) ≡ Some (get_or items i b) = sym (slice_get-get_or items i a within) ∙ slice_get-get_or items i b within in cc

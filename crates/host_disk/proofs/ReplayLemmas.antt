@@ -13,7 +13,7 @@ use Rattle.disk_core.specs.Calls.{write_to, cut_to, removed, synced, IsWritten, 
 use Rattle.disk_core.specs.Life.{Steps}
 use Rattle.disk_core.proofs.CallerLemmas.{equal_files, file_cmp_self, write_is_written}
 use Rattle.disk_core.proofs.DiskLemmas.{in_list}
-use Rattle.host_disk.specs.Events.{Held, Event, opened, locked, measured, measure_failed, asked, gave, read_failed, wrote, write_failed, cut, cut_failed, gone, remove_failed, flushed, flush_failed, listed, list_failed, refused}
+use Rattle.host_disk.specs.Events.{Held, Event, opened, locked, measured, measure_failed, asked, gave, read_failed, touched, wrote, write_failed, cut, cut_failed, gone, remove_failed, flushed, flush_failed, listed, list_failed, refused}
 use Rattle.host_disk.specs.Faults.{after_list_fault}
 use Rattle.host_disk.specs.Replay.{image_of, is_in, is_there, are_there, write_lost, cut_lost, remove_lost, with_change, replay, life_at}
 
@@ -118,6 +118,7 @@ all_known (measure_failed this ∷ earlier) file there = all_known earlier file 
 all_known (asked bytes ∷ earlier) file there = all_known earlier file there
 all_known (gave this at n bytes ∷ earlier) file there = all_known earlier file there
 all_known (read_failed this at ∷ earlier) file there = all_known earlier file there
+all_known (touched this ∷ earlier) file there = all_known earlier file there
 all_known (wrote this at bytes ∷ earlier) file there = written_known this file (write_to at bytes) (replay earlier).now (replay earlier).known (all_known earlier file) there
 all_known (write_failed this at n ∷ earlier) file there = all_known earlier file (was_there this file (write_lost at n) (replay earlier).now (write_lost_reads at n) there)
 all_known (cut this len ∷ earlier) file there = all_known earlier file (was_there this file (cut_to len) (replay earlier).now (λ state. some_taken state.reads len) there)

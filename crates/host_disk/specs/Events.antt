@@ -22,6 +22,8 @@ pub data Event : Type 0 where
   gave : FileId → ℕ → ℕ → List ℕ → Event
   -- a read from an offset failed
   read_failed : FileId → ℕ → Event
+  -- an open file is to be written or cut
+  touched : FileId → Event
   -- these bytes were written at an offset
   wrote : FileId → ℕ → List ℕ → Event
   -- a write of so many bytes at an offset failed

@@ -2,7 +2,7 @@
 use Rattle.std.specs.Prelude.{ℕ, ◌+◌, Bool, true, false, if◌then◌else◌, List, [], ◌∷◌}
 use Rattle.disk_core.specs.declared.fault.ListFault.{ListFault}
 use Rattle.disk_core.specs.declared.fault.ListFault.TheVariants.{Device, NoMemory}
-use Rattle.host_disk.specs.Events.{Event, opened, locked, measured, measure_failed, asked, gave, read_failed, wrote, write_failed, cut, cut_failed, gone, remove_failed, flushed, flush_failed, listed, list_failed, refused}
+use Rattle.host_disk.specs.Events.{Event, opened, locked, measured, measure_failed, asked, gave, read_failed, touched, wrote, write_failed, cut, cut_failed, gone, remove_failed, flushed, flush_failed, listed, list_failed, refused}
 
 -- the call has failed, or was refused
 abbrev pub is_failure : Event → Bool
@@ -13,6 +13,7 @@ is_failure (measure_failed file) = true
 is_failure (asked bytes) = false
 is_failure (gave file at n bytes) = false
 is_failure (read_failed file at) = true
+is_failure (touched file) = false
 is_failure (wrote file at bytes) = false
 is_failure (write_failed file at n) = true
 is_failure (cut file len) = false

@@ -6,11 +6,21 @@ use Rattle.host_disk.specs.declared.host_folder.HostFolder.{HostFolder}
 use Rattle.host_disk.specs.declared.host_folder.Place.{Place}
 use Rattle.host_disk.specs.declared.host_folder.Place.TheVariants.{At, Nowhere}
 use Rattle.host_disk.specs.Events.{Event}
+use Rattle.host_disk.specs.declared.open_files.OpenFiles.{OpenFiles}
+use Rattle.host_disk.specs.Names.{path_of}
 use Rattle.host_disk.specs.OpenFiles.{held}
+use Rattle.host_disk.specs.Unsynced.{calls_of}
+
+-- what was noted so far, the newest first
+abbrev pub notes_of : HostFolder → List Event
+notes_of folder = folder.record.events
 
 -- each call so far with its answer, the newest first
 abbrev pub events_of : HostFolder → List Event
-events_of folder = folder.record.events
+events_of folder = calls_of (notes_of folder)
+
+abbrev pub open_files_of : HostFolder → OpenFiles
+open_files_of folder = folder.open_files
 
 -- the file is held open in this place
 abbrev pub IsHeldAt : HostFolder → FileId → ℕ → Type 0
@@ -23,4 +33,4 @@ IsPlaceOf folder file (Nowhere absent) = absent.file ≡ file
 
 -- the path is the one of this file: the folder's, and the file's name
 abbrev pub IsPathOf : HostFolder → FileId → Type 0
-IsPathOf folder file = string_bytes folder.path ≡ string_bytes folder.folder_path ++ name_of file
+IsPathOf folder file = string_bytes folder.path ≡ path_of folder.names ++ name_of file

@@ -10,6 +10,8 @@ pub mod HostDisk
 pub mod Noted
 pub mod EventCodes
 pub mod Places
+pub mod Names
+pub mod Unsynced
 pub mod Paths
 pub mod OpenFiles
 pub mod HostFolder

@@ -5,7 +5,7 @@ use Rattle.disk_core.specs.declared.file_id.FileId.{FileId}
 use Rattle.disk_core.specs.FileNames.{file_cmp}
 use Rattle.host_disk.specs.declared.lost.Lost.{Lost}
 use Rattle.host_disk.specs.declared.lost.Lost.TheVariants.{Nothing, One, All}
-use Rattle.host_disk.specs.Events.{Event, opened, locked, measured, measure_failed, asked, gave, read_failed, wrote, write_failed, cut, cut_failed, gone, remove_failed, flushed, flush_failed, listed, list_failed, refused}
+use Rattle.host_disk.specs.Events.{Event, opened, locked, measured, measure_failed, asked, gave, read_failed, touched, wrote, write_failed, cut, cut_failed, gone, remove_failed, flushed, flush_failed, listed, list_failed, refused}
 
 -- the file counts as lost
 abbrev pub covers : Lost → FileId → Bool
@@ -28,6 +28,7 @@ lost_by (measure_failed file) lost = lost
 lost_by (asked bytes) lost = lost
 lost_by (gave file at n bytes) lost = lost
 lost_by (read_failed file at) lost = lost
+lost_by (touched file) lost = lost
 lost_by (wrote file at bytes) lost = lost
 lost_by (write_failed file at n) lost = with_lost file lost
 lost_by (cut file len) lost = lost
@@ -60,6 +61,7 @@ is_allowed lost (measure_failed file) = not (covers lost file)
 is_allowed lost (asked bytes) = true
 is_allowed lost (gave file at n bytes) = not (covers lost file)
 is_allowed lost (read_failed file at) = not (covers lost file)
+is_allowed lost (touched file) = not (covers lost file)
 is_allowed lost (wrote file at bytes) = not (covers lost file)
 is_allowed lost (write_failed file at n) = not (covers lost file)
 is_allowed lost (cut file len) = not (covers lost file)

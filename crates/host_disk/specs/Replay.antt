@@ -8,7 +8,7 @@ use Rattle.disk_core.specs.FileNames.{file_cmp}
 use Rattle.disk_core.specs.DiskImage.{DiskImage, FileState, Files, begun, bytes_of}
 use Rattle.disk_core.specs.Calls.{write_to, cut_to, removed, synced}
 use Rattle.disk_core.specs.Life.{Life}
-use Rattle.host_disk.specs.Events.{Held, Event, opened, locked, measured, measure_failed, asked, gave, read_failed, wrote, write_failed, cut, cut_failed, gone, remove_failed, flushed, flush_failed, listed, list_failed, refused}
+use Rattle.host_disk.specs.Events.{Held, Event, opened, locked, measured, measure_failed, asked, gave, read_failed, touched, wrote, write_failed, cut, cut_failed, gone, remove_failed, flushed, flush_failed, listed, list_failed, refused}
 
 -- what the calls so far make of the files of a folder
 pub record Replayed : Type 0 where
@@ -80,6 +80,7 @@ after_event (asked bytes) m = record m { asked = bytes }
 after_event (gave file at n bytes) m =
     record m { obeys = m.obeys && agrees (bytes_of (m.now file).reads) at n m.asked bytes }
 after_event (read_failed file at) m = m
+after_event (touched file) m = m
 after_event (wrote file at bytes) m = record (changed file (write_to at bytes) m) { known = file ∷ m.known }
 after_event (write_failed file at n) m = changed file (write_lost at n) m
 after_event (cut file len) m = changed file (cut_to len) m

@@ -8,7 +8,7 @@ use Rattle.disk_core.specs.DiskImage.{FileState, Files}
 use Rattle.disk_core.specs.Calls.{write_to, cut_to, removed, synced}
 use Rattle.disk_core.specs.Memory.{IsWell}
 use Rattle.disk_core.proofs.DiskLemmas.{durable_well, write_well, cut_well, removed_well, either_well}
-use Rattle.host_disk.specs.Events.{Event, opened, locked, measured, measure_failed, asked, gave, read_failed, wrote, write_failed, cut, cut_failed, gone, remove_failed, flushed, flush_failed, listed, list_failed, refused}
+use Rattle.host_disk.specs.Events.{Event, opened, locked, measured, measure_failed, asked, gave, read_failed, touched, wrote, write_failed, cut, cut_failed, gone, remove_failed, flushed, flush_failed, listed, list_failed, refused}
 use Rattle.host_disk.specs.Replay.{Replayed, image_of, write_lost, cut_lost, remove_lost, with_change, after_event, replay}
 
 -- each of the files is well formed
@@ -38,6 +38,7 @@ event_well (measure_failed this) before well file = well file
 event_well (asked bytes) before well file = well file
 event_well (gave this at n bytes) before well file = well file
 event_well (read_failed this at) before well file = well file
+event_well (touched this) before well file = well file
 event_well (wrote this at bytes) before well file = change_well this (write_to at bytes) before.now (write_well at bytes) well file
 event_well (write_failed this at n) before well file = change_well this (write_lost at n) before.now (write_lost_well at n) well file
 event_well (cut this len) before well file = change_well this (cut_to len) before.now (cut_well len) well file

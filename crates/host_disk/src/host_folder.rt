@@ -1,16 +1,17 @@
 //! A real folder, with the files that are open in it.
-ghost use Rattle.std.specs.Prelude.{◌≡◌, [], ◌∷◌, List, ℕ, string_bytes, IfOk, OnOk};
-ghost use Rattle.host_disk.specs.Events.{Held, opened, locked};
+ghost use Rattle.std.specs.Prelude.{◌≡◌, [], ◌∷◌, List, ℕ, MatchResult, IfOk, OnOk, OnErr};
+ghost use Rattle.std.specs.List.{Contains};
+ghost use Rattle.host_disk.specs.Events.{Held, opened, locked, gone, remove_failed};
+ghost use Rattle.host_disk.specs.Names.{path_of};
+ghost use Rattle.host_disk.specs.OpenFiles.{IsFull, held, HoldsUnsynced};
 ghost use Rattle.host_disk.specs.Paths.{path_in};
 
 use crate::open_files::OpenFiles;
-use crate::record::{Note, Record};
-use crate::system::{Absent, Found, Names, OpenFile, list_files, open_file};
+use crate::system::{Absent, Failure, Found, Names, OpenFile, Record, list_files, open_file};
 use crate::{Folder, OpenFault};
 use disk_core::{Fault, FileId, ListFault};
 use std::alloc::Global;
 use std::fmt::Write;
-use std::fs::{self, File};
 use std::io;
 use std::path::Path;
 
@@ -23,13 +24,14 @@ pub struct HostFolder {
     rt: HostRuntime,
     alloc: Global,
     names: Names,
-    // The folder's path, with a slash behind it.
-    folder_path: String,
     // The path of the file that a call is about.
     path: String,
     open_files: OpenFiles,
     record: Record,
-    ghost kept: { string_bytes folder_path ≡ path_in record.events },
+    // The folder that is worked in is the one that was locked.
+    ghost kept: { path_of names ≡ path_in record.events },
+    // A file that is not held open, or not marked, was not written or cut since its last sync.
+    ghost marked: { HoldsUnsynced open_files record.events },
 }
 
 // Where a file was found: among the open ones, or nowhere.
@@ -40,43 +42,36 @@ enum Place {
 }
 
 impl HostFolder {
-    ghost use Rattle.host_disk.specs.HostFolder.{events_of, IsHeldAt, IsPlaceOf, IsPathOf};
+    ghost use Rattle.host_disk.specs.HostFolder.{notes_of, open_files_of, events_of, IsHeldAt, IsPlaceOf, IsPathOf};
 
     /// Opens a folder and locks it, whatever files it holds. Nothing is made or changed.
     pub fn open(rt: HostRuntime, alloc: Global, path: Path<'_>) -> Result<HostFolder, OpenFault>
         ghost held: { List Held }
         ensures { IfOk result (λ folder. (path : List ℕ) × (events_of folder ≡ locked path ∷ opened held ∷ [])) }
     {
-        let real = fs::canonicalize(&rt, path).map_err(|_| OpenFault::Device)?;
-        let folder = File::open(&rt, &real).map_err(|_| OpenFault::Device)?;
-        let names = Names::lock(folder)?;
-        let folder_path = format!(in alloc; "{}/", real.display()).map_err(
-            |_| OpenFault::NoMemory,
-        )?;
+        let (names, notes) = Names::lock(&rt, alloc, path)?;
         // With this room no call but a listing allocates.
         let mut path = String::new(alloc);
-        path.reserve(folder_path.len().saturating_add(NAME_LENGTH))
+        path.reserve(names.path().len().saturating_add(NAME_LENGTH))
             .map_err(|_| OpenFault::NoMemory)?;
         let open_files = OpenFiles::new(alloc).map_err(|_| OpenFault::NoMemory)?;
-        let noted = Record::begin().then(&Note::Locked(folder_path.as_bytes()));
         Ok(HostFolder {
             rt,
             alloc,
             names,
-            folder_path,
             path,
             open_files,
-            record: noted,
+            record: notes,
         })
     }
 
     /// Lets `path` name a file.
     fn name(&mut self, file: FileId) -> io::Result<()>
-        ensures same { events_of self.new ≡ events_of self.old }
+        ensures same { notes_of self.new ≡ notes_of self.old }
         ensures named { OnOk result (IsPathOf self.new file) }
     {
         self.path.clear();
-        if write!(self.path, "{}{file}", self.folder_path.as_str()).is_err() {
+        if write!(self.path, "{}{file}", self.names.path()).is_err() {
             return Err(io::ErrorKind::OutOfMemory.into());
         }
         Ok(())
@@ -84,51 +79,64 @@ impl HostFolder {
 
     /// Where a file is, which is opened if it is there.
     fn find(&mut self, file: FileId) -> io::Result<Place>
-        ensures same { events_of self.new ≡ events_of self.old }
+        ensures same { notes_of self.new ≡ notes_of self.old }
         ensures place { IfOk result (IsPlaceOf self.new file) }
     {
         if let Some(place) = self.open_files.place_of(file) {
             return Ok(Place::At(place));
         }
         self.name(file)?;
-        match open_file(
-            &self.rt,
-            file,
-            self.folder_path.as_str(),
-            self.path.as_str(),
-        )? {
+        match open_file(&self.rt, &self.names, file, self.path.as_str())? {
             Found::There(opened) => Ok(Place::At(self.hold(opened)?)),
             Found::Missing(absent) => Ok(Place::Nowhere(absent)),
         }
     }
 
-    /// The place of a file, which is made where it is absent.
+    /// The place of a file, which is made where it is absent and there is room for it.
     fn find_or_make(&mut self, file: FileId) -> io::Result<usize>
-        ensures same { events_of self.new ≡ events_of self.old }
+        ensures same { notes_of self.new ≡ notes_of self.old }
         ensures place { IfOk result (λ place. IsHeldAt self.new file place) }
     {
         if let Place::At(place) = self.find(file)? {
             return Ok(place);
         }
+        // Without room it would be made, and then be a fault.
+        if !self.open_files.make_room() {
+            return Err(io::ErrorKind::ResourceBusy.into());
+        }
         self.name(file)?;
-        let made = self.names.make(
-            &self.rt,
-            file,
-            self.folder_path.as_str(),
-            self.path.as_str(),
-        )?;
+        let made = self.names.make(&self.rt, file, self.path.as_str())?;
         self.hold(made)
     }
 
-    /// Holds an opened file.
+    /// Holds an opened file. An error where as many are held as may be, all of them unsynced.
     fn hold(&mut self, opened: OpenFile) -> io::Result<usize>
-        ensures same { events_of self.new ≡ events_of self.old }
+        ensures same { notes_of self.new ≡ notes_of self.old }
         ensures place { IfOk result (λ place. IsHeldAt self.new opened.file place) }
+        ensures full { OnErr result (IsFull (open_files_of self.old)) }
     {
         match self.open_files.hold(opened) {
             Some(place) => Ok(place),
             None => Err(io::ErrorKind::ResourceBusy.into()),
         }
+    }
+
+    /// Removes a file, if it is there, which is not held open then: what is made under its name later is
+    /// another file.
+    fn remove_and_close(&mut self, file: FileId) -> Result<(), Fault>
+        ensures noted { MatchResult result
+            (λ _. notes_of self.new ≡ gone file ∷ notes_of self.old)
+            (λ _. notes_of self.new ≡ remove_failed file ∷ notes_of self.old) }
+        ensures closed { OnOk result (¬ Contains (held (open_files_of self.new)) file) }
+    {
+        if self.name(file).is_err() {
+            self.record.fail(Failure::Remove(file));
+            return Err(Fault);
+        }
+        self.names
+            .remove(&self.rt, file, self.path.as_str(), &mut self.record)?;
+        self.open_files.close(file);
+        Ok(())
     }
 }
 
@@ -142,7 +150,7 @@ impl Folder for HostFolder {
             Ok(Place::At(place)) => self.open_files.at(place).len(&mut self.record),
             Ok(Place::Nowhere(absent)) => Ok(absent.len(&mut self.record)),
             Err(_) => {
-                self.record = self.record.then(&Note::MeasureFailed(file));
+                self.record.fail(Failure::Measure(file));
                 Err(Fault)
             }
         }
@@ -153,7 +161,7 @@ impl Folder for HostFolder {
             Ok(Place::At(place)) => self.open_files.at(place).read(&mut self.record, at, into),
             Ok(Place::Nowhere(absent)) => Ok(absent.read(&mut self.record, at, into)),
             Err(_) => {
-                self.record = self.record.then(&Note::ReadFailed(file, at));
+                self.record.fail(Failure::Read(file, at));
                 Err(Fault)
             }
         }
@@ -161,7 +169,7 @@ impl Folder for HostFolder {
 
     fn write(&mut self, file: FileId, at: u64, bytes: &[u8]) -> Result<(), Fault> {
         let Ok(place) = self.find_or_make(file) else {
-            self.record = self.record.then(&Note::WriteFailed(file, at, bytes.len()));
+            self.record.fail(Failure::Write(file, at, bytes.len()));
             return Err(Fault);
         };
         self.open_files.mark(place, true);
@@ -179,26 +187,14 @@ impl Folder for HostFolder {
                 Ok(())
             }
             Err(_) => {
-                self.record = self.record.then(&Note::CutFailed(file, len));
+                self.record.fail(Failure::Cut(file, len));
                 Err(Fault)
             }
         }
     }
 
     fn remove(&mut self, file: FileId) -> Result<(), Fault> {
-        if self.name(file).is_err() {
-            self.record = self.record.then(&Note::RemoveFailed(file));
-            return Err(Fault);
-        }
-        self.open_files.close(file);
-        self.names.remove(
-            &self.rt,
-            file,
-            self.folder_path.as_str(),
-            self.path.as_str(),
-            &self.open_files,
-            &mut self.record,
-        )
+        self.remove_and_close(file)
     }
 
     fn sync(&mut self, file: FileId) -> Result<(), Fault> {
@@ -215,22 +211,17 @@ impl Folder for HostFolder {
             }
             Ok(Place::Nowhere(absent)) => absent.sync(&mut self.record, &mut self.names),
             Err(_) => {
-                self.record = self.record.then(&Note::SyncFailed(file));
+                self.record.fail(Failure::Sync(file));
                 Err(Fault)
             }
         }
     }
 
     fn list(&mut self) -> Result<Vec<FileId>, ListFault> {
-        list_files(
-            &self.rt,
-            self.alloc,
-            self.folder_path.as_str(),
-            &mut self.record,
-        )
+        list_files(&self.rt, &self.names, self.alloc, &mut self.record)
     }
 
     fn refuse(&mut self, file: FileId, at: u64, done: usize) {
-        self.record = self.record.then(&Note::Refused(file, at, done));
+        self.record.fail(Failure::Refused(file, at, done));
     }
 }

@@ -9,7 +9,6 @@ pub mod host_folder;
 pub mod lost;
 pub mod open_fault;
 mod open_files;
-mod record;
 mod system;
 
 pub use folder::Folder;

@@ -1,5 +1,5 @@
 //! The files that are held open, at most so many at once.
-ghost use Rattle.std.specs.Prelude.{◌≡◌, ◌≢◌, ◌<◌, ◌≤◌, ◌↔◌, ◌+◌, length, IsTrue, IsFalse, IfOk, IfSome, IfNone, Some, slice_get, slice_set, [], All, true, false};
+ghost use Rattle.std.specs.Prelude.{◌≡◌, ◌≢◌, ◌<◌, ◌≤◌, ◌↔◌, ◌+◌, length, IsTrue, IsFalse, IfOk, IfSome, IfNone, IsNone, Some, slice_get, slice_set, vec_capacity, [], All, true, false};
 ghost use Rattle.std.specs.List.{Contains};
 
 use crate::system::OpenFile;
@@ -14,10 +14,11 @@ const OPEN_FILES: usize = 128;
 pub(crate) struct OpenFiles {
     entries: Vec<OpenFile>,
     ghost bounded: { length entries.items ≤ 128 },
+    ghost room: { 128 ≤ vec_capacity entries },
 }
 
 impl OpenFiles {
-    ghost use Rattle.host_disk.specs.OpenFiles.{entries_of, held, unsynced, KeepsUnsynced, KeepsOthers};
+    ghost use Rattle.host_disk.specs.OpenFiles.{entries_of, held, unsynced, file_at, IsFull, IsMarked, KeepsMarks, KeepsOtherMarks};
 
     /// No file, with room for as many as are held at once. `AllocError` where there is no memory for them.
     pub(crate) fn new(alloc: Global) -> Result<OpenFiles, AllocError>
@@ -41,11 +42,12 @@ impl OpenFiles {
         None
     }
 
-    /// Holds an opened file, and closes another where so many are held. None where each of those is
-    /// unsynced, or where there is no memory.
+    /// Holds an opened file, and closes another where so many are held. None exactly where each of those is
+    /// unsynced.
     pub(crate) fn hold(&mut self, opened: OpenFile) -> Option<usize>
         ensures held { IfSome result (λ place. slice_get (held self.new) place ≡ Some opened.file) }
-        ensures unsynced { KeepsUnsynced self.old self.new }
+        ensures none { IsNone result ↔ IsFull self.old }
+        ensures marks { KeepsMarks self.old self.new }
     {
         if !self.make_room() {
             return None;
@@ -57,10 +59,10 @@ impl OpenFiles {
 
     /// Closes a file where as many are held as may be, and answers whether there is room for one now. One
     /// with unsynced bytes is never closed.
-    fn make_room(&mut self) -> bool
+    pub(crate) fn make_room(&mut self) -> bool
         ensures room { IsTrue result → length (entries_of self.new) < 128 }
-        ensures full { IsFalse result → All IsTrue (unsynced self.old) }
-        ensures unsynced { KeepsUnsynced self.old self.new }
+        ensures full { IsFalse result ↔ IsFull self.old }
+        ensures marks { KeepsMarks self.old self.new }
     {
         if self.entries.len() < OPEN_FILES {
             return true;
@@ -89,6 +91,8 @@ impl OpenFiles {
         ensures same_files { held self.new ≡ held self.old }
         ensures marked { unsynced self.new ≡ slice_set (unsynced self.old) place is_unsynced }
         ensures flag { slice_get (unsynced self.new) place ≡ Some is_unsynced }
+        ensures marks { KeepsOtherMarks (file_at self.old place) self.old self.new }
+        ensures mark { IsTrue is_unsynced → KeepsMarks self.old self.new × IsMarked self.new (file_at self.old place) }
     {
         self.entries[place].is_unsynced = is_unsynced;
     }
@@ -96,7 +100,7 @@ impl OpenFiles {
     /// Closes a file, if it is held open. The others stay open.
     pub(crate) fn close(&mut self, file: FileId)
         ensures gone { ¬ Contains (held self.new) file }
-        ensures others { KeepsOthers file self.old self.new }
+        ensures marks { KeepsOtherMarks file self.old self.new }
     {
         while let Some(place) = self.place_of(file) {
             self.entries.remove(place);

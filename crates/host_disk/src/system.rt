@@ -1,27 +1,31 @@
 //! The system calls on a folder and its files, each noted with its answer: docs/STORAGE.md, "Folders".
 //!
-//! No contract guards the bodies of this file, and nothing else notes what the system has answered. Each
-//! is trusted to make the system call that it notes, on the file of that name: to be read, and tried by
-//! tests. Which file a call is of, under which path, which files stay open and what is asked after a
-//! failure is decided elsewhere, and proved.
-ghost use Rattle.std.specs.Prelude.{◌≡◌, ◌≤◌, ◌++◌, ◌∷◌, length, IfOk, MatchResult, IsTrue};
-ghost use Rattle.std.specs.List.{Contains};
+//! No contract guards the bodies of this file. Each is trusted to make the system call that it notes, on the
+//! file of that name: to be read, and tried by tests. Nothing else can note what the system has answered,
+//! since the notes of answers are private to this file; elsewhere a call is noted as failed, and no more.
+//! Which file a call is of, under which path, which files stay open and what is asked after a failure is
+//! decided elsewhere, and proved.
+ghost use Rattle.std.specs.Prelude.{◌≡◌, ◌≤◌, ◌++◌, [], ◌∷◌, List, length, string_bytes, IfOk, MatchResult, IsTrue};
 ghost use Rattle.std.specs.List.Sorted.{IsStrictlySortedBy};
 ghost use Rattle.disk_core.specs.FileNames.{file_cmp, name_of};
+ghost use Rattle.host_disk.specs.Names.{path_of};
 ghost use Rattle.host_disk.specs.Places.{IsFoundOf};
-ghost use Rattle.host_disk.specs.Events.{measured, measure_failed, asked, gave, read_failed, wrote, write_failed, cut, cut_failed, gone, remove_failed, flushed, flush_failed, listed};
+ghost use Rattle.host_disk.specs.Events.{Held, opened, locked, measured, measure_failed, asked, gave, read_failed, touched, wrote, write_failed, cut, cut_failed, gone, remove_failed, flushed, flush_failed, listed};
 ghost use Rattle.host_disk.specs.Faults.{after_list_fault};
+
+mod record;
 
 use crate::OpenFault;
 use crate::file_names::file_named;
-use crate::open_files::OpenFiles;
-use crate::record::{Note, Record};
 use disk_core::{Fault, FileId, ListFault};
+use record::Note;
+pub(crate) use record::{Failure, Record};
 use std::alloc::{AllocError, Global};
 use std::collections::BTreeSet;
 use std::fs::{self, DirEntry, File, Metadata, OpenOptions};
 use std::io;
 use std::os::unix::fs::{FileExt, MetadataExt};
+use std::path::Path;
 
 /// A file that is open under its name.
 #[derive(Drop)]
@@ -46,10 +50,12 @@ pub(crate) enum Found {
     Missing(Absent),
 }
 
-/// The folder itself, locked against a second opening, and what is known of the names in it.
+/// The folder itself, locked against a second opening, its path, and what is known of the names in it.
 #[derive(Drop)]
 pub(crate) struct Names {
     folder: File,
+    // The folder's path, with a slash behind it.
+    path: String,
     // A name came or went since the folder was last synced.
     are_new: bool,
     // A sync of the folder has failed.
@@ -57,27 +63,42 @@ pub(crate) struct Names {
 }
 
 impl Names {
-    ghost use Rattle.host_disk.specs.OpenFiles.{held};
+    ghost use Rattle.host_disk.specs.Names.{path_of};
 
-    /// Locks a folder. `Busy` where another opening of it has the lock.
-    pub(crate) fn lock(folder: File) -> Result<Names, OpenFault> {
-        match folder.metadata() {
-            Ok(found) if found.is_dir() => {}
-            _ => return Err(OpenFault::Device),
-        }
-        match folder.try_lock() {
-            Ok(()) => Ok(Names {
-                folder,
-                are_new: true,
-                are_lost: false,
-            }),
-            Err(fs::TryLockError::WouldBlock) => Err(OpenFault::Busy),
-            Err(fs::TryLockError::Error(_)) => Err(OpenFault::Device),
-        }
+    /// Locks a folder, whatever files it holds, and begins the record of its calls. `Busy` where another
+    /// opening of it has the lock.
+    pub(crate) fn lock(
+        rt: &HostRuntime,
+        alloc: Global,
+        path: Path<'_>,
+    ) -> Result<(Names, Record), OpenFault>
+        ghost held: { List Held }
+        ensures { IfOk result (λ begun. begun.1.events ≡ locked (path_of begun.0) ∷ opened held ∷ []) }
+    {
+        let real = fs::canonicalize(rt, path).map_err(|_| OpenFault::Device)?;
+        let path = format!(in alloc; "{}/", real.display()).map_err(|_| OpenFault::NoMemory)?;
+        let folder = locked_folder(rt, real.as_path())?;
+        let notes = Record::begin().then(&Note::Locked(path.as_bytes()));
+        let names = Names {
+            folder,
+            path,
+            are_new: true,
+            are_lost: false,
+        };
+        Ok((names, notes))
+    }
+
+    /// The folder's path, with a slash behind it.
+    pub(crate) fn path(&self) -> &str
+        ensures { result.now ≡ path_of self.now }
+    {
+        self.path.as_str()
     }
 
     /// Syncs the folder where a name came or went. Once that has failed it fails for good.
-    fn sync(&mut self) -> io::Result<()> {
+    fn sync(&mut self) -> io::Result<()>
+        ensures { path_of self.new ≡ path_of self.old }
+    {
         if self.are_lost {
             return Err(io::ErrorKind::Other.into());
         }
@@ -95,11 +116,11 @@ impl Names {
         &mut self,
         rt: &HostRuntime,
         file: FileId,
-        folder: &str,
         path: &str,
     ) -> io::Result<OpenFile>
-        requires { path.now ≡ folder.now ++ name_of file }
-        ensures { IfOk result (λ made. made.file ≡ file) }
+        requires { path.now ≡ path_of self.old ++ name_of file }
+        ensures made { IfOk result (λ made. made.file ≡ file) }
+        ensures path { path_of self.new ≡ path_of self.old }
     {
         self.are_new = true;
         Ok(OpenFile {
@@ -109,30 +130,42 @@ impl Names {
         })
     }
 
-    /// Removes a file, if it is there, which is not held open: what is made under its name later is another
-    /// file. Whatever else has that name is refused, and stays. The path is the folder's with the file's name behind it.
+    /// Removes a file, if it is there. Whatever else has that name is refused, and stays. The path is the
+    /// folder's with the file's name behind it.
     pub(crate) fn remove(
         &mut self,
         rt: &HostRuntime,
         file: FileId,
-        folder: &str,
         path: &str,
-        open_files: &OpenFiles,
         notes: &mut Record,
     ) -> Result<(), Fault>
-        requires named { path.now ≡ folder.now ++ name_of file }
-        requires closed { ¬ Contains (held open_files.now) file }
-        ensures { MatchResult result
+        requires { path.now ≡ path_of self.old ++ name_of file }
+        ensures noted { MatchResult result
             (λ _. notes.new.events ≡ gone file ∷ notes.old.events)
             (λ _. notes.new.events ≡ remove_failed file ∷ notes.old.events) }
+        ensures path { path_of self.new ≡ path_of self.old }
     {
         self.are_new = true;
         if remove_file(rt, path).is_err() {
-            *notes = notes.then(&Note::RemoveFailed(file));
+            notes.fail(Failure::Remove(file));
             return Err(Fault);
         }
         *notes = notes.then(&Note::Removed(file));
         Ok(())
+    }
+}
+
+/// Opens a folder and locks it.
+fn locked_folder(rt: &HostRuntime, path: Path<'_>) -> Result<File, OpenFault> {
+    let folder = File::open(rt, path).map_err(|_| OpenFault::Device)?;
+    match folder.metadata() {
+        Ok(found) if found.is_dir() => {}
+        _ => return Err(OpenFault::Device),
+    }
+    match folder.try_lock() {
+        Ok(()) => Ok(folder),
+        Err(fs::TryLockError::WouldBlock) => Err(OpenFault::Busy),
+        Err(fs::TryLockError::Error(_)) => Err(OpenFault::Device),
     }
 }
 
@@ -158,11 +191,11 @@ fn kind_of(rt: &HostRuntime, path: &str) -> io::Result<Option<Metadata>> {
 /// has that name is refused, and a link is not followed.
 pub(crate) fn open_file(
     rt: &HostRuntime,
+    names: &Names,
     file: FileId,
-    folder: &str,
     path: &str,
 ) -> io::Result<Found>
-    requires { path.now ≡ folder.now ++ name_of file }
+    requires { path.now ≡ path_of names.now ++ name_of file }
     ensures { IfOk result (IsFoundOf file) }
 {
     let Some(named) = kind_of(rt, path)? else {
@@ -182,6 +215,8 @@ pub(crate) fn open_file(
 }
 
 impl OpenFile {
+    ghost use Rattle.host_disk.specs.Names.{path_of};
+
     /// The file's length.
     pub(crate) fn len(&self, notes: &mut Record) -> Result<u64, Fault>
         ensures { MatchResult result
@@ -189,7 +224,7 @@ impl OpenFile {
             (λ _. notes.new.events ≡ measure_failed self.now.file ∷ notes.old.events) }
     {
         let Ok(found) = self.handle.metadata() else {
-            *notes = notes.then(&Note::MeasureFailed(self.file));
+            notes.fail(Failure::Measure(self.file));
             return Err(Fault);
         };
         let len = found.len();
@@ -206,7 +241,7 @@ impl OpenFile {
     {
         let asked = notes.then(&Note::Asked(into));
         let Ok(count) = self.handle.read_at(into, at) else {
-            *notes = notes.then(&Note::ReadFailed(self.file, at));
+            notes.fail(Failure::Read(self.file, at));
             return Err(Fault);
         };
         *notes = asked.then(&Note::Gave(self.file, at, count, into));
@@ -217,11 +252,13 @@ impl OpenFile {
     pub(crate) fn write(&self, notes: &mut Record, at: u64, bytes: &[u8]) -> Result<(), Fault>
         requires marked { IsTrue self.now.is_unsynced }
         ensures { MatchResult result
-            (λ _. notes.new.events ≡ wrote self.now.file at bytes.now ∷ notes.old.events)
-            (λ _. notes.new.events ≡ write_failed self.now.file at (length bytes.now) ∷ notes.old.events) }
+            (λ _. notes.new.events ≡ wrote self.now.file at bytes.now ∷ touched self.now.file ∷ notes.old.events)
+            (λ _. notes.new.events
+            ≡ write_failed self.now.file at (length bytes.now) ∷ touched self.now.file ∷ notes.old.events) }
     {
+        *notes = notes.then(&Note::Touched(self.file));
         if self.handle.write_all_at(bytes, at).is_err() {
-            *notes = notes.then(&Note::WriteFailed(self.file, at, bytes.len()));
+            notes.fail(Failure::Write(self.file, at, bytes.len()));
             return Err(Fault);
         }
         *notes = notes.then(&Note::Wrote(self.file, at, bytes));
@@ -232,11 +269,12 @@ impl OpenFile {
     pub(crate) fn cut(&self, notes: &mut Record, len: u64) -> Result<(), Fault>
         requires marked { IsTrue self.now.is_unsynced }
         ensures { MatchResult result
-            (λ _. notes.new.events ≡ cut self.now.file len ∷ notes.old.events)
-            (λ _. notes.new.events ≡ cut_failed self.now.file len ∷ notes.old.events) }
+            (λ _. notes.new.events ≡ cut self.now.file len ∷ touched self.now.file ∷ notes.old.events)
+            (λ _. notes.new.events ≡ cut_failed self.now.file len ∷ touched self.now.file ∷ notes.old.events) }
     {
+        *notes = notes.then(&Note::Touched(self.file));
         if self.shorten(len).is_err() {
-            *notes = notes.then(&Note::CutFailed(self.file, len));
+            notes.fail(Failure::Cut(self.file, len));
             return Err(Fault);
         }
         *notes = notes.then(&Note::Cut(self.file, len));
@@ -252,12 +290,13 @@ impl OpenFile {
 
     /// Syncs the file, and the folder where a name came or went.
     pub(crate) fn sync(&self, notes: &mut Record, names: &mut Names) -> Result<(), Fault>
-        ensures { MatchResult result
+        ensures noted { MatchResult result
             (λ _. notes.new.events ≡ flushed self.now.file ∷ notes.old.events)
             (λ _. notes.new.events ≡ flush_failed self.now.file ∷ notes.old.events) }
+        ensures path { path_of names.new ≡ path_of names.old }
     {
         if self.handle.sync_data().is_err() || names.sync().is_err() {
-            *notes = notes.then(&Note::SyncFailed(self.file));
+            notes.fail(Failure::Sync(self.file));
             return Err(Fault);
         }
         *notes = notes.then(&Note::Synced(self.file));
@@ -266,6 +305,8 @@ impl OpenFile {
 }
 
 impl Absent {
+    ghost use Rattle.host_disk.specs.Names.{path_of};
+
     /// The length of an absent file.
     pub(crate) fn len(&self, notes: &mut Record) -> u64
         ensures { notes.new.events ≡ measured self.now.file result ∷ notes.old.events }
@@ -293,12 +334,13 @@ impl Absent {
 
     /// Syncs the folder where a name came or went, so that the file stays absent.
     pub(crate) fn sync(&self, notes: &mut Record, names: &mut Names) -> Result<(), Fault>
-        ensures { MatchResult result
+        ensures noted { MatchResult result
             (λ _. notes.new.events ≡ flushed self.now.file ∷ notes.old.events)
             (λ _. notes.new.events ≡ flush_failed self.now.file ∷ notes.old.events) }
+        ensures path { path_of names.new ≡ path_of names.old }
     {
         if names.sync().is_err() {
-            *notes = notes.then(&Note::SyncFailed(self.file));
+            notes.fail(Failure::Sync(self.file));
             return Err(Fault);
         }
         *notes = notes.then(&Note::Synced(self.file));
@@ -309,8 +351,8 @@ impl Absent {
 /// The files of a folder, in order. Another name is passed over; what has a file's name must be a file.
 pub(crate) fn list_files(
     rt: &HostRuntime,
+    names: &Names,
     alloc: Global,
-    folder: &str,
     notes: &mut Record,
 ) -> Result<Vec<FileId>, ListFault>
     ensures in_order { IfOk result (λ files. IsStrictlySortedBy file_cmp files.items) }
@@ -318,10 +360,10 @@ pub(crate) fn list_files(
         (λ files. notes.new.events ≡ listed files.items ∷ notes.old.events)
         (λ fault. notes.new.events ≡ after_list_fault fault notes.old.events) }
 {
-    let answer = names_in(rt, alloc, folder);
+    let answer = names_in(rt, alloc, names.path());
     match &answer {
         Ok(files) => *notes = notes.then(&Note::Listed(files)),
-        Err(ListFault::Device) => *notes = notes.then(&Note::ListFailed),
+        Err(ListFault::Device) => notes.fail(Failure::List),
         Err(ListFault::NoMemory) => {}
     }
     answer

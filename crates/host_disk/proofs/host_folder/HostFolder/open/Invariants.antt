@@ -1,4 +1,4 @@
 use Rattle.host_disk.proofs.host_folder.HostFolder.open.Given as goal
 
-abbrev pub ghost-begin : goal.ghost-begin
-ghost-begin g a = g.held
+abbrev pub ghost-lock : goal.ghost-lock
+ghost-lock g a = g.held

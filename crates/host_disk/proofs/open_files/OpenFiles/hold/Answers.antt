@@ -10,12 +10,12 @@ returns-clause-held c =
     let pushed : c.push.new.self.items ≡ entries_of c.make_room.new.self ++ c.args.opened ∷ [] = search rules in
     last_of_map (λ (entry : OpenFile). entry.file) (entries_of c.make_room.new.self) c.push.new.self.items c.args.opened c.len.result pushed (c.len.ensures ∙ c.push.new.self.ok.0)
 
-pub returns-clause-unsynced : goal.returns-clause-unsynced
-returns-clause-unsynced c entry there is_unsynced =
+pub returns-clause-marks : goal.returns-clause-marks
+returns-clause-marks c file marked =
     let pushed : c.push.new.self.items ≡ entries_of c.make_room.new.self ++ c.args.opened ∷ [] = search rules in
-    subst (λ (items : List OpenFile). Contains items entry) (sym pushed) (Contains-append_left (entries_of c.make_room.new.self) (c.args.opened ∷ []) entry (c.make_room.ensures.unsynced entry there is_unsynced))
-
-pub returns-in_err-ok-clause-unsynced : goal.returns-in_err-ok-clause-unsynced
-returns-in_err-ok-clause-unsynced c entry there is_unsynced =
-    let same : c.push.new.self.items ≡ entries_of c.make_room.new.self = search rules in
-    subst (λ (items : List OpenFile). Contains items entry) (sym same) (c.make_room.ensures.unsynced entry there is_unsynced)
+    let kept = c.make_room.ensures.marks file marked in (
+      kept.0,
+      subst (λ (items : List OpenFile). Contains items kept.0) (sym pushed) (Contains-append_left (entries_of c.make_room.new.self) (c.args.opened ∷ []) kept.0 kept.1),
+      kept.2,
+      kept.3,
+    )
