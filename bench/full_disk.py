@@ -5,8 +5,8 @@ Usage: bench/full_disk.py <program> <folder>, as bench/full_disk.sh runs it; the
 named then, and the folder's file system has to be a small one.
 
 The disk runs full under the writing of a block, of an entry of the catalogue, and of the entry by which an opening stops the
-recordings that were active. Each time the line that meets it is DeviceFault, further changes are Broken, and opening again
-within the process is DeviceFault (docs/CONTROL.md, "Refusals"; docs/STORAGE.md, "Folders"). The next process finds what was
+recordings that were active. Each time the line that meets it is DeviceFault, further changes are Broken, what was settled is
+read, and `reopen` within the process works once there is room (docs/STORAGE.md, "Folders"). The next process finds what was
 settled, and with room again it goes on. Ends with status 1 where anything is wrong.
 """
 import os
@@ -79,13 +79,22 @@ class Archive:
         self.ballast.unlink()
 
     def expect_broken(self, session: Session) -> None:
-        """Behind a fault each change is Broken, and the archive is not opened again by this process."""
+        """Behind a fault each change is Broken."""
         for line in CHANGES:
             expect(f"{line}, behind the fault", session.ask(line), BROKEN)
-        expect("reopen, behind the fault", session.ask("reopen"), DEVICE_FAULT)
-        expect("list, where no archive is open", session.ask("list 0 1"), BROKEN)
+
+    def expect_ended(self, session: Session) -> None:
         expect("quit", session.ask("quit"), ["bye"])
         expect("the status", session.end(), 0)
+
+    def expect_reopened(self, session: Session, active: int, position: int) -> None:
+        """With room the same process opens the archive again, and goes on with recording 0 from a position."""
+        self.make_room()
+        expect("reopen, with room", session.ask("reopen"), [f"reopened {active}"])
+        expect("extend, reopened", session.ask(STREAM.extend(0, position)), ["extended 0"])
+        expect("block, reopened", session.ask(block(0, position)), [f"settled {position + BLOCK}"])
+        self.expect_ended(session)
+        self.expect_recorded("reopened", position + BLOCK)
 
     def expect_recorded(self, what: str, position: int) -> None:
         """The next process replays recording 0 up to a position, and verifies it."""
@@ -116,15 +125,15 @@ def full_in_a_segment(archive: Archive) -> str:
         position += BLOCK
     expect("the block that met the full disk", told, DEVICE_FAULT)
     expect("what is recorded", session.ask("positions 0"), [f"positions 0 {position} -1"])
-    expect("verify 0, of the file whose write has failed", session.ask("verify 0"), DEVICE_FAULT)
+    expect("verify 0, of the file whose write has failed", session.ask("verify 0"), [f"verified {position // LENGTH}"])
     archive.expect_broken(session)
+    archive.expect_ended(session)
     archive.expect_recorded("still full", position)
     session = archive.extended("still full", position)
     expect("block, still full", session.ask(block(0, position)), DEVICE_FAULT)
     archive.expect_broken(session)
-    archive.expect_recorded("full again", position)
-    archive.make_room()
-    archive.expect_extended(position)
+    archive.expect_reopened(session, 1, position)
+    archive.expect_extended(position + BLOCK)
     return f"full in a segment: {position // LENGTH} frames were settled and are there"
 
 
@@ -139,12 +148,15 @@ def full_in_the_catalogue(archive: Archive) -> str:
     expect("the start that met the full disk", told, DEVICE_FAULT)
     expect("verify 0, behind the fault", session.ask("verify 0"), ["verified 46"])
     archive.expect_broken(session)
+    archive.expect_ended(session)
     right = [STREAM.descriptor(0, -1, BLOCK, "c")] + [STREAM.descriptor(number, -1, 0, channel) for number in range(1, count)]
     right.append(f"end {count}")
     expect("list, still full", run([archive.tool, "list", archive.folder]), right)
     archive.expect_recorded("still full", BLOCK)
-    archive.make_room()
-    archive.expect_extended(BLOCK)
+    session = archive.session()
+    expect("the start, still full", session.ask(STREAM.start(channel)), DEVICE_FAULT)
+    archive.expect_reopened(session, 0, BLOCK)
+    archive.expect_extended(2 * BLOCK)
     return f"full in the catalogue: {count} recordings were started and are there"
 
 

@@ -1,5 +1,5 @@
 -- What calls make of the files of a folder.
-use Rattle.std.proofs.Common.{◌≡◌, ◌≢◌, inl, inr, ℕ, zero, suc, ◌≤◌, max, Bool, true, false, not, ◌&&◌, ◌||◌, if◌then◌else◌, List, [], ◌∷◌, map, length, take, Option, Some, None, option_map, is_some, IsSome, IsTrue, Result, Ok, Err, IfOk, MatchResult, Vec, Ordering, sym, ap, ◌∙◌, subst, refl, arith}
+use Rattle.std.proofs.Common.{◌≡◌, ◌≢◌, inl, inr, ℕ, zero, suc, ◌+◌, ◌<◌, ◌≤◌, max, Bool, true, false, not, ◌&&◌, ◌||◌, if◌then◌else◌, List, [], ◌∷◌, map, length, take, drop, length-take, Option, Some, None, option_map, is_some, IsSome, IsTrue, Result, Ok, Err, IfOk, MatchResult, Vec, Ordering, sym, ap, ◌∙◌, subst, refl, arith}
 use Rattle.std.specs.Ordering.{is_eq}
 use Rattle.std.specs.List.{list_all}
 use Rattle.std.specs.List.Sorted.{IsStrictlySortedBy}
@@ -9,13 +9,13 @@ use Rattle.disk_core.specs.declared.file_id.FileId.{FileId}
 use Rattle.disk_core.specs.declared.fault.ListFault.{ListFault}
 use Rattle.disk_core.specs.FileNames.{file_cmp, AreFilesWith}
 use Rattle.disk_core.specs.DiskImage.{FileState, Files, bytes_of, reads}
-use Rattle.disk_core.specs.Calls.{write_to, cut_to, removed, synced, IsWritten, IsCut}
+use Rattle.disk_core.specs.Calls.{overwritten, write_to, cut_to, removed, synced, IsWritten, IsCut, IsRemoved}
 use Rattle.disk_core.specs.Life.{Steps}
-use Rattle.disk_core.proofs.CallerLemmas.{equal_files, file_cmp_self, write_is_written}
+use Rattle.disk_core.proofs.CallerLemmas.{equal_files, file_cmp_self, write_is_written, length_overwritten, overwritten_no_shorter, overwritten_below, overwritten_above}
 use Rattle.disk_core.proofs.DiskLemmas.{in_list}
 use Rattle.host_disk.specs.Events.{Held, Event, opened, locked, measured, measure_failed, asked, gave, read_failed, touched, wrote, write_failed, cut, cut_failed, gone, remove_failed, flushed, flush_failed, listed, list_failed, refused}
 use Rattle.host_disk.specs.Faults.{after_list_fault}
-use Rattle.host_disk.specs.Replay.{image_of, is_in, is_there, are_there, write_lost, cut_lost, remove_lost, with_change, replay, life_at}
+use Rattle.host_disk.specs.Replay.{image_of, is_in, is_there, are_there, written_in_part, cut_in_part, removed_or_not, next_left, with_change, replay, life_at}
 
 -- the file that a call is of
 change_here : (this : FileId) (change : FileState → FileState) (files : Files) → with_change this change files this ≡ change (files this)
@@ -34,9 +34,9 @@ all_taken : (reads : Option (List ℕ)) (len : ℕ) → length (bytes_of reads) 
 all_taken None len fits = refl
 all_taken (Some bytes) len fits = ap (λ (l : List ℕ). Some l) (sym (take_all len bytes fits))
 
--- a cut that failed may have been begun
-cut_lost_is_cut : (len : ℕ) (state : FileState) → IsCut len state (cut_lost len state)
-cut_lost_is_cut len state = inr (record {
+-- a cut that failed may have been made in part
+cut_in_part_is_cut : (len : ℕ) (left : Option (List ℕ)) (state : FileState) → IsCut len state (cut_in_part len left state)
+cut_in_part_is_cut len None state = inr (record {
   touched = refl;
   written = refl;
   least = refl;
@@ -46,6 +46,54 @@ cut_lost_is_cut len state = inr (record {
   no_less = omega arith;
   reads = all_taken state.reads (max len (length (bytes_of state.reads))) (omega arith);
 })
+cut_in_part_is_cut len (Some left) state = inr (record {
+  touched = refl;
+  written = refl;
+  least = refl;
+  was_absent = refl;
+  last_synced = refl;
+  length_left = max len (length left);
+  no_less = omega arith;
+  reads = refl;
+})
+
+no_longer : (at n : ℕ) (bytes old : List ℕ) → length bytes ≤ n → length (overwritten at bytes old) ≤ max (length old) (at + n)
+no_longer at n [] old fits = omega arith
+no_longer at n (byte ∷ bytes) old fits = omega (arith, fits, length_overwritten at (byte ∷ bytes) old (omega arith))
+
+-- a write that failed may have been made in part
+written_in_part_is_written : (at n : ℕ) (left : Option (List ℕ)) (state : FileState) → IsWritten at n state (written_in_part at n left state)
+written_in_part_is_written at zero left state = inl refl
+written_in_part_is_written at (suc n) None state = inr (record {
+  some = omega arith;
+  touched = refl;
+  written = refl;
+  least = refl;
+  was_absent = refl;
+  last_synced = refl;
+  stays = λ there. there;
+  no_shorter = omega arith;
+  no_longer = omega arith;
+  below = λ offset under. refl;
+  above = λ offset over. refl;
+})
+written_in_part_is_written at (suc n) (Some left) state =
+    let bytes : List ℕ = take (suc n) (drop at left) in
+    let old : List ℕ = bytes_of state.reads in
+    let fits : length bytes ≤ suc n = omega (arith, length-take (suc n) (drop at left)) in
+    inr (record {
+      some = omega arith;
+      touched = refl;
+      written = refl;
+      least = refl;
+      was_absent = refl;
+      last_synced = refl;
+      stays = λ there. refl;
+      no_shorter = (overwritten_no_shorter at bytes old).0;
+      no_longer = no_longer at (suc n) bytes old fits;
+      below = λ offset under. overwritten_below at bytes old offset under;
+      above = λ offset over. overwritten_above at bytes old offset (omega (arith, fits, over));
+    })
 
 -- a write is a step of its file
 pub write_steps : (file : FileId) (at : ℕ) (bytes : List ℕ) (events : List Event) (old new : ℕ) → old ≤ new
@@ -58,13 +106,25 @@ write_steps file at bytes events old new more = record {
   faults = more;
 }
 
--- a cut that failed is a step of its file
+-- a call that failed is a step of its file
+pub failed_write_steps : (file : FileId) (at n : ℕ) (events : List Event) (old new : ℕ) → old ≤ new
+    → Steps file (IsWritten at n) (life_at events old) (life_at (write_failed file at n ∷ events) new)
+failed_write_steps file at n events old new more = record {
+  obeyed = λ obeyed. obeyed;
+  this = subst (IsWritten at n ((replay events).now file)) (sym (change_here file (written_in_part at n (next_left (replay events).left)) (replay events).now))
+      (written_in_part_is_written at n (next_left (replay events).left) ((replay events).now file));
+  others = change_elsewhere file (written_in_part at n (next_left (replay events).left)) (replay events).now;
+  time = inl refl;
+  faults = more;
+}
+
 pub failed_cut_steps : (file : FileId) (len : ℕ) (events : List Event) (old new : ℕ) → old ≤ new
     → Steps file (IsCut len) (life_at events old) (life_at (cut_failed file len ∷ events) new)
 failed_cut_steps file len events old new more = record {
   obeyed = λ obeyed. obeyed;
-  this = subst (IsCut len ((replay events).now file)) (sym (change_here file (cut_lost len) (replay events).now)) (cut_lost_is_cut len ((replay events).now file));
-  others = change_elsewhere file (cut_lost len) (replay events).now;
+  this = subst (IsCut len ((replay events).now file)) (sym (change_here file (cut_in_part len (next_left (replay events).left)) (replay events).now))
+      (cut_in_part_is_cut len (next_left (replay events).left) ((replay events).now file));
+  others = change_elsewhere file (cut_in_part len (next_left (replay events).left)) (replay events).now;
   time = inl refl;
   faults = more;
 }
@@ -95,9 +155,13 @@ some_taken : (reads : Option (List ℕ)) (len : ℕ) → is_some (option_map (ta
 some_taken None len there = there
 some_taken (Some bytes) len there = refl
 
-write_lost_reads : (at n : ℕ) (state : FileState) → is_some (write_lost at n state).reads ≡ true → is_some state.reads ≡ true
-write_lost_reads at zero state there = there
-write_lost_reads at (suc n) state there = there
+cut_in_part_reads : (len : ℕ) (left : Option (List ℕ)) (state : FileState) → is_some (cut_in_part len left state).reads ≡ true → is_some state.reads ≡ true
+cut_in_part_reads len None state there = there
+cut_in_part_reads len (Some left) state there = some_taken state.reads (max len (length left)) there
+
+removed_or_not_reads : (left : Option (List ℕ)) (state : FileState) → is_some (removed_or_not left state).reads ≡ true → is_some state.reads ≡ true
+removed_or_not_reads None state there = absurd (cc)
+removed_or_not_reads (Some left) state there = there
 
 one_written : (b : Bool) (made before : FileState) (known : Bool) → (is_some before.reads ≡ true → known ≡ true) → is_some (if b then made else before).reads ≡ true → (b || known) ≡ true
 one_written true made before known was there = refl
@@ -111,7 +175,7 @@ written_known this file change files known before there = one_written (is_eq (fi
 -- each file that is there is known
 pub all_known : (events : List Event) (file : FileId) → is_there (replay events).now file ≡ true → is_in (replay events).known file ≡ true
 all_known [] file there = absurd (cc)
-all_known (opened held ∷ earlier) file there = held_known held file there
+all_known (opened given ∷ earlier) file there = held_known given.held file there
 all_known (locked path ∷ earlier) file there = all_known earlier file there
 all_known (measured this n ∷ earlier) file there = all_known earlier file there
 all_known (measure_failed this ∷ earlier) file there = all_known earlier file there
@@ -120,11 +184,11 @@ all_known (gave this at n bytes ∷ earlier) file there = all_known earlier file
 all_known (read_failed this at ∷ earlier) file there = all_known earlier file there
 all_known (touched this ∷ earlier) file there = all_known earlier file there
 all_known (wrote this at bytes ∷ earlier) file there = written_known this file (write_to at bytes) (replay earlier).now (replay earlier).known (all_known earlier file) there
-all_known (write_failed this at n ∷ earlier) file there = all_known earlier file (was_there this file (write_lost at n) (replay earlier).now (write_lost_reads at n) there)
+all_known (write_failed this at n ∷ earlier) file there = written_known this file (written_in_part at n (next_left (replay earlier).left)) (replay earlier).now (replay earlier).known (all_known earlier file) there
 all_known (cut this len ∷ earlier) file there = all_known earlier file (was_there this file (cut_to len) (replay earlier).now (λ state. some_taken state.reads len) there)
-all_known (cut_failed this len ∷ earlier) file there = all_known earlier file (was_there this file (cut_lost len) (replay earlier).now (λ state there. there) there)
+all_known (cut_failed this len ∷ earlier) file there = all_known earlier file (was_there this file (cut_in_part len (next_left (replay earlier).left)) (replay earlier).now (cut_in_part_reads len (next_left (replay earlier).left)) there)
 all_known (gone this ∷ earlier) file there = all_known earlier file (was_there this file removed (replay earlier).now (λ state there. absurd (cc)) there)
-all_known (remove_failed this ∷ earlier) file there = all_known earlier file (was_there this file remove_lost (replay earlier).now (λ state there. there) there)
+all_known (remove_failed this ∷ earlier) file there = all_known earlier file (was_there this file (removed_or_not (next_left (replay earlier).left)) (replay earlier).now (removed_or_not_reads (next_left (replay earlier).left)) there)
 all_known (flushed this ∷ earlier) file there = all_known earlier file (was_there this file synced (replay earlier).now (λ state there. there) there)
 all_known (flush_failed this ∷ earlier) file there = all_known earlier file there
 all_known (listed files ∷ earlier) file there = all_known earlier file there

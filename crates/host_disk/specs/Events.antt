@@ -1,15 +1,22 @@
 -- The calls of a folder with their answers: docs/STORAGE.md, "Folders".
-use Rattle.std.specs.Prelude.{ℕ, List}
+use Rattle.std.specs.Prelude.{ℕ, List, Option}
 use Rattle.disk_core.specs.declared.file_id.FileId.{FileId}
 
 -- a file of a folder, with its bytes
 abbrev pub Held : Type 0
 Held = FileId × List ℕ
 
+-- what nobody can tell when a folder is opened
+pub record Given : Type 0 where
+  -- the files that it holds
+  pub held : List Held
+  -- what each write, cut and remove that fails will leave of its file, the first of them first
+  pub left : List (Option (List ℕ))
+
 -- a call of a folder with its answer
 pub data Event : Type 0 where
-  -- the folder was opened, and these were its files
-  opened : List Held → Event
+  -- the folder was opened, and this was given
+  opened : Given → Event
   -- the folder of this path was locked
   locked : List ℕ → Event
   -- a file had this length, 0 if it was absent

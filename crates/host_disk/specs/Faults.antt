@@ -6,7 +6,7 @@ use Rattle.host_disk.specs.Events.{Event, opened, locked, measured, measure_fail
 
 -- the call has failed, or was refused
 abbrev pub is_failure : Event → Bool
-is_failure (opened held) = false
+is_failure (opened given) = false
 is_failure (locked path) = false
 is_failure (measured file n) = false
 is_failure (measure_failed file) = true

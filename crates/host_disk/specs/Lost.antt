@@ -1,4 +1,4 @@
--- Files of which a call has failed, so that what they hold is not known.
+-- Files of which a sync has failed, so that what is on the disk of them is not known.
 use Rattle.std.specs.Prelude.{Bool, true, false, not, ◌&&◌, ◌||◌, ◌^◌, nat_le, if◌then◌else◌, List, [], ◌∷◌}
 use Rattle.std.specs.Ordering.{is_eq}
 use Rattle.disk_core.specs.declared.file_id.FileId.{FileId}
@@ -21,7 +21,7 @@ with_lost file All = All
 
 -- what counts as lost after a call
 abbrev pub lost_by : Event → Lost → Lost
-lost_by (opened held) lost = lost
+lost_by (opened given) lost = lost
 lost_by (locked path) lost = lost
 lost_by (measured file n) lost = lost
 lost_by (measure_failed file) lost = lost
@@ -30,11 +30,11 @@ lost_by (gave file at n bytes) lost = lost
 lost_by (read_failed file at) lost = lost
 lost_by (touched file) lost = lost
 lost_by (wrote file at bytes) lost = lost
-lost_by (write_failed file at n) lost = with_lost file lost
+lost_by (write_failed file at n) lost = lost
 lost_by (cut file len) lost = lost
-lost_by (cut_failed file len) lost = with_lost file lost
+lost_by (cut_failed file len) lost = lost
 lost_by (gone file) lost = lost
-lost_by (remove_failed file) lost = with_lost file lost
+lost_by (remove_failed file) lost = lost
 lost_by (flushed file) lost = lost
 lost_by (flush_failed file) lost = with_lost file lost
 lost_by (listed files) lost = lost
@@ -54,7 +54,7 @@ is_nothing All = false
 -- The call is of no lost file; a listing is of every file. Refused is what is of a lost file, and a read at
 -- an offset past the last one.
 abbrev pub is_allowed : Lost → Event → Bool
-is_allowed lost (opened held) = true
+is_allowed lost (opened given) = true
 is_allowed lost (locked path) = true
 is_allowed lost (measured file n) = not (covers lost file)
 is_allowed lost (measure_failed file) = not (covers lost file)

@@ -1,7 +1,7 @@
 //! A disk over a folder, of which nothing is kept in memory.
 ghost use Rattle.std.specs.Prelude.{◌≡◌, ◌≤◌, ◌+◌, ◌-◌, ◌^◌, [], ◌∷◌, List, ℕ, min, refl, true, false, IsTrue, IfOk, OnErr, OnOk};
 ghost use Rattle.disk_core.specs.Memory.{well_stays};
-ghost use Rattle.host_disk.specs.Events.{Held, opened, locked, refused};
+ghost use Rattle.host_disk.specs.Events.{Given, opened, locked, refused};
 ghost use Rattle.host_disk.specs.Faults.{failures};
 ghost use Rattle.host_disk.specs.Replay.{replay, life_at};
 ghost use Rattle.host_disk.specs.Lost.{covers, lost_after, is_careful, with_lost};
@@ -10,8 +10,8 @@ ghost use Rattle.host_disk.specs.WellFormed.{all_well};
 use crate::{Folder, Lost};
 use disk_core::{Disk, Fault, FileId, ListFault};
 
-/// A disk over a folder. A file of which a write, a cut, a remove or a sync has failed answers faults
-/// from then on; where that is more than one file, every file does.
+/// A disk over a folder. A file of which a sync has failed answers faults from then on; where that is more
+/// than one file, every file does. After another call that has failed reading goes on, over what is left.
 #[derive(Drop)]
 pub struct FolderDisk<F: Folder> {
     folder: F,
@@ -39,7 +39,7 @@ fn refuse<F: Folder>(folder: &mut F, faults: &mut u64, file: FileId, at: u64, do
     Fault
 }
 
-/// Counts a call of a file that has failed, and takes the file as lost.
+/// Counts a sync of a file that has failed, and takes the file as lost.
 fn note_failure(faults: &mut u64, lost: &mut Lost, file: FileId)
     ensures more { faults.old ≤ faults.new }
     ensures counted { faults.new ≡ min (faults.old + 1) (2 ^ 64 - 1) }
@@ -54,7 +54,7 @@ impl<F: Folder> FolderDisk<F> {
 
     /// A disk over a folder that was just opened.
     pub fn new(folder: F) -> FolderDisk<F>
-        requires { (path : List ℕ) × (held : List Held) × (F.Folder.events folder ≡ locked path ∷ opened held ∷ []) }
+        requires { (path : List ℕ) × (given : Given) × (F.Folder.events folder ≡ locked path ∷ opened given ∷ []) }
         ensures folder { folder_of result ≡ folder }
         ensures faults { faults_of result ≡ 0 }
     {
@@ -65,7 +65,7 @@ impl<F: Folder> FolderDisk<F> {
         }
     }
 
-    /// No file was asked for anything once a call of it had failed.
+    /// No file was asked for anything once a sync of it had failed.
     pub fn asks_no_lost_file(&self)
         ensures { is_careful (F.Folder.events (folder_of self.now)) ≡ true }
     {}
@@ -123,7 +123,7 @@ impl<F: Folder> Disk for FolderDisk<F> {
         }
         let answer = self.folder.write(file, at, bytes);
         if answer.is_err() {
-            note_failure(&mut self.faults, &mut self.lost, file);
+            self.faults = one_more(self.faults);
         }
         answer
     }
@@ -134,7 +134,7 @@ impl<F: Folder> Disk for FolderDisk<F> {
         }
         let answer = self.folder.cut(file, len);
         if answer.is_err() {
-            note_failure(&mut self.faults, &mut self.lost, file);
+            self.faults = one_more(self.faults);
         }
         answer
     }
@@ -145,7 +145,7 @@ impl<F: Folder> Disk for FolderDisk<F> {
         }
         let answer = self.folder.remove(file);
         if answer.is_err() {
-            note_failure(&mut self.faults, &mut self.lost, file);
+            self.faults = one_more(self.faults);
         }
         answer
     }

@@ -1,6 +1,6 @@
 //! A disk over a real folder.
-ghost use Rattle.std.specs.Prelude.{List, IfOk};
-ghost use Rattle.host_disk.specs.Events.{Held};
+ghost use Rattle.std.specs.Prelude.{IfOk};
+ghost use Rattle.host_disk.specs.Events.{Given};
 
 use crate::{FolderDisk, HostFolder, OpenFault};
 use std::alloc::Global;
@@ -12,13 +12,13 @@ pub type HostDisk = FolderDisk<HostFolder>;
 impl FolderDisk<HostFolder> {
     ghost use Rattle.host_disk.specs.HostDisk.{IsBegun};
 
-    /// Opens a folder as a disk, and locks it. Whatever files the folder holds, the disk begins with them, and
-    /// all of them count as durable: docs/STORAGE.md, "Folders", says why that is right once a new disk has
+    /// Opens a folder as a disk, and locks it. Whatever files the folder holds, and whatever calls that fail
+    /// will leave of them, the disk begins with these files, and all of them count as durable: docs/STORAGE.md, "Folders", says why that is right once a new disk has
     /// synced. `Busy` where another disk has it open, `NoMemory` where its table of open files finds none,
     /// `Device` where the system refuses; nothing is made or changed then.
     pub fn open(rt: HostRuntime, alloc: Global, path: Path<'_>) -> Result<HostDisk, OpenFault>
-        ghost held: { List Held }
-        ensures begun { IfOk result (IsBegun held) }
+        ghost given: { Given }
+        ensures begun { IfOk result (IsBegun given) }
     {
         Ok(FolderDisk::new(HostFolder::open(rt, alloc, path)?))
     }

@@ -1,7 +1,7 @@
 //! A real folder, with the files that are open in it.
 ghost use Rattle.std.specs.Prelude.{◌≡◌, [], ◌∷◌, List, ℕ, MatchResult, IfOk, OnOk, OnErr};
 ghost use Rattle.std.specs.List.{Contains};
-ghost use Rattle.host_disk.specs.Events.{Held, opened, locked, gone, remove_failed};
+ghost use Rattle.host_disk.specs.Events.{Given, opened, locked, gone, remove_failed};
 ghost use Rattle.host_disk.specs.Names.{path_of};
 ghost use Rattle.host_disk.specs.OpenFiles.{IsFull, held, HoldsUnsynced};
 ghost use Rattle.host_disk.specs.Paths.{path_in};
@@ -44,10 +44,10 @@ enum Place {
 impl HostFolder {
     ghost use Rattle.host_disk.specs.HostFolder.{notes_of, open_files_of, events_of, IsHeldAt, IsPlaceOf, IsPathOf};
 
-    /// Opens a folder and locks it, whatever files it holds. Nothing is made or changed.
+    /// Opens a folder and locks it, whatever files it holds, and whatever calls that fail will leave. Nothing is made or changed.
     pub fn open(rt: HostRuntime, alloc: Global, path: Path<'_>) -> Result<HostFolder, OpenFault>
-        ghost held: { List Held }
-        ensures { IfOk result (λ folder. (path : List ℕ) × (events_of folder ≡ locked path ∷ opened held ∷ [])) }
+        ghost given: { Given }
+        ensures { IfOk result (λ folder. (path : List ℕ) × (events_of folder ≡ locked path ∷ opened given ∷ [])) }
     {
         let (names, notes) = Names::lock(&rt, alloc, path)?;
         // With this room no call but a listing allocates.

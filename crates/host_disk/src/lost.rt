@@ -1,9 +1,9 @@
-//! Files of which a call has failed.
+//! Files of which a sync has failed.
 ghost use Rattle.std.specs.Prelude.{◌≡◌, ◌↔◌, true, IfSome, IsNone};
 
 use disk_core::FileId;
 
-/// The files of which nothing is asked any more, since a call of theirs has failed.
+/// The files of which nothing is asked any more, since a sync of theirs has failed.
 #[derive(Clone, Copy, Drop)]
 pub enum Lost {
     Nothing,

@@ -10,7 +10,7 @@ ghost use Rattle.std.specs.List.Sorted.{IsStrictlySortedBy};
 ghost use Rattle.disk_core.specs.FileNames.{file_cmp, name_of};
 ghost use Rattle.host_disk.specs.Names.{path_of};
 ghost use Rattle.host_disk.specs.Places.{IsFoundOf};
-ghost use Rattle.host_disk.specs.Events.{Held, opened, locked, measured, measure_failed, asked, gave, read_failed, touched, wrote, write_failed, cut, cut_failed, gone, remove_failed, flushed, flush_failed, listed};
+ghost use Rattle.host_disk.specs.Events.{Given, opened, locked, measured, measure_failed, asked, gave, read_failed, touched, wrote, write_failed, cut, cut_failed, gone, remove_failed, flushed, flush_failed, listed};
 ghost use Rattle.host_disk.specs.Faults.{after_list_fault};
 
 mod record;
@@ -65,15 +65,15 @@ pub(crate) struct Names {
 impl Names {
     ghost use Rattle.host_disk.specs.Names.{path_of};
 
-    /// Locks a folder, whatever files it holds, and begins the record of its calls. `Busy` where another
+    /// Locks a folder, whatever is given with it, and begins the record of its calls. `Busy` where another
     /// opening of it has the lock.
     pub(crate) fn lock(
         rt: &HostRuntime,
         alloc: Global,
         path: Path<'_>,
     ) -> Result<(Names, Record), OpenFault>
-        ghost held: { List Held }
-        ensures { IfOk result (λ begun. begun.1.events ≡ locked (path_of begun.0) ∷ opened held ∷ []) }
+        ghost given: { Given }
+        ensures { IfOk result (λ begun. begun.1.events ≡ locked (path_of begun.0) ∷ opened given ∷ []) }
     {
         let real = fs::canonicalize(rt, path).map_err(|_| OpenFault::Device)?;
         let path = format!(in alloc; "{}/", real.display()).map_err(|_| OpenFault::NoMemory)?;

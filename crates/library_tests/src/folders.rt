@@ -151,12 +151,12 @@ fn links_and_folders_are_refused(rt: HostRuntime) -> Result<(), Fail> {
 }
 
 #[test]
-fn a_file_whose_write_failed_is_asked_no_more(rt: HostRuntime) -> Result<(), Fail> {
+fn a_file_whose_sync_failed_is_asked_no_more(rt: HostRuntime) -> Result<(), Fail> {
     let path = scratch(rt, "lost")?;
     let in_the_way = within(rt, path.as_str(), "3-131072.rec")?;
     fs::create_dir(&rt, in_the_way.as_str())?;
     let mut disk = opened(&rt, rt, path.as_str());
-    assert!(rt; disk.write_at(SEGMENT, 0, b"x").is_err());
+    assert!(rt; disk.sync(SEGMENT).is_err());
     fs::remove_dir(&rt, in_the_way.as_str())?;
     assert!(rt; disk.write_at(SEGMENT, 0, b"x").is_err());
     assert!(rt; disk.sync(SEGMENT).is_err());
@@ -169,6 +169,26 @@ fn a_file_whose_write_failed_is_asked_no_more(rt: HostRuntime) -> Result<(), Fai
     assert!(rt; again.len(SEGMENT)? == 0);
     assert!(rt; again.list()?.len() == 1);
     drop(again);
+    fs::remove_dir_all(&rt, path.as_str())?;
+    Ok(())
+}
+
+#[test]
+fn reading_goes_on_after_a_failed_write(rt: HostRuntime) -> Result<(), Fail> {
+    let path = scratch(rt, "failed")?;
+    let in_the_way = within(rt, path.as_str(), "3-131072.rec")?;
+    fs::create_dir(&rt, in_the_way.as_str())?;
+    let mut disk = opened(&rt, rt, path.as_str());
+    assert!(rt; disk.write_at(SEGMENT, 0, b"x").is_err());
+    assert!(rt; disk.cut(SEGMENT, 0).is_err());
+    assert!(rt; disk.remove(SEGMENT).is_err());
+    fs::remove_dir(&rt, in_the_way.as_str())?;
+    assert!(rt; disk.len(SEGMENT)? == 0);
+    disk.write_at(SEGMENT, 0, b"x")?;
+    disk.sync(SEGMENT)?;
+    assert!(rt; disk.list()?.len() == 1);
+    assert!(rt; disk.faults() == 3);
+    drop(disk);
     fs::remove_dir_all(&rt, path.as_str())?;
     Ok(())
 }

@@ -1,6 +1,6 @@
 use Rattle.std.proofs.Common.{[]}
 use Rattle.archive_tool.proofs.tests.folders.disk_of.Given as goal
 
--- no clause here says what the folder held
+-- no clause here rests on what the folder holds
 abbrev pub ghost-open : goal.ghost-open
-ghost-open a = []
+ghost-open a = record { held = []; left = [] }
