@@ -4,3 +4,4 @@ pub mod ReadLemmas
 pub mod RecordWalks
 pub mod NameLemmas
 pub mod MarkLemmas
+pub mod FaultLemmas

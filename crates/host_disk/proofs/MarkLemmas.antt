@@ -1,5 +1,5 @@
 -- What is written or cut stays held, and marked so, until it is synced or removed.
-use Rattle.std.proofs.Common.{◌≡◌, ◌≢◌, ℕ, true, List, ◌∷◌, inl, inr, Some, slice_get, Result, Ok, Err, MatchResult, sym, subst, refl}
+use Rattle.std.proofs.Common.{◌≡◌, ℕ, true, List, ◌∷◌, inl, inr, Some, slice_get, Result, Ok, Err, MatchResult, sym, subst}
 use Rattle.std.specs.Result.{is_ok}
 use Rattle.std.proofs.lemmas.Option.{get_or_from_slice_get}
 use Rattle.disk_core.specs.declared.file_id.FileId.{FileId}
@@ -7,7 +7,6 @@ use Rattle.disk_core.specs.declared.file_id.FileId.TheVariants.{BankA}
 use Rattle.host_disk.specs.declared.open_files.OpenFiles.{OpenFiles}
 use Rattle.host_disk.specs.Events.{Event, touched, wrote, write_failed, cut, cut_failed, gone, flushed, flush_failed}
 use Rattle.host_disk.specs.OpenFiles.{held, file_at, IsMarked, KeepsMarks, KeepsOtherMarks, HoldsUnsynced}
-use Rattle.host_disk.specs.Paths.{path_in}
 
 -- the file of a place, told by what stands there after a mark was set
 pub file_of_place : (old new : OpenFiles) (place : ℕ) (file : FileId) → held new ≡ held old → slice_get (held new) place ≡ Some file → file_at old place ≡ file

@@ -1,5 +1,5 @@
 -- Numbers in the names of files.
-use Rattle.std.proofs.Common.{negsuc, codes, get_or, append_assoc, ◌≡◌, ℕ, ◌+◌, ◌<◌, ◌≤◌, ◌^◌, Bool, true, false, cond, not, List, [], ◌∷◌, ◌++◌, length, take, drop, Option, Some, None, IsSomeAnd, MatchOption, Bor, ℤ, Result, Ok, pos, w64, refl, sym, ap, ◌∙◌, subst, arith, rules, eq-eqb, ne_eqb, length-append, to_z, of_z}
+use Rattle.std.proofs.Common.{negsuc, codes, get_or, append_assoc, ◌≡◌, ℕ, ◌+◌, ◌<◌, ◌≤◌, ◌^◌, Bool, true, false, cond, not, List, [], ◌∷◌, ◌++◌, length, take, drop, Some, ℤ, Result, Ok, pos, w64, refl, sym, ap, ◌∙◌, subst, arith, rules, eq-eqb, ne_eqb, length-append, to_z, of_z}
 use lib.Dec.{eqb}
 use Rattle.std.proofs.lemmas.Bool.Decides.{nat_tests}
 use lib.Signed.{le_z}

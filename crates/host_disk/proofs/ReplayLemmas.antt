@@ -1,5 +1,5 @@
 -- What calls make of the files of a folder.
-use Rattle.std.proofs.Common.{◌≡◌, ◌≢◌, inl, inr, ℕ, zero, suc, ◌+◌, ◌<◌, ◌≤◌, max, Bool, true, false, not, ◌&&◌, ◌||◌, if◌then◌else◌, List, [], ◌∷◌, map, length, take, drop, length-take, Option, Some, None, option_map, is_some, IsSome, IsTrue, Result, Ok, Err, IfOk, MatchResult, Vec, Ordering, sym, ap, ◌∙◌, subst, refl, arith}
+use Rattle.std.proofs.Common.{◌≡◌, ◌≢◌, inl, inr, ℕ, zero, suc, ◌+◌, ◌≤◌, max, Bool, true, false, not, ◌&&◌, ◌||◌, if◌then◌else◌, List, [], ◌∷◌, map, length, take, drop, length-take, Option, Some, None, option_map, is_some, IsSome, IsTrue, Result, Ok, Err, IfOk, MatchResult, Vec, Ordering, sym, ap, ◌∙◌, subst, refl, arith}
 use Rattle.std.specs.Ordering.{is_eq}
 use Rattle.std.specs.List.{list_all}
 use Rattle.std.specs.List.Sorted.{IsStrictlySortedBy}
@@ -9,7 +9,7 @@ use Rattle.disk_core.specs.declared.file_id.FileId.{FileId}
 use Rattle.disk_core.specs.declared.fault.ListFault.{ListFault}
 use Rattle.disk_core.specs.FileNames.{file_cmp, AreFilesWith}
 use Rattle.disk_core.specs.DiskImage.{FileState, Files, bytes_of, reads}
-use Rattle.disk_core.specs.Calls.{overwritten, write_to, cut_to, removed, synced, IsWritten, IsCut, IsRemoved}
+use Rattle.disk_core.specs.Calls.{overwritten, write_to, cut_to, removed, synced, IsWritten, IsCut}
 use Rattle.disk_core.specs.Life.{Steps}
 use Rattle.disk_core.proofs.CallerLemmas.{equal_files, file_cmp_self, write_is_written, length_overwritten, overwritten_no_shorter, overwritten_below, overwritten_above}
 use Rattle.disk_core.proofs.DiskLemmas.{in_list}

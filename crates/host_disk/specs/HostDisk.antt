@@ -1,5 +1,5 @@
 -- What a disk over a real folder shows.
-use Rattle.std.specs.Prelude.{◌≡◌, true, [], List}
+use Rattle.std.specs.Prelude.{◌≡◌, true, []}
 use Rattle.disk_core.specs.DiskImage.{begun}
 use Rattle.disk_core.specs.Life.{Life}
 use Rattle.host_disk.specs.declared.folder_disk.FolderDisk.{FolderDisk}

@@ -8,12 +8,13 @@ use Rattle.host_disk.specs.declared.host_folder.Place.TheVariants.{At, Nowhere}
 use Rattle.host_disk.specs.Events.{Event}
 use Rattle.host_disk.specs.declared.open_files.OpenFiles.{OpenFiles}
 use Rattle.host_disk.specs.Names.{path_of}
+use Rattle.host_disk.specs.NotesOf.{noted}
 use Rattle.host_disk.specs.OpenFiles.{held}
 use Rattle.host_disk.specs.Unsynced.{calls_of}
 
 -- what was noted so far, the newest first
 abbrev pub notes_of : HostFolder → List Event
-notes_of folder = folder.record.events
+notes_of folder = noted folder.notes
 
 -- each call so far with its answer, the newest first
 abbrev pub events_of : HostFolder → List Event

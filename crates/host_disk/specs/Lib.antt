@@ -10,6 +10,7 @@ pub mod HostDisk
 pub mod Noted
 pub mod EventCodes
 pub mod Places
+pub mod NotesOf
 pub mod Names
 pub mod Unsynced
 pub mod Paths

@@ -1,6 +1,6 @@
 -- Under which path a folder is worked in.
 use Rattle.std.specs.Prelude.{ℕ, List, [], ◌∷◌}
-use Rattle.host_disk.specs.Events.{Event, opened, locked, measured, measure_failed, asked, gave, read_failed, touched, wrote, write_failed, cut, cut_failed, gone, remove_failed, flushed, flush_failed, listed, list_failed, refused}
+use Rattle.host_disk.specs.Events.{Event, locked}
 
 -- the path of the folder that a call has locked
 abbrev pub path_by : Event → List ℕ → List ℕ

@@ -1,7 +1,7 @@
 -- Which files have bytes that a crash may take, of those that an open file was written or cut by.
 use Rattle.std.specs.Prelude.{◌≡◌, ◌≢◌, ◌⊎◌, List, [], ◌∷◌}
 use Rattle.disk_core.specs.declared.file_id.FileId.{FileId}
-use Rattle.host_disk.specs.Events.{Event, opened, locked, measured, measure_failed, asked, gave, read_failed, touched, wrote, write_failed, cut, cut_failed, gone, remove_failed, flushed, flush_failed, listed, list_failed, refused}
+use Rattle.host_disk.specs.Events.{Event, touched, gone, flushed}
 
 -- the calls of the folder with their answers: that a file is to be written or cut is no call
 abbrev pub calls_of : List Event → List Event

@@ -1,5 +1,5 @@
 -- The files that a record gives are well formed (the proof of `reads_may_stay` has to stand here).
-use Rattle.std.specs.Prelude.{ℕ, zero, suc, ◌≤◌, max, List, [], ◌∷◌, length, take, drop, Option, None, Some}
+use Rattle.std.specs.Prelude.{ℕ, zero, suc, max, List, [], ◌∷◌, length, take, drop, Option, None, Some}
 use Rattle.std.proofs.Common.{refl, arith}
 use Rattle.std.specs.Ordering.{is_eq}
 use Rattle.disk_core.specs.declared.file_id.FileId.{FileId}

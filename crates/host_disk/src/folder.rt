@@ -23,7 +23,7 @@ pub trait Folder {
         ensures within { IfOk result (λ n. n ≤ length into.old) }
         ensures noted { MatchResult result
             (λ n. events self.new ≡ gave file at n into.new ∷ asked into.old ∷ events self.old)
-            (λ _. events self.new ≡ read_failed file at ∷ events self.old) };
+            (λ _. events self.new ≡ read_failed file at ∷ asked into.old ∷ events self.old) };
 
     /// Writes all of the bytes at an offset.
     fn write(&mut self, file: FileId, at: u64, bytes: &[u8]) -> Result<(), Fault>

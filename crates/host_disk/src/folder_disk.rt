@@ -65,6 +65,13 @@ impl<F: Folder> FolderDisk<F> {
         }
     }
 
+    /// Its folder.
+    pub fn folder(&self) -> &F
+        ensures { result.now ≡ folder_of self.now }
+    {
+        &self.folder
+    }
+
     /// No file was asked for anything once a sync of it had failed.
     pub fn asks_no_lost_file(&self)
         ensures { is_careful (F.Folder.events (folder_of self.now)) ≡ true }

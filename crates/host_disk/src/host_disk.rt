@@ -1,8 +1,8 @@
 //! A disk over a real folder.
-ghost use Rattle.std.specs.Prelude.{IfOk};
+ghost use Rattle.std.specs.Prelude.{◌<◌, IfOk, IsSome};
 ghost use Rattle.host_disk.specs.Events.{Given};
 
-use crate::{FolderDisk, HostFolder, OpenFault};
+use crate::{FolderDisk, HostFolder, LastFault, OpenFault};
 use std::alloc::Global;
 use std::path::Path;
 
@@ -10,6 +10,7 @@ use std::path::Path;
 pub type HostDisk = FolderDisk<HostFolder>;
 
 impl FolderDisk<HostFolder> {
+    ghost use Rattle.host_disk.specs.FolderDisk.{faults_of};
     ghost use Rattle.host_disk.specs.HostDisk.{IsBegun};
 
     /// Opens a folder as a disk, and locks it. Whatever files the folder holds, and whatever calls that fail
@@ -21,6 +22,13 @@ impl FolderDisk<HostFolder> {
         ensures begun { IfOk result (IsBegun given) }
     {
         Ok(FolderDisk::new(HostFolder::open(rt, alloc, path)?))
+    }
+
+    /// The last fault, if there was one: its call, its file and what the system told of it.
+    pub fn last_fault(&self) -> Option<LastFault>
+        ensures { 0 < faults_of self.now → IsSome result }
+    {
+        self.folder().last_fault()
     }
 }
 

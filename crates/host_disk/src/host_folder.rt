@@ -1,14 +1,16 @@
 //! A real folder, with the files that are open in it.
-ghost use Rattle.std.specs.Prelude.{◌≡◌, [], ◌∷◌, List, ℕ, MatchResult, IfOk, OnOk, OnErr};
+ghost use Rattle.std.specs.Prelude.{◌≡◌, ◌<◌, [], ◌∷◌, List, ℕ, MatchResult, IfOk, IsSome, OnOk, OnErr};
 ghost use Rattle.std.specs.List.{Contains};
 ghost use Rattle.host_disk.specs.Events.{Given, opened, locked, gone, remove_failed};
+ghost use Rattle.host_disk.specs.Faults.{failures};
 ghost use Rattle.host_disk.specs.Names.{path_of};
+ghost use Rattle.host_disk.specs.NotesOf.{noted};
 ghost use Rattle.host_disk.specs.OpenFiles.{IsFull, held, HoldsUnsynced};
 ghost use Rattle.host_disk.specs.Paths.{path_in};
 
 use crate::open_files::OpenFiles;
-use crate::system::{Absent, Failure, Found, Names, OpenFile, Record, list_files, open_file};
-use crate::{Folder, OpenFault};
+use crate::system::{Absent, Found, Names, Notes, OpenFile, list_files, open_file};
+use crate::{FailedCall, Folder, LastFault, OpenFault};
 use disk_core::{Fault, FileId, ListFault};
 use std::alloc::Global;
 use std::fmt::Write;
@@ -27,11 +29,11 @@ pub struct HostFolder {
     // The path of the file that a call is about.
     path: String,
     open_files: OpenFiles,
-    record: Record,
+    notes: Notes,
     // The folder that is worked in is the one that was locked.
-    ghost kept: { path_of names ≡ path_in record.events },
+    ghost kept: { path_of names ≡ path_in (noted notes) },
     // A file that is not held open, or not marked, was not written or cut since its last sync.
-    ghost marked: { HoldsUnsynced open_files record.events },
+    ghost marked: { HoldsUnsynced open_files (noted notes) },
 }
 
 // Where a file was found: among the open ones, or nowhere.
@@ -61,8 +63,15 @@ impl HostFolder {
             names,
             path,
             open_files,
-            record: notes,
+            notes,
         })
+    }
+
+    /// The last call that failed, if one has, and what the system told of it.
+    pub fn last_fault(&self) -> Option<LastFault>
+        ensures { 0 < failures (events_of self.now) → IsSome result }
+    {
+        self.notes.last()
     }
 
     /// Lets `path` name a file.
@@ -129,12 +138,11 @@ impl HostFolder {
             (λ _. notes_of self.new ≡ remove_failed file ∷ notes_of self.old) }
         ensures closed { OnOk result (¬ Contains (held (open_files_of self.new)) file) }
     {
-        if self.name(file).is_err() {
-            self.record.fail(Failure::Remove(file));
-            return Err(Fault);
+        if let Err(error) = self.name(file) {
+            return Err(self.notes.fail(FailedCall::Remove(file), error));
         }
         self.names
-            .remove(&self.rt, file, self.path.as_str(), &mut self.record)?;
+            .remove(&self.rt, file, self.path.as_str(), &mut self.notes)?;
         self.open_files.close(file);
         Ok(())
     }
@@ -147,49 +155,44 @@ impl Folder for HostFolder {
 
     fn len(&mut self, file: FileId) -> Result<u64, Fault> {
         match self.find(file) {
-            Ok(Place::At(place)) => self.open_files.at(place).len(&mut self.record),
-            Ok(Place::Nowhere(absent)) => Ok(absent.len(&mut self.record)),
-            Err(_) => {
-                self.record.fail(Failure::Measure(file));
-                Err(Fault)
-            }
+            Ok(Place::At(place)) => self.open_files.at(place).len(&mut self.notes),
+            Ok(Place::Nowhere(absent)) => Ok(absent.len(&mut self.notes)),
+            Err(error) => Err(self.notes.fail(FailedCall::Measure(file), error)),
         }
     }
 
     fn read_some(&mut self, file: FileId, at: u64, into: &mut [u8]) -> Result<usize, Fault> {
+        self.notes.ask(into);
         match self.find(file) {
-            Ok(Place::At(place)) => self.open_files.at(place).read(&mut self.record, at, into),
-            Ok(Place::Nowhere(absent)) => Ok(absent.read(&mut self.record, at, into)),
-            Err(_) => {
-                self.record.fail(Failure::Read(file, at));
-                Err(Fault)
-            }
+            Ok(Place::At(place)) => self.open_files.at(place).read(&mut self.notes, at, into),
+            Ok(Place::Nowhere(absent)) => Ok(absent.read(&mut self.notes, at, into)),
+            Err(error) => Err(self.notes.fail(FailedCall::Read(file, at), error)),
         }
     }
 
     fn write(&mut self, file: FileId, at: u64, bytes: &[u8]) -> Result<(), Fault> {
-        let Ok(place) = self.find_or_make(file) else {
-            self.record.fail(Failure::Write(file, at, bytes.len()));
-            return Err(Fault);
+        let place = match self.find_or_make(file) {
+            Ok(place) => place,
+            Err(error) => {
+                let call = FailedCall::Write(file, at, bytes.len());
+                return Err(self.notes.fail(call, error));
+            }
         };
         self.open_files.mark(place, true);
-        self.open_files.at(place).write(&mut self.record, at, bytes)
+        self.open_files.at(place).write(&mut self.notes, at, bytes)
     }
 
     fn cut(&mut self, file: FileId, len: u64) -> Result<(), Fault> {
         match self.find(file) {
             Ok(Place::At(place)) => {
                 self.open_files.mark(place, true);
-                self.open_files.at(place).cut(&mut self.record, len)
+                self.open_files.at(place).cut(&mut self.notes, len)
             }
             Ok(Place::Nowhere(absent)) => {
-                absent.cut(&mut self.record, len);
+                absent.cut(&mut self.notes, len);
                 Ok(())
             }
-            Err(_) => {
-                self.record.fail(Failure::Cut(file, len));
-                Err(Fault)
-            }
+            Err(error) => Err(self.notes.fail(FailedCall::Cut(file, len), error)),
         }
     }
 
@@ -203,25 +206,22 @@ impl Folder for HostFolder {
                 let answer = self
                     .open_files
                     .at(place)
-                    .sync(&mut self.record, &mut self.names);
+                    .sync(&mut self.notes, &mut self.names);
                 if answer.is_ok() {
                     self.open_files.mark(place, false);
                 }
                 answer
             }
-            Ok(Place::Nowhere(absent)) => absent.sync(&mut self.record, &mut self.names),
-            Err(_) => {
-                self.record.fail(Failure::Sync(file));
-                Err(Fault)
-            }
+            Ok(Place::Nowhere(absent)) => absent.sync(&mut self.notes, &mut self.names),
+            Err(error) => Err(self.notes.fail(FailedCall::Sync(file), error)),
         }
     }
 
     fn list(&mut self) -> Result<Vec<FileId>, ListFault> {
-        list_files(&self.rt, &self.names, self.alloc, &mut self.record)
+        list_files(&self.rt, &self.names, self.alloc, &mut self.notes)
     }
 
     fn refuse(&mut self, file: FileId, at: u64, done: usize) {
-        self.record.fail(Failure::Refused(file, at, done));
+        self.notes.refuse(file, at, done);
     }
 }

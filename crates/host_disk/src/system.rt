@@ -9,18 +9,20 @@ ghost use Rattle.std.specs.Prelude.{◌≡◌, ◌≤◌, ◌++◌, [], ◌∷�
 ghost use Rattle.std.specs.List.Sorted.{IsStrictlySortedBy};
 ghost use Rattle.disk_core.specs.FileNames.{file_cmp, name_of};
 ghost use Rattle.host_disk.specs.Names.{path_of};
+ghost use Rattle.host_disk.specs.NotesOf.{noted};
 ghost use Rattle.host_disk.specs.Places.{IsFoundOf};
 ghost use Rattle.host_disk.specs.Events.{Given, opened, locked, measured, measure_failed, asked, gave, read_failed, touched, wrote, write_failed, cut, cut_failed, gone, remove_failed, flushed, flush_failed, listed};
 ghost use Rattle.host_disk.specs.Faults.{after_list_fault};
 
+mod notes;
 mod record;
 
-use crate::OpenFault;
 use crate::file_names::file_named;
+use crate::{FailedCall, OpenFault};
 use disk_core::{Fault, FileId, ListFault};
+pub(crate) use notes::Notes;
 use record::Note;
-pub(crate) use record::{Failure, Record};
-use std::alloc::{AllocError, Global};
+use std::alloc::Global;
 use std::collections::BTreeSet;
 use std::fs::{self, DirEntry, File, Metadata, OpenOptions};
 use std::io;
@@ -71,14 +73,15 @@ impl Names {
         rt: &HostRuntime,
         alloc: Global,
         path: Path<'_>,
-    ) -> Result<(Names, Record), OpenFault>
+    ) -> Result<(Names, Notes), OpenFault>
         ghost given: { Given }
-        ensures { IfOk result (λ begun. begun.1.events ≡ locked (path_of begun.0) ∷ opened given ∷ []) }
+        ensures { IfOk result (λ begun. noted begun.1 ≡ locked (path_of begun.0) ∷ opened given ∷ []) }
     {
         let real = fs::canonicalize(rt, path).map_err(|_| OpenFault::Device)?;
         let path = format!(in alloc; "{}/", real.display()).map_err(|_| OpenFault::NoMemory)?;
         let folder = locked_folder(rt, real.as_path())?;
-        let notes = Record::begin().then(&Note::Locked(path.as_bytes()));
+        let mut notes = Notes::begin();
+        notes.add(&Note::Locked(path.as_bytes()));
         let names = Names {
             folder,
             path,
@@ -137,20 +140,19 @@ impl Names {
         rt: &HostRuntime,
         file: FileId,
         path: &str,
-        notes: &mut Record,
+        notes: &mut Notes,
     ) -> Result<(), Fault>
         requires { path.now ≡ path_of self.old ++ name_of file }
         ensures noted { MatchResult result
-            (λ _. notes.new.events ≡ gone file ∷ notes.old.events)
-            (λ _. notes.new.events ≡ remove_failed file ∷ notes.old.events) }
+            (λ _. noted notes.new ≡ gone file ∷ noted notes.old)
+            (λ _. noted notes.new ≡ remove_failed file ∷ noted notes.old) }
         ensures path { path_of self.new ≡ path_of self.old }
     {
         self.are_new = true;
-        if remove_file(rt, path).is_err() {
-            notes.fail(Failure::Remove(file));
-            return Err(Fault);
+        if let Err(error) = remove_file(rt, path) {
+            return Err(notes.fail(FailedCall::Remove(file), error));
         }
-        *notes = notes.then(&Note::Removed(file));
+        notes.add(&Note::Removed(file));
         Ok(())
     }
 }
@@ -218,66 +220,62 @@ impl OpenFile {
     ghost use Rattle.host_disk.specs.Names.{path_of};
 
     /// The file's length.
-    pub(crate) fn len(&self, notes: &mut Record) -> Result<u64, Fault>
+    pub(crate) fn len(&self, notes: &mut Notes) -> Result<u64, Fault>
         ensures { MatchResult result
-            (λ n. notes.new.events ≡ measured self.now.file n ∷ notes.old.events)
-            (λ _. notes.new.events ≡ measure_failed self.now.file ∷ notes.old.events) }
+            (λ n. noted notes.new ≡ measured self.now.file n ∷ noted notes.old)
+            (λ _. noted notes.new ≡ measure_failed self.now.file ∷ noted notes.old) }
     {
-        let Ok(found) = self.handle.metadata() else {
-            notes.fail(Failure::Measure(self.file));
-            return Err(Fault);
+        let len = match self.handle.metadata() {
+            Ok(found) => found.len(),
+            Err(error) => return Err(notes.fail(FailedCall::Measure(self.file), error)),
         };
-        let len = found.len();
-        *notes = notes.then(&Note::Measured(self.file, len));
+        notes.add(&Note::Measured(self.file, len));
         Ok(len)
     }
 
     /// Reads once from an offset, and answers how many bytes came: none only at the end.
-    pub(crate) fn read(&self, notes: &mut Record, at: u64, into: &mut [u8]) -> Result<usize, Fault>
+    pub(crate) fn read(&self, notes: &mut Notes, at: u64, into: &mut [u8]) -> Result<usize, Fault>
         ensures within { IfOk result (λ n. n ≤ length into.old) }
         ensures noted { MatchResult result
-            (λ n. notes.new.events ≡ gave self.now.file at n into.new ∷ asked into.old ∷ notes.old.events)
-            (λ _. notes.new.events ≡ read_failed self.now.file at ∷ notes.old.events) }
+            (λ n. noted notes.new ≡ gave self.now.file at n into.new ∷ noted notes.old)
+            (λ _. noted notes.new ≡ read_failed self.now.file at ∷ noted notes.old) }
     {
-        let asked = notes.then(&Note::Asked(into));
-        let Ok(count) = self.handle.read_at(into, at) else {
-            notes.fail(Failure::Read(self.file, at));
-            return Err(Fault);
+        let count = match self.handle.read_at(into, at) {
+            Ok(count) => count,
+            Err(error) => return Err(notes.fail(FailedCall::Read(self.file, at), error)),
         };
-        *notes = asked.then(&Note::Gave(self.file, at, count, into));
+        notes.add(&Note::Gave(self.file, at, count, into));
         Ok(count)
     }
 
     /// Writes all of the bytes at an offset, of a file that is marked as unsynced.
-    pub(crate) fn write(&self, notes: &mut Record, at: u64, bytes: &[u8]) -> Result<(), Fault>
+    pub(crate) fn write(&self, notes: &mut Notes, at: u64, bytes: &[u8]) -> Result<(), Fault>
         requires marked { IsTrue self.now.is_unsynced }
         ensures { MatchResult result
-            (λ _. notes.new.events ≡ wrote self.now.file at bytes.now ∷ touched self.now.file ∷ notes.old.events)
-            (λ _. notes.new.events
-            ≡ write_failed self.now.file at (length bytes.now) ∷ touched self.now.file ∷ notes.old.events) }
+            (λ _. noted notes.new ≡ wrote self.now.file at bytes.now ∷ touched self.now.file ∷ noted notes.old)
+            (λ _. noted notes.new
+            ≡ write_failed self.now.file at (length bytes.now) ∷ touched self.now.file ∷ noted notes.old) }
     {
-        *notes = notes.then(&Note::Touched(self.file));
-        if self.handle.write_all_at(bytes, at).is_err() {
-            notes.fail(Failure::Write(self.file, at, bytes.len()));
-            return Err(Fault);
+        notes.add(&Note::Touched(self.file));
+        if let Err(error) = self.handle.write_all_at(bytes, at) {
+            return Err(notes.fail(FailedCall::Write(self.file, at, bytes.len()), error));
         }
-        *notes = notes.then(&Note::Wrote(self.file, at, bytes));
+        notes.add(&Note::Wrote(self.file, at, bytes));
         Ok(())
     }
 
     /// Cuts the file to a length, where it is longer. It is marked as unsynced.
-    pub(crate) fn cut(&self, notes: &mut Record, len: u64) -> Result<(), Fault>
+    pub(crate) fn cut(&self, notes: &mut Notes, len: u64) -> Result<(), Fault>
         requires marked { IsTrue self.now.is_unsynced }
         ensures { MatchResult result
-            (λ _. notes.new.events ≡ cut self.now.file len ∷ touched self.now.file ∷ notes.old.events)
-            (λ _. notes.new.events ≡ cut_failed self.now.file len ∷ touched self.now.file ∷ notes.old.events) }
+            (λ _. noted notes.new ≡ cut self.now.file len ∷ touched self.now.file ∷ noted notes.old)
+            (λ _. noted notes.new ≡ cut_failed self.now.file len ∷ touched self.now.file ∷ noted notes.old) }
     {
-        *notes = notes.then(&Note::Touched(self.file));
-        if self.shorten(len).is_err() {
-            notes.fail(Failure::Cut(self.file, len));
-            return Err(Fault);
+        notes.add(&Note::Touched(self.file));
+        if let Err(error) = self.shorten(len) {
+            return Err(notes.fail(FailedCall::Cut(self.file, len), error));
         }
-        *notes = notes.then(&Note::Cut(self.file, len));
+        notes.add(&Note::Cut(self.file, len));
         Ok(())
     }
 
@@ -289,17 +287,19 @@ impl OpenFile {
     }
 
     /// Syncs the file, and the folder where a name came or went.
-    pub(crate) fn sync(&self, notes: &mut Record, names: &mut Names) -> Result<(), Fault>
+    pub(crate) fn sync(&self, notes: &mut Notes, names: &mut Names) -> Result<(), Fault>
         ensures noted { MatchResult result
-            (λ _. notes.new.events ≡ flushed self.now.file ∷ notes.old.events)
-            (λ _. notes.new.events ≡ flush_failed self.now.file ∷ notes.old.events) }
+            (λ _. noted notes.new ≡ flushed self.now.file ∷ noted notes.old)
+            (λ _. noted notes.new ≡ flush_failed self.now.file ∷ noted notes.old) }
         ensures path { path_of names.new ≡ path_of names.old }
     {
-        if self.handle.sync_data().is_err() || names.sync().is_err() {
-            notes.fail(Failure::Sync(self.file));
-            return Err(Fault);
+        if let Err(error) = self.handle.sync_data() {
+            return Err(notes.fail(FailedCall::Sync(self.file), error));
         }
-        *notes = notes.then(&Note::Synced(self.file));
+        if let Err(error) = names.sync() {
+            return Err(notes.fail(FailedCall::Sync(self.file), error));
+        }
+        notes.add(&Note::Synced(self.file));
         Ok(())
     }
 }
@@ -308,42 +308,40 @@ impl Absent {
     ghost use Rattle.host_disk.specs.Names.{path_of};
 
     /// The length of an absent file.
-    pub(crate) fn len(&self, notes: &mut Record) -> u64
-        ensures { notes.new.events ≡ measured self.now.file result ∷ notes.old.events }
+    pub(crate) fn len(&self, notes: &mut Notes) -> u64
+        ensures { noted notes.new ≡ measured self.now.file result ∷ noted notes.old }
     {
-        *notes = notes.then(&Note::Measured(self.file, 0));
+        notes.add(&Note::Measured(self.file, 0));
         0
     }
 
     /// Reads nothing of an absent file.
-    pub(crate) fn read(&self, notes: &mut Record, at: u64, into: &[u8]) -> usize
+    pub(crate) fn read(&self, notes: &mut Notes, at: u64, into: &[u8]) -> usize
         ensures within { result ≤ length into.now }
-        ensures noted { notes.new.events ≡ gave self.now.file at result into.now ∷ asked into.now ∷ notes.old.events }
+        ensures noted { noted notes.new ≡ gave self.now.file at result into.now ∷ noted notes.old }
     {
-        *notes = notes.then(&Note::Asked(into));
-        *notes = notes.then(&Note::Gave(self.file, at, 0, into));
+        notes.add(&Note::Gave(self.file, at, 0, into));
         0
     }
 
     /// Cuts nothing of an absent file.
-    pub(crate) fn cut(&self, notes: &mut Record, len: u64)
-        ensures { notes.new.events ≡ cut self.now.file len ∷ notes.old.events }
+    pub(crate) fn cut(&self, notes: &mut Notes, len: u64)
+        ensures { noted notes.new ≡ cut self.now.file len ∷ noted notes.old }
     {
-        *notes = notes.then(&Note::Cut(self.file, len));
+        notes.add(&Note::Cut(self.file, len));
     }
 
     /// Syncs the folder where a name came or went, so that the file stays absent.
-    pub(crate) fn sync(&self, notes: &mut Record, names: &mut Names) -> Result<(), Fault>
+    pub(crate) fn sync(&self, notes: &mut Notes, names: &mut Names) -> Result<(), Fault>
         ensures noted { MatchResult result
-            (λ _. notes.new.events ≡ flushed self.now.file ∷ notes.old.events)
-            (λ _. notes.new.events ≡ flush_failed self.now.file ∷ notes.old.events) }
+            (λ _. noted notes.new ≡ flushed self.now.file ∷ noted notes.old)
+            (λ _. noted notes.new ≡ flush_failed self.now.file ∷ noted notes.old) }
         ensures path { path_of names.new ≡ path_of names.old }
     {
-        if names.sync().is_err() {
-            notes.fail(Failure::Sync(self.file));
-            return Err(Fault);
+        if let Err(error) = names.sync() {
+            return Err(notes.fail(FailedCall::Sync(self.file), error));
         }
-        *notes = notes.then(&Note::Synced(self.file));
+        notes.add(&Note::Synced(self.file));
         Ok(())
     }
 }
@@ -353,31 +351,35 @@ pub(crate) fn list_files(
     rt: &HostRuntime,
     names: &Names,
     alloc: Global,
-    notes: &mut Record,
+    notes: &mut Notes,
 ) -> Result<Vec<FileId>, ListFault>
     ensures in_order { IfOk result (λ files. IsStrictlySortedBy file_cmp files.items) }
     ensures noted { MatchResult result
-        (λ files. notes.new.events ≡ listed files.items ∷ notes.old.events)
-        (λ fault. notes.new.events ≡ after_list_fault fault notes.old.events) }
+        (λ files. noted notes.new ≡ listed files.items ∷ noted notes.old)
+        (λ fault. noted notes.new ≡ after_list_fault fault (noted notes.old)) }
 {
-    let answer = names_in(rt, alloc, names.path());
-    match &answer {
-        Ok(files) => *notes = notes.then(&Note::Listed(files)),
-        Err(ListFault::Device) => notes.fail(Failure::List),
-        Err(ListFault::NoMemory) => {}
+    match names_in(rt, alloc, names.path()) {
+        Ok(files) => {
+            notes.add(&Note::Listed(&files));
+            Ok(files)
+        }
+        Err(error) if error.kind() == io::ErrorKind::OutOfMemory => Err(ListFault::NoMemory),
+        Err(error) => {
+            let Fault = notes.fail(FailedCall::List, error);
+            Err(ListFault::Device)
+        }
     }
-    answer
 }
 
 /// The files of a folder, in order.
-fn names_in(rt: &HostRuntime, alloc: Global, folder: &str) -> Result<Vec<FileId>, ListFault>
+fn names_in(rt: &HostRuntime, alloc: Global, folder: &str) -> io::Result<Vec<FileId>>
     ensures { IfOk result (λ files. IsStrictlySortedBy file_cmp files.items) }
 {
     let mut found = BTreeSet::new(alloc);
-    for entry in fs::read_dir(rt, folder).map_err(list_fault)? {
+    for entry in fs::read_dir(rt, folder)? {
         if let Some(file) = listed_file(alloc, entry)? {
             if found.insert(file).is_err() {
-                return Err(ListFault::NoMemory);
+                return Err(io::ErrorKind::OutOfMemory.into());
             }
         }
     }
@@ -388,37 +390,23 @@ fn names_in(rt: &HostRuntime, alloc: Global, folder: &str) -> Result<Vec<FileId>
 fn listed_file(
     alloc: Global,
     entry: io::Result<DirEntry<HostRuntime>>,
-) -> Result<Option<FileId>, ListFault> {
+) -> io::Result<Option<FileId>> {
     let entry = match entry {
         Ok(entry) => entry,
         // A name that is no UTF-8 is no file's.
         Err(error) if error.kind() == io::ErrorKind::InvalidFilename => return Ok(None),
-        Err(error) => return Err(list_fault(error)),
+        Err(error) => return Err(error),
     };
-    let named = file_named(alloc, entry.file_name()).map_err(|_| ListFault::NoMemory)?;
-    if named.is_none() {
-        return Ok(None);
-    }
-    match entry.file_type() {
-        Ok(kind) if kind.is_file() => Ok(named),
-        _ => Err(ListFault::Device),
-    }
-}
-
-fn list_fault(error: io::Error) -> ListFault {
-    if error.kind() == io::ErrorKind::OutOfMemory {
-        ListFault::NoMemory
+    let named = file_named(alloc, entry.file_name())?;
+    if named.is_none() || entry.file_type()?.is_file() {
+        Ok(named)
     } else {
-        ListFault::Device
+        Err(io::ErrorKind::Unsupported.into())
     }
 }
 
-fn in_order(alloc: Global, files: &BTreeSet<FileId>) -> Result<Vec<FileId>, ListFault>
+fn in_order(alloc: Global, files: &BTreeSet<FileId>) -> io::Result<Vec<FileId>>
     ensures { IfOk result (λ files. IsStrictlySortedBy file_cmp files.items) }
 {
-    files
-        .iter()
-        .copied()
-        .collect(alloc)
-        .map_err(|_| ListFault::NoMemory)
+    Ok(files.iter().copied().collect(alloc)?)
 }

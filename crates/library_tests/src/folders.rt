@@ -194,6 +194,23 @@ fn reading_goes_on_after_a_failed_write(rt: HostRuntime) -> Result<(), Fail> {
 }
 
 #[test]
+fn the_last_fault_is_kept(rt: HostRuntime) -> Result<(), Fail> {
+    let path = scratch(rt, "fault")?;
+    let mut disk = opened(&rt, rt, path.as_str());
+    assert!(rt; disk.last_fault().is_none());
+    fs::create_dir(&rt, within(rt, path.as_str(), "3-131072.rec")?.as_str())?;
+    assert!(rt; disk.write_at(SEGMENT, 0, b"x").is_err());
+    let Some(fault) = disk.last_fault() else {
+        return Err(Fail::new("no fault"));
+    };
+    let told = format!(in rt.alloc(); "{fault}")?;
+    assert!(rt; told.as_str() == "write 3-131072.rec: unsupported");
+    drop(disk);
+    fs::remove_dir_all(&rt, path.as_str())?;
+    Ok(())
+}
+
+#[test]
 fn no_unsynced_file_is_closed_to_make_room(rt: HostRuntime) -> Result<(), Fail> {
     let path = scratch(rt, "room")?;
     let mut disk = opened(&rt, rt, path.as_str());

@@ -1,5 +1,4 @@
-use Rattle.std.proofs.Common.{◌≡◌, ℕ, ℤ, pos, Some, None, Option, w64, to_z, of_z, sym, ap, ◌∙◌, arith}
-use Rattle.std.specs.Fmt.{decimal}
+use Rattle.std.proofs.Common.{◌≡◌, ℤ, pos, w64, to_z, of_z, sym, ap, ◌∙◌, arith}
 use Rattle.host_disk.proofs.NameLemmas.{count_cut, kept_count}
 use Rattle.host_disk.proofs.file_names.count_before.Goals as goal
 

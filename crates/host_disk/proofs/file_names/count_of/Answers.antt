@@ -1,4 +1,4 @@
-use Rattle.std.proofs.Common.{rules, ◌≡◌, ℕ, ℤ, pos, Some, w64, to_z, of_z, ap, ◌∙◌}
+use Rattle.std.proofs.Common.{◌≡◌, ℤ, pos, Some, w64, to_z, of_z, ap, ◌∙◌}
 use Rattle.host_disk.proofs.NameLemmas.{count_read, kept_count, is_count}
 use Rattle.host_disk.proofs.file_names.count_of.Goals as goal
 

@@ -1,4 +1,4 @@
-use Rattle.std.proofs.Common.{rules, ◌∙◌}
+use Rattle.std.proofs.Common.{◌∙◌}
 use Rattle.host_disk.proofs.NameLemmas.{only_bank_a, only_bank_b}
 use Rattle.host_disk.proofs.file_names.file_like.Goals as goal
 

@@ -11,5 +11,5 @@ invariant_of-self-2 c =
     let old = c.name.new.self in
     record {
       kept = c.remove.ensures.path ∙ subst (λ (notes : List Event). path_of old.names ≡ path_in notes) (sym c.in_ok-remove.ensures.noted) old.kept;
-      marked = subst (HoldsUnsynced c.close.new.self) (sym c.in_ok-remove.ensures.noted) (holds_removed old.open_files c.close.new.self old.record.events c.args.file c.close.ensures.marks old.marked);
+      marked = subst (HoldsUnsynced c.close.new.self) (sym c.in_ok-remove.ensures.noted) (holds_removed old.open_files c.close.new.self old.notes.record.events c.args.file c.close.ensures.marks old.marked);
     }

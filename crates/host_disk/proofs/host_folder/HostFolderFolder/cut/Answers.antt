@@ -13,8 +13,8 @@ invariant_of-self c =
     let this : FileId = c.at.result.now.file in
     let is = file_of_place old.open_files c.mark.new.self _ this c.mark.ensures.same_files c.at.ensures.file in
     let marks = subst (λ (file : FileId). KeepsMarks old.open_files c.mark.new.self × IsMarked c.mark.new.self file) is (c.mark.ensures.mark refl) in
-    let holds : HoldsUnsynced c.mark.new.self (touched this ∷ old.record.events) = holds_touched old.open_files c.mark.new.self old.record.events this marks old.marked in
+    let holds : HoldsUnsynced c.mark.new.self (touched this ∷ old.notes.record.events) = holds_touched old.open_files c.mark.new.self old.notes.record.events this marks old.marked in
     record {
-      kept = noted_cut (λ (notes : List Event). path_of old.names ≡ path_in notes) c.cut.result this c.args.len old.record.events c.cut.new.notes.events c.cut.ensures old.kept old.kept;
-      marked = noted_cut (HoldsUnsynced c.mark.new.self) c.cut.result this c.args.len old.record.events c.cut.new.notes.events c.cut.ensures holds holds;
+      kept = noted_cut (λ (notes : List Event). path_of old.names ≡ path_in notes) c.cut.result this c.args.len old.notes.record.events c.cut.new.notes.record.events c.cut.ensures old.kept old.kept;
+      marked = noted_cut (HoldsUnsynced c.mark.new.self) c.cut.result this c.args.len old.notes.record.events c.cut.new.notes.record.events c.cut.ensures holds holds;
     }

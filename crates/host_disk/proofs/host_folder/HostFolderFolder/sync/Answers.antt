@@ -14,8 +14,8 @@ invariant_of-self c =
     let ok = sym c.is_ok.ensures.value ∙ c.if-is_ok.true in
     let is = file_of_place old.open_files old.open_files _ this refl c.at.ensures.file in
     let keeps = subst (λ (file : FileId). KeepsOtherMarks file old.open_files c.mark.new.self) is c.mark.ensures.marks in
-    let holds : HoldsUnsynced c.mark.new.self (flushed this ∷ old.record.events) = holds_synced old.open_files c.mark.new.self old.record.events this keeps old.marked in
+    let holds : HoldsUnsynced c.mark.new.self (flushed this ∷ old.notes.record.events) = holds_synced old.open_files c.mark.new.self old.notes.record.events this keeps old.marked in
     record {
-      kept = c.sync-answer.ensures.path ∙ noted_sync (λ (notes : List Event). path_of old.names ≡ path_in notes) c.sync-answer.result this old.record.events c.sync-answer.new.notes.events ok c.sync-answer.ensures.noted old.kept;
-      marked = noted_sync (HoldsUnsynced c.mark.new.self) c.sync-answer.result this old.record.events c.sync-answer.new.notes.events ok c.sync-answer.ensures.noted holds;
+      kept = c.sync-answer.ensures.path ∙ noted_sync (λ (notes : List Event). path_of old.names ≡ path_in notes) c.sync-answer.result this old.notes.record.events c.sync-answer.new.notes.record.events ok c.sync-answer.ensures.noted old.kept;
+      marked = noted_sync (HoldsUnsynced c.mark.new.self) c.sync-answer.result this old.notes.record.events c.sync-answer.new.notes.record.events ok c.sync-answer.ensures.noted holds;
     }

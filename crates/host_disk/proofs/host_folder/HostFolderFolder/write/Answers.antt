@@ -13,8 +13,8 @@ invariant_of-self-2 c =
     let this : FileId = c.at.result.now.file in
     let is = file_of_place old.open_files c.mark.new.self c.in-Ok.place this c.mark.ensures.same_files c.at.ensures.file in
     let marks = subst (λ (file : FileId). KeepsMarks old.open_files c.mark.new.self × IsMarked c.mark.new.self file) is (c.mark.ensures.mark refl) in
-    let holds : HoldsUnsynced c.mark.new.self (touched this ∷ old.record.events) = holds_touched old.open_files c.mark.new.self old.record.events this marks old.marked in
+    let holds : HoldsUnsynced c.mark.new.self (touched this ∷ old.notes.record.events) = holds_touched old.open_files c.mark.new.self old.notes.record.events this marks old.marked in
     record {
-      kept = noted_write (λ (notes : List Event). path_of old.names ≡ path_in notes) c.write.result this c.args.at (length c.args.bytes.now) c.args.bytes.now old.record.events c.write.new.notes.events c.write.ensures old.kept old.kept;
-      marked = noted_write (HoldsUnsynced c.mark.new.self) c.write.result this c.args.at (length c.args.bytes.now) c.args.bytes.now old.record.events c.write.new.notes.events c.write.ensures holds holds;
+      kept = noted_write (λ (notes : List Event). path_of old.names ≡ path_in notes) c.write.result this c.args.at (length c.args.bytes.now) c.args.bytes.now old.notes.record.events c.write.new.notes.record.events c.write.ensures old.kept old.kept;
+      marked = noted_write (HoldsUnsynced c.mark.new.self) c.write.result this c.args.at (length c.args.bytes.now) c.args.bytes.now old.notes.record.events c.write.new.notes.record.events c.write.ensures holds holds;
     }
