@@ -1,0 +1,109 @@
+#!/usr/bin/env python3
+"""Lets each call that `archive_tool run <folder>` makes on its files fail once, with ENOSPC and with EIO.
+
+A script is answered while one call fails, by a library before the C library (`failing_calls.c`). The line that meets the
+fault has to be answered by `error 17 DeviceFault`; a fault at the opening leaves no archive open, or ends the program. What
+was answered before is there in the next process, exactly, and of the line that met the fault either nothing or all of it.
+Within the same process `reopen` opens the archive again, unless it was a sync that failed, and then tells the same.
+
+Usage: trials/failing_calls.py [--seed S] [program]. Ends with status 1 where anything is wrong.
+"""
+import argparse
+import errno
+import os
+import random
+import shutil
+import subprocess
+import sys
+import tempfile
+from pathlib import Path
+
+from power_cuts import library, script_of, shown
+
+sys.path.insert(0, str(Path(__file__).resolve().parent.parent / "bench"))
+from tool import Fault, program, run  # noqa: E402
+
+DEVICE_FAULT, BROKEN = "error 17 DeviceFault", "error 16 Broken"
+
+
+class Trial:
+    def __init__(self, tool: Path, room: Path, seed: int) -> None:
+        self.tool, self.room, self.folder = tool, room, room / "archive"
+        self.lines = script_of(random.Random(seed))
+        self.count = sum(line.startswith("start ") for line in self.lines)
+        self.library = library(room)
+        self.right = run([tool, "run"], self.lines)
+        self.states = [shown(tool, None, self.lines[:number], self.count) for number in range(len(self.lines) + 1)]
+        self.reopened = 0
+
+    def begin(self) -> None:
+        shutil.rmtree(self.folder, ignore_errors=True)
+        run([self.tool, "create", self.folder])
+
+    def answers(self, lines: list[str], **failing: str) -> list[str]:
+        given = os.environ | {"LD_PRELOAD": str(self.library), "TRIAL_FOLDER": str(self.folder)} | failing
+        text = "".join(line + "\n" for line in lines)
+        ended = subprocess.run([self.tool, "run", self.folder], input=text, capture_output=True, text=True, env=given)
+        if ended.returncode == 3 and ended.stderr.startswith(DEVICE_FAULT) and not ended.stdout:
+            return [DEVICE_FAULT]
+        if ended.returncode != 0:
+            raise Fault(f"ended with status {ended.returncode}: {ended.stderr}")
+        return ended.stdout.splitlines()
+
+    def calls(self) -> int:
+        """How many calls the script makes."""
+        self.begin()
+        counted = self.room / "count"
+        if self.answers(self.lines, TRIAL_COUNT=str(counted)) != self.right:
+            raise Fault("the script is answered otherwise in a folder than in memory")
+        return int(counted.read_text())
+
+    def fail(self, number: int, error: int) -> None:
+        """One call fails."""
+        where = f"call {number}, {errno.errorcode[error]}"
+        failing = {"TRIAL_FAIL": str(number), "TRIAL_ERROR": str(error)}
+        self.begin()
+        told = self.answers(self.lines, **failing)
+        if told == self.right:
+            raise Fault(f"{where}: nothing was told of it")
+        met = next(index for index, (one, other) in enumerate(zip(told, self.right)) if one != other)
+        if told[met] != DEVICE_FAULT and not (met == 0 and told[met] == BROKEN):
+            raise Fault(f"{where}: line {met} was answered {told[met]}")
+        self.begin()
+        self.answers(self.lines[: met + 1], **failing)
+        self.expect(where, met, shown(self.tool, self.folder, [], self.count))
+        self.begin()
+        asked = self.lines[: met + 1] + ["reopen"]
+        told = self.answers(asked, **failing)
+        if told[-1].startswith("reopened "):
+            self.reopened += 1
+        elif told[-1] != DEVICE_FAULT:
+            raise Fault(f"{where}: reopen was answered {told[-1]}")
+        self.expect(f"{where}, reopened", met, shown(self.tool, self.folder, [], self.count))
+
+    def expect(self, where: str, met: int, told: list[str]) -> None:
+        if told != self.states[met] and told != self.states[met + 1]:
+            raise Fault(f"{where}: {met} lines were answered, and this is there: {told[:3]}")
+
+
+def main() -> int:
+    given = argparse.ArgumentParser(description="Lets each call on the files of a folder fail once.")
+    given.add_argument("--seed", type=int, default=1)
+    given.add_argument("program", nargs="?")
+    asked = given.parse_args()
+    with tempfile.TemporaryDirectory(dir=os.environ.get("TRIAL_ROOM", "/dev/shm")) as path:
+        try:
+            trial = Trial(program(asked.program), Path(path), asked.seed)
+            calls = trial.calls()
+            for number in range(1, calls + 1):
+                for error in (errno.ENOSPC, errno.EIO):
+                    trial.fail(number, error)
+        except Fault as fault:
+            print(fault)
+            return 1
+    print(f"each of {calls} calls failed twice, seed {asked.seed}: nothing was lost; `reopen` went on after {trial.reopened}")
+    return 0
+
+
+if __name__ == "__main__":
+    sys.exit(main())

@@ -1,0 +1,209 @@
+#!/usr/bin/env python3
+"""Lets `archive_tool` meet file systems that are read-only or whose device fails, names that are no files, and a limit of
+open files. Needs the right to mount; what may not be mounted here is skipped, and said to be. (A full disk is tried by
+bench/full_disk.sh.)
+
+Usage: trials/small_disks.py [program]. Ends with status 1 where anything is wrong.
+"""
+import os
+import random
+import resource
+import shutil
+import subprocess
+import sys
+import tempfile
+from collections.abc import Callable
+from pathlib import Path
+
+from power_cuts import script_of, shown
+
+sys.path.insert(0, str(Path(__file__).resolve().parent.parent / "bench"))
+from tool import Fault, Stream, program, run  # noqa: E402
+
+BROKEN, DEVICE_FAULT = "error 16 Broken", "error 17 DeviceFault"
+STREAM = Stream(term_length=65_536, segment_length=131_072)
+BIG = Stream(term_length=2**30, segment_length=2**30)
+LINES = script_of(random.Random(7))
+COUNT = sum(line.startswith("start ") for line in LINES)
+
+
+class Skipped(Exception):
+    """What is not to be had on this machine."""
+
+
+def expect(what: str, told: object, right: object) -> None:
+    if told != right:
+        raise Fault(f"{what}: {str(told)[:200]}, and not {str(right)[:200]}")
+
+
+def mount(*words: str | Path) -> None:
+    made = subprocess.run(["mount", *words], capture_output=True, text=True)
+    if made.returncode != 0:
+        raise Skipped(made.stderr.strip())
+
+
+def unmount(where: Path) -> None:
+    subprocess.run(["umount", "-l", where], check=True)
+
+
+def recorded(tool: Path, folder: Path) -> list[str]:
+    """Makes an archive that has answered the script, and gives what has to be there."""
+    run([tool, "create", folder])
+    expect("the script", run([tool, "run", folder], LINES), run([tool, "run"], LINES))
+    return shown(tool, None, LINES, COUNT)
+
+
+def refused(tool: Path, folder: Path) -> None:
+    """A command that needs the archive is refused by one line, and ends soon."""
+    ended = subprocess.run([tool, "list", folder], capture_output=True, text=True, timeout=60)
+    expect("list", (ended.returncode, ended.stdout, ended.stderr.splitlines()[:1]), (3, "", [DEVICE_FAULT]))
+    told = run([tool, "run", folder], ["list 0 1", "reopen", "quit"])
+    expect("run", told, [BROKEN, DEVICE_FAULT, "bye"])
+
+
+def read_only(tool: Path, room: Path) -> str:
+    """A file system that is mounted read-only: refused, and as it was once it may be written."""
+    disk = room / "disk"
+    disk.mkdir()
+    mount("-t", "tmpfs", "-o", "size=16m", "tmpfs", disk)
+    try:
+        right = recorded(tool, disk / "archive")
+        mount("-o", "remount,ro", disk)
+        refused(tool, disk / "archive")
+        mount("-o", "remount,rw", disk)
+        expect("once it may be written", shown(tool, disk / "archive", [], COUNT), right)
+    finally:
+        unmount(disk)
+    return "read-only: refused, and nothing was lost"
+
+
+def device_without_room(tool: Path, room: Path) -> str:
+    """A device that fails: the loop device's own file finds no room, which is EIO at a sync, until it is taken away."""
+    thin, disk = room / "thin", room / "disk"
+    for path in (thin, disk):
+        path.mkdir()
+    mount("-t", "tmpfs", "-o", "size=12m", "tmpfs", thin)
+    try:
+        image = thin / "image"
+        with open(image, "wb") as file:
+            file.truncate(64 * 2**20)
+        made = subprocess.run(["mkfs.ext4", "-q", "-m", "0", image], capture_output=True, text=True)
+        if made.returncode != 0:
+            raise Skipped(made.stderr.strip())
+        mount("-o", "loop", image, disk)
+        try:
+            folder = disk / "archive"
+            run([tool, "create", folder])
+            lines = [BIG.start("c")]
+            told, sent = [], 0
+            given = "".join(line + "\n" for line in [*lines, *blocks(400)])
+            ended = subprocess.run([tool, "run", folder], input=given, capture_output=True, text=True)
+            told = ended.stdout.splitlines()
+            sent = next((index for index, line in enumerate(told) if line == DEVICE_FAULT), 0)
+            if not sent:
+                raise Skipped("the device took everything")
+            for line in told[sent + 1 :]:
+                expect("behind the fault", line, BROKEN)
+        finally:
+            unmount(disk)
+        with open(thin / "image", "rb") as file, open(room / "image", "wb") as copy:
+            shutil.copyfileobj(file, copy)
+        subprocess.run(["e2fsck", "-f", "-y", room / "image"], capture_output=True)
+        mount("-o", "loop", room / "image", disk)
+        try:
+            settled = int(told[sent - 1].split()[1]) if sent > 1 else 0
+            found = run([tool, "run", disk / "archive"], ["positions 0", "verify 0"])
+            expect("positions", found[0].split()[:2], ["positions", "0"])
+            expect("what is recorded", int(found[0].split()[2]) in (settled, settled + BLOCK), True)
+            expect("verify", found[1], f"verified {int(found[0].split()[2]) // LENGTH}")
+        finally:
+            unmount(disk)
+    finally:
+        unmount(thin)
+    return f"a device that fails: {sent - 1} blocks were settled and are there"
+
+
+LENGTH, FRAMES = 1_408, 46
+BLOCK = LENGTH * FRAMES
+
+
+def blocks(count: int) -> list[str]:
+    """Lines of blocks of recording 0, each of so many frames of the same length."""
+    lines, position = [], 0
+    for _ in range(count):
+        text = b"".join(BIG.message(position + n * LENGTH, b"x" * (LENGTH - 32)) for n in range(FRAMES))
+        lines.append(f"block 0 {text.hex()}")
+        position += BLOCK
+    return lines
+
+
+def names_that_are_no_files(tool: Path, room: Path) -> str:
+    """A folder, a link, a pipe and a file that may not be read, each under a file's name: one refusal, nothing removed."""
+    folder = room / "archive"
+    right = recorded(tool, folder)
+    in_the_way = folder / "9-0.rec"
+
+    def unreadable(path: Path) -> None:
+        path.write_bytes(b"x")
+        path.chmod(0)
+
+    makers: list[Callable[[Path], None]] = [
+        Path.mkdir,
+        lambda path: path.symlink_to("catalogue-a.bank"),
+        os.mkfifo,
+    ]
+    if os.geteuid() != 0:
+        makers.append(unreadable)
+    for make in makers:
+        make(in_the_way)
+        was = in_the_way.lstat()
+        refused(tool, folder)
+        expect("what is there", (in_the_way.lstat().st_ino, in_the_way.lstat().st_mode), (was.st_ino, was.st_mode))
+        if in_the_way.is_dir() and not in_the_way.is_symlink():
+            in_the_way.rmdir()
+        else:
+            in_the_way.unlink()
+        expect("once it is gone", shown(tool, folder, [], COUNT), right)
+    run([tool, "run", folder], ["sweep"] * 16)
+    for name in ("0--64.rec", "00-0.rec", "-1-0.rec", "+1-0.rec", "1-0.rec ", "note"):
+        (folder / name).write_bytes(b"x")
+        expect(f"beside {name}", run([tool, "run", folder], ["sweep"]), ["swept 0"])
+        expect(f"beside {name}", (folder / name).read_bytes(), b"x")
+        (folder / name).unlink()
+    return "names that are no files: refused or passed over, and nothing was removed"
+
+
+def limit_of_open_files(tool: Path, room: Path) -> str:
+    """More files than the limit of open files: the line that meets it is a device fault, and nothing settled is lost."""
+    folder, told = room / "many", []
+    run([tool, "create", folder])
+    frame = STREAM.message(0, b"x").ljust(64, b"\x00").hex()
+    lines = [line for n in range(40) for line in (STREAM.start(f"c{n}"), f"block {n} {frame}")]
+    given = "".join(line + "\n" for line in lines)
+    limit = lambda: resource.setrlimit(resource.RLIMIT_NOFILE, (16, 16))  # noqa: E731
+    ended = subprocess.run([tool, "run", folder], input=given, capture_output=True, text=True, preexec_fn=limit)
+    told = ended.stdout.splitlines()
+    met = told.index(DEVICE_FAULT)
+    for line in told[met + 1 :]:
+        expect("behind the fault", line, BROKEN)
+    right = shown(tool, None, lines[:met], 40)
+    expect("in the next process", shown(tool, folder, [], 40) in (right, shown(tool, None, lines[: met + 1], 40)), True)
+    return f"a limit of open files: met by line {met}, and nothing was lost"
+
+
+def main() -> int:
+    tool = program(sys.argv[1] if len(sys.argv) > 1 else None)
+    for part in (names_that_are_no_files, limit_of_open_files, read_only, device_without_room):
+        with tempfile.TemporaryDirectory() as path:
+            try:
+                print(part(tool, Path(path)))
+            except Skipped as why:
+                print(f"{part.__name__}: skipped, {why}")
+            except Fault as fault:
+                print(f"{part.__name__}: {fault}")
+                return 1
+    return 0
+
+
+if __name__ == "__main__":
+    sys.exit(main())
