@@ -12,8 +12,10 @@ use std::alloc::{AllocError, Global};
 /// The file of an archive that has this name, if one has: none for a text that no number prints as, and for
 /// numbers below zero. `AllocError` where there is no memory to compare the two.
 pub(crate) fn file_named(alloc: Global, name: &str) -> Result<Option<FileId>, AllocError>
-    ensures found { IfOk result (λ found. IfSome found (λ file. IsArchiveFile file × (name_of file ≡ name.now))) }
-    ensures none { IfOk result (λ found. IfNone found ((file : FileId) → IsArchiveFile file → name_of file ≢ name.now)) }
+    ensures found { IfOk result (λ found.
+        IfSome found (λ file. IsArchiveFile file × (name_of file ≡ name.now))) }
+    ensures none { IfOk result (λ found.
+        IfNone found ((file : FileId) → IsArchiveFile file → name_of file ≢ name.now)) }
 {
     let Some(file) = file_like(name) else {
         return Ok(None);
@@ -26,7 +28,8 @@ pub(crate) fn file_named(alloc: Global, name: &str) -> Result<Option<FileId>, Al
 /// The one file of an archive that may have this name.
 fn file_like(name: &str) -> Option<FileId>
     ensures proper { IfSome result IsArchiveFile }
-    ensures sole { (file : FileId) → IsArchiveFile file → name_of file ≡ name.now → result ≡ Some file }
+    ensures sole { (file : FileId) → IsArchiveFile file → name_of file ≡ name.now →
+        result ≡ Some file }
 {
     match name {
         "catalogue-a.bank" => Some(FileId::BankA),

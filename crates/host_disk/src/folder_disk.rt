@@ -32,7 +32,8 @@ fn one_more(n: u64) -> u64
 fn refuse<F: Folder>(folder: &mut F, faults: &mut u64, file: FileId, at: u64, done: usize) -> Fault
     ensures more { faults.old ≤ faults.new }
     ensures counted { faults.new ≡ min (faults.old + 1) (2 ^ 64 - 1) }
-    ensures noted { F.Folder.events folder.new ≡ refused file (at + done) ∷ F.Folder.events folder.old }
+    ensures noted { F.Folder.events folder.new
+        ≡ refused file (at + done) ∷ F.Folder.events folder.old }
 {
     folder.refuse(file, at, done);
     *faults = one_more(*faults);
@@ -54,7 +55,8 @@ impl<F: Folder> FolderDisk<F> {
 
     /// A disk over a folder that was just opened.
     pub fn new(folder: F) -> FolderDisk<F>
-        requires { (path : List ℕ) × (given : Given) × (F.Folder.events folder ≡ locked path ∷ opened given ∷ []) }
+        requires { (path : List ℕ) × (given : Given)
+            × (F.Folder.events folder ≡ locked path ∷ opened given ∷ []) }
         ensures folder { folder_of result ≡ folder }
         ensures faults { faults_of result ≡ 0 }
     {
@@ -79,7 +81,8 @@ impl<F: Folder> FolderDisk<F> {
 
     /// The count of faults is that of the calls that have failed or were refused, up to the last `u64`.
     pub fn counts_failed_calls(&self)
-        ensures { faults_of self.now ≡ min (failures (F.Folder.events (folder_of self.now))) (2 ^ 64 - 1) }
+        ensures { faults_of self.now
+            ≡ min (failures (F.Folder.events (folder_of self.now))) (2 ^ 64 - 1) }
     {}
 }
 

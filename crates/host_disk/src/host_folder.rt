@@ -49,7 +49,8 @@ impl HostFolder {
     /// Opens a folder and locks it, whatever files it holds, and whatever calls that fail will leave. Nothing is made or changed.
     pub fn open(rt: HostRuntime, alloc: Global, path: Path<'_>) -> Result<HostFolder, OpenFault>
         ghost given: { Given }
-        ensures { IfOk result (λ folder. (path : List ℕ) × (events_of folder ≡ locked path ∷ opened given ∷ [])) }
+        ensures { IfOk result (λ folder.
+            (path : List ℕ) × (events_of folder ≡ locked path ∷ opened given ∷ [])) }
     {
         let (names, notes) = Names::lock(&rt, alloc, path)?;
         // With this room no call but a listing allocates.

@@ -92,7 +92,8 @@ impl OpenFiles {
         ensures marked { unsynced self.new ≡ slice_set (unsynced self.old) place is_unsynced }
         ensures flag { slice_get (unsynced self.new) place ≡ Some is_unsynced }
         ensures marks { KeepsOtherMarks (file_at self.old place) self.old self.new }
-        ensures mark { IsTrue is_unsynced → KeepsMarks self.old self.new × IsMarked self.new (file_at self.old place) }
+        ensures mark { IsTrue is_unsynced →
+            KeepsMarks self.old self.new × IsMarked self.new (file_at self.old place) }
     {
         self.entries[place].is_unsynced = is_unsynced;
     }

@@ -75,7 +75,8 @@ impl Names {
         path: Path<'_>,
     ) -> Result<(Names, Notes), OpenFault>
         ghost given: { Given }
-        ensures { IfOk result (λ begun. noted begun.1 ≡ locked (path_of begun.0) ∷ opened given ∷ []) }
+        ensures { IfOk result (λ begun.
+            noted begun.1 ≡ locked (path_of begun.0) ∷ opened given ∷ []) }
     {
         let real = fs::canonicalize(rt, path).map_err(|_| OpenFault::Device)?;
         let path = format!(in alloc; "{}/", real.display()).map_err(|_| OpenFault::NoMemory)?;
@@ -252,9 +253,10 @@ impl OpenFile {
     pub(crate) fn write(&self, notes: &mut Notes, at: u64, bytes: &[u8]) -> Result<(), Fault>
         requires marked { IsTrue self.now.is_unsynced }
         ensures { MatchResult result
-            (λ _. noted notes.new ≡ wrote self.now.file at bytes.now ∷ touched self.now.file ∷ noted notes.old)
             (λ _. noted notes.new
-            ≡ write_failed self.now.file at (length bytes.now) ∷ touched self.now.file ∷ noted notes.old) }
+            ≡ wrote self.now.file at bytes.now ∷ touched self.now.file ∷ noted notes.old)
+            (λ _. noted notes.new ≡ write_failed self.now.file at (length bytes.now)
+            ∷ touched self.now.file ∷ noted notes.old) }
     {
         notes.add(&Note::Touched(self.file));
         if let Err(error) = self.handle.write_all_at(bytes, at) {
@@ -269,7 +271,8 @@ impl OpenFile {
         requires marked { IsTrue self.now.is_unsynced }
         ensures { MatchResult result
             (λ _. noted notes.new ≡ cut self.now.file len ∷ touched self.now.file ∷ noted notes.old)
-            (λ _. noted notes.new ≡ cut_failed self.now.file len ∷ touched self.now.file ∷ noted notes.old) }
+            (λ _. noted notes.new
+            ≡ cut_failed self.now.file len ∷ touched self.now.file ∷ noted notes.old) }
     {
         notes.add(&Note::Touched(self.file));
         if let Err(error) = self.shorten(len) {
