@@ -21,7 +21,7 @@ pub both : (a b : Bool) → (a && b) ≡ true → (a ≡ true) × (b ≡ true)
 both true b h = (refl, h)
 both false b h = absurd (true≢false (sym h))
 
-is_not : (b : Bool) → not b ≡ true → b ≡ false
+pub is_not : (b : Bool) → not b ≡ true → b ≡ false
 is_not true h = absurd (true≢false (sym h))
 is_not false h = refl
 
@@ -50,6 +50,11 @@ passes_at tests (x ∷ front) back r all = passes_at tests front back r (both (t
 
 pub has_entry : (d : DeskState) → has_room d ≡ true → d.counted < d.limit
 has_entry d has = grind (arith, nat_tests)
+
+-- a command but a restart is let through where no write has failed
+pub works_of : (d : DeskState) (c : Command) → (command_tests d c Broken ≡ not d.is_broken) → Allows d c → d.is_broken ≡ false
+works_of d c is allows =
+    is_not d.is_broken (sym is ∙ passes_at (command_tests d c) [] (BadParameter ∷ UnknownRecording ∷ ActiveRecording ∷ NotActive ∷ StaleSession ∷ UnknownReplay ∷ BadPosition ∷ (block_checks ++ last_checks)) Broken allows)
 
 -- each command but a restart has room for its entry
 pub room_of : (d : DeskState) (c : Command) → (command_tests d c HistoryFull ≡ has_room d) → Allows d c → d.counted < d.limit

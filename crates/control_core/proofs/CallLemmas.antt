@@ -1,6 +1,6 @@
 -- What a call makes of the archive.
 use Rattle.std.proofs.Common.{◌≡◌, ◌<◌, ◌&&◌, ◌⊎◌, inl, inr, not, ℕ, ℤ, negsuc, Bool, true, false, cond, List, [], ◌∷◌, ◌++◌, length, Option, Some, None, Result, Ok, Err, refl, sym, ap, subst, ◌∙◌, true≢false, int_le, nat_lt, arith}
-use Rattle.std.specs.Prelude.{IsFalse, is_some}
+use Rattle.std.specs.Prelude.{IsFalse, IsTrue, is_some}
 use Rattle.std.specs.Ordering.{int_eq}
 use Rattle.std.proofs.lemmas.Bool.Decides.{nat_tests}
 use Rattle.frame_core.specs.declared.block.Block.{Block}
@@ -30,12 +30,12 @@ use Rattle.control_core.specs.declared.turns.Settling.TheVariants as settling
 use Rattle.control_core.specs.Callers.{last_number}
 use Rattle.control_core.specs.Desk.{DeskState}
 use Rattle.control_core.specs.Changes.{desk_after, settled, settled_by}
-use Rattle.control_core.specs.Decisions.{decision_of}
+use Rattle.control_core.specs.Decisions.{Allows, decision_of}
 use Rattle.control_core.specs.Turns.{MayOpen, begins_at, close_decision, open_decision, open_tests, opened_at, opening_decided, opening_in, opening_of, poll_decision, session_in, settle_decision, sweep_tests, write_decision}
 use Rattle.control_core.specs.Agreement.{WroteBlocks}
 use Rattle.control_core.specs.Exact.{Archive, ArchiveEnds, DecisionEnds, Leaves, OpeningEnds, PolledEnds, PollingEnds, SettlingEnds, SweepEnds, archive_after, asked_frames, asked_opening, book_of, recording_at, settled_archive}
-use Rattle.control_core.specs.Consistent.{IsAcceptable, IsConsistent, MakesCommand, SettlesByAppend, is_append}
-use Rattle.control_core.proofs.AllowedLemmas.{differ}
+use Rattle.control_core.specs.Consistent.{IsAcceptable, IsConsistent, MakesCommand, SettlesByAppend, is_append, is_asked}
+use Rattle.control_core.proofs.AllowedLemmas.{differ, works_of}
 use Rattle.control_core.proofs.DecidedLemmas.{decided_accepted, held, settling_accepted}
 
 -- ---- what is opened
@@ -148,10 +148,31 @@ counted_after a (commands.PurgeSegments id position) none = refl
 counted_after a (commands.PurgeRecording id) none = refl
 counted_after a commands.Restart none = refl
 
-makes : (a b : Archive) (c : Command) → IsAcceptable a c × IsFalse (is_append c) → b ≡ archive_after a c → MakesCommand a b
-makes a b c (acceptable, none) is = record { command = c; acceptable = acceptable; book = ap book_of is ∙ counted_after a c none; desk = ap (λ (x : Archive). x.desk) is }
+pub no_append : (c : Command) → IsTrue (is_asked c) → IsFalse (is_append c)
+no_append (commands.Start f) asked = refl
+no_append (commands.Append id blocks) asked = absurd (true≢false (sym asked))
+no_append (commands.Stop id timestamp) asked = refl
+no_append (commands.Extend f) asked = refl
+no_append (commands.Truncate id position) asked = refl
+no_append (commands.PurgeSegments id position) asked = refl
+no_append (commands.PurgeRecording id) asked = refl
+no_append commands.Restart asked = absurd (true≢false (sym asked))
 
-asked_one : (a : Archive) (decision : Decision) (reply : Reply) (b : Archive) → ((c : Command) → decision ≡ decisions.Accepted c → IsAcceptable a c × IsFalse (is_append c)) → DecisionEnds a decision (Ok reply) b → MakesAtMostOne a b
+-- what a request makes is made by a desk that works
+pub asked_works : (d : DeskState) (c : Command) → IsTrue (is_asked c) → Allows d c → IsFalse d.is_broken
+asked_works d (commands.Start f) asked allows = works_of d (commands.Start f) refl allows
+asked_works d (commands.Append id blocks) asked allows = absurd (true≢false (sym asked))
+asked_works d (commands.Stop id timestamp) asked allows = works_of d (commands.Stop id timestamp) refl allows
+asked_works d (commands.Extend f) asked allows = works_of d (commands.Extend f) refl allows
+asked_works d (commands.Truncate id position) asked allows = works_of d (commands.Truncate id position) refl allows
+asked_works d (commands.PurgeSegments id position) asked allows = works_of d (commands.PurgeSegments id position) refl allows
+asked_works d (commands.PurgeRecording id) asked allows = works_of d (commands.PurgeRecording id) refl allows
+asked_works d commands.Restart asked allows = absurd (true≢false (sym asked))
+
+makes : (a b : Archive) (c : Command) → IsAcceptable a c × IsTrue (is_asked c) → b ≡ archive_after a c → MakesCommand a b
+makes a b c (acceptable, asked) is = record { command = c; works = asked_works a.desk c asked acceptable.allowed; acceptable = acceptable; book = ap book_of is ∙ counted_after a c (no_append c asked); desk = ap (λ (x : Archive). x.desk) is }
+
+asked_one : (a : Archive) (decision : Decision) (reply : Reply) (b : Archive) → ((c : Command) → decision ≡ decisions.Accepted c → IsAcceptable a c × IsTrue (is_asked c)) → DecisionEnds a decision (Ok reply) b → MakesAtMostOne a b
 asked_one a (decisions.Refused r) reply b accepts h = absurd (let clash = h.0 in cc)
 asked_one a (decisions.Answered answer) reply b accepts h = same_book a a b h.1 refl
 asked_one a (decisions.Accepted c) reply b accepts h = inr (makes a b c (accepts c refl) h.1)
@@ -179,6 +200,7 @@ settled_one a session (Ok (settling.Blocks id w)) reply b consistent is h =
     let settles = settling_accepted a session id w consistent is in
     inr (record {
       command = commands.Append id (a.blocks session);
+      works = works_of a.desk (commands.Append id (a.blocks session)) refl settles.acceptable.allowed;
       acceptable = settles.acceptable;
       book = ap book_of h.1 ∙ settled_counts a session id consistent settles;
       desk = ap (λ (x : Archive). x.desk) h.1 ∙ sym settles.same;

@@ -1,14 +1,14 @@
 -- An archive that is consistent still is after each call.
 use Rattle.std.proofs.Common.{◌≡◌, ◌≢◌, ◌+ℤ◌, ◌⊎◌, inl, inr, ◌&&◌, ◌||◌, ℤ, pos, negsuc, Bool, true, false, cond, List, [], ◌∷◌, ◌++◌, map, ℕ, Option, Some, None, Result, Ok, Err, refl, sym, ap, subst, ◌∙◌, true≢false, int_le, unsigned_abs}
-use Rattle.std.specs.Prelude.{IsFalse, IsSomeAnd, is_some, option_map}
+use Rattle.std.specs.Prelude.{IsSomeAnd, IsTrue, is_some, option_map}
 use Rattle.std.specs.Ordering.{int_eq}
 use Rattle.frame_core.specs.declared.refusal.Refusal.{Refusal}
-use Rattle.frame_core.specs.declared.refusal.Refusal.TheVariants.{BadPosition}
+use Rattle.frame_core.specs.declared.refusal.Refusal.TheVariants.{BadPosition, DeviceFault, NoMemory}
 use Rattle.archive_model.specs.declared.command.Command.{Command}
 use Rattle.archive_model.specs.declared.command.Command.TheVariants as commands
 use Rattle.archive_model.specs.declared.registration.Registration.{Registration}
 use Rattle.archive_model.specs.declared.reply.Reply.{Reply}
-use Rattle.archive_model.specs.Keyed.{Each, Rise, find}
+use Rattle.archive_model.specs.Keyed.{Each, Rise, change, find}
 use Rattle.archive_model.specs.Register as register
 use Rattle.archive_model.specs.Register.{RegisterState, is_end, registration_in}
 use Rattle.archive_model.specs.WellFormed.{IsWell}
@@ -18,6 +18,7 @@ use Rattle.archive_model.specs.Acceptance.{Continue}
 use Rattle.archive_model.specs.Checks.{Tests, block_checks, checked, checks, first_checks, is_boundary_by, is_of, last_checks, passes}
 use Rattle.archive_model.specs.Commands.{after, appended}
 use Rattle.archive_model.specs.Replay.{is_boundary, polled}
+use Rattle.archive_model.proofs.AnswerLemmas.{all_hold}
 use Rattle.archive_model.proofs.CommandsLemmas.{find_other}
 use Rattle.archive_model.proofs.RegisterLemmas.{each_push, found_number as number_found}
 use Rattle.archive_model.proofs.StateLemmas.{each_found, found_registration, well_after}
@@ -41,57 +42,61 @@ use Rattle.control_core.specs.Decisions.{decision_of}
 use Rattle.control_core.specs.Turns.{begins_at, close_decision, open_decision, open_tests, opened_at, opening_decided, opening_in, opening_of, poll_decision, poll_tests, replay_in, replay_of, session_in, settle_decision, sweep_tests, write_decision}
 use Rattle.control_core.specs.Seats.{AreApart, KeepsSeats}
 use Rattle.control_core.specs.Agreement.{Agrees, WroteBlocks}
-use Rattle.control_core.specs.Exact.{Archive, ArchiveEnds, DecisionEnds, Leaves, OpeningEnds, PolledEnds, PollingEnds, SettlingEnds, SweepEnds, asked_frames, asked_opening, book_of, frames_end, opened_archive, recording_at, settled_archive, span_of, with_desk, with_session_blocks, written}
-use Rattle.control_core.specs.Consistent.{HasBlocks, IsAcceptable, IsAtBoundary, IsConsistent, SettlesByAppend, is_append}
+use Rattle.control_core.specs.Exact.{Archive, ArchiveEnds, CallEnds, DecisionEnds, Leaves, LeftByFault, OpeningEnds, PolledEnds, PollingEnds, SettlingEnds, SweepEnds, asked_frames, asked_opening, book_of, broken, frames_end, opened_archive, recording_at, settled_archive, span_of, with_desk, with_session_blocks, written}
+use Rattle.control_core.specs.Consistent.{AreAtBoundaries, HasBlocks, IsAcceptable, IsAtBoundary, IsConsistent, SettlesByAppend, StaysConsistent, StaysOpen, WroteNothing, is_asked}
 use Rattle.control_core.proofs.AgreementLemmas.{agrees}
 use Rattle.control_core.proofs.BoundaryLemmas.{boundary_appended, boundary_polled}
-use Rattle.control_core.proofs.CallLemmas.{opening_allowed, refused_unchanged}
-use Rattle.control_core.proofs.CommandLemmas.{consistent_after}
+use Rattle.control_core.proofs.CallLemmas.{no_append, opening_allowed, refused_unchanged}
+use Rattle.control_core.proofs.CommandLemmas.{consistent_after, no_blocks, still_blocks}
 use Rattle.control_core.proofs.DecidedLemmas.{decided_accepted, found_number, held, settled_session, settling_accepted}
 use Rattle.control_core.proofs.DeskLemmas.{keeps_closed, keeps_moved, keeps_none, keeps_opened, keeps_settled, not_same}
 use Rattle.control_core.proofs.FoundLemmas.{each_both, each_weaker}
-use Rattle.control_core.proofs.StayLemmas.{at_changed, blocks_stay, each_changed, each_without, goes_on_at, is_at, none_before, same_recording}
+use Rattle.control_core.proofs.StayLemmas.{at_changed, blocks_stay, each_changed, each_itself, each_without, goes_on_at, is_at, none_before, same_recording}
 use Rattle.control_core.proofs.WriteLemmas.{none_beside, other_blocks, this_session, write_allowed, wrote}
+
+-- nothing has changed
+pub unchanged : (a : Archive) → IsConsistent a → StaysConsistent a a
+unchanged a consistent = record { consistent = consistent; boundaries = λ at_all. at_all }
 
 -- ---- other calls on replays
 
 -- replays that are others, where what is recorded and written is as it was
-with_replays : (a : Archive) (d : DeskState) → IsConsistent a → d.register ≡ a.desk.register → d.callers.sessions ≡ a.desk.callers.sessions → KeepsSeats d.register d.callers → Each (IsAtBoundary a.state) d.callers.replays → IsConsistent (with_desk d a)
-with_replays a d consistent register sessions seats boundaries = record {
-  agrees = register ∙ consistent.agrees;
-  well = consistent.well;
-  seats = seats;
-  blocks = each_weaker (λ s. HasBlocks a s s.written) (λ s. HasBlocks (with_desk d a) s s.written) d.callers.sessions (λ s has. blocks_stay a (with_desk d a) s s.written refl (λ r found. same_recording a (with_desk d a) s r found) has)
-      (subst (λ (ss : List RecorderSession). Each (λ s. HasBlocks a s s.written) ss) (sym sessions) consistent.blocks);
-  unwritten = λ n none. consistent.unwritten n (subst (λ (ss : List RecorderSession). find session_number n ss ≡ None) sessions none);
-  boundaries = boundaries;
-}
+pub with_replays : (a : Archive) (d : DeskState) → IsConsistent a → d.register ≡ a.desk.register → d.callers.sessions ≡ a.desk.callers.sessions → d.is_broken ≡ a.desk.is_broken → KeepsSeats d.register d.callers
+    → (AreAtBoundaries a → Each (IsAtBoundary a.state) d.callers.replays) → StaysConsistent a (with_desk d a)
+with_replays a d consistent register sessions works seats boundaries =
+    let kept : IsConsistent (with_desk d a) = record {
+      agrees = register ∙ consistent.agrees;
+      well = consistent.well;
+      seats = seats;
+      blocks = each_weaker (λ s. HasBlocks a s s.written) (λ s. HasBlocks (with_desk d a) s s.written) d.callers.sessions (λ s has. blocks_stay a (with_desk d a) s s.written refl (λ r found. same_recording a (with_desk d a) s r found) has)
+          (subst (λ (ss : List RecorderSession). Each (λ s. HasBlocks a s s.written) ss) (sym sessions) consistent.blocks);
+      unwritten = λ n none. consistent.unwritten n (subst (λ (ss : List RecorderSession). find session_number n ss ≡ None) sessions none);
+      broken = works ∙ consistent.broken;
+    } in
+    record { consistent = kept; boundaries = boundaries }
 
-closed : (a : Archive) (number : ℤ) → IsConsistent a → IsConsistent (with_desk (after_close number a.desk) a)
+closed : (a : Archive) (number : ℤ) → IsConsistent a → StaysConsistent a (with_desk (after_close number a.desk) a)
 closed a number consistent =
-    with_replays a (after_close number a.desk) consistent refl refl (keeps_closed a.desk.register a.desk.callers number consistent.seats)
-    (each_without replay_number (IsAtBoundary a.state) number a.desk.callers.replays consistent.boundaries)
+    with_replays a (after_close number a.desk) consistent refl refl refl (keeps_closed a.desk.register a.desk.callers number consistent.seats)
+    (λ at_all. each_without replay_number (IsAtBoundary a.state) number a.desk.callers.replays at_all)
 
 -- a replay that is moved to where its poll ends
 moved : (a : Archive) (number most : ℤ) (replay : OpenReplay) (r : Recording) → IsConsistent a → replay_in a.desk number ≡ Some replay → recording_at a replay.recording ≡ Some r
-    → IsConsistent (with_desk (after_poll replay.number (frames_end replay.next (polled replay.next replay.bound (unsigned_abs most) r)) a.desk) a)
+    → StaysConsistent a (with_desk (after_poll replay.number (frames_end replay.next (polled replay.next replay.bound (unsigned_abs most) r)) a.desk) a)
 moved a number most replay r consistent is found =
     let next = frames_end replay.next (polled replay.next replay.bound (unsigned_abs most) r) in
     let d = after_poll replay.number next a.desk in
-    let at = goes_on_at a.state replay (each_found replay_number (IsAtBoundary a.state) number a.desk.callers.replays replay consistent.boundaries is) in
+    with_replays a d consistent refl refl refl (keeps_moved a.desk.register a.desk.callers replay.number next consistent.seats) (λ at_all.
+    let at = goes_on_at a.state replay (each_found replay_number (IsAtBoundary a.state) number a.desk.callers.replays replay at_all is) in
     let this : at.recording ≡ r = (let same : Some at.recording ≡ Some r = sym at.found ∙ found in cc) in
     let boundary : is_boundary replay.next r ≡ true = subst (λ (x : Recording). is_boundary replay.next x ≡ true) this at.boundary in
     let ends : is_boundary next r ≡ true = boundary_polled r replay.next replay.bound (unsigned_abs most) boundary in
-    let number_is : replay.number ≡ number = replay_found number a.desk.callers.replays replay is in
-    with_replays a d consistent refl refl (keeps_moved a.desk.register a.desk.callers replay.number next consistent.seats)
-    (each_changed replay_number (IsAtBoundary a.state) (IsAtBoundary a.state) replay.number (pos 0) a.desk.callers.next_replay (moved_to next) a.desk.callers.replays consistent.seats.replays.rising
+    let number_is : replay.number ≡ number = number_found replay_number number a.desk.callers.replays replay is in
+    each_changed replay_number (IsAtBoundary a.state) (IsAtBoundary a.state) replay.number (pos 0) a.desk.callers.next_replay (moved_to next) a.desk.callers.replays consistent.seats.replays.rising
     (λ x there old.
     let one : x ≡ replay = (let same : Some x ≡ Some replay = sym there ∙ subst (λ (n : ℤ). find replay_number n a.desk.callers.replays ≡ Some replay) (sym number_is) is in cc) in
     let where_it_is : find id_of x.recording a.state.recordings ≡ Some r = subst (λ (y : OpenReplay). find id_of y.recording a.state.recordings ≡ Some r) (sym one) found in
-    is_at a.state (moved_to next x) r where_it_is ends) (λ x other old. old) consistent.boundaries)
-  where
-    replay_found : (n : ℤ) (rs : List OpenReplay) (x : OpenReplay) → find replay_number n rs ≡ Some x → x.number ≡ n
-    replay_found n rs x found = number_found replay_number n rs x found
+    is_at a.state (moved_to next x) r where_it_is ends) (λ x other old. old) at_all)
 
 -- what is opened goes on at a boundary
 
@@ -172,13 +177,13 @@ opened_at_boundary a id position size o agreed e =
     (subst (IsEndOr (begins_in (recording_at a id) next) next) known place.0) (subst (λ (x : Option Registration). is_some x ≡ true) known there.0) in
     subst (λ (x : Opening). IsAtBoundary a.state (record { number = d.callers.next_replay; recording = x.recording; next = x.next; bound = x.bound })) made.1 boundary
 
-opened : (a : Archive) (id position size : ℤ) (o : Opening) → IsConsistent a → asked_opening a id (open_decision a.desk id position size) ≡ Ok o → IsConsistent (with_desk (after_open o.recording o.next o.bound a.desk) a)
+opened : (a : Archive) (id position size : ℤ) (o : Opening) → IsConsistent a → asked_opening a id (open_decision a.desk id position size) ≡ Ok o → StaysConsistent a (with_desk (after_open o.recording o.next o.bound a.desk) a)
 opened a id position size o consistent e =
     let d = a.desk in
     let may = opening_allowed d id position size o (decided_in a id (open_decision d id position size) o e) in
     let new : OpenReplay = record { number = d.callers.next_replay; recording = o.recording; next = o.next; bound = o.bound } in
-    with_replays a (after_open o.recording o.next o.bound d) consistent refl refl (keeps_opened d.register d.callers new refl may.few may.there consistent.seats)
-    (each_push (IsAtBoundary a.state) d.callers.replays new consistent.boundaries (opened_at_boundary a id position size o consistent.agrees e))
+    with_replays a (after_open o.recording o.next o.bound d) consistent refl refl refl (keeps_opened d.register d.callers new refl may.few may.there consistent.seats)
+    (λ at_all. each_push (IsAtBoundary a.state) d.callers.replays new at_all (opened_at_boundary a id position size o consistent.agrees e))
 
 -- ---- settling
 
@@ -201,90 +206,121 @@ apart_of n (x ∷ ss) s apart found = by (int_eq n x.number) refl found (apart_o
 abbrev pub with_settled : Archive → ℤ → ℤ → DeskState → Archive
 with_settled a session id d = record a { state = after a.state (commands.Append id (a.blocks session)); desk = d; blocks = with_session_blocks session [] a.blocks }
 
-settles : (a : Archive) (session id : ℤ) → IsConsistent a → SettlesByAppend a session id → (wrote_blocks : WroteBlocks a.desk a.state id (a.blocks session)) → session_in a.desk session ≡ Some wrote_blocks.session → IsConsistent (settled_archive a session id)
+settled_desk : (a : Archive) (session : ℤ) (s : RecorderSession) (w : Written) → session_in a.desk session ≡ Some s → s.written ≡ Some w → settled (session_in a.desk session) a.desk ≡ settled_by s (Some w) a.desk
+settled_desk a session s w found has = ap (λ (o : Option RecorderSession). settled o a.desk) found ∙ ap (λ (o : Option Written). settled_by s o a.desk) has
+
+-- what becomes of a session: its blocks are gone, or it stays as it was
+abbrev pub Goes : Archive → Archive → RecorderSession → Type 0
+Goes a b s = WroteNothing b s ⊎ (StaysOpen a b.state s × (b.blocks s.number ≡ a.blocks s.number))
+
+has_blocks_still : (a b : Archive) (s : RecorderSession) → IsConsistent a → Goes a b s → HasBlocks b s s.written
+has_blocks_still a b s consistent (inl nothing) = no_blocks b s nothing.0 nothing.1
+has_blocks_still a b s consistent (inr (stays, same)) = still_blocks a b s consistent stays same
+
+-- the session's blocks are gone, and the others stay
+settled_sessions : (a : Archive) (session id : ℤ) (s : RecorderSession) (w : Written) → IsConsistent a → session_in a.desk session ≡ Some s → s.recording ≡ id
+    → Each (Goes a (with_settled a session id (settled_by s (Some w) a.desk))) (change session_number s.number (with_written None) a.desk.callers.sessions)
+settled_sessions a session id s w consistent found recording =
+    let ss = a.desk.callers.sessions in
+    let b = with_settled a session id (settled_by s (Some w) a.desk) in
+    let number : s.number ≡ session = found_number session ss s found in
+    let Apart : RecorderSession → Type 0 = λ x. int_eq session x.number ≡ false → x.recording ≢ s.recording in
+    let Itself : RecorderSession → Type 0 = λ x. session_in a.desk x.number ≡ Some x in
+    each_changed session_number (λ x. Itself x × Apart x) (Goes a b) s.number (pos 0) a.desk.callers.next_session (with_written None) ss consistent.seats.sessions.rising
+    (λ x there has. inl (refl, this_session session [] a.blocks x.number (found_number s.number ss x there ∙ number)))
+    (λ x other has.
+    let apart : int_eq session x.number ≡ false = subst (λ (z : ℤ). int_eq z x.number ≡ false) number other in
+    let differs : x.recording ≢ id = λ same. has.1 apart (same ∙ sym recording) in
+    let rest : recording_at b x.recording ≡ recording_at a x.recording = find_other x.recording id (appended (a.blocks session)) (λ r. refl) (not_same x.recording id differs) a.state.recordings in
+    inr (record { was = has.0; stays = λ r at. record { new = r; found = rest ∙ at; is = inl refl } }, other_blocks session [] a.blocks x.number apart))
+    (each_both Itself Apart (λ x. Itself x × Apart x) ss (λ x has apart. (has, apart)) (each_itself (pos 0) a.desk.callers.next_session ss consistent.seats.sessions.rising)
+    (apart_of session ss s consistent.seats.sessions.apart found))
+
+settles : (a : Archive) (session id : ℤ) → IsConsistent a → SettlesByAppend a session id → (wrote_blocks : WroteBlocks a.desk a.state id (a.blocks session)) → session_in a.desk session ≡ Some wrote_blocks.session → StaysConsistent a (settled_archive a session id)
 settles a session id consistent settling wb found =
     let s = wb.session in
     let c = commands.Append id (a.blocks session) in
     let d = settled_by s (Some wb.written) a.desk in
     let ss = a.desk.callers.sessions in
     let number : s.number ≡ session = found_number session ss s found in
-    let desk : settled (session_in a.desk session) a.desk ≡ d = ap (λ (o : Option RecorderSession). settled o a.desk) found ∙ ap (λ (o : Option Written). settled_by s o a.desk) wb.has in
     let b = with_settled a session id d in
     let follow : Follow a.state id (a.blocks session) = settling_follow a session id s (subst (λ (o : Option Written). HasBlocks a s o) wb.has (each_found session_number (λ x. HasBlocks a x x.written) session ss s consistent.blocks found)) number wb.recording in
-    let all_apart : Each (λ x. int_eq session x.number ≡ false → x.recording ≢ s.recording) ss = apart_of session ss s consistent.seats.sessions.apart found in
     let kept : IsConsistent b = record {
-      agrees = subst (λ (x : DeskState). Agrees x (after a.state c)) (settling.same ∙ desk) (agrees a.desk (book_of a) c consistent.agrees wb consistent.well settling.acceptable.accepted);
+      agrees = subst (λ (x : DeskState). Agrees x (after a.state c)) (settling.same ∙ settled_desk a session s wb.written found wb.has) (agrees a.desk (book_of a) c consistent.agrees wb consistent.well settling.acceptable.accepted);
       well = well_after (book_of a) c consistent.well settling.acceptable.accepted;
       seats = keeps_settled a.desk.register a.desk.callers s.recording wb.written.last s.number consistent.seats;
-      blocks = each_changed session_number (λ x. HasBlocks a x x.written × (int_eq session x.number ≡ false → x.recording ≢ s.recording)) (λ x. HasBlocks b x x.written) s.number (pos 0) a.desk.callers.next_session (with_written None) ss
-          consistent.seats.sessions.rising
-          (λ x there has. this_session session [] a.blocks x.number (found_number s.number ss x there ∙ number))
-          (λ x other has.
-          let apart : int_eq session x.number ≡ false = subst (λ (z : ℤ). int_eq z x.number ≡ false) number other in
-          let differs : x.recording ≢ id = λ same. has.1 apart (same ∙ sym wb.recording) in
-          let rest : recording_at b x.recording ≡ recording_at a x.recording = find_other x.recording id (appended (a.blocks session)) (λ r. refl) (not_same x.recording id differs) a.state.recordings in
-          blocks_stay a b x x.written (other_blocks session [] a.blocks x.number apart) (λ r at. same_recording a b x r (rest ∙ at)) has.0)
-          (each_both (λ x. HasBlocks a x x.written) (λ x. int_eq session x.number ≡ false → x.recording ≢ s.recording) (λ x. HasBlocks a x x.written × (int_eq session x.number ≡ false → x.recording ≢ s.recording)) ss (λ x has apart. (has, apart)) consistent.blocks all_apart);
+      blocks = each_weaker (Goes a b) (λ x. HasBlocks b x x.written) d.callers.sessions (λ x goes. has_blocks_still a b x consistent goes) (settled_sessions a session id s wb.written consistent found wb.recording);
       unwritten = λ n none.
           let before : session_in a.desk n ≡ None = none_before session_number n s.number (with_written None) ss (λ x. refl) none in
           none_beside session [] a.blocks n ss s found before ∙ consistent.unwritten n before;
-      boundaries = each_weaker (IsAtBoundary a.state) (IsAtBoundary (after a.state c)) a.desk.callers.replays
-          (λ r at. at_changed a.state r id (appended (a.blocks session)) (λ x. refl)
-          (λ x there this boundary. boundary_appended (a.blocks session) x r.next (subst (λ (o : Option Recording). IsSomeAnd o (λ y. Continue y (a.blocks session))) this follow) boundary) at) consistent.boundaries;
+      broken = consistent.broken;
     } in
-    subst (λ (x : DeskState). IsConsistent (with_settled a session id x)) (sym desk) kept
+    let stays : StaysConsistent a b = record {
+      consistent = kept;
+      boundaries = λ at_all. each_weaker (IsAtBoundary a.state) (IsAtBoundary (after a.state c)) a.desk.callers.replays
+          (λ r at. at_changed a.state r id (appended (a.blocks session)) (λ x. refl)
+          (λ x there this boundary. boundary_appended (a.blocks session) x r.next (subst (λ (o : Option Recording). IsSomeAnd o (λ y. Continue y (a.blocks session))) this follow) boundary) at) at_all;
+    } in
+    subst (λ (x : DeskState). StaysConsistent a (with_settled a session id x)) (sym (settled_desk a session s wb.written found wb.has)) stays
   where
     settling_follow : (a : Archive) (session id : ℤ) (s : RecorderSession) {w : Written} → HasBlocks a s (Some w) → s.number ≡ session → s.recording ≡ id → Follow a.state id (a.blocks session)
     settling_follow a session id s has number recording = subst (λ (z : ℤ). Follow a.state z (a.blocks session)) recording (subst (λ (z : ℤ). Follow a.state s.recording (a.blocks z)) number has.follow)
 
+-- what a settling of a session's blocks makes of the sessions
+pub settling_sessions : (a : Archive) (session id : ℤ) (w : Written) → IsConsistent a → settle_decision a.desk session ≡ Ok (settling.Blocks id w) → Each (Goes a (settled_archive a session id)) (settled_archive a session id).desk.callers.sessions
+settling_sessions a session id w consistent is =
+    let wb = (settling_accepted a session id w consistent is).acceptable.written in
+    let found = settled_session a session id w consistent is wb in
+    subst (λ (x : DeskState). Each (Goes a (with_settled a session id x)) x.callers.sessions) (sym (settled_desk a session wb.session wb.written found wb.has))
+    (settled_sessions a session id wb.session wb.written consistent found wb.recording)
+
 -- ---- calls
 
-asked : (a : Archive) (decision : Decision) (reply : Reply) (b : Archive) → IsConsistent a → ((c : Command) → decision ≡ decisions.Accepted c → IsAcceptable a c × IsFalse (is_append c)) → DecisionEnds a decision (Ok reply) b → IsConsistent b
+asked : (a : Archive) (decision : Decision) (reply : Reply) (b : Archive) → IsConsistent a → ((c : Command) → decision ≡ decisions.Accepted c → IsAcceptable a c × IsTrue (is_asked c)) → DecisionEnds a decision (Ok reply) b → StaysConsistent a b
 asked a (decisions.Refused r) reply b consistent accepts h = absurd (let clash = h.0 in cc)
-asked a (decisions.Answered answer) reply b consistent accepts h = subst IsConsistent (sym h.1) consistent
-asked a (decisions.Accepted c) reply b consistent accepts h = let is = accepts c refl in subst IsConsistent (sym h.1) (consistent_after a c is.1 consistent is.0)
+asked a (decisions.Answered answer) reply b consistent accepts h = subst (StaysConsistent a) (sym h.1) (unchanged a consistent)
+asked a (decisions.Accepted c) reply b consistent accepts h = let is = accepts c refl in subst (StaysConsistent a) (sym h.1) (consistent_after a c (no_append c is.1) consistent is.0)
 asked a (decisions.IfBoundary id position decided) reply b consistent accepts h = absurd h
 
-left_consistent : (a x : Archive) (decision : Result Reply Refusal) (reply : Reply) (b : Archive) → ((y : Reply) → decision ≡ Ok y → IsConsistent x) → Leaves a x decision (Ok reply) b → IsConsistent b
-left_consistent a x (Ok answer) reply b kept h = subst IsConsistent (sym h.1) (kept answer refl)
+left_consistent : (a x : Archive) (decision : Result Reply Refusal) (reply : Reply) (b : Archive) → ((y : Reply) → decision ≡ Ok y → StaysConsistent a x) → Leaves a x decision (Ok reply) b → StaysConsistent a b
+left_consistent a x (Ok answer) reply b kept h = subst (StaysConsistent a) (sym h.1) (kept answer refl)
 left_consistent a x (Err r) reply b kept h = absurd (let clash = h.0 in cc)
 
-settled_consistent : (a : Archive) (session : ℤ) (decision : Result Settling Refusal) (reply : Reply) (b : Archive) → IsConsistent a → settle_decision a.desk session ≡ decision → SettlingEnds a session decision (Ok reply) b → IsConsistent b
+settled_consistent : (a : Archive) (session : ℤ) (decision : Result Settling Refusal) (reply : Reply) (b : Archive) → IsConsistent a → settle_decision a.desk session ≡ decision → SettlingEnds a session decision (Ok reply) b → StaysConsistent a b
 settled_consistent a session (Err r) reply b consistent is h = absurd (let clash = h.0 in cc)
-settled_consistent a session (Ok (settling.Nothing position)) reply b consistent is h = subst IsConsistent (sym h.1) consistent
+settled_consistent a session (Ok (settling.Nothing position)) reply b consistent is h = subst (StaysConsistent a) (sym h.1) (unchanged a consistent)
 settled_consistent a session (Ok (settling.Blocks id w)) reply b consistent is h =
     let by_append = settling_accepted a session id w consistent is in
     let found = settled_session a session id w consistent is by_append.acceptable.written in
-    subst IsConsistent (sym h.1) (settles a session id consistent by_append by_append.acceptable.written found)
+    subst (StaysConsistent a) (sym h.1) (settles a session id consistent by_append by_append.acceptable.written found)
 
-opened_consistent : (a : Archive) (id position size : ℤ) (decision : Result Opening Refusal) (reply : Reply) (b : Archive) → IsConsistent a → asked_opening a id (open_decision a.desk id position size) ≡ decision → OpeningEnds a decision (Ok reply) b → IsConsistent b
+opened_consistent : (a : Archive) (id position size : ℤ) (decision : Result Opening Refusal) (reply : Reply) (b : Archive) → IsConsistent a → asked_opening a id (open_decision a.desk id position size) ≡ decision → OpeningEnds a decision (Ok reply) b → StaysConsistent a b
 opened_consistent a id position size (Err r) reply b consistent is h = absurd (let clash = h.0 in cc)
-opened_consistent a id position size (Ok o) reply b consistent is h = subst IsConsistent (sym h.1) (opened a id position size o consistent is)
+opened_consistent a id position size (Ok o) reply b consistent is h = subst (StaysConsistent a) (sym h.1) (opened a id position size o consistent is)
 
 polled_consistent : (a : Archive) (number most : ℤ) (replay : OpenReplay) (found : Option Recording) (reply : Reply) (b : Archive) → IsConsistent a → replay_in a.desk number ≡ Some replay → recording_at a replay.recording ≡ found
-    → PolledEnds a replay most found (Ok reply) b → IsConsistent b
+    → PolledEnds a replay most found (Ok reply) b → StaysConsistent a b
 polled_consistent a number most replay None reply b consistent is at h = absurd h
-polled_consistent a number most replay (Some r) reply b consistent is at h = subst IsConsistent (sym h.1) (moved a number most replay r consistent is at)
+polled_consistent a number most replay (Some r) reply b consistent is at h = subst (StaysConsistent a) (sym h.1) (moved a number most replay r consistent is at)
 
-replay_is : (tests : Tests) (rs : List Refusal) (found : Option OpenReplay) (replay : OpenReplay) → checked tests rs (replay_of found) ≡ Ok replay → found ≡ Some replay
-replay_is tests [] None replay e = absurd cc
-replay_is tests [] (Some x) replay e = let same : x ≡ replay = cc in ap Some same
-replay_is tests (r ∷ rs) found replay e = by (tests r) e (replay_is tests rs found replay)
+-- what is polled is open
+pub polled_open : (d : DeskState) (number most : ℤ) (replay : OpenReplay) → poll_decision d number most ≡ Ok replay → replay_in d number ≡ Some replay
+polled_open d number most replay is = by (replay_in d number) (all_hold (poll_tests d number most) checks (replay_of (replay_in d number)) replay is).1
   where
-    by : (b : Bool) → cond b (checked tests rs (replay_of found)) (Err r) ≡ Ok replay → (checked tests rs (replay_of found) ≡ Ok replay → found ≡ Some replay) → found ≡ Some replay
-    by true e rest = rest e
-    by false e rest = absurd cc
+    by : (found : Option OpenReplay) → replay_of found ≡ Ok replay → found ≡ Some replay
+    by None e = absurd cc
+    by (Some x) e = cc
 
-polling_consistent : (a : Archive) (number most : ℤ) (decision : Result OpenReplay Refusal) (reply : Reply) (b : Archive) → IsConsistent a → poll_decision a.desk number most ≡ decision → PollingEnds a most decision (Ok reply) b → IsConsistent b
+polling_consistent : (a : Archive) (number most : ℤ) (decision : Result OpenReplay Refusal) (reply : Reply) (b : Archive) → IsConsistent a → poll_decision a.desk number most ≡ decision → PollingEnds a most decision (Ok reply) b → StaysConsistent a b
 polling_consistent a number most (Err r) reply b consistent is h = absurd (let clash = h.0 in cc)
 polling_consistent a number most (Ok replay) reply b consistent is h =
-    polled_consistent a number most replay (recording_at a replay.recording) reply b consistent (replay_is (poll_tests a.desk number most) checks (replay_in a.desk number) replay is) refl h
+    polled_consistent a number most replay (recording_at a replay.recording) reply b consistent (polled_open a.desk number most replay is) refl h
 
-sweep_consistent : (a : Archive) (decision : Result (Unit {0}) Refusal) (reply : Reply) (b : Archive) → IsConsistent a → SweepEnds a decision (Ok reply) b → IsConsistent b
+sweep_consistent : (a : Archive) (decision : Result (Unit {0}) Refusal) (reply : Reply) (b : Archive) → IsConsistent a → SweepEnds a decision (Ok reply) b → StaysConsistent a b
 sweep_consistent a (Err r) reply b consistent h = absurd (let clash = h.0 in cc)
-sweep_consistent a (Ok done) reply b consistent h = subst IsConsistent (sym h.1.1) consistent
+sweep_consistent a (Ok done) reply b consistent h = subst (StaysConsistent a) (sym h.1.1) (unchanged a consistent)
 
-answered : (a : Archive) (event : Event) (reply : Reply) (b : Archive) → IsConsistent a → ArchiveEnds a event (Ok reply) b → IsConsistent b
+answered : (a : Archive) (event : Event) (reply : Reply) (b : Archive) → IsConsistent a → ArchiveEnds a event (Ok reply) b → StaysConsistent a b
 answered a (events.Ask request) reply b consistent h = asked a (asked_frames a (decision_of a.desk request)) reply b consistent (λ c is. decided_accepted a request c consistent.agrees is) h
 answered a (events.Write session block) reply b consistent (fits, says, h) =
     left_consistent a (written a session block) (write_decision a.desk session (span_of block) fits) reply b (λ y is. wrote a session block consistent (write_allowed a session block fits y consistent says is)) h
@@ -293,11 +329,43 @@ answered a (events.ReplayOpen id position size) reply b consistent h = opened_co
 answered a (events.ReplayPoll number most) reply b consistent h = polling_consistent a number most (poll_decision a.desk number most) reply b consistent refl h
 answered a (events.ReplayClose number) reply b consistent h = left_consistent a _ (close_decision a.desk number) reply b (λ y is. closed a number consistent) h
 answered a events.Sweep reply b consistent h = sweep_consistent a (checked (sweep_tests a.desk) checks (Ok tt)) reply b consistent h
-answered a (events.Verify id) reply b consistent h = left_consistent a a _ reply b (λ y is. consistent) h
+answered a (events.Verify id) reply b consistent h = left_consistent a a _ reply b (λ y is. unchanged a consistent) h
 
-pub consistent_call : (a : Archive) (event : Event) (outcome : Result Reply Refusal) (b : Archive) → IsConsistent a → ArchiveEnds a event outcome b → IsConsistent b
-consistent_call a event (Ok reply) b consistent h = answered a event reply b consistent h
-consistent_call a event (Err refusal) b consistent h = subst IsConsistent (sym (refused_unchanged a event refusal b h)) consistent
+refused : (a : Archive) (event : Event) (refusal : Refusal) (b : Archive) → IsConsistent a → ArchiveEnds a event (Err refusal) b → StaysConsistent a b
+refused a event refusal b consistent h = subst (StaysConsistent a) (sym (refused_unchanged a event refusal b h)) (unchanged a consistent)
+
+-- a write has failed
+pub breaks : (a : Archive) (u : State) → IsConsistent a → StaysConsistent a (broken u a)
+breaks a u consistent =
+    let kept : IsConsistent (broken u a) = record {
+      agrees = consistent.agrees;
+      well = consistent.well;
+      seats = consistent.seats;
+      blocks = each_weaker (λ s. HasBlocks a s s.written) (λ s. HasBlocks (broken u a) s s.written) a.desk.callers.sessions
+          (λ s has. blocks_stay a (broken u a) s s.written refl (λ r found. same_recording a (broken u a) s r found) has) consistent.blocks;
+      unwritten = consistent.unwritten;
+      broken = refl;
+    } in
+    record { consistent = kept; boundaries = λ at_all. at_all }
+
+left_by_fault : (a : Archive) (event : Event) (b : Archive) → IsConsistent a → LeftByFault a event b → StaysConsistent a b
+left_by_fault a event b consistent (inl (reads, same)) = subst (StaysConsistent a) (sym same) (unchanged a consistent)
+left_by_fault a event b consistent (inr (writes, (u, makes, same))) = subst (StaysConsistent a) (sym same) (breaks a u consistent)
+
+pub consistent_call : (a : Archive) (event : Event) (outcome : Result Reply Refusal) (b : Archive) → IsConsistent a → CallEnds a event (Unit {0}) outcome b → StaysConsistent a b
+consistent_call a event (Ok reply) b consistent ends = answered a event reply b consistent ends
+consistent_call a event (Err NoMemory) b consistent ends = elim ends [
+  | inl exact ↦ refused a event NoMemory b consistent exact
+  | inr same ↦ subst (StaysConsistent a) (sym same) (unchanged a consistent)
+]
+consistent_call a event (Err DeviceFault) b consistent ends = elim ends [
+  | inl exact ↦ refused a event DeviceFault b consistent exact
+  | inr out ↦ left_by_fault a event b consistent out.1
+]
+consistent_call a event (Err refusal) b consistent ends = elim ends [
+  | inl exact ↦ refused a event refusal b consistent exact
+  | inr out ↦ absurd out
+]
 
 -- ---- opening
 
@@ -312,5 +380,5 @@ consistent_opened s counted limit well = record {
   seats = keeps_none (register_of s) (rise_registrations (pos 0) s.next s.recordings well.rising);
   blocks = tt;
   unwritten = λ n none. refl;
-  boundaries = tt;
+  broken = refl;
 }

@@ -1,6 +1,6 @@
 -- A command that is decided once the frames are asked is accepted, and so is the append of a settling.
 use Rattle.std.proofs.Common.{◌≡◌, ◌≢◌, ◌&&◌, ◌||◌, ◌+ℤ◌, pos, ◌⊎◌, inl, inr, not, ℤ, Bool, true, false, cond, List, [], ◌∷◌, ◌++◌, Option, Some, None, Result, Ok, Err, refl, sym, ap, subst, ◌∙◌, true≢false}
-use Rattle.std.specs.Prelude.{IsFalse, is_some}
+use Rattle.std.specs.Prelude.{IsTrue, is_some}
 use Rattle.std.specs.List.{list_any}
 use Rattle.std.specs.Ordering.{int_eq}
 use Rattle.std.proofs.lemmas.Bool.Decides.{Decides-int_eq}
@@ -20,6 +20,7 @@ use Rattle.frame_core.specs.Block.{covered}
 use Rattle.archive_model.specs.Accepting.{Accepts, Follow, begins_in}
 use Rattle.archive_model.specs.Checks as model
 use Rattle.archive_model.specs.Checks.{Tests, block_checks, checked, checks, first_checks, is_boundary_by, is_of, last_checks, passes}
+use Rattle.archive_model.proofs.AnswerLemmas.{all_hold}
 use Rattle.archive_model.proofs.WellLemmas.{both}
 use Rattle.archive_model.proofs.StateLemmas.{each_found}
 use Rattle.control_core.specs.declared.callers.RecorderSession.{RecorderSession}
@@ -37,7 +38,7 @@ use Rattle.control_core.specs.Turns.{has_written, session_in, settle_decision, s
 use Rattle.control_core.specs.Seats.{AreApart, IsWriting, KeepsSeats}
 use Rattle.control_core.specs.Agreement.{Agrees, WroteBlocks}
 use Rattle.control_core.specs.Exact.{Archive, asked_frames, book_of, recording_at}
-use Rattle.control_core.specs.Consistent.{HasBlocks, IsAcceptable, IsConsistent, SettlesByAppend, is_append}
+use Rattle.control_core.specs.Consistent.{HasBlocks, IsAcceptable, IsConsistent, SettlesByAppend, is_asked}
 use Rattle.control_core.proofs.AgreementLemmas.{passes_on, passing}
 use Rattle.control_core.proofs.AllowedLemmas.{has_entry}
 
@@ -141,7 +142,7 @@ accepts_truncate a id position agrees ends pass =
 -- ---- a decided command
 
 abbrev pub IsDecided : Archive → Command → Type 0
-IsDecided a c = IsAcceptable a c × IsFalse (is_append c)
+IsDecided a c = IsAcceptable a c × IsTrue (is_asked c)
 
 plain_command : (a : Archive) (o : Result Command Refusal) (c : Command) → asked_frames a (accepted o) ≡ decisions.Accepted c → command_in (accepted o) ≡ Some c
 plain_command a (Ok command) c e = cc
@@ -215,12 +216,9 @@ decided_accepted a (requests.Positions id) c agrees e = absurd (no_answer a _ c 
 
 -- what is answered where each test holds
 pub held : {X : Type 0} (tests : Tests) (rs : List Refusal) (x y : X) → checked tests rs (Ok x) ≡ Ok y → (passes tests rs ≡ true) × (x ≡ y)
-held tests [] x y e = (refl, let same : Ok x ≡ Ok y = e in cc)
-held tests (r ∷ rs) x y e = by (tests r) e (held tests rs x y)
-  where
-    by : (b : Bool) → cond b (checked tests rs (Ok x)) (Err r) ≡ Ok y → (checked tests rs (Ok x) ≡ Ok y → (passes tests rs ≡ true) × (x ≡ y)) → ((b && passes tests rs) ≡ true) × (x ≡ y)
-    by true e rest = rest e
-    by false e rest = absurd cc
+held tests rs x y e =
+    let all = all_hold tests rs (Ok x) y e in
+    let same : Ok x ≡ Ok y = all.1 in (all.0, cc)
 
 -- the session whose blocks are settled
 pub record IsSettled (d : DeskState) (number id : ℤ) (w : Written) : Type 0 where

@@ -34,8 +34,8 @@ use Rattle.control_core.specs.Changes.{after_close, after_open, after_poll, afte
 use Rattle.control_core.specs.Decisions.{decision_of}
 use Rattle.control_core.specs.Turns.{begins_at, close_tests, continues, is_done_at, open_tests, opened_at, opening_decided, opening_of, poll_tests, replay_in, replay_of, session_in, settle_tests, settling_by, settling_of, sweep_tests, verify_tests, write_tests}
 use Rattle.control_core.specs.Machine.{AtPlace, Breaks, Decided, Either, Ended, Faults, Gives, Outcome, Passing, Refuses, Step, UnlessBoundary, Unread, recording_of}
-use Rattle.control_core.specs.Exact.{Archive, ArchiveEnds, DecisionEnds, Is, Leaves, OpeningEnds, PolledEnds, PollingEnds, SettlingEnds, SweepEnds, WriteEnds, asked_frames, asked_of, asked_opening, frames_end, frames_of_one, from_position, goes_on, plain, plain_poll, recording_at, settled_archive, span_of, told_of, with_desk, written}
-use Rattle.control_core.specs.Consistent.{IsAtBoundary, IsConsistent}
+use Rattle.control_core.specs.Exact.{Archive, ArchiveEnds, DecisionEnds, Is, Leaves, OpeningEnds, PolledEnds, PollingEnds, SettlingEnds, SweepEnds, WriteEnds, asked_frames, asked_of, asked_opening, frames_end, frames_of_one, from_position, goes_on, plain, plain_poll, recording_at, settled_archive, span_of, told_of, with_desk, written, is_poll}
+use Rattle.control_core.specs.Consistent.{AreAtBoundaries, IsAtBoundary, IsConsistent}
 use Rattle.control_core.proofs.PollLemmas.{le_true, poll_moves}
 
 -- this answer and this archive are this outcome and its desk, however the answer is told
@@ -212,30 +212,30 @@ gives a number most replay r o b is kept boundary some h =
     (moved, poll_moves r replay (unsigned_abs most) kept boundary some, (end.0 ∙ told_is, end.1))
 
 -- the recording of a replay, as the register has it
-gives_of : (a : Archive) (number most : ℤ) (replay : OpenReplay) (found : Option Recording) (o : Result Reply Refusal) (b : Archive) → IsConsistent a → replay_in a.desk number ≡ Some replay → recording_at a replay.recording ≡ found → 0 < unsigned_abs most
+gives_of : (a : Archive) (number most : ℤ) (replay : OpenReplay) (found : Option Recording) (o : Result Reply Refusal) (b : Archive) → IsConsistent a → AreAtBoundaries a → replay_in a.desk number ≡ Some replay → recording_at a replay.recording ≡ found → 0 < unsigned_abs most
     → PolledEnds a replay most found o b → Gives a.desk (Some replay) (option_map registration_of found) (plain_poll (from_position (replay_in a.desk number)) o) b.desk
-gives_of a number most replay None o b consistent is at some h = absurd h
-gives_of a number most replay (Some r) o b consistent is at some h =
+gives_of a number most replay None o b consistent at_all is at some h = absurd h
+gives_of a number most replay (Some r) o b consistent at_all is at some h =
     let kept = each_found id_of IsKept replay.recording a.state.recordings r consistent.well.kept at in
-    let there = each_found replay_number (IsAtBoundary a.state) number a.desk.callers.replays replay consistent.boundaries is in
+    let there = each_found replay_number (IsAtBoundary a.state) number a.desk.callers.replays replay at_all is in
     let boundary : is_boundary replay.next r ≡ true = subst (λ (x : Option Recording). IsSomeAnd x (λ y. IsTrue (is_boundary replay.next y))) at there in
     gives a number most replay r o b is kept boundary some h
 
-polls : (a : Archive) (number most : ℤ) (found : Option OpenReplay) (o : Result Reply Refusal) (b : Archive) → IsConsistent a → replay_in a.desk number ≡ found → is_some found ≡ true → 0 < unsigned_abs most
+polls : (a : Archive) (number most : ℤ) (found : Option OpenReplay) (o : Result Reply Refusal) (b : Archive) → IsConsistent a → AreAtBoundaries a → replay_in a.desk number ≡ found → is_some found ≡ true → 0 < unsigned_abs most
     → PollingEnds a most (replay_of found) o b → Gives a.desk found (recording_of a.desk found) (plain_poll (from_position (replay_in a.desk number)) o) b.desk
-polls a number most None o b consistent is there some h = absurd (true≢false (sym there))
-polls a number most (Some replay) o b consistent is there some h =
+polls a number most None o b consistent at_all is there some h = absurd (true≢false (sym there))
+polls a number most (Some replay) o b consistent at_all is there some h =
     let known : registration_in a.desk.register replay.recording ≡ option_map registration_of (recording_at a replay.recording) =
     ap (λ (g : RegisterState). registration_in g replay.recording) consistent.agrees ∙ found_registration replay.recording a.state.recordings in
     subst (λ (x : Option Registration). Gives a.desk (Some replay) x (plain_poll (from_position (replay_in a.desk number)) o) b.desk) (sym known)
-    (gives_of a number most replay (recording_at a replay.recording) o b consistent is refl some h)
+    (gives_of a number most replay (recording_at a replay.recording) o b consistent at_all is refl some h)
 
 at_least_one : (most : ℤ) → (int_le (pos 1) most && int_le most (pos 4096)) ≡ true → 0 < unsigned_abs most
 at_least_one most is = let least = both is in let low = le_true (pos 1) most least.0 in omega (arith, ints, low)
 
-exact_poll : (a : Archive) (number most : ℤ) (o : Result Reply Refusal) (b : Archive) → IsConsistent a → ArchiveEnds a (events.ReplayPoll number most) o b
+exact_poll : (a : Archive) (number most : ℤ) (o : Result Reply Refusal) (b : Archive) → IsConsistent a → AreAtBoundaries a → ArchiveEnds a (events.ReplayPoll number most) o b
     → Step a.desk (asked_of (events.ReplayPoll number most)) (told_of a.desk (events.ReplayPoll number most) o) b.desk
-exact_poll a number most o b consistent h =
+exact_poll a number most o b consistent at_all h =
     let found = replay_in a.desk number in
     let tests = poll_tests a.desk number most in
     let gives_so : Outcome → DeskState → Type 0 = Either (Unread a.desk) (Gives a.desk found (recording_of a.desk found)) in
@@ -243,14 +243,14 @@ exact_poll a number most o b consistent h =
     (λ all done.
     let parts : ((int_le (pos 1) most && int_le most (pos 4096)) ≡ true) × ((is_some found && true) ≡ true) = both all in
     let there : (is_some found ≡ true) × (true ≡ true) = both parts.1 in
-    inr (polls a number most found o b consistent refl there.0 (at_least_one most parts.0) done)) h
+    inr (polls a number most found o b consistent at_all refl there.0 (at_least_one most parts.0) done)) h
 
-pub exact_is_allowed : (a : Archive) (event : Event) (o : Result Reply Refusal) (b : Archive) → IsConsistent a → ArchiveEnds a event o b → Step a.desk (asked_of event) (told_of a.desk event o) b.desk
+pub exact_is_allowed : (a : Archive) (event : Event) (o : Result Reply Refusal) (b : Archive) → (IsTrue (is_poll event) → IsConsistent a × AreAtBoundaries a) → ArchiveEnds a event o b → Step a.desk (asked_of event) (told_of a.desk event o) b.desk
 exact_is_allowed a (events.Ask request) o b consistent h = exact_decision a (decision_of a.desk request) o b h
 exact_is_allowed a (events.Write session block) o b consistent h = exact_write a session block o b h
 exact_is_allowed a (events.Settle session) o b consistent h = exact_settle a session o b h
 exact_is_allowed a (events.ReplayOpen id position size) o b consistent h = exact_open a id position size o b h
-exact_is_allowed a (events.ReplayPoll number most) o b consistent h = exact_poll a number most o b consistent h
+exact_is_allowed a (events.ReplayPoll number most) o b consistent h = let was = consistent refl in exact_poll a number most o b was.0 was.1 h
 exact_is_allowed a (events.ReplayClose number) o b consistent h = exact_close a number o b h
 exact_is_allowed a events.Sweep o b consistent h = exact_sweep a o b h
 exact_is_allowed a (events.Verify id) o b consistent h = exact_verify a id o b h

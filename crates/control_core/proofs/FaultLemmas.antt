@@ -1,5 +1,5 @@
 -- What stands in place of an exact answer is one that the desk machine allows too.
-use Rattle.std.proofs.Common.{◌≡◌, ◌⊎◌, inl, inr, ◌++◌, ℤ, Bool, true, false, true≢false, ◌&&◌, cond, IsTrue, List, [], ◌∷◌, Option, Some, None, Result, Ok, Err, refl, sym, ap}
+use Rattle.std.proofs.Common.{◌≡◌, ◌⊎◌, inl, inr, ◌++◌, ℤ, Bool, true, false, true≢false, ◌&&◌, cond, IsTrue, List, [], ◌∷◌, Option, Some, None, Result, Ok, Err, refl, sym, ap, subst}
 use Rattle.std.specs.Prelude.{MatchBool, is_some}
 use Rattle.frame_core.specs.declared.refusal.Refusal.{Refusal}
 use Rattle.frame_core.specs.declared.refusal.Refusal.TheVariants.{BadBlock, DeviceFault, NoMemory}
@@ -25,8 +25,8 @@ use Rattle.control_core.specs.Changes.{after_open, after_write, broken_desk, set
 use Rattle.control_core.specs.Decisions.{command_in, decision_of}
 use Rattle.control_core.specs.Turns.{begins_at, open_tests, opened_at, opening_decided, opening_of, poll_tests, replay_in, session_in, settle_tests, sweep_tests, verify_tests, write_tests}
 use Rattle.control_core.specs.Machine.{AtPlace, Breaks, Decided, Either, Ended, Ends, Faults, Gives, Outcome, Passing, Refuses, Step, Stepped, UnlessBoundary, Unread, recording_of}
-use Rattle.control_core.specs.Exact.{Archive, CallEnds, LeftByFault, Makes, asked_of, opens_by_frames, reads_files, span_of, told_of, waits_for_frames, writes_files}
-use Rattle.control_core.specs.Consistent.{IsConsistent}
+use Rattle.control_core.specs.Exact.{Archive, CallEnds, LeftByFault, Makes, asked_of, opens_by_frames, reads_files, span_of, told_of, waits_for_frames, writes_files, is_poll}
+use Rattle.control_core.specs.Consistent.{AreAtBoundaries, IsConsistent}
 use Rattle.control_core.proofs.ExactLemmas.{exact_is_allowed}
 
 -- ---- where each check holds
@@ -111,68 +111,60 @@ left_read a (events.Verify id) new reads same =
     let ends : Ends = λ o x. ((frames : ℤ) × Ended (Ok (told.Reply (replies.Verified frames))) a.desk o x) ⊎ Unread a.desk o x in
     passed a.desk (verify_tests a.desk id) checks ends (Err DeviceFault) new reads (inr (inl (refl, same)))
 
-left_written : (a : Archive) (event : Event) (u : State) (new : DeskState) → IsConsistent a → IsTrue (writes_files a.desk event) → Makes a event u → new ≡ broken_desk a.desk → Step a.desk (asked_of event) (Err DeviceFault) new
-left_written a (events.Ask request) u new consistent writes makes same = decided_breaks a.desk (decision_of a.desk request) new writes same
-left_written a (events.Write session block) u new consistent writes (reply, (b, ends, state)) same =
+left_written : (a : Archive) (event : Event) (u : State) (new : DeskState) → IsTrue (writes_files a.desk event) → Makes a event u → new ≡ broken_desk a.desk → Step a.desk (asked_of event) (Err DeviceFault) new
+left_written a (events.Ask request) u new writes makes same = decided_breaks a.desk (decision_of a.desk request) new writes same
+left_written a (events.Write session block) u new writes (reply, (b, ends, state)) same =
     let tests = write_tests a.desk session (span_of block) true in
     let done : Ends = Either (Ended (Ok (told.Reply (replies.Written (span_of block).last))) (after_write session (span_of block) a.desk)) (Breaks a.desk) in
     let behind : Ends = Either (Refuses a.desk BadBlock) (Passing a.desk tests last_checks done) in
-    passed_on a.desk tests (first_checks ++ block_checks) behind behind (told.Reply reply) b.desk (Err DeviceFault) new (exact_is_allowed a (events.Write session block) (Ok reply) b consistent ends)
+    passed_on a.desk tests (first_checks ++ block_checks) behind behind (told.Reply reply) b.desk (Err DeviceFault) new (exact_is_allowed a (events.Write session block) (Ok reply) b (λ poll. absurd (true≢false (sym poll))) ends)
     (λ was. elim was [
       | inl bad ↦ absurd (not_answered (told.Reply reply) BadBlock bad.0)
       | inr rest ↦ inr (passed_on a.desk tests last_checks done done (told.Reply reply) b.desk (Err DeviceFault) new rest (λ was. inr (inr (refl, same))))
     ])
-left_written a (events.Settle session) u new consistent writes (reply, (b, ends, state)) same =
+left_written a (events.Settle session) u new writes (reply, (b, ends, state)) same =
     let found = session_in a.desk session in
     let done : Ends = Either (Ended (Ok (told.Reply (replies.Settled (settled_position a.desk found)))) (settled found a.desk)) (Breaks a.desk) in
-    passed_on a.desk (settle_tests a.desk session) checks done done (told.Reply reply) b.desk (Err DeviceFault) new (exact_is_allowed a (events.Settle session) (Ok reply) b consistent ends) (λ was. inr (inr (refl, same)))
-left_written a (events.ReplayOpen id position size) u new consistent writes makes same = absurd (true≢false (sym writes))
-left_written a (events.ReplayPoll number most) u new consistent writes makes same = absurd (true≢false (sym writes))
-left_written a (events.ReplayClose number) u new consistent writes makes same = absurd (true≢false (sym writes))
-left_written a events.Sweep u new consistent writes makes same = absurd (true≢false (sym writes))
-left_written a (events.Verify id) u new consistent writes makes same = absurd (true≢false (sym writes))
+    passed_on a.desk (settle_tests a.desk session) checks done done (told.Reply reply) b.desk (Err DeviceFault) new (exact_is_allowed a (events.Settle session) (Ok reply) b (λ poll. absurd (true≢false (sym poll))) ends) (λ was. inr (inr (refl, same)))
+left_written a (events.ReplayOpen id position size) u new writes makes same = absurd (true≢false (sym writes))
+left_written a (events.ReplayPoll number most) u new writes makes same = absurd (true≢false (sym writes))
+left_written a (events.ReplayClose number) u new writes makes same = absurd (true≢false (sym writes))
+left_written a events.Sweep u new writes makes same = absurd (true≢false (sym writes))
+left_written a (events.Verify id) u new writes makes same = absurd (true≢false (sym writes))
 
-left_allowed : (a : Archive) (event : Event) (b : Archive) → IsConsistent a → LeftByFault a event b → Step a.desk (asked_of event) (Err DeviceFault) b.desk
-left_allowed a event b consistent left = elim left [
+left_allowed : (a : Archive) (event : Event) (b : Archive) → LeftByFault a event b → Step a.desk (asked_of event) (Err DeviceFault) b.desk
+left_allowed a event b left = elim left [
   | inl read ↦ left_read a event b.desk read.0 (ap (λ (x : Archive). x.desk) read.1)
-  | inr (writes, (u, makes, same)) ↦ left_written a event u b.desk consistent writes makes (ap (λ (x : Archive). x.desk) same)
+  | inr (writes, (u, makes, same)) ↦ left_written a event u b.desk writes makes (ap (λ (x : Archive). x.desk) same)
 ]
 
 stepped_of : (d : DeskState) (asked : Asked) (o : Outcome) (new : DeskState) → Step d asked o new → Stepped d asked o new
 stepped_of d asked (Ok t) new step = step
 stepped_of d asked (Err refusal) new step = inl step
 
--- want of memory, however it is told
-wants : (a : Archive) (event : Event) (new : DeskState) → new ≡ a.desk → Stepped a.desk (asked_of event) (told_of a.desk event (Err NoMemory)) new
-wants a (events.Ask request) new same = inr same
-wants a (events.Write session block) new same = inr same
-wants a (events.Settle session) new same = inr same
-wants a (events.ReplayOpen id position size) new same = inr same
-wants a (events.ReplayPoll number most) new same = inr same
-wants a (events.ReplayClose number) new same = inr same
-wants a events.Sweep new same = inr same
-wants a (events.Verify id) new same = inr same
+-- a refusal is told as it is
+told_as_is : (d : DeskState) (event : Event) (refusal : Refusal) → told_of d event (Err refusal) ≡ Err refusal
+told_as_is d (events.Ask request) refusal = refl
+told_as_is d (events.Write session block) refusal = refl
+told_as_is d (events.Settle session) refusal = refl
+told_as_is d (events.ReplayOpen id position size) refusal = refl
+told_as_is d (events.ReplayPoll number most) refusal = refl
+told_as_is d (events.ReplayClose number) refusal = refl
+told_as_is d events.Sweep refusal = refl
+told_as_is d (events.Verify id) refusal = refl
 
--- a fault
-faults : (a : Archive) (event : Event) (new : DeskState) → Step a.desk (asked_of event) (Err DeviceFault) new → Stepped a.desk (asked_of event) (told_of a.desk event (Err DeviceFault)) new
-faults a (events.Ask request) new step = inl step
-faults a (events.Write session block) new step = inl step
-faults a (events.Settle session) new step = inl step
-faults a (events.ReplayOpen id position size) new step = inl step
-faults a (events.ReplayPoll number most) new step = inl step
-faults a (events.ReplayClose number) new step = inl step
-faults a events.Sweep new step = inl step
-faults a (events.Verify id) new step = inl step
+refused_so : (a : Archive) (event : Event) (refusal : Refusal) (new : DeskState) → Stepped a.desk (asked_of event) (Err refusal) new → Stepped a.desk (asked_of event) (told_of a.desk event (Err refusal)) new
+refused_so a event refusal new step = subst (λ (o : Outcome). Stepped a.desk (asked_of event) o new) (sym (told_as_is a.desk event refusal)) step
 
-pub call_is_allowed : (a : Archive) (event : Event) (o : Result Reply Refusal) (b : Archive) → IsConsistent a → CallEnds a event (Unit {0}) o b → Stepped a.desk (asked_of event) (told_of a.desk event o) b.desk
+pub call_is_allowed : (a : Archive) (event : Event) (o : Result Reply Refusal) (b : Archive) → (IsTrue (is_poll event) → IsConsistent a × AreAtBoundaries a) → CallEnds a event (Unit {0}) o b → Stepped a.desk (asked_of event) (told_of a.desk event o) b.desk
 call_is_allowed a event (Ok reply) b consistent ends = stepped_of a.desk (asked_of event) (told_of a.desk event (Ok reply)) b.desk (exact_is_allowed a event (Ok reply) b consistent ends)
 call_is_allowed a event (Err NoMemory) b consistent ends = elim ends [
   | inl exact ↦ stepped_of a.desk (asked_of event) (told_of a.desk event (Err NoMemory)) b.desk (exact_is_allowed a event (Err NoMemory) b consistent exact)
-  | inr same ↦ wants a event b.desk (ap (λ (x : Archive). x.desk) same)
+  | inr same ↦ refused_so a event NoMemory b.desk (inr (ap (λ (x : Archive). x.desk) same))
 ]
 call_is_allowed a event (Err DeviceFault) b consistent ends = elim ends [
   | inl exact ↦ stepped_of a.desk (asked_of event) (told_of a.desk event (Err DeviceFault)) b.desk (exact_is_allowed a event (Err DeviceFault) b consistent exact)
-  | inr out ↦ faults a event b.desk (left_allowed a event b consistent out.1)
+  | inr out ↦ refused_so a event DeviceFault b.desk (inl (left_allowed a event b out.1))
 ]
 call_is_allowed a event (Err refusal) b consistent ends = elim ends [
   | inl exact ↦ stepped_of a.desk (asked_of event) (told_of a.desk event (Err refusal)) b.desk (exact_is_allowed a event (Err refusal) b consistent exact)

@@ -5,14 +5,21 @@ pub mod SeatLemmas
 pub mod FoundLemmas
 pub mod AllowedLemmas
 pub mod DeskLemmas
+mod SomeLemmas
+pub mod LaidLemmas
+mod OrderlyLemmas
+mod KeptLemmas
 pub mod AgreementLemmas
 pub mod DecidedLemmas
 pub mod CallLemmas
 pub mod PollLemmas
 mod BoundaryLemmas
-mod StayLemmas
-mod CommandLemmas
+pub mod StayLemmas
+pub mod CommandLemmas
 pub mod WriteLemmas
 pub mod ConsistentLemmas
 pub mod ExactLemmas
 pub mod FaultLemmas
+pub mod RunLemmas
+pub mod StepLemmas
+pub mod OpenedLemmas

@@ -23,22 +23,9 @@ use Rattle.control_core.specs.Desk.{DeskState}
 use Rattle.control_core.specs.Turns.{session_in}
 use Rattle.control_core.specs.Exact.{Archive, blocks_of_open, recording_at}
 use Rattle.control_core.specs.Consistent.{HasBlocks, IsAtBoundary, Wrote}
-use Rattle.control_core.proofs.FoundLemmas.{each_weaker, least_next}
+use Rattle.control_core.proofs.FoundLemmas.{each_both, least_next}
 
 -- ---- lists
-
--- each session is found by its number
-pub each_there : (ss : List RecorderSession) → Each (λ s. is_some (find session_number s.number ss) ≡ true) ss
-each_there [] = tt
-each_there (s ∷ ss) =
-    (here, each_weaker (λ t. is_some (find session_number t.number ss) ≡ true) (λ t. is_some (find session_number t.number (s ∷ ss)) ≡ true) ss (λ t has. more t (int_eq t.number s.number) has) (each_there ss))
-  where
-    here : is_some (find session_number s.number (s ∷ ss)) ≡ true
-    here = let same : int_eq s.number s.number ≡ true = (Decides-int_eq s.number s.number).1 refl in rw same refl
-
-    more : (t : RecorderSession) (b : Bool) → is_some (find session_number t.number ss) ≡ true → is_some (cond b (Some s) (find session_number t.number ss)) ≡ true
-    more t true has = refl
-    more t false has = has
 
 -- the next number is none's
 pub none_next : (low next : ℤ) (ss : List RecorderSession) → Rise session_number low ss next → find session_number next ss ≡ None
@@ -98,6 +85,28 @@ module _ {X : Type 0} (number : X → ℤ) where
       by false true is none rest = let found : Some x ≡ None = rw is at none in absurd cc
       by false false is none rest = rest (rw is at none)
 
+-- each session is found by its number
+pub each_itself : (low next : ℤ) (ss : List RecorderSession) → Rise session_number low ss next → Each (λ s. find session_number s.number ss ≡ Some s) ss
+each_itself low next [] rising = tt
+each_itself low next (s ∷ ss) rising = (
+  here,
+  each_both (λ t. int_eq s.number t.number ≡ false) (λ t. find session_number t.number ss ≡ Some t) (λ t. find session_number t.number (s ∷ ss) ≡ Some t) ss more
+      (all_above session_number s.number (s.number +ℤ pos 1) next ss (omega (arith, ints)) rising.1)
+      (each_itself (s.number +ℤ pos 1) next ss rising.1),
+)
+  where
+    here : find session_number s.number (s ∷ ss) ≡ Some s
+    here = let same : int_eq s.number s.number ≡ true = (Decides-int_eq s.number s.number).1 refl in rw same refl
+
+    more : (t : RecorderSession) → int_eq s.number t.number ≡ false → find session_number t.number ss ≡ Some t → find session_number t.number (s ∷ ss) ≡ Some t
+    more t other found = by (int_eq t.number s.number) refl
+      where
+        by : (b : Bool) → int_eq t.number s.number ≡ b → cond b (Some s) (find session_number t.number ss) ≡ Some t
+        by true is =
+            let same : s.number ≡ t.number = sym ((Decides-int_eq t.number s.number).0 is) in
+            absurd (true≢false (sym ((Decides-int_eq s.number t.number).1 same) ∙ other))
+        by false is = found
+
 pub none_passes : {X : Type 0} (test : X → Bool) (xs : List X) → not (list_any test xs) ≡ true → Each (λ x. test x ≡ false) xs
 none_passes test [] none = tt
 none_passes test (x ∷ xs) none = by (test x) none (none_passes test xs)
@@ -138,11 +147,13 @@ wrote_on a b s w (Some r) is same goes_on follow wrote =
     let on = goes_on r is in
     let next : Continue on.new (b.blocks s.number) = subst (Continue on.new) (sym same) (continue_alike r on.new (a.blocks s.number) on.alike follow) in
     let last : w.last ≡ recorded_position r +ℤ pos (covered (frames_of (a.blocks s.number))) = subst (λ (o : Option Recording). w.last ≡ recorded_in o +ℤ pos (covered (frames_of (a.blocks s.number)))) is wrote.last in
+    let begun : w.first ≡ recorded_position r = subst (λ (o : Option Recording). w.first ≡ recorded_in o) is wrote.first in
     let moved : w.last ≡ recorded_position on.new +ℤ pos (covered (frames_of (b.blocks s.number))) =
     subst (λ (bs : List Block). w.last ≡ recorded_position on.new +ℤ pos (covered (frames_of bs))) (sym same)
     (subst (λ (z : ℤ). w.last ≡ z +ℤ pos (covered (frames_of (a.blocks s.number)))) (sym on.alike.recorded) last) in
     record {
       follow = subst (λ (o : Option Recording). IsSomeAnd o (λ x. Continue x (b.blocks s.number))) (sym on.found) next;
+      first = subst (λ (o : Option Recording). w.first ≡ recorded_in o) (sym on.found) (begun ∙ sym on.alike.recorded);
       last = subst (λ (o : Option Recording). w.last ≡ recorded_in o +ℤ pos (covered (frames_of (b.blocks s.number)))) (sym on.found) moved;
     }
 

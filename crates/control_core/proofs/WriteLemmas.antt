@@ -22,7 +22,7 @@ use Rattle.control_core.specs.Changes.{next_position}
 use Rattle.control_core.specs.Turns.{continues, has_written, session_in, write_decision, write_tests}
 use Rattle.control_core.specs.Agreement.{Agrees}
 use Rattle.control_core.specs.Exact.{Archive, IsBlockOf, recording_at, span_of, with_session_blocks, written}
-use Rattle.control_core.specs.Consistent.{HasBlocks, IsConsistent, Wrote}
+use Rattle.control_core.specs.Consistent.{HasBlocks, IsConsistent, StaysConsistent, Wrote}
 use Rattle.control_core.proofs.DecidedLemmas.{found_number, held}
 use Rattle.control_core.proofs.DeskLemmas.{keeps_written, not_same}
 use Rattle.control_core.proofs.StayLemmas.{blocks_stay, each_changed, none_before, same_recording}
@@ -112,15 +112,16 @@ wrote_block a session block may consistent =
     let ends : end_position block ≡ recorded_position may.recording +ℤ pos (covered (frames_of (block ∷ []))) = ap (λ (z : ℤ). z +ℤ pos (covered block.frames)) may.position ∙ ap (λ (fs : List Frame). recorded_position may.recording +ℤ pos (covered fs)) (sym frames) in
     record {
       follow = subst (λ (o : Option Recording). IsSomeAnd o (λ r. Continue r (b.blocks s.number))) (sym may.there) (subst (Continue may.recording) (sym alone) next);
+      first = subst (λ (o : Option Recording). block.position ≡ recorded_in o) (sym may.there) may.position;
       last = subst (λ (o : Option Recording). end_position block ≡ recorded_in o +ℤ pos (covered (frames_of (b.blocks s.number)))) (sym may.there)
           (subst (λ (bs : List Block). end_position block ≡ recorded_position may.recording +ℤ pos (covered (frames_of bs))) (sym alone) ends);
     }
 
-pub wrote : (a : Archive) (session : ℤ) (block : Block) → IsConsistent a → MayWrite a session block → IsConsistent (written a session block)
+pub wrote : (a : Archive) (session : ℤ) (block : Block) → IsConsistent a → MayWrite a session block → StaysConsistent a (written a session block)
 wrote a session block consistent may =
     let b = written a session block in
     let ss = a.desk.callers.sessions in
-    record {
+    let kept : IsConsistent b = record {
       agrees = consistent.agrees;
       well = consistent.well;
       seats = keeps_written a.desk.register a.desk.callers session (Some (span_of block)) consistent.seats;
@@ -132,5 +133,6 @@ wrote a session block consistent may =
       unwritten = λ n none.
           let before : session_in a.desk n ≡ None = none_before session_number n session (with_written (Some (span_of block))) ss (λ x. refl) none in
           none_beside session (a.blocks session ++ block ∷ []) a.blocks n ss may.writer may.found before ∙ consistent.unwritten n before;
-      boundaries = consistent.boundaries;
-    }
+      broken = consistent.broken;
+    } in
+    record { consistent = kept; boundaries = λ at_all. at_all }

@@ -218,6 +218,11 @@ writes_files d (events.Write session block) = true
 writes_files d (events.Settle session) = has_blocks (settle_decision d session)
 writes_files d _ = false
 
+-- a poll gives recorded frames
+abbrev pub is_poll : Event → Bool
+is_poll (events.ReplayPoll number most) = true
+is_poll _ = false
+
 -- the state that the call makes where it is accepted
 abbrev pub Makes : Archive → Event → State → Type 0
 Makes a event u = (reply : Reply) × ((b : Archive) × ArchiveEnds a event (Ok reply) b × (b.state ≡ u))

@@ -2,11 +2,14 @@
 pub mod Callers
 pub mod Desk
 pub mod Seats
+pub mod Orderly
 pub mod Changes
 pub mod Decisions
 pub mod Turns
 pub mod Machine
+pub mod ByDecision
 pub mod Agreement
 pub mod Exact
 pub mod Bytes
 pub mod Consistent
+pub mod Runs

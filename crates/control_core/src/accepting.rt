@@ -6,7 +6,8 @@ ghost use Rattle.archive_model.specs.Checks.{is_of};
 ghost use Rattle.archive_model.specs.Register.{is_later_base, registration_in};
 ghost use Rattle.control_core.specs.Changes.{desk_after, reply_after, segments_of, settled, settled_position, writer_of};
 ghost use Rattle.control_core.specs.Decisions.{Allows};
-ghost use Rattle.control_core.specs.Seats.{HasRoomFor, KeepsSeats};
+ghost use Rattle.control_core.specs.Orderly.{KeepsDesk};
+ghost use Rattle.control_core.specs.Seats.{HasRoomFor};
 
 use crate::callers::RecorderSession;
 use crate::desk::Desk;
@@ -36,7 +37,7 @@ impl Desk {
     pub fn reply(&self, command: &Command) -> Reply
         requires { Allows self.now.state command.now }
         ensures reply { result ≡ reply_after self.now.state command.now }
-        ensures seats { KeepsSeats self.now.state.register self.now.state.callers }
+        ensures keeps { KeepsDesk self.now.state.register self.now.state.callers }
     {
         match command {
             Command::Start(_) => Reply::Started {
@@ -141,6 +142,7 @@ impl Desk {
     /// What a session wrote is recorded.
     fn settle_session(&mut self, session: &RecorderSession)
         requires room { self.old.state.counted < self.old.state.limit }
+        requires writer { writer_of self.old.state session.now.recording ≡ Some session.now }
         ensures { self.new.state ≡ settled (Some session.now) self.old.state }
     {
         let Some(written) = session.written else {
@@ -177,7 +179,7 @@ impl Desk {
     }
 
     fn truncate(&mut self, recording: &i64, position: i64)
-        requires room { self.old.state.counted < self.old.state.limit }
+        requires { Allows self.old.state (Command.Truncate recording.now position) }
         ensures { self.new.state ≡ desk_after self.old.state (Command.Truncate recording.now position) }
     {
         self.register
@@ -187,7 +189,7 @@ impl Desk {
     }
 
     fn purge_segments(&mut self, recording: &i64, position: i64)
-        requires room { self.old.state.counted < self.old.state.limit }
+        requires { Allows self.old.state (Command.PurgeSegments recording.now position) }
         ensures { self.new.state ≡ desk_after self.old.state (Command.PurgeSegments recording.now position) }
     {
         self.register

@@ -1,12 +1,14 @@
 //! What a call that is no request makes of the desk. docs/CONTROL.md, "Control state".
 
-ghost use Rattle.std.specs.Prelude.{◌≡◌, ◌<◌, IfErr, OnOk};
+ghost use Rattle.std.specs.Prelude.{◌≡◌, ◌<◌, ◌≤ℤ◌, IfErr, IsSomeAnd, OnOk};
 ghost use Rattle.frame_core.specs.declared.refusal.Refusal.TheVariants.{NoMemory};
 ghost use Rattle.archive_model.specs.Numbered.{IsPlaceOf};
 ghost use Rattle.control_core.specs.Callers.{replay_number, session_number};
 ghost use Rattle.control_core.specs.Changes.{after_close, after_open, after_poll, after_write, broken_desk, settled};
+ghost use Rattle.archive_model.specs.Register.{registration_in};
+ghost use Rattle.control_core.specs.Orderly.{BeginsBy, LiesBehind};
 ghost use Rattle.control_core.specs.Seats.{IsFoundSession};
-ghost use Rattle.control_core.specs.Turns.{MayOpen, session_in};
+ghost use Rattle.control_core.specs.Turns.{MayOpen, replay_in, session_in};
 
 use crate::callers::{FoundSession, Written};
 use crate::desk::Desk;
@@ -18,7 +20,9 @@ impl Desk {
     /// The session of a number wrote a block, which lies from its first to its last position; the session stands at an
     /// index. In constant time; does not allocate.
     pub fn note_written(&mut self, session: &i64, index: usize, block: &Written)
-        requires { IsPlaceOf session_number session.now self.old.state.callers.sessions index }
+        requires stands { IsPlaceOf session_number session.now self.old.state.callers.sessions index }
+        requires behind { IsSomeAnd (session_in self.old.state session.now) (λ s.
+            IsSomeAnd (registration_in self.old.state.register s.recording) (LiesBehind block.now)) }
         ensures { self.new.state ≡ after_write session.now block.now self.old.state }
     {
         self.sessions.set_written(session, index, Some(*block));
@@ -55,6 +59,7 @@ impl Desk {
     pub fn open_replay(&mut self, opening: &Opening)
         requires room { 0 < self.old.replays }
         requires allowed { MayOpen self.old.state opening.now }
+        requires from_start { BeginsBy opening.now.next self.old.state.register opening.now.recording }
         ensures { self.new.state ≡ after_open opening.now.recording opening.now.next opening.now.bound self.old.state }
     {
         self.replays
@@ -63,7 +68,8 @@ impl Desk {
 
     /// The replay of a number goes on from a position; it stands at an index. In constant time; does not allocate.
     pub fn move_replay(&mut self, replay: &i64, index: usize, next: &i64)
-        requires { IsPlaceOf replay_number replay.now self.old.state.callers.replays index }
+        requires stands { IsPlaceOf replay_number replay.now self.old.state.callers.replays index }
+        requires further { IsSomeAnd (replay_in self.old.state replay.now) (λ it. it.next ≤ℤ next.now) }
         ensures { self.new.state ≡ after_poll replay.now next.now self.old.state }
     {
         self.replays.set_next(replay, index, next);

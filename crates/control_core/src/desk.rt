@@ -6,7 +6,8 @@ ghost use Rattle.archive_model.specs.Register.{HasLayout, active_count, may_begi
 ghost use Rattle.control_core.specs.Callers.{no_callers};
 ghost use Rattle.control_core.specs.Changes.{next_position, recorded_of};
 ghost use Rattle.control_core.specs.Turns.{replay_in, session_in};
-ghost use Rattle.control_core.specs.Seats.{IsFoundReplay, IsFoundSession, KeepsSeats};
+ghost use Rattle.control_core.specs.Orderly.{KeepsDesk};
+ghost use Rattle.control_core.specs.Seats.{IsFoundReplay, IsFoundSession};
 ghost use Rattle.control_core.specs.Desk.{new_desk, has_room, has_session_number, is_replayed, is_replay_before};
 
 use crate::callers::{FoundReplay, FoundSession, RecorderSession};
@@ -32,7 +33,8 @@ pub struct Desk {
 
 impl Model for Desk {
     ghost use Rattle.control_core.specs.Callers.{CallersState};
-    ghost use Rattle.control_core.specs.Seats.{DeskView, KeepsSeats};
+    ghost use Rattle.control_core.specs.Orderly.{KeepsDesk};
+    ghost use Rattle.control_core.specs.Seats.{DeskView};
 
     ghost Value = { DeskView };
 
@@ -54,7 +56,7 @@ impl Model for Desk {
       replays = d.replays.room;
     } };
 
-    ghost invariant = { λ d. KeepsSeats d.register.state (record {
+    ghost invariant = { λ d. KeepsDesk d.register.state (record {
       sessions = d.sessions.values;
       replays = d.replays.values;
       next_session = d.sessions.next;
@@ -81,7 +83,7 @@ impl Desk {
     pub fn recording(&self, id: &i64) -> Option<&Registration>
         ensures found { option_copied result ≡ registration_in self.now.state.register id.now }
         ensures layout { IfSome result (λ r. HasLayout r.now.descriptor) }
-        ensures seats { KeepsSeats self.now.state.register self.now.state.callers }
+        ensures keeps { KeepsDesk self.now.state.register self.now.state.callers }
     {
         self.register.recording(id)
     }
@@ -96,7 +98,7 @@ impl Desk {
     /// The recordings, by rising id.
     pub fn recordings(&self) -> &[Registration]
         ensures all { result.now ≡ self.now.state.register.recordings }
-        ensures seats { KeepsSeats self.now.state.register self.now.state.callers }
+        ensures keeps { KeepsDesk self.now.state.register self.now.state.callers }
     {
         self.register.recordings()
     }
@@ -134,7 +136,7 @@ impl Desk {
     pub fn active_count(&self) -> usize
         ensures count { result ≡ active_count self.now.state.register }
         ensures few { result < 2 ^ 63 }
-        ensures seats { KeepsSeats self.now.state.register self.now.state.callers }
+        ensures keeps { KeepsDesk self.now.state.register self.now.state.callers }
     {
         self.register.active_count()
     }
@@ -157,7 +159,7 @@ impl Desk {
     pub fn session(&self, number: &i64) -> Option<FoundSession>
         ensures found { MatchOption result (session_in self.now.state number.now ≡ None)
             (IsFoundSession number.now self.now.state.callers.sessions) }
-        ensures seats { KeepsSeats self.now.state.register self.now.state.callers }
+        ensures keeps { KeepsDesk self.now.state.register self.now.state.callers }
     {
         self.sessions.get(number)
     }
@@ -166,7 +168,7 @@ impl Desk {
     pub fn replay(&self, number: &i64) -> Option<FoundReplay>
         ensures found { MatchOption result (replay_in self.now.state number.now ≡ None)
             (IsFoundReplay number.now self.now.state.callers.replays) }
-        ensures seats { KeepsSeats self.now.state.register self.now.state.callers }
+        ensures keeps { KeepsDesk self.now.state.register self.now.state.callers }
     {
         self.replays.get(number)
     }

@@ -2,6 +2,7 @@
 
 ghost use Rattle.std.specs.Prelude.{◌≡◌};
 ghost use Rattle.control_core.specs.Desk.{opened_desk};
+ghost use Rattle.control_core.specs.Orderly.{AreLaid};
 
 use crate::desk::Desk;
 use crate::replays::Replays;
@@ -10,9 +11,10 @@ use archive_model::Register;
 use std::alloc::Global;
 
 impl Desk {
-    /// The desk of an archive with these recordings, of whose history so many entries count and may: nobody calls yet, and
-    /// the numbers of sessions and replays begin at 0. Does not allocate.
+    /// The desk of an archive with these recordings, each laid out and recorded inside its stream, of whose history so many
+    /// entries count and may: nobody calls yet, and the numbers of sessions and replays begin at 0. Does not allocate.
     pub fn opened(alloc: Global, register: Register, counted: u32, limit: u32) -> Desk
+        requires { AreLaid register.state }
         ensures { result.state ≡ opened_desk register.state counted limit }
     {
         Desk {

@@ -6,6 +6,7 @@ ghost use Rattle.frame_core.specs.ReplayEnd.{bound_of};
 ghost use Rattle.archive_model.specs.Checks.{block_checks, checked, checks, last_checks};
 ghost use Rattle.archive_model.specs.Register.{registration_in};
 ghost use Rattle.archive_model.specs.declared.reply.Reply.TheVariants.{Closed};
+ghost use Rattle.control_core.specs.Orderly.{KeepsDesk};
 ghost use Rattle.control_core.specs.Seats.{IsFoundReplay, IsFoundSession};
 ghost use Rattle.control_core.specs.Turns.{begins_at, close_decision, open_decision, open_tests, opened_at, poll_decision, session_in, settle_decision, sweep_tests, verify_tests, write_decision};
 
@@ -231,6 +232,7 @@ pub fn decide_verify<'a>(desk: &'a Desk, recording: &i64) -> Result<&'a Registra
         (λ known. checked (verify_tests desk.now.state recording.now) checks (Ok (tt {0})) ≡ Ok (tt {0}))
         (λ refusal. checked (verify_tests desk.now.state recording.now) checks (Ok (tt {0})) ≡ Err refusal) }
     ensures found { IfOk result (λ known. Some known.now ≡ registration_in desk.now.state.register recording.now) }
+    ensures keeps { KeepsDesk desk.now.state.register desk.now.state.callers }
 {
     desk.recording(recording).ok_or(Refusal::UnknownRecording)
 }

@@ -125,10 +125,16 @@ fn bytes_are_read_by_the_terms_of_the_recording(rt: HostRuntime) -> Result<(), F
     Ok(())
 }
 
-/// Session 0 wrote a block from 0 on.
+/// Session 0 wrote a block from 0 on, of a recording of which nothing is recorded.
 fn note(desk: &mut Desk, last: i64) -> Result<(), Refusal> {
-    let session = desk.session(&0).ok_or(Refusal::StaleSession)?;
-    desk.note_written(&0, session.index, &Written { first: 0, last });
+    let found = desk.session(&0).ok_or(Refusal::StaleSession)?;
+    let Some(known) = desk.recording(&found.session.recording) else {
+        return Err(Refusal::UnknownRecording);
+    };
+    if known.recorded != 0 || last < 0 || last > 65_536 {
+        return Err(Refusal::BadPosition);
+    }
+    desk.note_written(&0, found.index, &Written { first: 0, last });
     Ok(())
 }
 

@@ -19,7 +19,7 @@ use Rattle.segment_store.proofs.LayoutLemmas.{same_base, start_before}
 use Rattle.segment_store.proofs.StoredLemmas.{AreMessages, message_some, run_covers}
 use Rattle.archive_model.specs.Commands.{frames_of}
 use Rattle.archive_model.specs.State.{Recording, recorded_position}
-use Rattle.engine_core.specs.Moves.{LieIn, Stands}
+use Rattle.engine_core.specs.Consistent.{LieIn, Stands}
 use Rattle.engine_core.specs.Recovery.{last_of, layout_of}
 
 -- data frames of one term lie in the segment of the first

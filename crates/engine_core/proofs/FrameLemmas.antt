@@ -20,7 +20,7 @@ use Rattle.catalogue_log.specs.declared.entry.Entry.{Entry}
 use Rattle.catalogue_log.specs.Catalogue.{IsCatalogue}
 use Rattle.catalogue_log.specs.LogState.{IsAtRest, LogState}
 use Rattle.catalogue_log.proofs.AppendLemmas.{rest_left}
-use Rattle.engine_core.specs.Moves.{Lie}
+use Rattle.engine_core.specs.Consistent.{Lie}
 use Rattle.engine_core.specs.Recovery.{layout_of}
 
 -- the bank is no segment file

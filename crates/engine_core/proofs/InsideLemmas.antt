@@ -1,71 +1,70 @@
 -- A command whose position lies strictly inside a recording: frames are read first.
-use Rattle.std.proofs.Common.{◌≡◌, ◌∙◌, inl, inr, sym, ap, subst, refl, ℤ, Bool, true, false, Some, IsTrue, arith}
-use Rattle.std.specs.Prelude.{Result, Ok, Err, option_map}
+use Rattle.std.proofs.Common.{◌≡◌, ◌∙◌, inl, inr, sym, ap, subst, refl, ℤ, [], Bool, true, false, Some, None, IsTrue, arith}
+use Rattle.std.specs.Prelude.{IfOk, IsErrOf, Result, Ok, Err}
+use Rattle.frame_core.specs.declared.geometry.Geometry.{Geometry}
 use Rattle.frame_core.specs.declared.refusal.Refusal.{Refusal}
-use Rattle.frame_core.specs.declared.refusal.Refusal.TheVariants.{BadPosition, DeviceFault, NoMemory}
-use Rattle.disk_core.specs.DiskImage.{MayLeave, reads}
+use Rattle.frame_core.specs.declared.refusal.Refusal.TheVariants.{BadPosition, Damaged, DeviceFault, NoMemory}
+use Rattle.disk_core.specs.DiskImage.{DiskImage, MayLeave, reads}
 use Rattle.disk_core.specs.Life.{HasFailed, IsQuiet, Life}
 use Rattle.disk_core.proofs.CallerLemmas.{goes_on_part}
+use Rattle.segment_store.specs.declared.layout.Layout.{Layout}
+use Rattle.segment_store.specs.Boundary.{RefusesBoundary}
 use Rattle.archive_model.specs.declared.command.Command.{Command}
 use Rattle.archive_model.specs.declared.registration.Registration.{Registration}
 use Rattle.archive_model.specs.declared.reply.Reply.{Reply}
-use Rattle.archive_model.specs.Register as register
-use Rattle.archive_model.specs.Register.{RegisterState, registration_in}
-use Rattle.archive_model.specs.State.{Recording, id_of, registration_of}
-use Rattle.archive_model.specs.WellFormed.{IsKept}
-use Rattle.archive_model.proofs.StateLemmas.{each_found, found_registration}
-use Rattle.catalogue_log.specs.LogState.{LogState}
-use Rattle.control_core.specs.Agreement.{Agrees}
+use Rattle.archive_model.specs.Accepting.{Accepts}
+use Rattle.archive_model.specs.Register.{is_end, registration_in}
+use Rattle.archive_model.specs.Replay.{begins_frame}
+use Rattle.archive_model.specs.State.{Recording, empty, registration_of}
+use Rattle.control_core.specs.declared.asked.Told.TheVariants as told
 use Rattle.control_core.specs.Changes.{reply_after}
 use Rattle.control_core.specs.Desk.{DeskState}
-use Rattle.control_core.specs.Exact.{Archive, archive_after, recording_at}
+use Rattle.control_core.specs.Exact.{Archive, archive_after, book_of, plain, recording_at}
+use Rattle.control_core.specs.Machine as machine
+use Rattle.control_core.specs.Machine.{Does, Ends, OrOutside, Outcome, UnlessBoundary, Unread}
 use Rattle.engine_core.specs.Calls.{CommitEnds, Ended}
-use Rattle.engine_core.specs.Consistent.{IsConsistent, MayStandIn}
-use Rattle.engine_core.specs.Making.{InsideEnds}
-use Rattle.engine_core.specs.Orderly.{IsLaid, IsOrderly}
+use Rattle.engine_core.specs.Consistent.{IsCrashConsistent, MayStandIn}
+use Rattle.engine_core.specs.Engine.{Content, EngineState, archive_of}
+use Rattle.engine_core.specs.Making.{Commits, InsideEnds, MakesInside}
 use Rattle.engine_core.specs.Reading.{IsRead}
-use Rattle.engine_core.specs.Recovery.{HoldsRecording, RecoversTo}
-use Rattle.engine_core.proofs.AskLemmas.{ended_as}
-use Rattle.engine_core.proofs.EndedLemmas.{quiet_moments}
-use Rattle.engine_core.proofs.RecoveryLemmas.{durable_hold}
+use Rattle.engine_core.specs.Recovery.{RecoversTo}
+use Rattle.engine_core.proofs.EndedLemmas.{ended_as, quiet_consistent, quiet_goes_on, quiet_moments, still}
+use Rattle.engine_core.proofs.KnownLemmas.{is_read}
+use Rattle.engine_core.proofs.SweepCallLemmas.{one_refusal}
 
--- the desk has of a recording what the state has
-pub registered_of : (a : Archive) (id : ℤ) (r : Recording) → Agrees a.desk a.state → recording_at a id ≡ Some r → registration_in a.desk.register id ≡ Some (registration_of r)
-registered_of a id r agrees found = ap (λ (g : RegisterState). registration_in g id) agrees ∙ found_registration id a.state.recordings ∙ ap (option_map registration_of) found
+-- any content that an archive may have beside its desk
+pub some_content : Content
+some_content = record { state = empty; blocks = λ number. []; doubt = None }
 
-pub laid_found : (d : DeskState) (id : ℤ) (g : Registration) → IsOrderly d → Some g ≡ registration_in d.register id → IsLaid g
-laid_found d id g orderly found = each_found register.id_of IsLaid id d.register.recordings g orderly.register.laid (sym found)
+-- ---- what the desk machine says
 
-pub one_known : (g h : Registration) → Some g ≡ Some h → g ≡ h
-one_known g h is = cc
+-- frames that cannot be read
+boundary_unread : (d : DeskState) (obeys : Bool) (image : DiskImage) (l : Layout) (g : Geometry) (recorded position : ℤ) (refusal : Refusal) → RefusesBoundary obeys image l g recorded position refusal → Unread d (Err refusal) d
+boundary_unread d obeys image l g recorded position DeviceFault refuses = inl (refl, refl)
+boundary_unread d obeys image l g recorded position (Damaged recording at) refuses = inr (recording, at, (refl, refl))
+boundary_unread d obeys image l g recorded position refusal refuses = absurd refuses
 
--- a recording of a consistent archive is read as it is recorded
-pub is_read : (old new : Life) (log : LogState) (desk : DeskState) (a : Archive) (id : ℤ) (g : Registration) (r : Recording) → MayLeave old.now (reads old.now) → IsConsistent old log desk a → Some g ≡ registration_in desk.register id
-    → recording_at a id ≡ Some r → IsTrue new.obeys → IsRead old new g r
-is_read old new log desk a id g r stays was known found obeys = record {
-  obeys = obeys;
-  is = one_known g (registration_of r) (known ∙ ap (λ (d : DeskState). registration_in d.register id) was.desk_is ∙ registered_of a id r was.agrees found);
-  kept = each_found id_of IsKept id a.state.recordings r was.well.kept found;
-  stands = each_found id_of (HoldsRecording (reads old.now)) id a.state.recordings r (durable_hold old.now (reads old.now) a.state.recordings stays was.frames) found;
-}
+-- a commit is one that it allows
+pub commit_step : (a : Archive) (command : Command) (faulted : Type 0) (outcome : Result Reply Refusal) (b : Archive) → CommitEnds a (reply_after a.desk command) (archive_after a command) faulted outcome b
+    → OrOutside a.desk ⊥ (λ d. ⊥) (machine.Commits a.desk command) (plain outcome) b.desk
+commit_step a command faulted (Ok reply) b (is, same) = inl (ap (λ (r : Reply). Ok (told.Reply r)) is, ap (λ (x : Archive). x.desk) same)
+commit_step a command faulted (Err NoMemory) b same = inr (ap (λ (x : Archive). x.desk) same)
+commit_step a command faulted (Err DeviceFault) b (cause, same) = inl (inr (inr (refl, ap (λ (x : Archive). x.desk) same)))
+commit_step a command faulted (Err refusal) b never = absurd never
+
+-- and has a cause where it is a fault
+pub commit_cause : (a b : Archive) (reply : Reply) (faulted : Type 0) (outcome : Result Reply Refusal) (c : Archive) → CommitEnds a reply b faulted outcome c → outcome ≡ Err DeviceFault → faulted
+commit_cause a b reply faulted outcome c ends is = let failed : CommitEnds a reply b faulted (Err DeviceFault) c = subst (λ (o : Result Reply Refusal). CommitEnds a reply b faulted o c) is ends in failed.0
+
+behind_boundary : (d new : DeskState) (ends : Ends) (o : Outcome) → OrOutside d ⊥ (λ x. ⊥) ends o new → OrOutside d ⊥ (λ x. ⊥) (UnlessBoundary d ends) o new
+behind_boundary d new ends (Ok answer) end = inr (inr end)
+behind_boundary d new ends (Err refusal) end = elim end [ inl exact ↦ inl (inr (inr exact)) | inr out ↦ inr out ]
 
 -- ---- how it ends
 
-pub inside_fault : (a : Archive) (begins : Bool) (behind : Result Command Refusal) (faulted : Type 0) (outcome : Result Reply Refusal) (refusal : Refusal) → outcome ≡ Err refusal → refusal ≡ DeviceFault → faulted → InsideEnds a begins behind faulted outcome a
-inside_fault a begins behind faulted outcome refusal is fault cause = subst (λ (o : Result Reply Refusal). InsideEnds a begins behind faulted o a) (sym (is ∙ ap Err fault)) (by begins)
-  where
-    by : (t : Bool) → InsideEnds a t behind faulted (Err DeviceFault) a
-    by true = inr (cause, refl)
-    by false = inr (cause, refl)
-
-pub inside_none : (a : Archive) (begins : Bool) (behind : Result Command Refusal) (faulted : Type 0) → begins ≡ false → InsideEnds a begins behind faulted (Err BadPosition) a
-inside_none a begins behind faulted is = subst (λ (t : Bool). InsideEnds a t behind faulted (Err BadPosition) a) (sym is) (inl (refl, refl))
-
-pub inside_refused : (a : Archive) (begins : Bool) (behind : Result Command Refusal) (faulted : Type 0) (outcome : Result Reply Refusal) (refusal : Refusal) → begins ≡ true → behind ≡ Err refusal → outcome ≡ Err refusal → InsideEnds a begins behind faulted outcome a
-inside_refused a begins behind faulted outcome refusal is decided told =
-    subst (λ (t : Bool). InsideEnds a t behind faulted outcome a) (sym is)
-    (subst (λ (o : Result Reply Refusal). InsideEnds a true behind faulted o a) (sym told)
-    (subst (λ (d : Result Command Refusal). InsideEnds a true d faulted (Err refusal) a) (sym decided) (inl (refl, refl))))
+inside_fault : (a : Archive) (begins : Bool) (decided : Result Command Refusal) (faulted : Type 0) → faulted → InsideEnds a begins decided faulted (Err DeviceFault) a
+inside_fault a true decided faulted cause = inr (cause, refl)
+inside_fault a false decided faulted cause = inr (cause, refl)
 
 commit_weaker : (a : Archive) (reply : Reply) (b : Archive) (F G : Type 0) (outcome : Result Reply Refusal) (c : Archive) → (F → G) → CommitEnds a reply b F outcome c → CommitEnds a reply b G outcome c
 commit_weaker a reply b F G (Ok told) c to ends = ends
@@ -77,24 +76,104 @@ begun_inside : (a : Archive) (command : Command) (faulted : Type 0) (outcome : R
 begun_inside a command faulted (Ok reply) b ends = ends
 begun_inside a command faulted (Err refusal) b ends = inl ends
 
-pub failed_later : (old mid new : Life) → IsQuiet old mid → HasFailed mid new → HasFailed old new
+failed_later : (old mid new : Life) → IsQuiet old mid → HasFailed mid new → HasFailed old new
 failed_later old mid new quiet failed = omega (arith, quiet.faults, failed)
 
+-- the engine behind a read: nothing but what befell the disk is another
+abbrev pub behind_read : EngineState → Life → EngineState
+behind_read old life = record old { life = life }
+
 -- a call behind a read
-pub behind_quiet : (old mid new : Life) (log new_log : LogState) (desk new_desk : DeskState) (a : Archive) (P : Archive → Type 0) → IsQuiet old mid → IsConsistent old log desk a → Ended mid new new_log new_desk a P → Ended old new new_log new_desk a P
-behind_quiet old mid new log new_log desk new_desk a P quiet was ended = record {
+behind_quiet : (old new : EngineState) (mid : Life) (a : Archive) (P : Archive → Type 0) → IsQuiet old.life mid → IsCrashConsistent old.life old.log a → Ended (behind_read old mid) new a P → Ended old new a P
+behind_quiet old new mid a P quiet was ended = record {
   after = ended.after;
   ends = ended.ends;
   consistent = ended.consistent;
-  any_moment = goes_on_part old mid new (RecoversTo (MayStandIn a ended.after)) (RecoversTo (MayStandIn a ended.after)) (quiet_moments old mid log desk a ended.after quiet was) ended.any_moment (λ image is. is);
+  any_moment = goes_on_part old.life mid new.life (RecoversTo (MayStandIn a (archive_of new ended.after))) (RecoversTo (MayStandIn a (archive_of new ended.after)))
+      (quiet_moments old.life mid old.log a (archive_of new ended.after) quiet was) ended.any_moment (λ image is. is);
 }
 
-pub inside_made : (old mid new : Life) (log new_log : LogState) (desk new_desk : DeskState) (a : Archive) (begins : Bool) (behind : Result Command Refusal) (command : Command) (outcome : Result Reply Refusal) → IsQuiet old mid → IsConsistent old log desk a
-    → begins ≡ true → behind ≡ Ok command → Ended mid new new_log new_desk a (CommitEnds a (reply_after a.desk command) (archive_after a command) (HasFailed mid new) outcome) → Ended old new new_log new_desk a (InsideEnds a begins behind (HasFailed old new) outcome)
-inside_made old mid new log new_log desk new_desk a begins behind command outcome quiet was is decided ended =
-    behind_quiet old mid new log new_log desk new_desk a (InsideEnds a begins behind (HasFailed old new) outcome) quiet was
-    (ended_as mid new new_log new_desk a (CommitEnds a (reply_after a.desk command) (archive_after a command) (HasFailed mid new) outcome) (InsideEnds a begins behind (HasFailed old new) outcome)
-    (λ b ends. subst (λ (t : Bool). InsideEnds a t behind (HasFailed old new) outcome b) (sym is)
-    (subst (λ (d : Result Command Refusal). InsideEnds a true d (HasFailed old new) outcome b) (sym decided)
-    (begun_inside a command (HasFailed old new) outcome b
-    (commit_weaker a (reply_after a.desk command) (archive_after a command) (HasFailed mid new) (HasFailed old new) outcome b (failed_later old mid new quiet) ends)))) ended)
+-- what a position and a read say of one another
+abbrev pub Tells : Life → Life → Registration → ℤ → Bool → Type 0
+Tells old new g position begins = (r : Recording) → IsRead old new g r → is_end position g ≡ false → begins ≡ begins_frame position r
+
+-- what was read of a recording that is there
+pub record HasAsked (old : EngineState) (mid : Life) (id : ℤ) (g : Registration) : Type 0 where
+  pub stays : MayLeave old.life.now (reads old.life.now)
+  pub found : Some g ≡ registration_in old.desk.register id
+  pub quiet : IsQuiet old.life mid
+
+module _ (old : EngineState) (mid : Life) (id position : ℤ) (g : Registration) (decided : Result Command Refusal) (asked : HasAsked old mid id g) where
+  read_of : (c : Content) (r : Recording) → IsCrashConsistent old.life old.log (archive_of old c) → recording_at (archive_of old c) id ≡ Some r → IsTrue mid.obeys → IsRead old.life mid g r
+  read_of c r was found obeys = is_read old.life mid old.log (archive_of old c) id g r asked.stays was asked.found found obeys
+
+  begins_is : (begins : Bool) (r : Recording) → Tells old.life mid g position begins → IsRead old.life mid g r → is_end position (registration_of r) ≡ false → begins_frame position r ≡ begins
+  begins_is begins r tells read inside = sym (tells r read (subst (λ (x : Registration). is_end position x ≡ false) (sym read.is) inside))
+
+  -- the frames could not be read
+  pub inside_unread : (outcome : Result Reply Refusal) (refusal : Refusal) (obeys : Bool) (image : DiskImage) (l : Layout) (geometry : Geometry) (recorded at : ℤ) → outcome ≡ Err refusal → RefusesBoundary obeys image l geometry recorded at refusal
+      → ((r : Recording) → IsRead old.life mid g r → refusal ≡ DeviceFault) → (refusal ≡ DeviceFault → HasFailed old.life mid) → MakesInside old (behind_read old mid) id position decided outcome
+  inside_unread outcome refusal obeys image l geometry recorded at is refuses fault cause = subst (MakesInside old (behind_read old mid) id position decided) (sym is) (record {
+    goes_on = quiet_goes_on old.life mid asked.quiet;
+    cause = λ failed. inr (cause (one_refusal (Err refusal) refusal DeviceFault refl failed));
+    machine = inl (inr (inl (boundary_unread old.desk obeys image l geometry recorded at refusal refuses)));
+    ended = λ c r was found inside accepts obeyed.
+        let a = archive_of old c in
+        let same = fault r (read_of c r was found obeyed) in
+        still old (behind_read old mid) a (InsideEnds a (begins_frame position r) decided (HasFailed old.life mid) (Err refusal)) asked.quiet refl refl was
+        (subst (λ (x : Refusal). InsideEnds a (begins_frame position r) decided (HasFailed old.life mid) (Err x) a) (sym same) (inside_fault a (begins_frame position r) decided (HasFailed old.life mid) (cause same)));
+  })
+
+  -- no frame begins there
+  pub inside_none : Tells old.life mid g position false → MakesInside old (behind_read old mid) id position decided (Err BadPosition)
+  inside_none tells = record {
+    goes_on = quiet_goes_on old.life mid asked.quiet;
+    cause = λ failed. absurd (let clash = failed in cc);
+    machine = inl (inl (refl, refl));
+    ended = λ c r was found inside accepts obeyed.
+        let a = archive_of old c in
+        let none = begins_is false r tells (read_of c r was found obeyed) inside in
+        still old (behind_read old mid) a (InsideEnds a (begins_frame position r) decided (HasFailed old.life mid) (Err BadPosition)) asked.quiet refl refl was
+        (subst (λ (t : Bool). InsideEnds a t decided (HasFailed old.life mid) (Err BadPosition) a) (sym none) (inl (refl, refl)));
+  }
+
+  -- one does, and what is decided is a refusal
+  pub inside_refused : (outcome : Result Reply Refusal) (refusal : Refusal) → outcome ≡ Err refusal → decided ≡ Err refusal → Tells old.life mid g position true → MakesInside old (behind_read old mid) id position decided outcome
+  inside_refused outcome refusal is refused tells = subst (MakesInside old (behind_read old mid) id position decided) (sym is) (record {
+    goes_on = quiet_goes_on old.life mid asked.quiet;
+    cause = λ failed. inl (refused ∙ as_decided failed);
+    machine = inl (inr (inr (subst (λ (x : Result Command Refusal). Does old.desk x (Err refusal) old.desk) (sym refused) (refl, refl))));
+    ended = λ c r was found inside accepts obeyed.
+        let a = archive_of old c in
+        let begins = begins_is true r tells (read_of c r was found obeyed) inside in
+        still old (behind_read old mid) a (InsideEnds a (begins_frame position r) decided (HasFailed old.life mid) (Err refusal)) asked.quiet refl refl was
+        (subst (λ (t : Bool). InsideEnds a t decided (HasFailed old.life mid) (Err refusal) a) (sym begins)
+        (subst (λ (x : Result Command Refusal). InsideEnds a true x (HasFailed old.life mid) (Err refusal) a) (sym refused) (inl (refl, refl))));
+  })
+    where
+      as_decided : (o : IsErrOf {T = Reply} (Err refusal) DeviceFault) → IsErrOf {T = Command} (Err refusal) DeviceFault
+      as_decided same = cc
+
+  -- or a command, which was made
+  pub inside_made : (new : EngineState) (command : Command) (outcome : Result Reply Refusal) → decided ≡ Ok command → Tells old.life mid g position true
+      → Commits (behind_read old mid) new (λ a. Accepts (book_of a) command) (reply_after old.desk command) (λ a. archive_after a command) outcome → MakesInside old new id position decided outcome
+  inside_made new command outcome is tells commits = record {
+    goes_on = record { obeyed = λ obeys. asked.quiet.obeyed (commits.goes_on.obeyed obeys); faults = omega (arith, asked.quiet.faults, commits.goes_on.faults) };
+    cause = λ failed. inr (failed_later old.life mid new.life asked.quiet (commit_cause (archive_of old some_content) (archive_after (archive_of old some_content) command) (reply_after old.desk command) (HasFailed mid new.life) outcome (archive_of new some.0) some.1 failed));
+    machine = behind_boundary old.desk new.desk (Does old.desk decided) (plain outcome)
+        (subst (λ (x : Result Command Refusal). OrOutside old.desk ⊥ (λ d. ⊥) (Does old.desk x) (plain outcome) new.desk) (sym is) (commit_step (archive_of old some_content) command (HasFailed mid new.life) outcome (archive_of new some.0) some.1));
+    ended = λ c r was found inside accepts obeyed.
+        let a = archive_of old c in
+        let faulted = HasFailed old.life new.life in
+        let begins = begins_is true r tells (read_of c r was found (commits.goes_on.obeyed obeyed)) inside in
+        let holds : Accepts (book_of a) command = subst (λ (x : Result Command Refusal). IfOk x (λ made. Accepts (book_of a) made)) is (accepts begins) in
+        behind_quiet old new mid a (InsideEnds a (begins_frame position r) decided faulted outcome) asked.quiet was
+        (ended_as (behind_read old mid) new a (CommitEnds a (reply_after a.desk command) (archive_after a command) (HasFailed mid new.life) outcome) (InsideEnds a (begins_frame position r) decided faulted outcome)
+        (λ b ends. subst (λ (t : Bool). InsideEnds a t decided faulted outcome b) (sym begins)
+        (subst (λ (x : Result Command Refusal). InsideEnds a true x faulted outcome b) (sym is)
+        (begun_inside a command faulted outcome b (commit_weaker a (reply_after a.desk command) (archive_after a command) (HasFailed mid new.life) faulted outcome b (failed_later old.life mid new.life asked.quiet) ends))))
+        (commits.ended c (quiet_consistent old.life mid old.log a asked.quiet was) holds));
+  }
+    where
+      some : (after : Content) × CommitEnds (archive_of old some_content) (reply_after old.desk command) (archive_after (archive_of old some_content) command) (HasFailed mid new.life) outcome (archive_of new after)
+      some = commits.exact some_content

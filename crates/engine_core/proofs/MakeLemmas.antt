@@ -1,111 +1,88 @@
 -- How a command is made.
-use Rattle.std.proofs.Common.{◌≡◌, ◌∙◌, ◌+◌, ◌<◌, sym, ap, subst, refl, ℕ, false, true≢false, IsTrue, Option, Some, None, inl, arith, cond}
-use Rattle.std.specs.Prelude.{Result, Ok, Err, is_some}
+use Rattle.std.proofs.Common.{rules, ◌≡◌, ◌⊎◌, ◌∙◌, ◌+◌, sym, ap, subst, refl, pos, [], cond, inl, inr}
+use Rattle.std.specs.Prelude.{IsFalse, Result, Ok, Err, Some, is_some}
 use Rattle.frame_core.specs.declared.refusal.Refusal.{Refusal}
 use Rattle.frame_core.specs.declared.refusal.Refusal.TheVariants.{DeviceFault, NoMemory}
-use Rattle.disk_core.specs.declared.file_id.FileId.TheVariants.{Segment}
-use Rattle.disk_core.specs.DiskImage.{FileState, reads}
-use Rattle.disk_core.specs.Life.{Life}
-use Rattle.disk_core.proofs.CallerLemmas.{weaker}
+use Rattle.disk_core.specs.DiskImage.{DiskImage, FileState, reads}
+use Rattle.disk_core.specs.Life.{HasFailed, Life}
 use Rattle.archive_model.specs.declared.command.Command.{Command}
 use Rattle.archive_model.specs.declared.command.Command.TheVariants as commands
 use Rattle.archive_model.specs.declared.reply.Reply.{Reply}
+use Rattle.archive_model.specs.Acceptance as acceptance
 use Rattle.archive_model.specs.Accepting.{Accepts}
 use Rattle.archive_model.specs.Commands.{after}
+use Rattle.archive_model.specs.Keyed.{Each}
 use Rattle.archive_model.specs.State.{State}
+use Rattle.archive_model.proofs.StateLemmas.{each_found}
 use Rattle.catalogue_log.specs.declared.entry.Entry.{Entry}
 use Rattle.catalogue_log.specs.Catalogue.{ChangesBank}
 use Rattle.catalogue_log.specs.Fold.{counts}
 use Rattle.catalogue_log.specs.History.{IsRequested, entry_of}
 use Rattle.catalogue_log.specs.LogState.{LogState}
 use Rattle.control_core.specs.Agreement.{HasWritten}
-use Rattle.control_core.specs.Changes.{desk_after}
+use Rattle.control_core.specs.Callers.{session_number}
+use Rattle.control_core.specs.Changes.{desk_after, reply_after}
+use Rattle.control_core.specs.Consistent.{IsAcceptable, IsConsistent, StaysConsistent, StaysOpen, WroteNothing, is_append}
 use Rattle.control_core.specs.Decisions.{Allows}
 use Rattle.control_core.specs.Desk.{DeskState}
 use Rattle.control_core.specs.Exact.{Archive, archive_after, book_of}
-use Rattle.control_core.specs.Seats.{KeepsSeats}
-use Rattle.control_core.proofs.AgreementLemmas.{agrees}
-use Rattle.control_core.proofs.AllowedLemmas.{room_of}
+use Rattle.control_core.specs.Turns.{session_in}
+use Rattle.control_core.proofs.CommandLemmas.{consistent_after, sessions_stay}
+use Rattle.control_core.proofs.FoundLemmas.{each_both}
+use Rattle.control_core.proofs.StayLemmas.{each_itself, open_blocks}
 use Rattle.engine_core.specs.Calls.{CommitEnds, Ended}
-use Rattle.engine_core.specs.Consistent.{AreWritten, Counts, IsConsistent}
-use Rattle.engine_core.specs.Making.{after_failure}
-use Rattle.engine_core.specs.Moves.{HasRoom, KeepsSegments, Leads, Moves}
-use Rattle.engine_core.specs.Recovery.{IsEither, IsSound, RecoversTo}
-use Rattle.engine_core.proofs.EndedLemmas.{IsReady, done, failed, recovers_as, untouched}
+use Rattle.engine_core.specs.Consistent.{IsCrashConsistent, StandsBehind}
+use Rattle.engine_core.specs.Engine.{Content, EngineState, IsTied, archive_of}
+use Rattle.engine_core.specs.Making.{Commits, after_failure}
+use Rattle.engine_core.specs.Moves.{AddsEntry, HasRoom, KeepsSegments, Leads, Moves}
+use Rattle.engine_core.specs.Recovery.{IsSound}
+use Rattle.engine_core.proofs.CommitCallLemmas.{commit_done, commit_refused, exact_commit, room_for, tied_behind}
+use Rattle.engine_core.proofs.EndedLemmas.{goes_on_here, no_doubt, quiet_life, still}
+use Rattle.engine_core.proofs.StandLemmas.{stands_either, stands_nothing}
 use Rattle.engine_core.proofs.StayLemmas.{leads}
-use Rattle.engine_core.proofs.WrittenLemmas.{hold_on, made_written}
-use Rattle.engine_core.proofs.ReplayStayLemmas.{replays_stay}
 
--- nothing is in doubt while no write has failed
-pub no_doubt : (life : Life) (log : LogState) (desk : DeskState) (a : Archive) → IsConsistent life log desk a → a.desk.is_broken ≡ false → a.doubt ≡ None
-no_doubt life log desk a was works = by a.doubt (sym works ∙ was.broken)
-  where
-    by : (o : Option State) → false ≡ is_some o → o ≡ None
-    by None e = refl
-    by (Some u) e = absurd (true≢false (sym e))
+-- ---- a command that a request makes, or a restart
 
--- where a command is made the log has room for its entry
-pub has_room : (life : Life) (log : LogState) (desk : DeskState) (a : Archive) (c : Command) → IsConsistent life log desk a → a.doubt ≡ None → Allows a.desk c → HasRoom log (entry_of a.state c)
-has_room life log desk a c was none allows counted = by c allows counted
-  where
-    same : Counts log desk
-    same = was.history none
+pub made_no_append : (c : Command) → IsRequested c → IsFalse (is_append c)
+made_no_append (commands.Start f) made = refl
+made_no_append (commands.Append id blocks) made = absurd made
+made_no_append (commands.Stop id timestamp) made = refl
+made_no_append (commands.Extend f) made = refl
+made_no_append (commands.Truncate id position) made = refl
+made_no_append (commands.PurgeSegments id position) made = refl
+made_no_append (commands.PurgeRecording id) made = refl
+made_no_append commands.Restart made = refl
 
-    low : a.desk.counted < a.desk.limit → log.counted < log.header.history_limit
-    low less = rw (same.counted, same.limit, was.desk_is) less
+-- what the desk counts, and its limit
+desk_counts : (d : DeskState) (c : Command) → IsRequested c → (desk_after d c).counted ≡ d.counted + cond (acceptance.counts c) 1 0
+desk_counts d (commands.Start f) made = refl
+desk_counts d (commands.Append id blocks) made = absurd made
+desk_counts d (commands.Stop id timestamp) made = refl
+desk_counts d (commands.Extend f) made = refl
+desk_counts d (commands.Truncate id position) made = refl
+desk_counts d (commands.PurgeSegments id position) made = refl
+desk_counts d (commands.PurgeRecording id) made = refl
+desk_counts d commands.Restart made = search (rules)
 
-    by : (c : Command) → Allows a.desk c → IsTrue (counts (entry_of a.state c)) → log.counted < log.header.history_limit
-    by (commands.Start f) allows counted = low (room_of a.desk (commands.Start f) refl allows)
-    by (commands.Append id blocks) allows counted = low (room_of a.desk (commands.Append id blocks) refl allows)
-    by (commands.Stop id timestamp) allows counted = low (room_of a.desk (commands.Stop id timestamp) refl allows)
-    by (commands.Extend f) allows counted = low (room_of a.desk (commands.Extend f) refl allows)
-    by (commands.Truncate id position) allows counted = low (room_of a.desk (commands.Truncate id position) refl allows)
-    by (commands.PurgeSegments id position) allows counted = low (room_of a.desk (commands.PurgeSegments id position) refl allows)
-    by (commands.PurgeRecording id) allows counted = low (room_of a.desk (commands.PurgeRecording id) refl allows)
-    by commands.Restart allows counted = absurd (true≢false (sym counted))
+desk_limit : (d : DeskState) (c : Command) → IsRequested c → (desk_after d c).limit ≡ d.limit
+desk_limit d (commands.Start f) made = refl
+desk_limit d (commands.Append id blocks) made = absurd made
+desk_limit d (commands.Stop id timestamp) made = refl
+desk_limit d (commands.Extend f) made = refl
+desk_limit d (commands.Truncate id position) made = refl
+desk_limit d (commands.PurgeSegments id position) made = refl
+desk_limit d (commands.PurgeRecording id) made = refl
+desk_limit d commands.Restart made = refl
 
--- the desk of a command that is made
-desk_works : (a : Archive) (c : Command) → IsRequested c → (desk_after a.desk c).is_broken ≡ a.desk.is_broken
-desk_works a (commands.Start f) made = refl
-desk_works a (commands.Append id blocks) made = absurd made
-desk_works a (commands.Stop id timestamp) made = refl
-desk_works a (commands.Extend f) made = refl
-desk_works a (commands.Truncate id position) made = refl
-desk_works a (commands.PurgeSegments id position) made = refl
-desk_works a (commands.PurgeRecording id) made = refl
-desk_works a commands.Restart made = refl
-
-desk_counts : (log new_log : LogState) (a : Archive) (c : Command) → IsRequested c → Counts log a.desk → new_log.header ≡ log.header → new_log.counted ≡ log.counted + (cond (counts (entry_of a.state c)) 1 0) → Counts new_log (desk_after a.desk c)
-desk_counts log new_log a c made same header counted = record { counted = by c made counted; limit = limits c made }
-  where
-    more : (n : ℕ) → new_log.counted ≡ log.counted + n → new_log.counted ≡ a.desk.counted + n
-    more n is = is ∙ ap (λ (m : ℕ). m + n) same.counted
-
-    none : new_log.counted ≡ log.counted + 0 → new_log.counted ≡ a.desk.counted
-    none is = omega (arith, is, same.counted)
-
-    by : (c : Command) → IsRequested c → new_log.counted ≡ log.counted + (cond (counts (entry_of a.state c)) 1 0) → new_log.counted ≡ (desk_after a.desk c).counted
-    by (commands.Start f) made is = more 1 is
-    by (commands.Append id blocks) made is = absurd made
-    by (commands.Stop id timestamp) made is = more 1 is
-    by (commands.Extend f) made is = more 1 is
-    by (commands.Truncate id position) made is = more 1 is
-    by (commands.PurgeSegments id position) made is = more 1 is
-    by (commands.PurgeRecording id) made is = more 1 is
-    by commands.Restart made is = none is
-
-    limit : new_log.header.history_limit ≡ a.desk.limit
-    limit = subst (λ h. h.history_limit ≡ a.desk.limit) (sym header) same.limit
-
-    limits : (c : Command) → IsRequested c → new_log.header.history_limit ≡ (desk_after a.desk c).limit
-    limits (commands.Start f) made = limit
-    limits (commands.Append id blocks) made = absurd made
-    limits (commands.Stop id timestamp) made = limit
-    limits (commands.Extend f) made = limit
-    limits (commands.Truncate id position) made = limit
-    limits (commands.PurgeSegments id position) made = limit
-    limits (commands.PurgeRecording id) made = limit
-    limits commands.Restart made = limit
+entry_counts : (s : State) (c : Command) → counts (entry_of s c) ≡ acceptance.counts c
+entry_counts s (commands.Start f) = refl
+entry_counts s (commands.Append id blocks) = refl
+entry_counts s (commands.Stop id timestamp) = refl
+entry_counts s (commands.Extend f) = refl
+entry_counts s (commands.Truncate id position) = refl
+entry_counts s (commands.PurgeSegments id position) = refl
+entry_counts s (commands.PurgeRecording id) = refl
+entry_counts s commands.Restart = refl
 
 -- of an append the session's blocks are asked, of the others nothing
 has_written : (a : Archive) (c : Command) → IsRequested c → HasWritten a.desk a.state c
@@ -118,91 +95,129 @@ has_written a (commands.PurgeSegments id position) made = tt
 has_written a (commands.PurgeRecording id) made = tt
 has_written a commands.Restart made = tt
 
--- no more than the bank of the catalogue has changed
 pub bank_keeps : (old new : Life) → ChangesBank old new → KeepsSegments old new
 bank_keeps old new changes = record { same = λ file other. ap (λ (f : FileState). f.reads) (changes.others file other); obeyed = changes.obeyed; faults = changes.faults }
 
--- what sessions wrote is read as before
-pub written_stays : (old new : Life) (a : Archive) → KeepsSegments old new → AreWritten (reads old.now) a.state a.desk.callers a.blocks → AreWritten (reads new.now) a.state a.desk.callers a.blocks
-written_stays old new a keeps = hold_on (reads old.now) (reads new.now) a.state a.desk.callers a.blocks (λ id base. keeps.same (Segment id base) (λ is. absurd cc))
+-- an entry that is made by the desk's next id
+pub record IsEntryFor (d : DeskState) (c : Command) (e : Entry) : Type 0 where
+  pub is : (s : State) → s.next ≡ d.register.next → e ≡ entry_of s c
+
+entry_counted : (d : DeskState) (c : Command) (e : Entry) → IsEntryFor d c e → counts e ≡ acceptance.counts c
+entry_counted d c e for =
+    let s : State = record { recordings = []; next = d.register.next } in
+    ap counts (for.is s refl) ∙ entry_counts s c
+
+-- ---- log and desk
+
+pub has_room : (log : LogState) (d : DeskState) (c : Command) (e : Entry) → IsTied log d → IsFalse d.is_broken → Allows d c → IsEntryFor d c e → HasRoom log e
+has_room log d c e tied works allows for = room_for log d c e tied works allows (entry_counted d c e for)
+
+pub made_tied : (log new_log : LogState) (d : DeskState) (c : Command) (e : Entry) → IsTied log d → IsFalse d.is_broken → IsRequested c → IsEntryFor d c e → new_log.header ≡ log.header → new_log.is_broken ≡ log.is_broken
+    → new_log.counted ≡ log.counted + cond (counts e) 1 0 → IsTied new_log (desk_after d c)
+made_tied log new_log d c e tied works made for header broke counted =
+    tied_behind log new_log d (desk_after d c) (cond (acceptance.counts c) 1 0) tied works header broke (subst (λ b. new_log.counted ≡ log.counted + cond b 1 0) (entry_counted d c e for) counted) (desk_counts d c made) (desk_limit d c made)
+
+-- ---- a crash-consistent archive
+
+-- what its sessions wrote stands on
+stands_after : (image : DiskImage) (a : Archive) (c : Command) → IsFalse (is_append c) → IsConsistent a → StaysConsistent a (archive_after a c) → IsAcceptable a c → Each (StandsBehind image a) a.desk.callers.sessions
+    → Each (StandsBehind image (archive_after a c)) (desk_after a.desk c).callers.sessions
+stands_after image a c none was stays acceptable stand =
+    let d = desk_after a.desk c in
+    let b = archive_after a c in
+    each_both (λ s. StaysOpen a b.state s ⊎ WroteNothing a s) (λ s. session_in d s.number ≡ Some s) (StandsBehind image b) d.callers.sessions
+    (λ s goes there.
+    let same : b.blocks s.number ≡ a.blocks s.number = open_blocks d a.blocks s.number (ap is_some there) in
+    elim goes [
+      | inl stays ↦ stands_either image a b s was (λ r found. each_found session_number (StandsBehind image a) s.number a.desk.callers.sessions s stand stays.was r found) (inl (stays, same))
+      | inr nothing ↦ stands_nothing image b s (same ∙ nothing.1)
+    ])
+    (sessions_stay a c none was acceptable) (each_itself (pos 0) d.callers.next_session d.callers.sessions stays.consistent.seats.sessions.rising)
 
 -- what holds as a command is to be made
-pub record MayMake (life : Life) (log : LogState) (desk : DeskState) (a : Archive) (c : Command) : Type 0 where
-  pub was : IsConsistent life log desk a
-  pub works : a.desk.is_broken ≡ false
-  pub seats : KeepsSeats a.desk.register a.desk.callers
-  pub allows : Allows a.desk c
-  pub accepts : Accepts (book_of a) c
-  pub is_made : IsRequested c
+pub record MayMake (old : EngineState) (content : Content) (c : Command) (e : Entry) : Type 0 where
+  pub was : IsCrashConsistent old.life old.log (archive_of old content)
+  pub tied : IsTied old.log old.desk
+  pub works : IsFalse old.desk.is_broken
+  pub allows : Allows old.desk c
+  pub accepts : Accepts (book_of (archive_of old content)) c
+  pub made : IsRequested c
+  pub for : IsEntryFor old.desk c e
 
-made_ready : (old new : Life) (log new_log : LogState) (desk new_desk : DeskState) (a : Archive) (c : Command) → MayMake old log desk a c → ChangesBank old new → new_log.header ≡ log.header → new_log.counted ≡ log.counted + (cond (counts (entry_of a.state c)) 1 0)
-    → new_desk ≡ desk_after desk c → IsReady new new_log new_desk (archive_after a c)
-made_ready old new log new_log desk new_desk a c may changes header counted is =
-    let none = no_doubt old log desk a may.was may.works in
-    let same : new_desk ≡ desk_after a.desk c = is ∙ ap (λ (d : DeskState). desk_after d c) may.was.desk_is in
-    let counts_of : Counts log a.desk = subst (Counts log) may.was.desk_is (may.was.history none) in
-    record {
-      history = subst (Counts new_log) (sym same) (desk_counts log new_log a c may.is_made counts_of header counted);
-      desk_is = same;
-      agrees = agrees a.desk (book_of a) c may.was.agrees (has_written a c may.is_made) may.was.well may.accepts;
-      works = desk_works a c may.is_made ∙ may.works;
-      doubt = none;
-      written = made_written (reads new.now) a c may.seats may.was.agrees may.was.well may.accepts may.is_made (written_stays old new a (bank_keeps old new changes) may.was.written);
-      reading = λ obeys. replays_stay a.desk (book_of a) c may.was.agrees may.was.well may.accepts may.allows (may.was.reading (changes.obeyed obeys));
-    }
+module _ (old new : EngineState) (content : Content) (c : Command) (e : Entry) (reply : Reply) (may : MayMake old content c e) (changes : ChangesBank old.life new.life) where
+  abbrev a : Archive
+  a = archive_of old content
 
-pub made_done : (old new : Life) (log new_log : LogState) (desk new_desk : DeskState) (a : Archive) (c : Command) (reply : Reply) (faulted : Type 0) → MayMake old log desk a c → ChangesBank old new → new_log.header ≡ log.header
-    → new_log.counted ≡ log.counted + (cond (counts (entry_of a.state c)) 1 0) → new_desk ≡ desk_after desk c → Moves old new new_log a.state (after a.state c) (Ok tt)
-    → Ended old new new_log new_desk a (CommitEnds a reply (archive_after a c) faulted (Ok reply))
-made_done old new log new_log desk new_desk a c reply faulted may changes header counted is moves =
-    done old new new_log new_desk a (archive_after a c) (CommitEnds a reply (archive_after a c) faulted (Ok reply)) moves.any_moment moves.rests (made_ready old new log new_log desk new_desk a c may changes header counted is) (refl, refl)
+  acceptable : IsAcceptable a c
+  acceptable = record { accepted = may.accepts; allowed = may.allows; written = has_written a c may.made }
 
--- what the commit of its entry did
-pub entered : (result : Result (Unit {0}) Refusal) (old new : Life) (log new_log : LogState) (desk : DeskState) (a : Archive) (c : Command) (e : Entry) → MayMake old log desk a c → e ≡ entry_of a.state c
-    → ((s u : State) → IsSound old.now log s → Leads old.now s u e → HasRoom log e → Moves old new new_log s u result) → Moves old new new_log a.state (after a.state c) result
-entered result old new log new_log desk a c e may is moves =
-    let none = no_doubt old log desk a may.was may.works in
-    let led : Leads old.now a.state (after a.state c) (entry_of a.state c) = leads old.now (book_of a) c may.was.well may.accepts may.is_made may.was.frames in
-    moves a.state (after a.state c) (may.was.sound none) (subst (Leads old.now a.state (after a.state c)) (sym is) led) (subst (HasRoom log) (sym is) (has_room old log desk a c may.was none may.allows))
+  stays : StaysConsistent a (archive_after a c)
+  stays = consistent_after a c (made_no_append c may.made) may.was.archive acceptable
 
-pub entry_counted : (log new_log : LogState) (a : Archive) (c : Command) (e : Entry) → e ≡ entry_of a.state c → new_log.counted ≡ log.counted + (cond (counts e) 1 0) → new_log.counted ≡ log.counted + (cond (counts (entry_of a.state c)) 1 0)
-entry_counted log new_log a c e is counted = subst (λ (x : Entry). new_log.counted ≡ log.counted + (cond (counts x) 1 0)) is counted
+  -- what the commit of its entry did
+  entered : (result : Result (Unit {0}) Refusal) → ((s u : State) → IsSound old.life.now old.log s → Leads old.life.now s u e → HasRoom old.log e → Moves old.life new.life new.log s u result) → Moves old.life new.life new.log a.state (after a.state c) result
+  entered result moves =
+      let next : a.state.next ≡ old.desk.register.next = ap (λ g. g.next) (sym may.was.archive.agrees) in
+      let led : Leads old.life.now a.state (after a.state c) (entry_of a.state c) = leads old.life.now (book_of a) c may.was.archive.well may.accepts may.made may.was.frames in
+      moves a.state (after a.state c) (may.was.sound (no_doubt a may.was.archive may.works)) (subst (Leads old.life.now a.state (after a.state c)) (sym (may.for.is a.state next)) led)
+      (has_room old.log old.desk c e may.tied may.works may.allows may.for)
 
--- ---- an entry was refused
+  pub made_done : new.desk ≡ desk_after old.desk c → ((s u : State) → IsSound old.life.now old.log s → Leads old.life.now s u e → HasRoom old.log e → Moves old.life new.life new.log s u (Ok tt))
+      → Ended old new a (CommitEnds a reply (archive_after a c) (HasFailed old.life new.life) (Ok reply))
+  made_done desk moves =
+      commit_done old new content may.was (archive_after a c) reply (bank_keeps old.life new.life changes) stays
+      (stands_after (reads old.life.now) a c (made_no_append c may.made) may.was.archive stays acceptable may.was.stand) desk (entered (Ok tt) moves)
 
-module _ (old new : Life) (log new_log : LogState) (desk new_desk : DeskState) (a : Archive) (was : IsConsistent old log desk a) (works : a.desk.is_broken ≡ false) (keeps : KeepsSegments old new) where
-  -- the archive is as it was
-  as_before : new_log ≡ log → new_desk ≡ desk → IsReady new new_log new_desk a
-  as_before same_log same =
-      let none = no_doubt old log desk a was works in
+  pub made_refused : (refusal : Refusal) → (refusal ≡ DeviceFault → HasFailed old.life new.life) → new.desk ≡ after_failure refusal old.desk
+      → ((s u : State) → IsSound old.life.now old.log s → Leads old.life.now s u e → HasRoom old.log e → Moves old.life new.life new.log s u (Err refusal))
+      → Ended old new a (CommitEnds a reply (archive_after a c) (HasFailed old.life new.life) (Err refusal))
+  made_refused refusal cause desk moves = commit_refused old new content may.was (archive_after a c) reply (bank_keeps old.life new.life changes) refusal cause desk (entered (Err refusal) moves)
+
+-- ---- what was made, whatever the archive is
+
+abbrev Refused : Refusal → Result (Unit {0}) Refusal
+Refused refusal = Err refusal
+
+one_refusal : (x y : Refusal) → Refused x ≡ Refused y → x ≡ y
+one_refusal x y is = cc
+
+module _ (old new : EngineState) (c : Command) (e : Entry) (tied : IsTied old.log old.desk) (works : IsFalse old.desk.is_broken) (allows : Allows old.desk c) (made : IsRequested c) (entry : IsEntryFor old.desk c e) (changes : ChangesBank old.life new.life) where
+  abbrev MovesBy : Result (Unit {0}) Refusal → Type 0
+  MovesBy result = (s u : State) → IsSound old.life.now old.log s → Leads old.life.now s u e → HasRoom old.log e → Moves old.life new.life new.log s u result
+
+  may : (content : Content) → IsCrashConsistent old.life old.log (archive_of old content) → Accepts (book_of (archive_of old content)) c → MayMake old content c e
+  may content was accepts = record { was = was; tied = tied; works = works; allows = allows; accepts = accepts; made = made; for = entry }
+
+  pub commits_done : (reply : Reply) → reply ≡ reply_after old.desk c → new.desk ≡ desk_after old.desk c → AddsEntry old.life new.life old.log new.log e (Ok tt) → MovesBy (Ok tt)
+      → Commits old new (λ a. Accepts (book_of a) c) (reply_after old.desk c) (λ a. archive_after a c) (Ok reply)
+  commits_done reply told desk adds moves =
+      subst (λ (r : Reply). Commits old new (λ a. Accepts (book_of a) c) (reply_after old.desk c) (λ a. archive_after a c) (Ok r)) (sym told) (record {
+        goes_on = adds.goes_on;
+        exact = λ content. exact_commit old new (reply_after old.desk c) (λ a. archive_after a c) (Ok tt) (Ok (reply_after old.desk c)) content (λ done is. (refl, desk)) (λ refusal is. absurd cc);
+        ended = λ content was accepts. made_done old new content c e (reply_after old.desk c) (may content was accepts) changes desk moves;
+      })
+
+  pub commits_refused : (refusal : Refusal) → new.desk ≡ after_failure refusal old.desk → AddsEntry old.life new.life old.log new.log e (Err refusal) → MovesBy (Err refusal)
+      → Commits old new (λ a. Accepts (book_of a) c) (reply_after old.desk c) (λ a. archive_after a c) (Err refusal)
+  commits_refused refusal desk adds moves =
+      let outside = adds.outside (tied.works works) (has_room old.log old.desk c e tied works allows entry) in
+      let cause : refusal ≡ DeviceFault → HasFailed old.life new.life = λ is. adds.cause (ap Err is) in
       record {
-        history = subst (λ (l : LogState). Counts l new_desk) (sym same_log) (subst (Counts log) (sym same) (was.history none));
-        desk_is = same ∙ was.desk_is;
-        agrees = was.agrees;
-        works = works;
-        doubt = none;
-        written = written_stays old new a keeps was.written;
-        reading = λ obeys. was.reading (keeps.obeyed obeys);
+        goes_on = adds.goes_on;
+        exact = λ content. exact_commit old new (reply_after old.desk c) (λ a. archive_after a c) (Err refusal) (Err refusal) content (λ done is. absurd cc) (λ r is. (ap Err (one_refusal refusal r is), subst (λ (x : Refusal). new.desk ≡ after_failure x old.desk) (one_refusal refusal r is) desk, subst (λ (x : Refusal). (x ≡ DeviceFault) ⊎ (x ≡ NoMemory)) (one_refusal refusal r is) outside, subst (λ (x : Refusal). x ≡ DeviceFault → HasFailed old.life new.life) (one_refusal refusal r is) cause));
+        ended = λ content was accepts. made_refused old new content c e (reply_after old.desk c) (may content was accepts) changes refusal cause desk moves;
       }
 
-  refused : (b : Archive) (reply : Reply) (faulted : Type 0) (refusal : Refusal) → (refusal ≡ NoMemory → new_log ≡ log) → (refusal ≡ DeviceFault → faulted) → new_desk ≡ after_failure refusal desk
-      → Moves old new new_log a.state b.state (Err refusal) → Ended old new new_log new_desk a (CommitEnds a reply b faulted (Err refusal))
-  refused b reply faulted NoMemory memory cause is moves =
-      let any = weaker old new (RecoversTo (IsEither a.state a.state)) (RecoversTo (λ x. x ≡ a.state)) moves.rests.1 (λ image. recovers_as (λ x. x ≡ a.state) (IsEither a.state a.state) image (λ s same. inl same)) in
-      done old new new_log new_desk a a (CommitEnds a reply b faulted (Err NoMemory)) any moves.rests.0 (as_before (memory refl) is) refl
-  refused b reply faulted DeviceFault memory cause is moves =
-      failed old new new_log new_desk a b.state (CommitEnds a reply b faulted (Err DeviceFault)) was.well was.agrees moves.any_moment moves.frames
-      (is ∙ ap (λ (d : DeskState). after_failure DeviceFault d) was.desk_is) (written_stays old new a keeps was.written) (λ obeys. was.reading (keeps.obeyed obeys)) (cause refl, refl)
-  refused b reply faulted refusal memory cause is moves = absurd moves.rests
-
-  -- as the caller is told it
-  pub commit_failed : (b : Archive) (reply : Reply) (faulted : Type 0) (refusal told : Refusal) → told ≡ refusal → (refusal ≡ NoMemory → new_log ≡ log) → (refusal ≡ DeviceFault → faulted) → new_desk ≡ after_failure refusal desk
-      → Moves old new new_log a.state b.state (Err refusal) → Ended old new new_log new_desk a (CommitEnds a reply b faulted (Err told))
-  commit_failed b reply faulted refusal told same memory cause is moves =
-      subst (λ (r : Refusal). Ended old new new_log new_desk a (CommitEnds a reply b faulted (Err r))) (sym same) (refused b reply faulted refusal memory cause is moves)
-
 -- there was no memory, and nothing has changed
-pub unmade : (life : Life) (log : LogState) (desk new_desk : DeskState) (a : Archive) (reply : Reply) (b : Archive) (faulted : Type 0) (outcome : Result Reply Refusal) → IsConsistent life log desk a → new_desk ≡ desk → outcome ≡ Err NoMemory
-    → Ended life life log new_desk a (CommitEnds a reply b faulted outcome)
-unmade life log desk new_desk a reply b faulted outcome was same is =
-    untouched life log new_desk a (CommitEnds a reply b faulted outcome) (subst (λ (d : DeskState). IsConsistent life log d a) (sym same) was) (subst (λ (o : Result Reply Refusal). CommitEnds a reply b faulted o a) (sym is) refl)
+pub unmade : (old new : EngineState) (Fits : Archive → Type 0) (reply : Reply) (to : Archive → Archive) (outcome : Result Reply Refusal) → new.life ≡ old.life → new.log ≡ old.log → new.desk ≡ old.desk → outcome ≡ Err NoMemory → Commits old new Fits reply to outcome
+unmade old new Fits reply to outcome life log desk is =
+    let same : new ≡ old = same_state old new life log desk in
+    subst (λ (x : EngineState). Commits old x Fits reply to outcome) (sym same) (subst (λ (o : Result Reply Refusal). Commits old old Fits reply to o) (sym is) (record {
+      goes_on = goes_on_here old.life;
+      exact = λ c. (c, refl);
+      ended = λ c was fits. still old old (archive_of old c) _ (quiet_life old.life) refl refl was refl;
+    }))
+  where
+    same_state : (x y : EngineState) → y.life ≡ x.life → y.log ≡ x.log → y.desk ≡ x.desk → y ≡ x
+    same_state x y one two three =
+        ap (λ (l : Life). record { life = l; log = y.log; desk = y.desk }) one ∙ ap (λ (l : LogState). record { life = x.life; log = l; desk = y.desk }) two ∙ ap (λ (d : DeskState). record { life = x.life; log = x.log; desk = d }) three

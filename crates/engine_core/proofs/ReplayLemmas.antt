@@ -1,72 +1,109 @@
--- Calls of replays, and calls that only read.
-use Rattle.std.proofs.Common.{◌≡◌, ◌∙◌, inl, inr, sym, ap, subst, refl, cond, ℤ, Bool, true, false, ◌&&◌, IsTrue, List, [], ◌∷◌, Option, None, Some, arith}
-use Rattle.std.specs.Prelude.{IsSomeAnd, Result, Ok, Err, unsigned_abs}
+-- Calls that only read: how they end, and what becomes of the open replays.
+use Rattle.std.proofs.Common.{◌≡◌, ◌≢◌, ◌∙◌, ◌||◌, inl, inr, sym, ap, subst, refl, cond, ℤ, Bool, true, false, true≢false, IsTrue, List, [], ◌∷◌, Option, None, Some}
+use Rattle.std.specs.Prelude.{IsErrOf, IsFalse, IsSomeAnd, Result, Ok, Err, unsigned_abs}
 use Rattle.frame_core.specs.declared.refusal.Refusal.{Refusal}
 use Rattle.frame_core.specs.declared.refusal.Refusal.TheVariants.{DeviceFault, NoMemory}
-use Rattle.disk_core.specs.Life.{IsQuiet, Life}
+use Rattle.disk_core.specs.Life.{HasFailed, IsQuiet}
 use Rattle.archive_model.specs.declared.reply.Reply.{Reply}
 use Rattle.archive_model.specs.declared.reply.PolledFrame.{PolledFrame}
 use Rattle.archive_model.specs.declared.reply.Reply.TheVariants as replies
 use Rattle.archive_model.specs.Checks.{Tests, checked, checks, passes}
 use Rattle.archive_model.specs.Keyed.{Each, change}
 use Rattle.archive_model.specs.Replay.{is_boundary, polled}
-use Rattle.archive_model.specs.State.{Recording}
+use Rattle.archive_model.specs.State.{Recording, empty}
+use Rattle.archive_model.proofs.AnswerLemmas.{all_hold}
 use Rattle.archive_model.proofs.RegisterLemmas.{found_number}
 use Rattle.archive_model.proofs.StateLemmas.{each_change, each_found}
 use Rattle.catalogue_log.specs.LogState.{LogState}
 use Rattle.control_core.specs.declared.callers.OpenReplay.{OpenReplay}
 use Rattle.control_core.specs.declared.event.Event.{Event}
 use Rattle.control_core.specs.declared.event.Event.TheVariants as events
+use Rattle.control_core.specs.Callers.{CallersState, moved_to, replay_number}
 use Rattle.control_core.specs.Changes.{after_poll}
-use Rattle.control_core.specs.Callers.{moved_to, replay_number}
+use Rattle.control_core.specs.Consistent.{HasBlocks, IsAtBoundary, IsConsistent}
 use Rattle.control_core.specs.Desk.{DeskState}
-use Rattle.control_core.specs.Exact.{Archive, ArchiveEnds, CallEnds, Leaves, PolledEnds, PollingEnds, frames_end, goes_on, reads_files, recording_at, with_desk}
+use Rattle.control_core.specs.Exact.{Archive, ArchiveEnds, CallEnds, Leaves, PolledEnds, PollingEnds, asked_of, frames_end, goes_on, reads_files, recording_at, told_of, with_desk}
+use Rattle.control_core.specs.Machine.{Stepped}
+use Rattle.control_core.specs.Seats.{KeepsSeats}
 use Rattle.control_core.specs.Turns.{poll_decision, poll_tests, replay_in, replay_of}
-use Rattle.engine_core.specs.Calls.{Ended}
-use Rattle.engine_core.specs.Consistent.{IsConsistent}
-use Rattle.engine_core.specs.Reading.{IsAtBoundary, IsOutside}
+use Rattle.control_core.proofs.ConsistentLemmas.{polled_open}
+use Rattle.control_core.proofs.FoundLemmas.{each_weaker}
+use Rattle.control_core.proofs.StayLemmas.{blocks_stay, same_recording}
+use Rattle.engine_core.specs.Calls.{AnswersEvent, EndsAs, is_fault}
+use Rattle.engine_core.specs.Consistent.{IsCrashConsistent}
+use Rattle.engine_core.specs.Engine.{Content, EngineState, IsTied, archive_of}
+use Rattle.engine_core.specs.Reading.{IsOutside}
 use Rattle.engine_core.proofs.CommitLemmas.{memory_is_no_fault}
-use Rattle.engine_core.proofs.EndedLemmas.{quiet_consistent, quiet_moments}
+use Rattle.engine_core.proofs.EndedLemmas.{quiet_goes_on, reread, still}
 
 -- ---- a desk with other replays
 
+abbrev pub calls_with : List OpenReplay → ℤ → CallersState → CallersState
+calls_with rs next c = record c { replays = rs; next_replay = next }
+
 abbrev pub with_replays : List OpenReplay → ℤ → DeskState → DeskState
-with_replays rs next d = record d { callers = record d.callers { replays = rs; next_replay = next } }
+with_replays rs next d = record d { callers = calls_with rs next d.callers }
 
-pub replays_consistent : (life : Life) (log : LogState) (desk desk_new : DeskState) (a : Archive) (rs : List OpenReplay) (next : ℤ) → IsConsistent life log desk a → (IsTrue life.obeys → Each (IsAtBoundary a.state) rs)
-    → desk_new ≡ with_replays rs next a.desk → IsConsistent life log desk_new (with_desk (with_replays rs next a.desk) a)
-replays_consistent life log desk desk_new a rs next was at is = record {
-  images = was.images;
-  sound = was.sound;
-  history = λ none. let counts = was.history none in record {
-    counted = counts.counted ∙ ap (λ (d : DeskState). d.counted) was.desk_is ∙ sym (ap (λ (d : DeskState). d.counted) is);
-    limit = counts.limit ∙ ap (λ (d : DeskState). d.limit) was.desk_is ∙ sym (ap (λ (d : DeskState). d.limit) is);
-  };
-  frames = was.frames;
-  well = was.well;
-  desk_is = is;
-  agrees = was.agrees;
-  broken = was.broken;
-  written = record { each = was.written.each; none = was.written.none };
-  reading = at;
-}
-
-pub quiet_life : (life : Life) → IsQuiet life life
-quiet_life life = record { obeyed = λ obeys. obeys; past = refl; now = refl; faults = omega arith }
-
--- a call that changes the replays, and only reads
-pub replayed : (old new : Life) (log : LogState) (desk desk_new : DeskState) (a : Archive) (rs : List OpenReplay) (next : ℤ) (Ends : Archive → Type 0) → IsQuiet old new → IsConsistent old log desk a → (IsTrue new.obeys → Each (IsAtBoundary a.state) rs)
-    → desk_new ≡ with_replays rs next a.desk → Ends (with_desk (with_replays rs next a.desk) a) → Ended old new log desk_new a Ends
-replayed old new log desk desk_new a rs next Ends quiet was at is ends =
+-- an archive is consistent wherever its replays are
+other_replays : (a : Archive) (rs : List OpenReplay) (next : ℤ) → IsConsistent a → KeepsSeats a.desk.register (calls_with rs next a.desk.callers) → IsConsistent (with_desk (with_replays rs next a.desk) a)
+other_replays a rs next was seats =
     let b : Archive = with_desk (with_replays rs next a.desk) a in
     record {
-      after = b;
-      ends = ends;
-      consistent = replays_consistent new log desk desk_new a rs next (quiet_consistent old new log desk a quiet was) at is;
-      any_moment = quiet_moments old new log desk a b quiet was;
+      agrees = was.agrees;
+      well = was.well;
+      seats = seats;
+      blocks = each_weaker (λ s. HasBlocks a s s.written) (λ s. HasBlocks b s s.written) a.desk.callers.sessions (λ s has. blocks_stay a b s s.written refl (λ r found. same_recording a b s r found) has) was.blocks;
+      unwritten = was.unwritten;
+      broken = was.broken;
     }
 
--- ---- how it ends
+-- the log stays with a desk whose history is as it was
+pub tied_on : (log : LogState) (d other new : DeskState) → other.is_broken ≡ d.is_broken → other.counted ≡ d.counted → other.limit ≡ d.limit → new ≡ other → IsTied log d → IsTied log new
+tied_on log d other new broken counted limit is tied =
+    let works : IsFalse other.is_broken → IsFalse d.is_broken = λ off. sym broken ∙ off in
+    subst (IsTied log) (sym is) (record {
+      works = λ off. tied.works (works off);
+      counted = λ off. tied.counted (works off) ∙ sym counted;
+      limit = λ off. tied.limit (works off) ∙ sym limit;
+    })
+
+-- ---- calls that only read
+
+-- an archive of a desk, where none is known
+pub no_content : Content
+no_content = record { state = empty; blocks = λ number. []; doubt = None }
+
+-- nothing but the count of faults has changed
+pub reads_only : (old new : EngineState) (event : Event) (result : Result Reply Refusal) → IsQuiet old.life new.life → new.log ≡ old.log → new.desk ≡ old.desk → event ≢ events.Sweep → (IsErrOf result DeviceFault → HasFailed old.life new.life)
+    → Stepped old.desk (asked_of event) (told_of old.desk event result) old.desk → ((c : Content) → IsCrashConsistent old.life old.log (archive_of old c) → EndsAs old.life new.life event (archive_of old c) result (archive_of old c)) → AnswersEvent old new event result
+reads_only old new event result quiet log desk other cause step ends = record {
+  goes_on = quiet_goes_on old.life new.life quiet;
+  cause = cause;
+  machine = subst (λ (d : DeskState). Stepped old.desk (asked_of event) (told_of old.desk event result) d) (sym desk) step;
+  swept = λ removed is. absurd (other is);
+  ended = λ c was cut. still old new (archive_of old c) (EndsAs old.life new.life event (archive_of old c) result) quiet log desk was (ends c was);
+}
+
+-- other replays are open
+pub reads_on : (old new : EngineState) (event : Event) (reply : Reply) (rs : List OpenReplay) (next : ℤ) → IsQuiet old.life new.life → new.log ≡ old.log → new.desk ≡ with_replays rs next old.desk → event ≢ events.Sweep
+    → Stepped old.desk (asked_of event) (told_of old.desk event (Ok reply)) (with_replays rs next old.desk) → (KeepsSeats old.desk.register old.desk.callers → KeepsSeats old.desk.register (calls_with rs next old.desk.callers))
+    → ((c : Content) → IsCrashConsistent old.life old.log (archive_of old c) → IsTrue new.life.obeys → Each (IsAtBoundary c.state) rs)
+    → ((c : Content) → IsCrashConsistent old.life old.log (archive_of old c) → EndsAs old.life new.life event (archive_of old c) (Ok reply) (with_desk (with_replays rs next old.desk) (archive_of old c))) → AnswersEvent old new event (Ok reply)
+reads_on old new event reply rs next quiet log desk other step seats at ends = record {
+  goes_on = quiet_goes_on old.life new.life quiet;
+  cause = λ fault. absurd (no_error fault);
+  machine = subst (λ (d : DeskState). Stepped old.desk (asked_of event) (told_of old.desk event (Ok reply)) d) (sym desk) step;
+  swept = λ removed is. absurd (other is);
+  ended = λ c was cut.
+      let a : Archive = archive_of old c in
+      let b : Archive = with_desk (with_replays rs next old.desk) a in
+      reread old new a b (EndsAs old.life new.life event a (Ok reply)) quiet log desk refl refl was.stand (other_replays a rs next was.archive (seats was.archive.seats)) (at c was) was (ends c was);
+}
+  where
+    no_error : Ok reply ≡ Err DeviceFault → ⊥
+    no_error is = cc
+
+-- ---- what is decided
 
 -- a refusal, or a reply, that is decided
 pub leaves_refused : (a b : Archive) (decided : Result Reply Refusal) (refusal : Refusal) → decided ≡ Err refusal → Leaves a b decided (Err refusal) a
@@ -92,44 +129,58 @@ checked_ok {X = X} {Y = Y} tests (r ∷ rs) x z y is = by (tests r) is (checked_
     by true e later = later e
     by false e later = absurd cc
 
+-- one of the refusals is a device fault
+abbrev pub has_fault : List Refusal → Bool
+has_fault [] = false
+has_fault (r ∷ rs) = is_fault (Err r) || has_fault rs
+
+-- no check is refused by one
+pub checked_fault : {X : Type 0} (tests : Tests) (rs : List Refusal) (x : Result X Refusal) → has_fault rs ≡ false → checked tests rs x ≡ Err DeviceFault → x ≡ Err DeviceFault
+checked_fault tests [] x none is = is
+checked_fault {X = X} tests (r ∷ rs) x none is = by (tests r) is (checked_fault tests rs x (behind (is_fault (Err r)) none))
+  where
+    behind : (b : Bool) → (b || has_fault rs) ≡ false → has_fault rs ≡ false
+    behind true e = absurd (true≢false e)
+    behind false e = e
+
+    front : r ≡ DeviceFault → (is_fault (Err r) || has_fault rs) ≡ false → ⊥
+    front same e = true≢false (sym (ap (λ (x : Refusal). is_fault (Err x) || has_fault rs) same) ∙ e)
+
+    by : (b : Bool) → cond b (checked tests rs x) (Err r) ≡ Err DeviceFault → (checked tests rs x ≡ Err DeviceFault → x ≡ Err DeviceFault) → x ≡ Err DeviceFault
+    by true e later = later e
+    by false e later = let same : r ≡ DeviceFault = cc in absurd (front same none)
+
+pub answer_no_fault : {X : Type 0} (tests : Tests) (x : X) (refusal : Refusal) → checked tests checks (Ok x) ≡ Err refusal → IsErrOf {T = Reply} (Err refusal) DeviceFault → ⊥
+answer_no_fault {X = X} tests x refusal is fault =
+    let same : refusal ≡ DeviceFault = cc in
+    let told : Ok x ≡ Err DeviceFault = checked_fault tests checks (Ok x) refl (is ∙ ap Err same) in
+    absurd cc
+
 -- a read that failed by a fault of the disk, or by want of memory
-pub outside_read : (a : Archive) (event : Event) (faulted : Type 0) (outcome : Result Reply Refusal) (refusal : Refusal) → outcome ≡ Err refusal → IsOutside refusal → (refusal ≡ DeviceFault → faulted × IsTrue (reads_files a.desk event)) → CallEnds a event faulted outcome a
-outside_read a event faulted outcome refusal is outside cause = subst (λ (o : Result Reply Refusal). CallEnds a event faulted o a) (sym is)
-    (elim outside [ inl fault ↦ (let why = cause fault in subst (λ (r : Refusal). CallEnds a event faulted (Err r) a) (sym fault) (inr (why.0, inl (why.1, refl)))) | inr memory ↦ subst (λ (r : Refusal). CallEnds a event faulted (Err r) a) (sym memory) (inr refl) ])
+pub outside_read : (a : Archive) (event : Event) (faulted : Type 0) (refusal : Refusal) → IsOutside refusal → (refusal ≡ DeviceFault → faulted × IsTrue (reads_files a.desk event)) → CallEnds a event faulted (Err refusal) a
+outside_read a event faulted refusal outside cause = elim outside [
+  | inl fault ↦ (let why = cause fault in subst (λ (r : Refusal). CallEnds a event faulted (Err r) a) (sym fault) (inr (why.0, inl (why.1, refl))))
+  | inr memory ↦ subst (λ (r : Refusal). CallEnds a event faulted (Err r) a) (sym memory) (inr refl)
+]
 
 -- a call for which memory was refused
-pub unkept : (a : Archive) (event : Event) (faulted : Type 0) (outcome : Result Reply Refusal) (refusal : Refusal) → outcome ≡ Err refusal → refusal ≡ NoMemory → CallEnds a event faulted outcome a
-unkept a event faulted outcome refusal is memory = outside_read a event faulted outcome refusal is (inr memory) (λ fault. absurd (memory_is_no_fault refusal memory fault))
+pub unkept : (a : Archive) (event : Event) (faulted : Type 0) (refusal : Refusal) → refusal ≡ NoMemory → CallEnds a event faulted (Err refusal) a
+unkept a event faulted refusal memory = outside_read a event faulted refusal (inr memory) (λ fault. absurd (memory_is_no_fault refusal memory fault))
 
 -- ---- a poll
 
-pub checked_through : {X : Type 0} (tests : Tests) (rs : List Refusal) (y : Result X Refusal) (z : X) → checked tests rs y ≡ Ok z → y ≡ Ok z
-checked_through tests [] y z is = is
-checked_through {X = X} tests (r ∷ rs) y z is = by (tests r) is (checked_through tests rs y z)
-  where
-    by : (b : Bool) → cond b (checked tests rs y) (Err r) ≡ Ok z → (checked tests rs y ≡ Ok z → y ≡ Ok z) → y ≡ Ok z
-    by true e later = later e
-    by false e later = absurd cc
-
 -- each test of it holds
-all_pass : {X : Type 0} (tests : Tests) (rs : List Refusal) (y : Result X Refusal) (z : X) → checked tests rs y ≡ Ok z → passes tests rs ≡ true
-all_pass tests [] y z is = refl
-all_pass {X = X} tests (r ∷ rs) y z is = by (tests r) is (all_pass tests rs y z)
-  where
-    by : (b : Bool) → cond b (checked tests rs y) (Err r) ≡ Ok z → (checked tests rs y ≡ Ok z → passes tests rs ≡ true) → (b && passes tests rs) ≡ true
-    by true e later = later e
-    by false e later = absurd cc
-
 pub poll_passes : (d : DeskState) (number most : ℤ) (replay : OpenReplay) → poll_decision d number most ≡ Ok replay → passes (poll_tests d number most) checks ≡ true
-poll_passes d number most replay is = all_pass (poll_tests d number most) checks (replay_of (replay_in d number)) replay is
+poll_passes d number most replay is = (all_hold (poll_tests d number most) checks (replay_of (replay_in d number)) replay is).0
 
--- what is polled is open
-pub polled_open : (d : DeskState) (number most : ℤ) (replay : OpenReplay) → poll_decision d number most ≡ Ok replay → replay_in d number ≡ Some replay
-polled_open d number most replay is = by (replay_in d number) (checked_through (poll_tests d number most) checks (replay_of (replay_in d number)) replay is)
+pub poll_no_fault : (d : DeskState) (number most : ℤ) (refusal : Refusal) → poll_decision d number most ≡ Err refusal → IsErrOf {T = Reply} (Err refusal) DeviceFault → ⊥
+poll_no_fault d number most refusal is fault =
+    let same : refusal ≡ DeviceFault = cc in
+    by (replay_in d number) (checked_fault (poll_tests d number most) checks (replay_of (replay_in d number)) refl (is ∙ ap Err same))
   where
-    by : (o : Option OpenReplay) → replay_of o ≡ Ok replay → o ≡ Some replay
-    by None e = absurd cc
-    by (Some x) e = cc
+    by : (o : Option OpenReplay) → replay_of o ≡ Err DeviceFault → ⊥
+    by None e = cc
+    by (Some replay) e = cc
 
 pub polling_refused : (a : Archive) (number most : ℤ) (refusal : Refusal) → poll_decision a.desk number most ≡ Err refusal → ArchiveEnds a (events.ReplayPoll number most) (Err refusal) a
 polling_refused a number most refusal is = subst (λ (d : Result OpenReplay Refusal). PollingEnds a most d (Err refusal) a) (sym is) (refl, refl)

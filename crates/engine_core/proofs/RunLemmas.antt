@@ -1,143 +1,172 @@
--- Calls one after another.
-use Rattle.std.proofs.Common.{◌≡◌, ◌∙◌, ◌++◌, ◌+◌, ◌<◌, ◌≤◌, inl, inr, sym, ap, subst, refl, ℕ, List, [], ◌∷◌, length, take, get_or, add-one, cond, IsTrue, arith}
-use Rattle.std.proofs.lemmas.List.{append-nil, append_assoc, length-append, length-take-le, take_all}
-use Rattle.std.proofs.lemmas.List.Sums.{sum_by-append}
+-- Calls one after another, and what a crash leaves of them.
+use Rattle.std.proofs.Common.{◌≡◌, ◌⊎◌, ◌∙◌, ◌++◌, ◌+◌, ◌<◌, ◌≤◌, inl, inr, sym, ap, subst, refl, ℕ, List, [], ◌∷◌, length, take, get_or, add-one, cond, false, true, true≢false, IsTrue, None, Some, arith}
+use Rattle.std.specs.Prelude.{IsFalse, Result, Ok, Err}
+use Rattle.std.proofs.lemmas.List.Sums.{sum_by-cons}
+use Rattle.std.proofs.Math.Path.{fun_ext}
 use Rattle.std.proofs.Math.Seq.{take-suc}
-use Rattle.std.specs.Prelude.{Result, Err}
 use Rattle.frame_core.specs.declared.refusal.Refusal.{Refusal}
-use Rattle.frame_core.specs.declared.refusal.Refusal.TheVariants.{DeviceFault}
-use Rattle.disk_core.specs.Life.{HasFailed, Life}
-use Rattle.disk_core.proofs.CallerLemmas.{goes_on_part, started, weaker}
+use Rattle.frame_core.specs.declared.refusal.Refusal.TheVariants.{DeviceFault, NoMemory}
+use Rattle.disk_core.specs.DiskImage.{DiskImage, Files, MayLeave, begun, durable}
+use Rattle.disk_core.specs.Life.{HasFailed, Life, LeavesOnly, MayHaveLeft, moment}
+use Rattle.disk_core.proofs.CallerLemmas.{durable_left, goes_on_part, started, weaker}
 use Rattle.archive_model.specs.declared.reply.Reply.{Reply}
 use Rattle.archive_model.specs.State.{State}
 use Rattle.catalogue_log.specs.LogState.{LogState}
 use Rattle.control_core.specs.declared.event.Event.{Event}
-use Rattle.control_core.specs.Desk.{DeskState}
-use Rattle.control_core.specs.Exact.{Archive, CallEnds}
-use Rattle.engine_core.specs.Calls.{Call, Ended, EndsAs, HasFailedOften, Ran, Run, Stood, calls_of, faults_in, is_cut, is_fault}
-use Rattle.engine_core.specs.Consistent.{IsConsistent, MayStand, MayStandIn}
-use Rattle.engine_core.specs.Recovery.{RecoversTo}
-use Rattle.engine_core.proofs.AskLemmas.{ended_as}
+use Rattle.control_core.specs.Exact.{Archive, ArchiveEnds, CallEnds, LeftByFault}
+use Rattle.control_core.specs.Machine.{Outside}
+use Rattle.control_core.specs.Runs.{Leave, MayStand, StoodAmong, last_left}
+use Rattle.control_core.proofs.CallLemmas.{refused_unchanged}
 use Rattle.control_core.proofs.FaultLemmas.{other_cause}
-use Rattle.engine_core.proofs.EndedLemmas.{recovers_as}
+use Rattle.engine_core.specs.Calls.{AnswersEvent, Ended, EndsAs, HasFailedOften, IsRun, LeavesAlone, Ran, faults_in, is_cut, is_fault}
+use Rattle.engine_core.specs.Consistent.{IsCrashConsistent, MayStandIn}
+use Rattle.engine_core.specs.Engine.{Content, EngineState, GoesOn, archive_of}
+use Rattle.engine_core.specs.Opened.{LeavesEither}
+use Rattle.engine_core.specs.Recovery.{Recovers, RecoversTo}
+use Rattle.engine_core.proofs.EndedLemmas.{goes_on_here, no_doubt, recovers_as}
 
--- ---- no call yet
+-- ---- whatever the archive is
 
-stood_first : (a : Archive) (calls : List Call) (x : State) → MayStand a x → Stood a calls x
-stood_first a calls x stands = record { front = []; back = calls; split = refl; mid = a; run = refl; stands = stands }
+goes_further : (old mid new : Life) → GoesOn old mid → GoesOn mid new → GoesOn old new
+goes_further old mid new first then = let one = first.faults in let two = then.faults in record { obeyed = λ obeys. first.obeyed (then.obeyed obeys); faults = omega (arith, one, two) }
 
-pub ran_none : (life : Life) (log : LogState) (desk : DeskState) (a : Archive) → IsConsistent life log desk a → Ran life life log desk a []
-ran_none life log desk a was = record {
-  after = a;
-  run = refl;
-  consistent = was;
-  any_moment = started life (RecoversTo (Stood a [])) (λ image left. recovers_as (MayStand a) (Stood a []) image (stood_first a []) (was.images image left));
-}
+pub run_goes_on : (old new : EngineState) (events : List Event) (outcomes : List (Result Reply Refusal)) → IsRun old events outcomes new → GoesOn old.life new.life
+run_goes_on old new [] [] run = subst (λ (e : EngineState). GoesOn old.life e.life) (sym run) (goes_on_here old.life)
+run_goes_on old new (event ∷ events) (outcome ∷ outcomes) (mid, answers, run) = goes_further old.life mid.life new.life answers.goes_on (run_goes_on mid new events outcomes run)
+run_goes_on old new [] (outcome ∷ outcomes) run = absurd run
+run_goes_on old new (event ∷ events) [] run = absurd run
 
--- ---- one call more
-
-run_more : (a b c : Archive) (calls : List Call) (call : Call) → Run a calls b → CallEnds b call.0 (Unit {0}) call.1 c → Run a (calls ++ call ∷ []) c
-run_more a b c [] call run ends = (c, subst (λ (x : Archive). CallEnds x call.0 (Unit {0}) call.1 c) run ends, refl)
-run_more a b c (first ∷ calls) call run ends = (run.0, run.1, run_more run.0 b c calls call run.2 ends)
-
-stood_more : (a : Archive) (calls more : List Call) (x : State) → Stood a calls x → Stood a (calls ++ more) x
-stood_more a calls more x stood = record {
-  front = stood.front;
-  back = stood.back ++ more;
-  split = ap (λ (l : List Call). l ++ more) stood.split ∙ append_assoc stood.front stood.back more;
-  mid = stood.mid;
-  run = stood.run;
-  stands = stood.stands;
-}
-
--- a state that stood after all of them
-stood_last : (a b : Archive) (calls : List Call) (x : State) → Run a calls b → MayStand b x → Stood a calls x
-stood_last a b calls x run stands = record { front = calls; back = []; split = sym (append-nil calls); mid = b; run = run; stands = stands }
-
-pub ran_more : (old mid new : Life) (log new_log : LogState) (desk new_desk : DeskState) (a : Archive) (calls : List Call) (event : Event) (outcome : Result Reply Refusal) → Ran old mid log desk a calls
-    → ((b : Archive) → IsConsistent mid log desk b → Ended mid new new_log new_desk b (λ c. CallEnds b event (Unit {0}) outcome c)) → Ran old new new_log new_desk a (calls ++ (event, outcome) ∷ [])
-ran_more old mid new log new_log desk new_desk a calls event outcome ran step = record {
-  after = ended.after;
-  run = run;
-  consistent = ended.consistent;
-  any_moment = goes_on_part old mid new (RecoversTo (Stood a more)) (RecoversTo (MayStandIn ran.after ended.after))
-      (weaker old mid (RecoversTo (Stood a more)) (RecoversTo (Stood a calls)) ran.any_moment (λ image. recovers_as (Stood a calls) (Stood a more) image (λ x. stood_more a calls ((event, outcome) ∷ []) x)))
-      ended.any_moment (λ image. recovers_as (MayStandIn ran.after ended.after) (Stood a more) image stands);
-}
-  where
-    ended : Ended mid new new_log new_desk ran.after (λ c. CallEnds ran.after event (Unit {0}) outcome c)
-    ended = step ran.after ran.consistent
-
-    more : List Call
-    more = calls ++ (event, outcome) ∷ []
-
-    run : Run a more ended.after
-    run = run_more a ran.after ended.after calls (event, outcome) ran.run ended.ends
-
-    stands : (x : State) → MayStandIn ran.after ended.after x → Stood a more x
-    stands x is = elim is [ inl before ↦ stood_more a calls ((event, outcome) ∷ []) x (stood_last a ran.after calls x ran.run before) | inr after ↦ stood_last a ended.after more x run after ]
-
--- ---- events with their answers
-
-calls_both : (events : List Event) (outcomes : List (Result Reply Refusal)) (event : Event) (outcome : Result Reply Refusal) → length outcomes ≡ length events
-    → calls_of (events ++ event ∷ []) (outcomes ++ outcome ∷ []) ≡ calls_of events outcomes ++ (event, outcome) ∷ []
-calls_both [] [] event outcome same = refl
-calls_both [] (o ∷ outcomes) event outcome same = absurd (omega (arith, same))
-calls_both (e ∷ events) [] event outcome same = absurd (omega (arith, same))
-calls_both (e ∷ events) (o ∷ outcomes) event outcome same = ap (λ (calls : List Call). (e, o) ∷ calls) (calls_both events outcomes event outcome (omega (arith, same)))
-
--- one event more, answered
-calls_push : (events : List Event) (outcomes : List (Result Reply Refusal)) (i : ℕ) (event : Event) (outcome : Result Reply Refusal) → i < length events → event ≡ get_or events i event → length outcomes ≡ i
-    → calls_of (take (i + 1) events) (outcomes ++ outcome ∷ []) ≡ calls_of (take i events) outcomes ++ (event, outcome) ∷ []
-calls_push events outcomes i event outcome within is answered =
-    let more : take (i + 1) events ≡ take i events ++ event ∷ [] = rw (add-one, take-suc events i event within) (ap (λ (e : Event). take i events ++ e ∷ []) (sym is)) in
-    let same : length outcomes ≡ length (take i events) = answered ∙ sym (length-take-le i events (omega (arith, within))) in
-    ap (λ (es : List Event). calls_of es (outcomes ++ outcome ∷ [])) more ∙ calls_both (take i events) outcomes event outcome same
+one_fault : Result Reply Refusal → ℕ
+one_fault o = cond (is_fault o) 1 0
 
 -- a fault more, where one is answered
-pub fault_more : (old mid new : Life) (outcomes : List (Result Reply Refusal)) (outcome : Result Reply Refusal) → HasFailedOften (faults_in outcomes) old mid → mid.faults ≤ new.faults → (outcome ≡ Err DeviceFault → HasFailed mid new)
-    → HasFailedOften (faults_in (outcomes ++ outcome ∷ [])) old new
-fault_more old mid new outcomes outcome so_far faults cause = subst (λ (n : ℕ). HasFailedOften n old new) (sym counted) (by outcome cause)
-  where
-    one : Result Reply Refusal → ℕ
-    one o = cond (is_fault o) 1 0
+fault_first : (old mid new : Life) (n : ℕ) (outcome : Result Reply Refusal) → GoesOn old mid → (outcome ≡ Err DeviceFault → HasFailed old mid) → HasFailedOften n mid new → HasFailedOften (cond (is_fault outcome) 1 0 + n) old new
+fault_first old mid new n (Err DeviceFault) goes cause often = let more = cause refl in omega (arith, more, often)
+fault_first old mid new n outcome goes cause often = let more = goes.faults in omega (arith, more, often)
 
-    counted : faults_in (outcomes ++ outcome ∷ []) ≡ faults_in outcomes + one outcome
-    counted = sum_by-append one outcomes (outcome ∷ []) ∙ omega arith
+pub run_failed : (old new : EngineState) (events : List Event) (outcomes : List (Result Reply Refusal)) → IsRun old events outcomes new → HasFailedOften (faults_in outcomes) old.life new.life
+run_failed old new [] [] run = subst (λ (e : EngineState). HasFailedOften 0 old.life e.life) (sym run) (omega arith)
+run_failed old new (event ∷ events) (outcome ∷ outcomes) (mid, answers, run) =
+    subst (λ (n : ℕ). HasFailedOften n old.life new.life) (sym (sum_by-cons (λ o. cond (is_fault o) 1 0) outcome outcomes))
+    (fault_first old.life mid.life new.life (faults_in outcomes) outcome answers.goes_on (λ is. answers.cause is) (run_failed mid new events outcomes run))
+run_failed old new [] (outcome ∷ outcomes) run = absurd run
+run_failed old new (event ∷ events) [] run = absurd run
 
-    by : (o : Result Reply Refusal) → (o ≡ Err DeviceFault → HasFailed mid new) → HasFailedOften (faults_in outcomes + one o) old new
-    by (Err DeviceFault) failed = let more = failed refl in omega (arith, so_far, more)
-    by o failed = omega (arith, so_far, faults)
+pub run_each : (old new : EngineState) (events : List Event) (outcomes : List (Result Reply Refusal)) → IsRun old events outcomes new → length outcomes ≡ length events
+run_each old new [] [] run = refl
+run_each old new (event ∷ events) (outcome ∷ outcomes) (mid, answers, run) = let same = run_each mid new events outcomes run in omega (arith, same)
+run_each old new [] (outcome ∷ outcomes) run = absurd run
+run_each old new (event ∷ events) [] run = absurd run
 
--- the first so many events are answered, whatever the archive is
-pub record HasRun (old new : Life) (old_log log : LogState) (old_desk desk : DeskState) (events : List Event) (i : ℕ) (outcomes : List (Result Reply Refusal)) : Type 0 where
-  pub obeyed : IsTrue new.obeys → IsTrue old.obeys
-  pub faults : old.faults ≤ new.faults
-  pub cause : HasFailedOften (faults_in outcomes) old new
-  pub answered : length outcomes ≡ i
-  pub ran : (a : Archive) → IsConsistent old old_log old_desk a → IsTrue new.obeys → Ran old new log desk a (calls_of (take i events) outcomes)
+pub run_none : (e : EngineState) → IsRun e [] [] e
+run_none e = refl
 
-pub none_run : (life : Life) (log : LogState) (desk : DeskState) (events : List Event) → HasRun life life log log desk desk events 0 []
-none_run life log desk events = record { obeyed = λ obeys. obeys; faults = omega arith; cause = omega arith; answered = refl; ran = λ a was obeys. ran_none life log desk a was }
+pub run_more : (old mid new : EngineState) (events : List Event) (outcomes : List (Result Reply Refusal)) (event : Event) (outcome : Result Reply Refusal) → IsRun old events outcomes mid → AnswersEvent mid new event outcome
+    → IsRun old (events ++ event ∷ []) (outcomes ++ outcome ∷ []) new
+run_more old mid new [] [] event outcome run answers = (new, subst (λ (e : EngineState). AnswersEvent e new event outcome) run answers, refl)
+run_more old mid new (e ∷ events) (o ∷ outcomes) event outcome (next, first, run) answers = (next, first, run_more next mid new events outcomes event outcome run answers)
+run_more old mid new [] (o ∷ outcomes) event outcome run answers = absurd run
+run_more old mid new (e ∷ events) [] event outcome run answers = absurd run
 
-pub next_run : (old mid new : Life) (old_log log new_log : LogState) (old_desk desk new_desk : DeskState) (events : List Event) (i : ℕ) (event : Event) (outcomes : List (Result Reply Refusal)) (outcome : Result Reply Refusal) → i < length events
-    → event ≡ get_or events i event → HasRun old mid old_log log old_desk desk events i outcomes → (IsTrue new.obeys → IsTrue mid.obeys) → mid.faults ≤ new.faults
-    → (outcome ≡ Err DeviceFault → HasFailed mid new) → ((b : Archive) → IsConsistent mid log desk b → (IsTrue (is_cut event) → IsTrue new.obeys) → Ended mid new new_log new_desk b (EndsAs mid new event b outcome))
-    → HasRun old new old_log new_log old_desk new_desk events (i + 1) (outcomes ++ outcome ∷ [])
-next_run old mid new old_log log new_log old_desk desk new_desk events i event outcomes outcome within is so_far obeyed faults cause step = record {
-  obeyed = λ obeys. so_far.obeyed (obeyed obeys);
-  faults = omega (arith, so_far.faults, faults);
-  cause = fault_more old mid new outcomes outcome so_far.cause faults cause;
-  answered = length-append outcomes (outcome ∷ []) ∙ ap (λ n. n + 1) so_far.answered;
-  ran = λ a was obeys.
-      subst (λ (calls : List Call). Ran old new new_log new_desk a calls) (sym (calls_push events outcomes i event outcome within is so_far.answered))
-      (ran_more old mid new log new_log desk new_desk a (calls_of (take i events) outcomes) event outcome (so_far.ran a was (obeyed obeys))
-      (λ b there. ended_as mid new new_log new_desk b (EndsAs mid new event b outcome) (λ c. CallEnds b event (Unit {0}) outcome c)
-      (λ c ends. other_cause b event (HasFailed mid new) (Unit {0}) outcome c (λ failed. tt) (ends.0 (λ reads. obeys))) (step b there (λ cut. obeys))));
-}
+-- one event more is answered
+pub run_next : (old mid new : EngineState) (events : List Event) (i : ℕ) (event : Event) (outcomes : List (Result Reply Refusal)) (outcome : Result Reply Refusal) → i < length events → event ≡ get_or events i event
+    → IsRun old (take i events) outcomes mid → AnswersEvent mid new event outcome → IsRun old (take (i + 1) events) (outcomes ++ outcome ∷ []) new
+run_next old mid new events i event outcomes outcome within is so_far answers =
+    let more : take (i + 1) events ≡ take i events ++ event ∷ [] = rw (add-one, take-suc events i event within) (ap (λ (e : Event). take i events ++ e ∷ []) (sym is)) in
+    subst (λ (es : List Event). IsRun old es (outcomes ++ outcome ∷ []) new) (sym more) (run_more old mid new (take i events) outcomes event outcome so_far answers)
 
--- all are
-pub all_run : (old new : Life) (old_log log : LogState) (old_desk desk : DeskState) (events : List Event) (i : ℕ) (outcomes : List (Result Reply Refusal)) → HasRun old new old_log log old_desk desk events i outcomes → length events ≤ i
-    → (a : Archive) → IsConsistent old old_log old_desk a → IsTrue new.obeys → Ran old new log desk a (calls_of events outcomes)
-all_run old new old_log log old_desk desk events i outcomes so_far past a was obeys =
-    subst (λ (es : List Event). Ran old new log desk a (calls_of es outcomes)) (take_all i events past) (so_far.ran a was obeys)
+-- ---- of a crash-consistent archive
+
+stood_first : (a : Archive) (left : List Archive) (x : State) → MayStand a x → StoodAmong a left x
+stood_first a [] x stands = stands
+stood_first a (b ∷ left) x stands = inl stands
+
+stood_either : (a b : Archive) (left : List Archive) (x : State) → MayStandIn a b x → StoodAmong a (b ∷ left) x
+stood_either a b left x (inl before) = inl before
+stood_either a b left x (inr after) = inr (stood_first b left x after)
+
+pub run_ran : (old new : EngineState) (c : Content) (events : List Event) (outcomes : List (Result Reply Refusal)) → IsRun old events outcomes new → IsCrashConsistent old.life old.log (archive_of old c) → IsTrue new.life.obeys
+    → Ran old new (archive_of old c) events outcomes
+run_ran old new c [] [] run was obeys = subst (λ (e : EngineState). Ran old e (archive_of old c) [] []) (sym run) (record {
+  left = [];
+  leave = tt;
+  after = c;
+  last = refl;
+  consistent = was;
+  any_moment = started old.life (RecoversTo (StoodAmong (archive_of old c) [])) was.images;
+})
+run_ran old new c (event ∷ events) (outcome ∷ outcomes) (mid, answers, run) was obeys =
+    let a : Archive = archive_of old c in
+    let here : IsTrue mid.life.obeys = (run_goes_on mid new events outcomes run).obeyed obeys in
+    let ended = answers.ended c was (λ cut. here) in
+    let b : Archive = archive_of mid ended.after in
+    let rest = run_ran mid new ended.after events outcomes run ended.consistent obeys in
+    record {
+      left = b ∷ rest.left;
+      leave = (other_cause a event (HasFailed old.life mid.life) (Unit {0}) outcome b (λ failed. tt) (ended.ends.0 (λ reads. here)), rest.leave);
+      after = rest.after;
+      last = rest.last;
+      consistent = rest.consistent;
+      any_moment = goes_on_part old.life mid.life new.life (RecoversTo (StoodAmong a (b ∷ rest.left))) (RecoversTo (StoodAmong b rest.left))
+          (weaker old.life mid.life (RecoversTo (StoodAmong a (b ∷ rest.left))) (RecoversTo (MayStandIn a b)) ended.any_moment (λ image. recovers_as (MayStandIn a b) (StoodAmong a (b ∷ rest.left)) image (stood_either a b rest.left)))
+          rest.any_moment (λ image. recovers_as (StoodAmong b rest.left) (StoodAmong a (b ∷ rest.left)) image (λ x stands. inr stands));
+    }
+run_ran old new c [] (outcome ∷ outcomes) run was obeys = absurd run
+run_ran old new c (event ∷ events) [] run was obeys = absurd run
+
+-- ---- one state
+
+-- while no write has failed a crash leaves the archive's state alone
+leaves_alone : (life : Life) (log : LogState) (a : Archive) → IsCrashConsistent life log a → IsFalse a.desk.is_broken → LeavesAlone life a.state
+leaves_alone life log a was works = λ image left. (
+    let to = was.images image left in
+    let none = no_doubt a was.archive works in
+    elim to.is [
+      | inl same ↦ subst (λ (s : State). Recovers image s) same to.recovers
+      | inr doubt ↦ (let both : None ≡ Some to.state = sym none ∙ doubt in absurd cc)
+    ])
+
+pub one_answered : (old new : EngineState) (c : Content) (event : Event) (reply : Reply) → IsCrashConsistent old.life old.log (archive_of old c) → IsTrue new.life.obeys → AnswersEvent old new event (Ok reply) → IsFalse new.desk.is_broken
+    → (after : Content) × ArchiveEnds (archive_of old c) event (Ok reply) (archive_of new after) × LeavesAlone new.life after.state
+one_answered old new c event reply was obeys answers works =
+    let ended = answers.ended c was (λ cut. obeys) in
+    (ended.after, ended.ends.0 (λ reads. obeys), leaves_alone new.life new.log (archive_of new ended.after) ended.consistent works)
+
+-- a refusal that leaves the archive unbroken has changed no state
+out_same : (refusal : Refusal) (a b : Archive) (event : Event) (faulted : Type 0) → IsFalse b.desk.is_broken → Outside a faulted (LeftByFault a event) refusal b → b.state ≡ a.state
+out_same NoMemory a b event faulted works is = ap (λ (x : Archive). x.state) is
+out_same DeviceFault a b event faulted works (failed, inl (reads, is)) = ap (λ (x : Archive). x.state) is
+out_same DeviceFault a b event faulted works (failed, inr (writes, (u, makes, is))) = absurd (true≢false (sym (ap (λ (x : Archive). x.desk.is_broken) is) ∙ works))
+out_same refusal a b event faulted works is = absurd is
+
+pub one_refused : (old new : EngineState) (c : Content) (event : Event) (refusal : Refusal) → IsCrashConsistent old.life old.log (archive_of old c) → IsTrue new.life.obeys → AnswersEvent old new event (Err refusal) → IsFalse new.desk.is_broken
+    → LeavesAlone new.life c.state
+one_refused old new c event refusal was obeys answers works =
+    let a : Archive = archive_of old c in
+    let ended = answers.ended c was (λ cut. obeys) in
+    let b : Archive = archive_of new ended.after in
+    let same : b.state ≡ a.state = elim (ended.ends.0 (λ reads. obeys)) [
+      | inl exact ↦ ap (λ (x : Archive). x.state) (refused_unchanged a event refusal b exact)
+      | inr out ↦ out_same refusal a b event (HasFailed old.life new.life) works out
+    ] in
+    subst (LeavesAlone new.life) same (leaves_alone new.life new.log b ended.consistent works)
+
+-- ---- what a crash leaves can be opened
+
+-- a disk begun from an image leaves that image alone, and so what it recovers to
+leaves_one : (left : Life) (image : DiskImage) (P : State → Type 0) → left.now ≡ begun image → RecoversTo P image → (s : State) × P s × LeavesEither left s s
+leaves_one left image P is to = (
+  to.state,
+  to.is,
+  λ other may.
+      let here : MayLeave (begun image) other = subst (λ (files : Files). MayLeave files other) is may in
+      let same : other ≡ image = fun_ext (λ file. durable_left (image file) (durable (image file)) (other file) refl (here file)) in
+      record { state = to.state; is = inl refl; recovers = subst (λ (i : DiskImage). Recovers i to.state) (sym same) to.recovers },
+)
+
+pub crash_meanwhile : (old new : EngineState) (left : Life) (a : Archive) (events : List Event) (outcomes : List (Result Reply Refusal)) (image : DiskImage) → (ran : Ran old new a events outcomes) → MayHaveLeft new.life (moment old.life) image
+    → left.now ≡ begun image → (s : State) × StoodAmong a ran.left s × LeavesEither left s s
+crash_meanwhile old new left a events outcomes image ran may is = leaves_one left image (StoodAmong a ran.left) is (ran.any_moment.each image may)
+
+pub crash_now : (life left : Life) (log : LogState) (a : Archive) (image : DiskImage) → IsCrashConsistent life log a → MayLeave life.now image → left.now ≡ begun image → (s : State) × MayStand a s × LeavesEither left s s
+crash_now life left log a image was may is = leaves_one left image (MayStand a) is (was.images image may)

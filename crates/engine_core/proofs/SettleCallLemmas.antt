@@ -1,26 +1,27 @@
--- How a call that settles blocks ends.
-use Rattle.std.proofs.Common.{◌≡◌, ◌∙◌, sym, ap, subst, refl, ℕ, ℤ, pos, ◌+◌, ◌+ℤ◌, false, cond, List, [], ◌∷◌, Option, Some, None, Result, Ok, Err, unsigned_abs, arith}
-use Rattle.std.proofs.lemmas.Int.{ints}
-use Rattle.disk_core.specs.DiskImage.{reads}
-use Rattle.disk_core.specs.Life.{Life}
+-- How a call ends that settles what a session wrote.
+use Rattle.std.proofs.Common.{rules, ◌≡◌, ◌≢◌, ◌⊎◌, ◌∙◌, ◌+◌, ◌<◌, sym, ap, subst, refl, ℤ, pos, ◌+ℤ◌, ◌&&◌, ◌||◌, not, Bool, true, false, cond, true≢false, inl, inr, List, [], ◌∷◌, Option, Some, None, Result, Ok, Err, unsigned_abs, arith}
+use Rattle.std.specs.Prelude.{IsTrue, is_some}
+use Rattle.disk_core.specs.DiskImage.{DiskImage, reads}
+use Rattle.disk_core.specs.Life.{HasFailed}
 use Rattle.frame_core.specs.declared.block.Block.{Block}
 use Rattle.frame_core.specs.declared.refusal.Refusal.{Refusal}
 use Rattle.frame_core.specs.declared.refusal.Refusal.TheVariants.{DeviceFault, NoMemory}
 use Rattle.frame_core.specs.Block.{covered}
 use Rattle.segment_store.specs.declared.layout.Layout.{Layout}
 use Rattle.segment_store.specs.Layout.{IsFromStart, IsLayout, file_of}
-use Rattle.segment_store.specs.Stored.{HoldsFrames}
 use Rattle.archive_model.specs.declared.command.Command.{Command}
 use Rattle.archive_model.specs.declared.command.Command.TheVariants as commands
-use Rattle.archive_model.specs.declared.registration.Change.TheVariants as changes
 use Rattle.archive_model.specs.declared.registration.Registration.{Registration}
 use Rattle.archive_model.specs.declared.reply.Reply.{Reply}
-use Rattle.archive_model.specs.Commands.{after, appended, frames_of, recorded_in}
+use Rattle.archive_model.specs.declared.reply.Reply.TheVariants as replies
+use Rattle.archive_model.specs.Checks.{Tests, checked, checks}
+use Rattle.archive_model.specs.Commands.{after, frames_of, recorded_in}
 use Rattle.archive_model.specs.Keyed.{Each, find}
-use Rattle.archive_model.specs.Register.{changed, registration_in}
-use Rattle.archive_model.specs.State.{Recording, State, geometry_of, id_of, publication_of, registration_of}
+use Rattle.archive_model.specs.Register.{registration_in}
+use Rattle.archive_model.specs.State.{Recording, State, empty, id_of, recorded_position}
 use Rattle.archive_model.proofs.RegisterLemmas.{found_number}
 use Rattle.archive_model.proofs.StateLemmas.{each_found}
+use Rattle.archive_model.proofs.WellLemmas.{both}
 use Rattle.catalogue_log.specs.declared.entry.Entry.{Entry}
 use Rattle.catalogue_log.specs.declared.entry.Entry.TheVariants as entries
 use Rattle.catalogue_log.specs.Fold.{counts}
@@ -28,53 +29,93 @@ use Rattle.catalogue_log.specs.History.{entry_of}
 use Rattle.catalogue_log.specs.LogState.{LogState}
 use Rattle.control_core.specs.declared.callers.RecorderSession.{RecorderSession}
 use Rattle.control_core.specs.declared.callers.Written.{Written}
+use Rattle.control_core.specs.declared.event.Event.{Event}
+use Rattle.control_core.specs.declared.event.Event.TheVariants as events
+use Rattle.control_core.specs.declared.turns.Settling.{Settling}
 use Rattle.control_core.specs.declared.turns.Settling.TheVariants as settling
-use Rattle.control_core.specs.Agreement.{Agrees}
-use Rattle.control_core.specs.Changes.{entered, settled, settled_by, with_blocks}
-use Rattle.control_core.specs.Consistent.{SettlesByAppend}
 use Rattle.control_core.specs.Callers.{session_number}
-use Rattle.control_core.specs.Desk.{DeskState}
-use Rattle.control_core.specs.Exact.{Archive, book_of, settled_archive, with_session_blocks}
-use Rattle.control_core.specs.Seats.{KeepsSeats}
-use Rattle.control_core.specs.Turns.{session_in, settle_decision}
-use Rattle.control_core.proofs.AgreementLemmas.{agrees}
-use Rattle.control_core.proofs.DecidedLemmas.{IsSettled, settling_by_append}
-use Rattle.engine_core.specs.Calls.{CommitEnds, Ended}
-use Rattle.engine_core.specs.Consistent.{AreWritten, Counts, HasBlock, HasWritten, IsConsistent}
-use Rattle.engine_core.specs.Making.{after_failure}
-use Rattle.engine_core.specs.Moves.{Enters, HasRoom, KeepsSegments, Moves, Stands}
-use Rattle.engine_core.specs.Orderly.{IsOrderly}
-use Rattle.engine_core.specs.Reading.{IsAtBoundary}
-use Rattle.engine_core.specs.Recovery.{IsSound, layout_of}
-use Rattle.engine_core.proofs.BlockLemmas.{block_stands}
-use Rattle.engine_core.proofs.EndedLemmas.{IsReady, done}
-use Rattle.engine_core.proofs.InsideLemmas.{registered_of}
-use Rattle.engine_core.proofs.MakeLemmas.{commit_failed, has_room, no_doubt, written_stays}
-use Rattle.engine_core.proofs.ReplayStayLemmas.{replays_stay}
-use Rattle.engine_core.proofs.SettlingLemmas.{all_blocks, settled_layout, settles, written_end, written_settled}
+use Rattle.control_core.specs.Changes.{settled, settled_by}
+use Rattle.control_core.specs.Consistent.{HasBlocks, IsConsistent, SettlesByAppend, StaysConsistent, StaysOpen, Wrote, WroteNothing}
+use Rattle.control_core.specs.Desk.{DeskState, has_room}
+use Rattle.control_core.specs.Exact.{Archive, ArchiveEnds, CallEnds, SettlingEnds, book_of, has_blocks, is_poll, opened_archive, recording_at, settled_archive, writes_files}
+use Rattle.control_core.specs.Orderly.{KeepsDesk}
+use Rattle.control_core.specs.Turns.{has_written, session_in, settle_decision, settle_tests, settling_of}
+use Rattle.control_core.proofs.ConsistentLemmas.{consistent_call, settling_sessions}
+use Rattle.control_core.proofs.DecidedLemmas.{IsSettled, held, settling_accepted, settling_session}
+use Rattle.control_core.proofs.FaultLemmas.{call_is_allowed, other_cause}
+use Rattle.engine_core.specs.Calls.{AnswersEvent, CommitEnds, Ended, EndsAs, Keeps}
+use Rattle.engine_core.specs.Consistent.{IsCrashConsistent, Stands, StandsBehind}
+use Rattle.engine_core.specs.Engine.{Content, EngineState, IsTied, archive_of, content_of}
+use Rattle.engine_core.specs.Making.{Commits, after_failure}
+use Rattle.engine_core.specs.Moves.{AddsEntry, Enters, HasRoom, KeepsSegments, Moves}
+use Rattle.engine_core.specs.Recovery.{IsSound, last_of, layout_of}
+use Rattle.engine_core.proofs.CommitCallLemmas.{commit_done, commit_refused, exact_commit, tied_behind}
+use Rattle.engine_core.proofs.EndedLemmas.{ended_as, goes_on_here, no_doubt, quiet_life, still}
+use Rattle.engine_core.proofs.FrameLemmas.{each_then}
+use Rattle.engine_core.proofs.KnownLemmas.{IsKnown, known_recording, laid_found, layout_laid, session_recording, written_from_start}
+use Rattle.engine_core.proofs.StandLemmas.{stands_nothing, stands_open}
 use Rattle.engine_core.proofs.StayLemmas.{enters}
-use Rattle.engine_core.proofs.WrittenLemmas.{found_changed}
 
-same_known : (g h : Registration) → Some g ≡ Some h → g ≡ h
-same_known g h is = cc
+-- ---- what is decided
 
--- what the files are asked for once blocks are to be settled
-pub record IsAsked (desk : DeskState) (n id : ℤ) (w : Written) (layout : Layout) (position : ℤ) (entry : Entry) : Type 0 where
-  pub orderly : IsOrderly desk
-  pub seats : KeepsSeats desk.register desk.callers
-  pub told : settle_decision desk n ≡ Ok (settling.Blocks id w)
+-- there are blocks to settle, no write has failed, and the history has room
+pub record Settles (d : DeskState) (n id : ℤ) (w : Written) : Type 0 where
+  pub of : IsSettled d n id w
+  pub works : d.is_broken ≡ false
+  pub room : d.counted < d.limit
+
+pub not_so : (b : Bool) → not b ≡ true → b ≡ false
+not_so true is = absurd (true≢false (sym is))
+not_so false is = refl
+
+pub settles : (d : DeskState) (n id : ℤ) (w : Written) → settle_decision d n ≡ Ok (settling.Blocks id w) → Settles d n id w
+settles d n id w told =
+    let is = held (settle_tests d n) checks (settling_of d (session_in d n)) (settling.Blocks id w) told in
+    let of = settling_session d n id w (session_in d n) refl is.1 in
+    let unsettled : Bool = not (has_written (session_in d n)) || has_room d in
+    let whole : (not d.is_broken ≡ true) × ((is_some (session_in d n) && (unsettled && true)) ≡ true) = both is.0 in
+    let there : (is_some (session_in d n) ≡ true) × ((unsettled && true) ≡ true) = both whole.1 in
+    let full : (unsettled ≡ true) × (true ≡ true) = both there.1 in
+    let wrote : has_written (session_in d n) ≡ true = ap has_written of.found ∙ ap is_some of.written in
+    let room : has_room d ≡ true = ap (λ t. not t || has_room d) (sym wrote) ∙ full.0 in
+    record { of = of; works = not_so d.is_broken whole.0; room = search (rules, room) }
+
+-- ---- the recording whose blocks are settled
+
+-- it is there
+pub settled_there : (d : DeskState) (n id : ℤ) (w : Written) → KeepsDesk d.register d.callers → settle_decision d n ≡ Ok (settling.Blocks id w) → None ≡ registration_in d.register id → ⊥
+settled_there d n id w keeps told none =
+    let of = (settles d n id w told).of in
+    let there = session_recording d n of.session keeps.seats of.found in
+    let clash : None ≡ Some there.0 = none ∙ ap (λ (z : ℤ). registration_in d.register z) (sym of.recording) ∙ there.1 in
+    cc
+
+module _ (d : DeskState) (n id : ℤ) (w : Written) (r : Registration) (keeps : KeepsDesk d.register d.callers) (told : settle_decision d n ≡ Ok (settling.Blocks id w)) (there : Some r ≡ registration_in d.register id) where
+  -- it is laid out
+  pub settled_layout : IsLayout (layout_of r.descriptor)
+  settled_layout = layout_laid r (laid_found d id r keeps there).laid_out
+
+  -- its blocks lie behind its start
+  pub settled_start : IsFromStart (layout_of r.descriptor) w.first
+  settled_start =
+      let of = (settles d n id w told).of in
+      let known : registration_in d.register of.session.recording ≡ Some r = ap (λ (z : ℤ). registration_in d.register z) of.recording ∙ sym there in
+      written_from_start d n of.session r w keeps of.found known of.written
+
+-- ---- what the files are asked for once blocks are to be settled
+
+pub record IsAsked (d : DeskState) (n id : ℤ) (w : Written) (layout : Layout) (position : ℤ) (entry : Entry) : Type 0 where
+  pub told : settle_decision d n ≡ Ok (settling.Blocks id w)
   pub registration : Registration
-  pub there : Some registration ≡ registration_in desk.register id
+  pub there : Some registration ≡ registration_in d.register id
   pub layout_is : layout ≡ layout_of registration.descriptor
   pub position_is : position ≡ w.first
   pub entry_is : entry ≡ entries.Settle id w.last
 
 -- numbers are as the files are told them
-pub asked : (desk : DeskState) (n id : ℤ) (w : Written) (layout : Layout) (first last number : ℤ) (r : Registration) → IsOrderly desk → KeepsSeats desk.register desk.callers → settle_decision desk n ≡ Ok (settling.Blocks id w)
-    → Some r ≡ registration_in desk.register id → layout ≡ layout_of r.descriptor → w.first ≡ first → w.last ≡ last → id ≡ number → IsAsked desk n id w layout first (entries.Settle number last)
-asked desk n id w layout first last number r orderly seats told there layout_is same_first same_last same_id = record {
-  orderly = orderly;
-  seats = seats;
+pub asked : (d : DeskState) (n id : ℤ) (w : Written) (layout : Layout) (first last number : ℤ) (r : Registration) → settle_decision d n ≡ Ok (settling.Blocks id w) → Some r ≡ registration_in d.register id → layout ≡ layout_of r.descriptor
+    → w.first ≡ first → w.last ≡ last → id ≡ number → IsAsked d n id w layout first (entries.Settle number last)
+asked d n id w layout first last number r told there layout_is same_first same_last same_id = record {
   told = told;
   registration = r;
   there = there;
@@ -83,71 +124,88 @@ asked desk n id w layout first last number r orderly seats told there layout_is 
   entry_is = ap (λ (z : ℤ). entries.Settle z last) (sym same_id) ∙ ap (λ (z : ℤ). entries.Settle id z) (sym same_last);
 }
 
-module _ (old : Life) (log : LogState) (desk : DeskState) (a : Archive) (n id : ℤ) (w : Written) (layout : Layout) (position : ℤ) (entry : Entry) (was : IsConsistent old log desk a) (asks : IsAsked desk n id w layout position entry) where
-  seats : KeepsSeats a.desk.register a.desk.callers
-  seats = subst (λ (d : DeskState). KeepsSeats d.register d.callers) was.desk_is asks.seats
+module _ (log : LogState) (d : DeskState) (n id : ℤ) (w : Written) (layout : Layout) (position : ℤ) (entry : Entry) (tied : IsTied log d) (asks : IsAsked d n id w layout position entry) where
+  -- the log has room for the entry
+  pub settling_room : HasRoom log entry
+  settling_room is_yes =
+      let decided = settles d n id w asks.told in
+      let less = decided.room in
+      let has = tied.counted decided.works in
+      let most = tied.limit decided.works in omega (arith, less, has, most)
 
-  decided : settle_decision a.desk n ≡ Ok (settling.Blocks id w)
-  decided = subst (λ (d : DeskState). settle_decision d n ≡ Ok (settling.Blocks id w)) was.desk_is asks.told
+  -- and works
+  pub settling_works : log.is_broken ≡ false
+  settling_works = tied.works (settles d n id w asks.told).works
 
-  this : IsSettled a.desk n id w
-  this = (settles a.desk n id w decided).0
+  -- log and desk count it alike
+  pub settled_tied : (new_log : LogState) (new_d : DeskState) → new_log.header ≡ log.header → new_log.is_broken ≡ log.is_broken → new_log.counted ≡ log.counted + (cond (counts entry) 1 0) → new_d ≡ settled (session_in d n) d → IsTied new_log new_d
+  settled_tied new_log new_d header broke counted is =
+      let decided = settles d n id w asks.told in
+      let s = decided.of.session in
+      let one : new_log.counted ≡ log.counted + 1 = subst (λ (e : Entry). new_log.counted ≡ log.counted + (cond (counts e) 1 0)) asks.entry_is counted in
+      let desk : new_d ≡ settled_by s (Some w) d = is ∙ ap (λ (o : Option RecorderSession). settled o d) decided.of.found ∙ ap (λ (o : Option Written). settled_by s o d) decided.of.written in
+      subst (IsTied new_log) (sym desk) (tied_behind log new_log d (settled_by s (Some w) d) 1 tied decided.works header broke one refl refl)
 
-  works : a.desk.is_broken ≡ false
-  works = (settles a.desk n id w decided).1
+-- ---- of a crash-consistent archive
+
+-- what its sessions wrote stands on
+stands_settled : (image : DiskImage) (a : Archive) (n id : ℤ) (w : Written) → IsConsistent a → Each (StandsBehind image a) a.desk.callers.sessions → settle_decision a.desk n ≡ Ok (settling.Blocks id w) → Each (StandsBehind image (settled_archive a n id)) (settled_archive a n id).desk.callers.sessions
+stands_settled image a n id w was stand told =
+    let b = settled_archive a n id in
+    each_then (λ s. WroteNothing b s ⊎ (StaysOpen a b.state s × (b.blocks s.number ≡ a.blocks s.number))) (StandsBehind image b) b.desk.callers.sessions (settling_sessions a n id w was told)
+    (λ s goes. elim goes [
+      | inl nothing ↦ stands_nothing image b s nothing.1
+      | inr stays ↦ stands_open image a b s was stays.0 stays.1 (λ r found. each_found session_number (StandsBehind image a) s.number a.desk.callers.sessions s stand stays.0.was r found)
+    ])
+
+-- what the call of the files says of every state
+abbrev pub SettlesFiles : EngineState → EngineState → Layout → ℤ → Entry → Result (Unit {0}) Refusal → Type 0
+SettlesFiles old new layout position entry result =
+    (x : State) (y : Recording) (blocks : List Block) → IsSound old.life.now old.log x → find id_of layout.recording x.recordings ≡ Some y → layout ≡ layout_of y.descriptor →
+    Stands (reads old.life.now) (file_of layout (unsigned_abs position)) y (frames_of blocks) → Enters x (after x (commands.Append layout.recording blocks)) entry → HasRoom old.log entry →
+    Moves old.life new.life new.log x (after x (commands.Append layout.recording blocks)) result
+
+module _ (old new : EngineState) (content : Content) (n id : ℤ) (w : Written) (layout : Layout) (position : ℤ) (entry : Entry) (was : IsCrashConsistent old.life old.log (archive_of old content)) (tied : IsTied old.log old.desk)
+    (asks : IsAsked old.desk n id w layout position entry) where
+  abbrev a : Archive
+  a = archive_of old content
+
+  abbrev of : IsSettled old.desk n id w
+  of = (settles old.desk n id w asks.told).of
 
   abbrev s : RecorderSession
-  s = this.session
+  s = of.session
 
   number_is : s.number ≡ n
-  number_is = found_number session_number n a.desk.callers.sessions s this.found
+  number_is = found_number session_number n old.desk.callers.sessions s of.found
 
-  doubtless : a.doubt ≡ None
-  doubtless = no_doubt old log desk a was works
-
-  -- ---- the block, and the recording that it goes on
-
-  has : HasBlock (reads old.now) a.state (a.blocks n) s w
-  has =
-      let wrote : HasWritten (reads old.now) a.state (a.blocks s.number) s s.written =
-      each_found session_number (λ x. HasWritten (reads old.now) a.state (a.blocks x.number) x x.written) n a.desk.callers.sessions s was.written.each this.found in
-      let some : HasWritten (reads old.now) a.state (a.blocks s.number) s (Some w) = subst (λ (o : Option Written). HasWritten (reads old.now) a.state (a.blocks s.number) s o) this.written wrote in
-      subst (λ (m : ℤ). HasBlock (reads old.now) a.state (a.blocks m) s w) number_is some
+  known : IsKnown a id asks.registration
+  known = known_recording a id asks.registration was.archive.agrees (sym asks.there)
 
   abbrev r : Recording
-  r = has.recording
+  r = known.recording
 
-  abbrev l : Layout
-  l = layout_of r.descriptor
-
-  found : find id_of id a.state.recordings ≡ Some r
-  found = subst (λ (z : ℤ). find id_of z a.state.recordings ≡ Some r) this.recording has.found
-
-  known : asks.registration ≡ registration_of r
-  known = same_known asks.registration (registration_of r) (asks.there ∙ ap (λ (d : DeskState). registration_in d.register id) was.desk_is ∙ registered_of a id r was.agrees found)
-
-  laid : IsLayout l
-  laid = subst (λ (g : Registration). IsLayout (layout_of g.descriptor)) known (settled_layout desk n id w asks.registration asks.orderly asks.told asks.there)
-
-  layout_same : layout ≡ l
-  layout_same = asks.layout_is ∙ ap (λ (g : Registration). layout_of g.descriptor) known
+  layout_same : layout ≡ layout_of r.descriptor
+  layout_same = asks.layout_is ∙ ap (λ (g : Registration). layout_of g.descriptor) known.is
 
   id_same : layout.recording ≡ id
-  id_same = ap (λ (x : Layout). x.recording) layout_same ∙ found_number id_of id a.state.recordings r found
+  id_same = ap (λ (x : Layout). x.recording) layout_same ∙ found_number id_of id a.state.recordings r known.found
 
-  from_start : IsFromStart l has.block.position
-  from_start = omega (arith, ints, has.follows)
+  -- ---- the blocks, and the recording that they go on
 
-  stands : Stands (reads old.now) (file_of layout (unsigned_abs position)) r (frames_of (a.blocks n))
+  wrote : Wrote a s w
+  wrote = subst (HasBlocks a s) of.written (each_found session_number (λ x. HasBlocks a x x.written) n a.desk.callers.sessions s was.archive.blocks of.found)
+
+  first_is : position ≡ recorded_position r
+  first_is = asks.position_is ∙ wrote.first ∙ ap (λ (z : ℤ). recorded_in (recording_at a z)) of.recording ∙ ap recorded_in known.found
+
+  stands : Stands (reads old.life.now) (file_of layout (unsigned_abs position)) r (frames_of (a.blocks n))
   stands =
-      let at : position ≡ has.block.position = asks.position_is ∙ ap (λ (x : Written). x.first) has.span in
-      let here : HoldsFrames (reads old.now) l (unsigned_abs has.block.position) has.block.frames (unsigned_abs has.block.position + covered has.block.frames) =
-      subst (λ (m : ℕ). HoldsFrames (reads old.now) l m has.block.frames (m + covered has.block.frames)) (sym (ap unsigned_abs has.follows)) has.stands in
-      let one : Stands (reads old.now) (file_of l (unsigned_abs has.block.position)) r (frames_of (has.block ∷ [])) =
-      block_stands (reads old.now) r has.block laid from_start (record { geometry = geometry_of r.descriptor; publication = publication_of r.descriptor; term = refl; is_block = has.is_block }) has.follows here in
-      subst (λ (bs : List Block). Stands (reads old.now) (file_of layout (unsigned_abs position)) r (frames_of bs)) (sym has.only)
-      (subst (λ (x : Layout). Stands (reads old.now) (file_of x (unsigned_abs position)) r (frames_of (has.block ∷ []))) (sym layout_same)
-      (subst (λ (p : ℤ). Stands (reads old.now) (file_of l (unsigned_abs p)) r (frames_of (has.block ∷ []))) (sym at) one))
+      let there : recording_at a s.recording ≡ Some r = ap (λ (z : ℤ). recording_at a z) of.recording ∙ known.found in
+      let here : Stands (reads old.life.now) (file_of (layout_of r.descriptor) (last_of r)) r (frames_of (a.blocks s.number)) = each_found session_number (StandsBehind (reads old.life.now) a) n a.desk.callers.sessions s was.stand of.found r there in
+      subst (λ (m : ℤ). Stands (reads old.life.now) (file_of layout (unsigned_abs position)) r (frames_of (a.blocks m))) number_is
+      (subst (λ (l : Layout). Stands (reads old.life.now) (file_of l (unsigned_abs position)) r (frames_of (a.blocks s.number))) (sym layout_same)
+      (subst (λ (p : ℤ). Stands (reads old.life.now) (file_of (layout_of r.descriptor) (unsigned_abs p)) r (frames_of (a.blocks s.number))) (sym first_is) here))
 
   -- ---- the command that the settling makes
 
@@ -155,76 +213,153 @@ module _ (old : Life) (log : LogState) (desk : DeskState) (a : Archive) (n id : 
   c = commands.Append id (a.blocks n)
 
   by_append : SettlesByAppend a n id
-  by_append = settling_by_append a n id w was.agrees seats (all_blocks (reads old.now) a was.written) decided
+  by_append = settling_accepted a n id w was.archive asks.told
 
   end_is : w.last ≡ recorded_in (find id_of id a.state.recordings) +ℤ pos (covered (frames_of (a.blocks n)))
-  end_is = written_end (reads old.now) a.state (a.blocks n) s w has ∙ ap (λ (z : ℤ). recorded_in (find id_of z a.state.recordings) +ℤ pos (covered (frames_of (a.blocks n)))) this.recording
+  end_is = wrote.last ∙ ap (λ (z : ℤ). recorded_in (recording_at a z) +ℤ pos (covered (frames_of (a.blocks s.number)))) of.recording ∙ ap (λ (m : ℤ). recorded_in (recording_at a id) +ℤ pos (covered (frames_of (a.blocks m)))) number_is
 
   entry_same : entry ≡ entry_of a.state c
   entry_same = asks.entry_is ∙ ap (λ (p : ℤ). entries.Settle id p) end_is
 
   entered_by : Enters a.state (after a.state c) entry
-  entered_by = subst (Enters a.state (after a.state c)) (sym entry_same) (enters (book_of a) c was.well by_append.acceptable.accepted)
-
-  room : HasRoom log entry
-  room = subst (HasRoom log) (sym entry_same) (has_room old log desk a c was doubtless by_append.acceptable.allowed)
+  entered_by = subst (Enters a.state (after a.state c)) (sym entry_same) (enters (book_of a) c was.archive.well by_append.acceptable.accepted)
 
   -- what the call of the files did
-  pub settled_moves : (new : Life) (new_log : LogState) (result : Result (Unit {0}) Refusal)
-      → ((x : State) (y : Recording) (blocks : List Block) → IsSound old.now log x → find id_of layout.recording x.recordings ≡ Some y → layout ≡ layout_of y.descriptor → Stands (reads old.now) (file_of layout (unsigned_abs position)) y (frames_of blocks)
-      → Enters x (after x (commands.Append layout.recording blocks)) entry → HasRoom log entry → Moves old new new_log x (after x (commands.Append layout.recording blocks)) result)
-      → Moves old new new_log a.state (after a.state c) result
-  settled_moves new new_log result does =
-      let there : find id_of layout.recording a.state.recordings ≡ Some r = ap (λ (z : ℤ). find id_of z a.state.recordings) id_same ∙ found in
+  settled_moves : (result : Result (Unit {0}) Refusal) → SettlesFiles old new layout position entry result → Moves old.life new.life new.log a.state (after a.state c) result
+  settled_moves result does =
+      let there : find id_of layout.recording a.state.recordings ≡ Some r = ap (λ (z : ℤ). find id_of z a.state.recordings) id_same ∙ known.found in
       let goes : Enters a.state (after a.state (commands.Append layout.recording (a.blocks n))) entry = subst (λ (z : ℤ). Enters a.state (after a.state (commands.Append z (a.blocks n))) entry) (sym id_same) entered_by in
-      subst (λ (z : ℤ). Moves old new new_log a.state (after a.state (commands.Append z (a.blocks n))) result) id_same
-      (does a.state r (a.blocks n) (was.sound doubtless) there layout_same stands goes room)
+      let doubtless = no_doubt a was.archive (settles old.desk n id w asks.told).works in
+      subst (λ (z : ℤ). Moves old.life new.life new.log a.state (after a.state (commands.Append z (a.blocks n))) result) id_same
+      (does a.state r (a.blocks n) (was.sound doubtless) there layout_same stands goes (settling_room old.log old.desk n id w layout position entry tied asks))
 
-  -- ---- it went well
+  -- ---- it went well, or failed
 
-  desk_same : settled (session_in a.desk n) a.desk ≡ entered (changed s.recording (changes.Settle w.last) a.desk.register) (with_blocks n None a.desk.callers) a.desk
-  desk_same =
-      ap (λ (o : Option RecorderSession). settled o a.desk) this.found
-      ∙ ap (λ (o : Option Written). settled_by s o a.desk) this.written
-      ∙ ap (λ (m : ℤ). entered (changed s.recording (changes.Settle w.last) a.desk.register) (with_blocks m None a.desk.callers) a.desk) number_is
+  module _ (keeps : KeepsSegments old.life new.life) where
+    settled_stays : StaysConsistent a (settled_archive a n id)
+    settled_stays =
+        let ends : SettlingEnds a n (settle_decision a.desk n) (Ok (replies.Settled w.last)) (settled_archive a n id) =
+        subst (λ (o : Result Settling Refusal). SettlingEnds a n o (Ok (replies.Settled w.last)) (settled_archive a n id)) (sym asks.told) (refl, refl) in
+        consistent_call a (events.Settle n) (Ok (replies.Settled w.last)) (settled_archive a n id) was.archive ends
 
-  module _ (new : Life) (new_log : LogState) (new_desk : DeskState) (keeps : KeepsSegments old new) where
-    wrote_on : AreWritten (reads new.now) a.state a.desk.callers a.blocks
-    wrote_on = written_stays old new a keeps was.written
+    settle_done : (reply : Reply) → new.desk ≡ settled (session_in old.desk n) old.desk → SettlesFiles old new layout position entry (Ok tt) → Ended old new a (CommitEnds a reply (settled_archive a n id) (HasFailed old.life new.life) (Ok reply))
+    settle_done reply desk does =
+        commit_done old new content was (settled_archive a n id) reply keeps settled_stays (stands_settled (reads old.life.now) a n id w was.archive was.stand asks.told) desk (settled_moves (Ok tt) does)
 
-    counts_of : Counts log a.desk
-    counts_of = subst (Counts log) was.desk_is (was.history doubtless)
+    settle_refused : (reply : Reply) (refusal : Refusal) → (refusal ≡ DeviceFault → HasFailed old.life new.life) → new.desk ≡ after_failure refusal old.desk → SettlesFiles old new layout position entry (Err refusal)
+        → Ended old new a (CommitEnds a reply (settled_archive a n id) (HasFailed old.life new.life) (Err refusal))
+    settle_refused reply refusal cause desk does = commit_refused old new content was (settled_archive a n id) reply keeps refusal cause desk (settled_moves (Err refusal) does)
 
-    wrote_settled : AreWritten (reads new.now) (after a.state c) (with_blocks n None a.desk.callers) (with_session_blocks n [] a.blocks)
-    wrote_settled =
-        written_settled (reads new.now) a.state (after a.state c) a.desk.callers a.blocks n s this.found
-        (λ z y other there. found_changed id_of z id (appended (a.blocks n)) a.state.recordings (λ e. other (e ∙ sym this.recording)) (λ x. refl) ∙ there)
-        wrote_on seats.sessions.rising seats.sessions.apart
+-- ---- whatever the archive is
 
-    ready : new_log.header ≡ log.header → new_log.counted ≡ log.counted + (cond (counts entry) 1 0) → new_desk ≡ settled (session_in desk n) desk → IsReady new new_log new_desk (settled_archive a n id)
-    ready header counted is =
-        let same : new_desk ≡ settled (session_in a.desk n) a.desk = is ∙ ap (λ (d : DeskState). settled (session_in d n) d) was.desk_is in
-        let one : new_log.counted ≡ log.counted + 1 = subst (λ (e : Entry). new_log.counted ≡ log.counted + (cond (counts e) 1 0)) asks.entry_is counted in
-        record {
-          history = subst (Counts new_log) (sym (same ∙ desk_same)) (record {
-            counted = one ∙ ap (λ (m : ℕ). m + 1) counts_of.counted;
-            limit = subst (λ h. h.history_limit ≡ a.desk.limit) (sym header) counts_of.limit;
-          });
-          desk_is = same;
-          agrees = subst (λ (d : DeskState). Agrees d (after a.state c)) by_append.same (agrees a.desk (book_of a) c was.agrees by_append.acceptable.written was.well by_append.acceptable.accepted);
-          works = subst (λ (d : DeskState). d.is_broken ≡ false) (sym desk_same) works;
-          doubt = doubtless;
-          written = subst (λ (d : DeskState). AreWritten (reads new.now) (after a.state c) d.callers (with_session_blocks n [] a.blocks)) (sym desk_same) wrote_settled;
-          reading = λ obeys.
-              subst (λ (d : DeskState). Each (IsAtBoundary (after a.state c)) d.callers.replays) by_append.same
-              (replays_stay a.desk (book_of a) c was.agrees was.well by_append.acceptable.accepted by_append.acceptable.allowed (was.reading (keeps.obeyed obeys)));
-        }
+module _ (old new : EngineState) (n id : ℤ) (w : Written) (layout : Layout) (position : ℤ) (entry : Entry) (tied : IsTied old.log old.desk) (asks : IsAsked old.desk n id w layout position entry) (keeps : KeepsSegments old.life new.life) where
+  abbrev pub SettlesTo : Result Reply Refusal → Type 0
+  SettlesTo outcome = Commits old new (λ a. settle_decision a.desk n ≡ Ok (settling.Blocks id w)) (replies.Settled w.last) (λ a. settled_archive a n id) outcome
 
-    pub settle_done : (reply : Reply) (faulted : Type 0) → new_log.header ≡ log.header → new_log.counted ≡ log.counted + (cond (counts entry) 1 0) → new_desk ≡ settled (session_in desk n) desk → Moves old new new_log a.state (after a.state c) (Ok tt)
-        → Ended old new new_log new_desk a (CommitEnds a reply (settled_archive a n id) faulted (Ok reply))
-    settle_done reply faulted header counted is moves =
-        done old new new_log new_desk a (settled_archive a n id) (CommitEnds a reply (settled_archive a n id) faulted (Ok reply)) moves.any_moment moves.rests (ready header counted is) (refl, refl)
+  pub settling_done : AddsEntry old.life new.life old.log new.log entry (Ok tt) → new.desk ≡ settled (session_in old.desk n) old.desk → SettlesFiles old new layout position entry (Ok tt) → SettlesTo (Ok (replies.Settled w.last))
+  settling_done adds desk does = record {
+    goes_on = adds.goes_on;
+    exact = λ content. exact_commit old new (replies.Settled w.last) (λ a. settled_archive a n id) (Ok tt) (Ok (replies.Settled w.last)) content (λ done is. (refl, desk)) (λ refusal is. absurd cc);
+    ended = λ content was fits. settle_done old new content n id w layout position entry was tied asks keeps (replies.Settled w.last) desk does;
+  }
 
-    pub settle_failed : (reply : Reply) (faulted : Type 0) (refusal told : Refusal) → told ≡ refusal → (refusal ≡ NoMemory → new_log ≡ log) → (refusal ≡ DeviceFault → faulted) → new_desk ≡ after_failure refusal desk
-        → Moves old new new_log a.state (after a.state c) (Err refusal) → Ended old new new_log new_desk a (CommitEnds a reply (settled_archive a n id) faulted (Err told))
-    settle_failed = commit_failed old new log new_log desk new_desk a was works keeps (settled_archive a n id)
+  pub settling_failed : (refusal told : Refusal) → told ≡ refusal → AddsEntry old.life new.life old.log new.log entry (Err refusal) → new.desk ≡ after_failure refusal old.desk → SettlesFiles old new layout position entry (Err refusal) → SettlesTo (Err told)
+  settling_failed refusal told same adds desk does =
+      let outside = adds.outside (settling_works old.log old.desk n id w layout position entry tied asks) (settling_room old.log old.desk n id w layout position entry tied asks) in
+      let cause : refusal ≡ DeviceFault → HasFailed old.life new.life = λ is. adds.cause (ap Err is) in
+      let outcome : Result Reply Refusal = Err refusal in
+      let Told : Refusal → Type 0 = λ x. (outcome ≡ Err x) × (new.desk ≡ after_failure x old.desk) × ((x ≡ DeviceFault) ⊎ (x ≡ NoMemory)) × (x ≡ DeviceFault → HasFailed old.life new.life) in
+      subst (λ (r : Refusal). SettlesTo (Err r)) (sym same) (record {
+        goes_on = adds.goes_on;
+        exact = λ content.
+            exact_commit old new (replies.Settled w.last) (λ a. settled_archive a n id) (Err refusal) (Err refusal) content (λ done is. absurd cc)
+            (λ r is. let one : refusal ≡ r = cc in subst Told one (refl, desk, outside, cause));
+        ended = λ content was fits. settle_refused old new content n id w layout position entry was tied asks keeps (replies.Settled w.last) refusal cause desk does;
+      })
+
+-- ---- the call
+
+-- a check refuses by no fault
+no_fault_in : {X : Type 0} (tests : Tests) (rs : List Refusal) (x : X) → Each (λ refusal. refusal ≢ DeviceFault) rs → checked tests rs (Ok x) ≢ Err DeviceFault
+no_fault_in tests [] x others is = absurd cc
+no_fault_in {X = X} tests (refusal ∷ rs) x others is = by (tests refusal) is (no_fault_in tests rs x others.1)
+  where
+    by : (b : Bool) → cond b (checked tests rs (Ok x)) (Err refusal) ≡ Err DeviceFault → checked tests rs (Ok x) ≢ Err DeviceFault → ⊥
+    by true is rest = rest is
+    by false is rest = others.0 cc
+
+pub no_fault : {X : Type 0} (tests : Tests) (x : X) → checked tests checks (Ok x) ≢ Err DeviceFault
+no_fault tests x = no_fault_in tests checks x ((λ e. cc), ((λ e. cc), ((λ e. cc), ((λ e. cc), ((λ e. cc), ((λ e. cc), ((λ e. cc), ((λ e. cc), ((λ e. cc), ((λ e. cc), ((λ e. cc), ((λ e. cc), ((λ e. cc), ((λ e. cc), ((λ e. cc), tt)))))))))))))))
+
+ends_exactly : (a : Archive) (event : Event) (faulted : Type 0) (outcome : Result Reply Refusal) (b : Archive) → ArchiveEnds a event outcome b → CallEnds a event faulted outcome b
+ends_exactly a event faulted (Ok reply) b ends = ends
+ends_exactly a event faulted (Err refusal) b ends = inl ends
+
+-- what makes an archive of a desk
+abbrev pub blank : Content
+blank = content_of (opened_archive empty 0 0)
+
+-- an event that is answered by the desk alone, and changes nothing
+pub answered_still : (e : EngineState) (event : Event) (outcome : Result Reply Refusal) (some : Content) → is_poll event ≡ false → event ≢ events.Sweep → outcome ≢ Err DeviceFault → ArchiveEnds (archive_of e some) event outcome (archive_of e some)
+    → ((c : Content) → IsCrashConsistent e.life e.log (archive_of e c) → ArchiveEnds (archive_of e c) event outcome (archive_of e c)) → ((a : Archive) → Keeps event a a) → AnswersEvent e e event outcome
+answered_still e event outcome some no_poll no_sweep no_fault here ends keeps = record {
+  goes_on = goes_on_here e.life;
+  cause = λ fault. absurd (no_fault fault);
+  machine = call_is_allowed (archive_of e some) event outcome (archive_of e some) (λ poll. absurd (true≢false (sym poll ∙ no_poll))) (ends_exactly (archive_of e some) event (Unit {0}) outcome (archive_of e some) here);
+  swept = λ removed is. absurd (no_sweep is);
+  ended = λ c was cut.
+      still e e (archive_of e c) (EndsAs e.life e.life event (archive_of e c) outcome) (quiet_life e.life) refl refl was
+      ((λ reads. ends_exactly (archive_of e c) event (HasFailed e.life e.life) outcome (archive_of e c) (ends c was)), keeps (archive_of e c));
+}
+
+-- what a commit ends with is what the call that it is made by may end with
+pub commit_call : (a : Archive) (event : Event) (reply : Reply) (b : Archive) (faulted : Type 0) (outcome : Result Reply Refusal) (after : Archive) → IsTrue (writes_files a.desk event) → ArchiveEnds a event (Ok reply) b → CommitEnds a reply b faulted outcome after
+    → CallEnds a event faulted outcome after
+commit_call a event reply b faulted (Ok told) after writes ends is = subst (λ (x : Archive). ArchiveEnds a event (Ok told) x) (sym is.1) (subst (λ (x : Reply). ArchiveEnds a event (Ok x) b) (sym is.0) ends)
+commit_call a event reply b faulted (Err NoMemory) after writes ends is = inr is
+commit_call a event reply b faulted (Err DeviceFault) after writes ends is = inr (is.0, inr (writes, (b.state, (reply, (b, ends, refl)), is.1)))
+commit_call a event reply b faulted (Err refusal) after writes ends is = absurd is
+
+commit_cause : (a : Archive) (reply : Reply) (b : Archive) (faulted : Type 0) (outcome : Result Reply Refusal) (after : Archive) → CommitEnds a reply b faulted outcome after → outcome ≡ Err DeviceFault → faulted
+commit_cause a reply b faulted outcome after ends is = (subst (λ (o : Result Reply Refusal). CommitEnds a reply b faulted o after) is ends).0
+
+-- it is refused
+pub settle_refuses : (e : EngineState) (n : ℤ) (refusal : Refusal) → settle_decision e.desk n ≡ Err refusal → AnswersEvent e e (events.Settle n) (Err refusal)
+settle_refuses e n refusal is =
+    let outcome : Result Settling Refusal = Err refusal in
+    answered_still e (events.Settle n) (Err refusal) blank refl (λ sweep. absurd cc)
+    (λ fault. let same : outcome ≡ Err DeviceFault = cc in no_fault (settle_tests e.desk n) (settling_of e.desk (session_in e.desk n)) (is ∙ same)) (ends blank) (λ c was. ends c) (λ a. tt)
+  where
+    ends : (c : Content) → ArchiveEnds (archive_of e c) (events.Settle n) (Err refusal) (archive_of e c)
+    ends c = subst (λ (o : Result Settling Refusal). SettlingEnds (archive_of e c) n o (Err refusal) (archive_of e c)) (sym is) (refl, refl)
+
+-- there is nothing to settle
+pub settle_nothing : (e : EngineState) (n position : ℤ) → settle_decision e.desk n ≡ Ok (settling.Nothing position) → AnswersEvent e e (events.Settle n) (Ok (replies.Settled position))
+settle_nothing e n position is = answered_still e (events.Settle n) (Ok (replies.Settled position)) blank refl (λ sweep. absurd cc) (λ fault. absurd cc) (ends blank) (λ c was. ends c) (λ a. tt)
+  where
+    ends : (c : Content) → ArchiveEnds (archive_of e c) (events.Settle n) (Ok (replies.Settled position)) (archive_of e c)
+    ends c = subst (λ (o : Result Settling Refusal). SettlingEnds (archive_of e c) n o (Ok (replies.Settled position)) (archive_of e c)) (sym is) (refl, refl)
+
+-- blocks are settled
+pub settle_blocks : (old new : EngineState) (n id : ℤ) (w : Written) (outcome : Result Reply Refusal) → settle_decision old.desk n ≡ Ok (settling.Blocks id w)
+    → Commits old new (λ a. settle_decision a.desk n ≡ Ok (settling.Blocks id w)) (replies.Settled w.last) (λ a. settled_archive a n id) outcome → AnswersEvent old new (events.Settle n) outcome
+settle_blocks old new n id w outcome told commits =
+    let event : Event = events.Settle n in
+    let made = commits.exact blank in
+    let faulted : Type 0 = HasFailed old.life new.life in
+    record {
+      goes_on = commits.goes_on;
+      cause = commit_cause (archive_of old blank) (replies.Settled w.last) (settled_archive (archive_of old blank) n id) faulted outcome (archive_of new made.0) made.1;
+      machine = call_is_allowed (archive_of old blank) event outcome (archive_of new made.0) (λ poll. absurd (true≢false (sym poll)))
+          (other_cause (archive_of old blank) event faulted (Unit {0}) outcome (archive_of new made.0) (λ failed. tt) (by blank (archive_of new made.0) made.1));
+      swept = λ removed is. absurd cc;
+      ended = λ c was cut.
+          ended_as old new (archive_of old c) (CommitEnds (archive_of old c) (replies.Settled w.last) (settled_archive (archive_of old c) n id) faulted outcome) (EndsAs old.life new.life event (archive_of old c) outcome)
+          (λ b ends. ((λ reads. by c b ends), tt)) (commits.ended c was told);
+    }
+  where
+    by : (c : Content) (after : Archive) → CommitEnds (archive_of old c) (replies.Settled w.last) (settled_archive (archive_of old c) n id) (HasFailed old.life new.life) outcome after → CallEnds (archive_of old c) (events.Settle n) (HasFailed old.life new.life) outcome after
+    by c after ends =
+        let exact : SettlingEnds (archive_of old c) n (settle_decision old.desk n) (Ok (replies.Settled w.last)) (settled_archive (archive_of old c) n id) =
+        subst (λ (o : Result Settling Refusal). SettlingEnds (archive_of old c) n o (Ok (replies.Settled w.last)) (settled_archive (archive_of old c) n id)) (sym told) (refl, refl) in
+        commit_call (archive_of old c) (events.Settle n) (replies.Settled w.last) (settled_archive (archive_of old c) n id) (HasFailed old.life new.life) outcome after (ap has_blocks told) exact ends

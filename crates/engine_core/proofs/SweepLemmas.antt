@@ -33,7 +33,8 @@ use Rattle.archive_model.specs.WellFormed.{IsKept, IsOfStream, IsWell}
 use Rattle.archive_model.proofs.StateLemmas.{each_found}
 use Rattle.catalogue_log.specs.LogState.{LogState}
 use Rattle.catalogue_log.proofs.AppendLemmas.{other_files}
-use Rattle.engine_core.specs.Moves.{Lie, SparesKept, Stays, keep_of, keeps_of}
+use Rattle.engine_core.specs.Moves.{SparesKept, Stays, keep_of, keeps_of}
+use Rattle.engine_core.specs.Consistent.{Lie}
 use Rattle.engine_core.specs.Recovery.{HoldsRecording, IsDurable, IsSound, RecoversTo, first_of, last_of, layout_of}
 use Rattle.engine_core.proofs.FrameLemmas.{bank_left, each_both, each_then, frames_left, frames_same, lie_then}
 use Rattle.engine_core.proofs.WriteLemmas.{natural}

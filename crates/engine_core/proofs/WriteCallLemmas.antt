@@ -1,220 +1,258 @@
--- How a call that writes a block ends.
-use Rattle.std.proofs.Common.{◌≡◌, ◌∙◌, inl, inr, sym, ap, subst, refl, ℤ, ◌+◌, ◌≤ℤ◌, ◌++◌, not, Bool, true, false, IsTrue, [], ◌∷◌, Option, Some, None, Result, Ok, Err, unsigned_abs, arith}
+-- How a call ends that writes a recorder session's block.
+use Rattle.std.proofs.Common.{◌≡◌, ◌≢◌, ◌∙◌, inr, sym, ap, subst, refl, ℤ, pos, ◌+◌, ◌≤ℤ◌, ◌++◌, true, false, true≢false, List, [], ◌∷◌, Option, Some, None, Result, Ok, Err, unsigned_abs, arith}
 use Rattle.std.proofs.lemmas.Int.{ints}
-use Rattle.std.specs.Prelude.{IsSomeAnd, is_some}
-use Rattle.disk_core.specs.DiskImage.{FileState, reads}
-use Rattle.disk_core.specs.Life.{Life}
+use Rattle.std.proofs.lemmas.Bool.Decides.{Decides-int_eq}
+use Rattle.std.specs.Ordering.{int_eq}
+use Rattle.std.specs.Prelude.{IsSomeAnd}
+use Rattle.disk_core.specs.DiskImage.{reads}
+use Rattle.disk_core.specs.Life.{HasFailed}
 use Rattle.frame_core.specs.declared.block.Block.{Block}
 use Rattle.frame_core.specs.declared.refusal.Refusal.{Refusal}
-use Rattle.frame_core.specs.declared.refusal.Refusal.TheVariants.{ActiveReplay, BadBlock, BadExtension, Broken, DeviceFault, HistoryFull, MaxRecordings, MaxReplays, NeedSettle, StaleSession}
+use Rattle.frame_core.specs.declared.refusal.Refusal.TheVariants.{DeviceFault}
 use Rattle.frame_core.specs.Block.{IsBlock, covered}
 use Rattle.segment_store.specs.declared.layout.Layout.{Layout}
 use Rattle.segment_store.specs.Layout.{IsFromStart, IsLayout, file_of}
 use Rattle.segment_store.specs.Stored.{ChangesFile, HoldsFrames}
+use Rattle.archive_model.specs.declared.descriptor.Descriptor.{Descriptor}
 use Rattle.archive_model.specs.declared.registration.Registration.{Registration}
 use Rattle.archive_model.specs.declared.reply.Reply.{Reply}
 use Rattle.archive_model.specs.declared.reply.Reply.TheVariants.{Written as WrittenReply}
-use Rattle.archive_model.specs.Checks.{block_checks, checks, first_checks, last_checks, passes}
-use Rattle.archive_model.specs.Keyed.{find}
+use Rattle.archive_model.specs.Commands.{frames_of}
+use Rattle.archive_model.specs.Keyed.{Each, find}
+use Rattle.archive_model.specs.Register as register
 use Rattle.archive_model.specs.Register.{registration_in}
 use Rattle.archive_model.specs.State.{Recording, State, geometry_of, id_of, publication_of, recorded_position, registration_of}
 use Rattle.archive_model.proofs.RegisterLemmas.{found_number}
-use Rattle.catalogue_log.specs.LogState.{LogState}
+use Rattle.archive_model.proofs.StateLemmas.{each_found}
 use Rattle.control_core.specs.declared.callers.RecorderSession.{RecorderSession}
 use Rattle.control_core.specs.declared.callers.Written.{Written}
+use Rattle.control_core.specs.declared.event.Event.{Event}
 use Rattle.control_core.specs.declared.event.Event.TheVariants as events
+use Rattle.control_core.specs.Callers.{session_number, with_written}
 use Rattle.control_core.specs.Changes.{after_write, broken_desk}
+use Rattle.control_core.specs.Consistent.{HasBlocks, StaysConsistent}
 use Rattle.control_core.specs.Desk.{DeskState}
-use Rattle.control_core.specs.Exact.{Archive, ArchiveEnds, CallEnds, IsBlockOf, Leaves, broken, span_of, written}
-use Rattle.control_core.specs.Seats.{KeepsSessions}
-use Rattle.control_core.specs.Turns.{continues, has_written, session_in, write_decision, write_tests}
-use Rattle.control_core.proofs.AllowedLemmas.{both, passes_at}
-use Rattle.engine_core.specs.Calls.{Ended}
-use Rattle.engine_core.specs.Consistent.{Counts, IsConsistent}
+use Rattle.control_core.specs.Exact.{Archive, ArchiveEnds, CallEnds, IsBlockOf, Leaves, asked_of, broken, recording_at, span_of, told_of, written}
+use Rattle.control_core.specs.Machine.{Stepped}
+use Rattle.control_core.specs.Turns.{session_in, write_decision, write_tests}
+use Rattle.control_core.proofs.ConsistentLemmas.{consistent_call}
+use Rattle.control_core.proofs.DeskLemmas.{not_same}
+use Rattle.control_core.proofs.FaultLemmas.{call_is_allowed}
+use Rattle.control_core.proofs.WriteLemmas.{other_blocks, this_session}
+use Rattle.engine_core.specs.Calls.{AnswersEvent, Ended, EndsAs}
+use Rattle.engine_core.specs.Consistent.{IsCrashConsistent, Stands, StandsBehind}
+use Rattle.engine_core.specs.Engine.{Content, EngineState, archive_of}
 use Rattle.engine_core.specs.Moves.{Moves}
-use Rattle.engine_core.specs.Orderly.{IsOrderly}
 use Rattle.engine_core.specs.Recovery.{IsSound, last_of, layout_of}
 use Rattle.engine_core.specs.Writing.{HasNoTarget, IsTarget}
-use Rattle.engine_core.proofs.AskLemmas.{IsKnown, known_recording}
-use Rattle.engine_core.proofs.EndedLemmas.{IsReady, done, failed}
-use Rattle.engine_core.proofs.FoundLemmas.{not_so}
-use Rattle.engine_core.proofs.FrameLemmas.{apart}
-use Rattle.engine_core.proofs.InsideLemmas.{registered_of}
-use Rattle.engine_core.proofs.MakeLemmas.{no_doubt}
-use Rattle.engine_core.proofs.OrderlyAskLemmas.{block_from_start, laid_out_of}
-use Rattle.control_core.proofs.DecidedLemmas.{held}
-use Rattle.engine_core.proofs.OrderlyCallLemmas.{begins_behind, nothing_written, orderly_write}
-use Rattle.engine_core.proofs.WritingLemmas.{ChangesOnly, IsOpen, written_failing, written_on}
-
--- ---- what is let through
-
-pub record Lets (d : DeskState) (s : RecorderSession) (w : Written) : Type 0 where
-  pub works : d.is_broken ≡ false
-  pub goes_on : continues d (Some s) w ≡ true
-  pub none : s.written ≡ None
-
-pub lets : (d : DeskState) (n : ℤ) (w : Written) (s : RecorderSession) (reply : Reply) → session_in d n ≡ Some s → write_decision d n w true ≡ Ok reply → Lets d s w
-lets d n w s reply found is =
-    let all : passes (write_tests d n w true) checks ≡ true = (held (write_tests d n w true) checks (WrittenReply w.last) reply is).0 in
-    let unwritten : not (has_written (session_in d n)) ≡ true = passes_at (write_tests d n w true) (first_checks ++ block_checks) (ActiveReplay ∷ MaxRecordings ∷ MaxReplays ∷ HistoryFull ∷ []) NeedSettle all in
-    record {
-      works = not_so d.is_broken (both (not d.is_broken) _ all).0;
-      goes_on = subst (λ (o : Option RecorderSession). continues d o w ≡ true) found (passes_at (write_tests d n w true) (first_checks ++ BadExtension ∷ []) last_checks BadBlock all);
-      none = nothing_written s.written (subst (λ (o : Option RecorderSession). not (has_written o) ≡ true) found unwritten);
-    }
+use Rattle.engine_core.proofs.BlockLemmas.{block_stands}
+use Rattle.engine_core.proofs.EndedLemmas.{done, failed, no_doubt, sound_consistent}
+use Rattle.engine_core.proofs.KnownLemmas.{IsKnown, begins_behind, known_recording, registered_of}
+use Rattle.engine_core.proofs.SettleCallLemmas.{answered_still, blank, no_fault}
+use Rattle.engine_core.proofs.StandLemmas.{stands_nothing}
+use Rattle.engine_core.proofs.WritingLemmas.{Lets, Other, each_other, from_start, is_refused, let_through, span_to, stands_beside, target_layout}
 
 -- ---- a block that is of no session's recording is refused
 
-is_refused : (d : DeskState) (n : ℤ) (v w : Written) → (refusal : Refusal) × (write_decision d n v false ≡ Err refusal) × (write_decision d n w false ≡ Err refusal)
-is_refused d n v w = by d.is_broken (is_some (session_in d n)) refl refl
+no_block : (e : EngineState) (c : Content) (n : ℤ) (block : Block) → IsCrashConsistent e.life e.log (archive_of e c) → HasNoTarget e.desk n block → IsBlockOf (archive_of e c) (session_in e.desk n) block → ⊥
+no_block e c n block was without = by (session_in e.desk n) refl
   where
-    by : (b there : Bool) → d.is_broken ≡ b → is_some (session_in d n) ≡ there → (refusal : Refusal) × (write_decision d n v false ≡ Err refusal) × (write_decision d n w false ≡ Err refusal)
-    by true there e f = (Broken, cc, cc)
-    by false false e f = (StaleSession, cc, cc)
-    by false true e f = (BadBlock, cc, cc)
-
-no_block : (a : Archive) (n : ℤ) (block : Block) (life : Life) (log : LogState) (desk : DeskState) → IsConsistent life log desk a → HasNoTarget desk n block → IsBlockOf a (session_in a.desk n) block → ⊥
-no_block a n block life log desk was without = by (session_in a.desk n) refl
-  where
-    at : HasNoTarget a.desk n block
-    at = subst (λ (d : DeskState). HasNoTarget d n block) was.desk_is without
-
-    of : (s : RecorderSession) (o : Option Recording) → session_in a.desk n ≡ Some s → find id_of s.recording a.state.recordings ≡ o → IsSomeAnd o (λ r. IsBlock (geometry_of r.descriptor) (publication_of r.descriptor) block) → ⊥
+    of : (s : RecorderSession) (o : Option Recording) → session_in e.desk n ≡ Some s → find id_of s.recording c.state.recordings ≡ o → IsSomeAnd o (λ r. IsBlock (geometry_of r.descriptor) (publication_of r.descriptor) block) → ⊥
     of s None found is block_of = block_of
-    of s (Some r) found is block_of = at s (registration_of r) found (registered_of a s.recording r was.agrees is) block_of
+    of s (Some r) found is block_of = without s (registration_of r) found (registered_of (archive_of e c) s.recording r was.archive.agrees is) block_of
 
-    by : (o : Option RecorderSession) → session_in a.desk n ≡ o → IsBlockOf a o block → ⊥
+    by : (o : Option RecorderSession) → session_in e.desk n ≡ o → IsBlockOf (archive_of e c) o block → ⊥
     by None found block_of = block_of
-    by (Some s) found block_of = of s (find id_of s.recording a.state.recordings) found refl block_of
+    by (Some s) found block_of = of s (find id_of s.recording c.state.recordings) found refl block_of
 
-pub none_ends : (a : Archive) (n : ℤ) (block : Block) (w : Written) (life : Life) (log : LogState) (desk : DeskState) (faulted : Type 0) (outcome : Result Reply Refusal) → IsConsistent life log desk a → HasNoTarget desk n block
-    → outcome ≡ write_decision desk n w false → CallEnds a (events.Write n block) faulted outcome a
-none_ends a n block w life log desk faulted outcome was without is =
-    let refused = is_refused a.desk n w (span_of block) in
-    let same : outcome ≡ Err refused.0 = is ∙ ap (λ (d : DeskState). write_decision d n w false) was.desk_is ∙ refused.1 in
-    let ends : ArchiveEnds a (events.Write n block) (Err refused.0) a =
-    (false, no_block a n block life log desk was without, subst (λ (o : Result Reply Refusal). Leaves a (written a n block) o (Err refused.0) a) (sym refused.2) (refl, refl)) in
-    subst (λ (o : Result Reply Refusal). CallEnds a (events.Write n block) faulted o a) (sym same) (inl ends)
+-- an archive without recordings has none that the block is of
+no_blank : (e : EngineState) (o : Option RecorderSession) (block : Block) → IsBlockOf (archive_of e blank) o block → ⊥
+no_blank e None block is = is
+no_blank e (Some s) block is = is
+
+pub write_untargeted : (e : EngineState) (n : ℤ) (block : Block) (w : Written) (outcome : Result Reply Refusal) → HasNoTarget e.desk n block → outcome ≡ write_decision e.desk n w false → AnswersEvent e e (events.Write n block) outcome
+write_untargeted e n block w outcome without is =
+    let refused = is_refused e.desk n w (span_of block) in
+    let told : Result Reply Refusal = Err refused.0 in
+    subst (λ (o : Result Reply Refusal). AnswersEvent e e (events.Write n block) o) (sym (is ∙ refused.1))
+    (answered_still e (events.Write n block) told blank refl (λ sweep. absurd cc) (λ fault. no_fault (write_tests e.desk n w false) (WrittenReply w.last) (refused.1 ∙ fault))
+    (ends blank (no_blank e (session_in e.desk n) block) refused.0 refused.2) (λ c was. ends c (no_block e c n block was without) refused.0 refused.2) (λ a. tt))
+  where
+    ends : (c : Content) → (IsBlockOf (archive_of e c) (session_in e.desk n) block → ⊥) → (refusal : Refusal) → write_decision e.desk n (span_of block) false ≡ Err refusal → ArchiveEnds (archive_of e c) (events.Write n block) (Err refusal) (archive_of e c)
+    ends c none refusal decided =
+        (false, none, subst (λ (o : Result Reply Refusal). Leaves (archive_of e c) (written (archive_of e c) n block) o (Err refusal) (archive_of e c)) (sym decided) (refl, refl))
 
 -- ---- one of a session's recording
 
-abbrev pub span_to : Block → ℤ → Written
-span_to block end = record { first = block.position; last = end }
+module _ (old : EngineState) (n : ℤ) (block : Block) (layout : Layout) (end : ℤ) (at : IsTarget old.desk n block layout end) where
+  abbrev event : Event
+  event = events.Write n block
 
-pub span_same : (block : Block) (end at to : ℤ) → block.position ≡ at → end ≡ to → record { first = at; last = to } ≡ span_to block end
-span_same block end at to first last = ap (λ (x : ℤ). record { first = x; last = to }) (sym first) ∙ ap (λ (x : ℤ). span_to block x) (sym last)
+  -- it is, in an archive that has the recording
+  is_of : (c : Content) (r : Recording) → recording_at (archive_of old c) at.session.recording ≡ Some r → at.registration.descriptor ≡ r.descriptor → IsBlockOf (archive_of old c) (session_in old.desk n) block
+  is_of c r found same =
+      let is_block : IsBlock (geometry_of r.descriptor) (publication_of r.descriptor) block = subst (λ (d : Descriptor). IsBlock (geometry_of d) (publication_of d) block) same at.is_block in
+      subst (λ (o : Option RecorderSession). IsBlockOf (archive_of old c) o block) (sym at.found)
+      (subst (λ (o : Option Recording). IsSomeAnd o (λ x. IsBlock (geometry_of x.descriptor) (publication_of x.descriptor) block)) (sym found) is_block)
 
-module _ (old : Life) (log : LogState) (desk : DeskState) (a : Archive) (n : ℤ) (block : Block) (layout : Layout) (end : ℤ) (was : IsConsistent old log desk a) (at : IsTarget desk n block layout end) where
-  target : IsTarget a.desk n block layout end
-  target = subst (λ (d : DeskState). IsTarget d n block layout end) was.desk_is at
+  -- such an archive
+  abbrev one : Recording
+  one = record { descriptor = at.registration.descriptor; frames = [] }
 
-  known : IsKnown a target.session.recording target.registration
-  known = known_recording a target.session.recording target.registration was.agrees target.known
+  abbrev alone : Content
+  alone = record { state = record { recordings = one ∷ []; next = pos 0 }; blocks = λ m. []; doubt = None }
 
-  abbrev r : Recording
-  r = known.recording
+  found_alone : recording_at (archive_of old alone) at.session.recording ≡ Some one
+  found_alone =
+      let number : register.id_of at.registration ≡ at.session.recording = found_number register.id_of at.session.recording old.desk.register.recordings at.registration at.known in
+      let same : int_eq at.session.recording (id_of one) ≡ true = (Decides-int_eq at.session.recording (id_of one)).1 (sym number) in
+      rw same refl
 
-  is_block : IsBlock (geometry_of r.descriptor) (publication_of r.descriptor) block
-  is_block = subst (λ (g : Registration). IsBlock (geometry_of g.descriptor) (publication_of g.descriptor) block) known.is target.is_block
+  of_alone : IsBlockOf (archive_of old alone) (session_in old.desk n) block
+  of_alone = is_of alone one found_alone refl
 
-  block_of : IsBlockOf a (session_in a.desk n) block
-  block_of = subst (λ (o : Option RecorderSession). IsBlockOf a o block) (sym target.found)
-      (subst (λ (o : Option Recording). IsSomeAnd o (λ x. IsBlock (geometry_of x.descriptor) (publication_of x.descriptor) block)) (sym known.found) is_block)
+  decided : (outcome : Result Reply Refusal) → outcome ≡ write_decision old.desk n (span_to block end) true → write_decision old.desk n (span_of block) true ≡ outcome
+  decided outcome is = ap (λ (z : ℤ). write_decision old.desk n (span_to block z) true) (sym at.end_is) ∙ sym is
 
-  decided : (outcome : Result Reply Refusal) → outcome ≡ write_decision desk n (span_to block end) true → write_decision a.desk n (span_of block) true ≡ outcome
-  decided outcome is = ap (λ (e : ℤ). write_decision a.desk n (span_to block e) true) (sym target.end_is) ∙ ap (λ (d : DeskState). write_decision d n (span_to block end) true) (sym was.desk_is) ∙ sym is
+  refused_ends : (c : Content) (refusal : Refusal) → IsBlockOf (archive_of old c) (session_in old.desk n) block → Err refusal ≡ write_decision old.desk n (span_to block end) true → ArchiveEnds (archive_of old c) event (Err refusal) (archive_of old c)
+  refused_ends c refusal block_of is =
+      (true, block_of, subst (λ (o : Result Reply Refusal). Leaves (archive_of old c) (written (archive_of old c) n block) o (Err refusal) (archive_of old c)) (sym (decided (Err refusal) is)) (refl, refl))
 
-  pub refused_ends : (refusal : Refusal) (faulted : Type 0) → Err refusal ≡ write_decision desk n (span_to block end) true → CallEnds a (events.Write n block) faulted (Err refusal) a
-  refused_ends refusal faulted is =
-      inl (true, block_of, subst (λ (o : Result Reply Refusal). Leaves a (written a n block) o (Err refusal) a) (sym (decided (Err refusal) is)) (refl, refl))
+  write_ends : (c : Content) (reply : Reply) → IsBlockOf (archive_of old c) (session_in old.desk n) block → Ok reply ≡ write_decision old.desk n (span_to block end) true → ArchiveEnds (archive_of old c) event (Ok reply) (written (archive_of old c) n block)
+  write_ends c reply block_of is =
+      (true, block_of, subst (λ (o : Result Reply Refusal). Leaves (archive_of old c) (written (archive_of old c) n block) o (Ok reply) (written (archive_of old c) n block)) (sym (decided (Ok reply) is)) (refl, refl))
 
-  module _ (reply : Reply) (is : Ok reply ≡ write_decision desk n (span_to block end) true) where
-    write_ends : ArchiveEnds a (events.Write n block) (Ok reply) (written a n block)
-    write_ends = (true, block_of, subst (λ (o : Result Reply Refusal). Leaves a (written a n block) o (Ok reply) (written a n block)) (sym (decided (Ok reply) is)) (refl, refl))
+  fault_ends : (c : Content) (reply : Reply) (faulted : Type 0) → IsBlockOf (archive_of old c) (session_in old.desk n) block → Ok reply ≡ write_decision old.desk n (span_to block end) true → faulted
+      → CallEnds (archive_of old c) event faulted (Err DeviceFault) (broken c.state (archive_of old c))
+  fault_ends c reply faulted block_of is cause = inr (cause, inr (refl, (c.state, (reply, (written (archive_of old c) n block, write_ends c reply block_of is, refl)), refl)))
 
-    let_through : Lets a.desk target.session (span_of block)
-    let_through = lets a.desk n (span_of block) target.session reply target.found (decided (Ok reply) is)
+  -- ---- of a crash-consistent archive
 
-    opened : IsOpen a.state a.desk.callers n target.session r
-    opened = record { found = target.found; none = let_through.none; recording = known.found }
+  module _ (c : Content) (was : IsCrashConsistent old.life old.log (archive_of old c)) where
+    abbrev a : Archive
+    a = archive_of old c
 
-    follows : block.position ≡ recorded_position r
-    follows = begins_behind a.desk target.session target.registration None (span_of block) target.known let_through.none let_through.goes_on ∙ ap (λ (g : Registration). g.recorded) known.is
+    known : IsKnown a at.session.recording at.registration
+    known = known_recording a at.session.recording at.registration was.archive.agrees at.known
+
+    abbrev r : Recording
+    r = known.recording
+
+    block_of : IsBlockOf a (session_in old.desk n) block
+    block_of = is_of c r known.found (ap (λ (g : Registration). g.descriptor) known.is)
 
     layout_is : layout ≡ layout_of r.descriptor
-    layout_is = target.layout_is ∙ ap (λ (g : Registration). layout_of g.descriptor) known.is
+    layout_is = at.layout_is ∙ ap (λ (g : Registration). layout_of g.descriptor) known.is
 
-    id_is : layout.recording ≡ target.session.recording
-    id_is = ap (λ (l : Layout). l.recording) layout_is ∙ found_number id_of target.session.recording a.state.recordings r known.found
+    id_is : layout.recording ≡ at.session.recording
+    id_is = ap (λ (l : Layout). l.recording) layout_is ∙ found_number id_of at.session.recording a.state.recordings r known.found
 
-    module _ (new : Life) (new_log : LogState) (result : Result (Unit {0}) Refusal) (changes : ChangesFile (file_of layout (unsigned_abs block.position)) old new)
-        (does : (s : State) (x : Recording) → IsSound old.now log s → find id_of layout.recording s.recordings ≡ Some x → layout ≡ layout_of x.descriptor → recorded_position x ≤ℤ block.position → Moves old new new_log s s result) where
-      doubtless : a.doubt ≡ None
-      doubtless = no_doubt old log desk a was let_through.works
+    number_is : at.session.number ≡ n
+    number_is = found_number session_number n old.desk.callers.sessions at.session at.found
 
-      moves : Moves old new new_log a.state a.state result
-      moves = does a.state r (was.sound doubtless) (ap (λ (id : ℤ). find id_of id a.state.recordings) id_is ∙ known.found) layout_is (omega (arith, ints, follows))
+    module _ (reply : Reply) (is : Ok reply ≡ write_decision old.desk n (span_to block end) true) where
+      let_by : Lets old.desk at.session (span_to block end)
+      let_by = let_through old.desk n block layout end at reply is
 
-      only : ChangesOnly (reads old.now) (reads new.now) r
-      only = record { others = λ x p other. ap (λ (f : FileState). f.reads) (changes.others (file_of (layout_of x.descriptor) p) (apart x layout p (unsigned_abs block.position) (λ e. other (e ∙ ap (λ (l : Layout). l.recording) layout_is)))) }
+      follows : block.position ≡ recorded_position r
+      follows = begins_behind old.desk at.session at.registration None (span_to block end) at.known let_by.none let_by.goes_on ∙ ap (λ (g : Registration). g.recorded) known.is
 
-      seats : KeepsSessions a.desk.register a.desk.callers.sessions a.desk.callers.next_session
-      seats = target.seats.sessions
+      -- the session wrote nothing before
+      nothing : a.blocks at.session.number ≡ []
+      nothing = subst (HasBlocks a at.session) let_by.none (each_found session_number (λ x. HasBlocks a x x.written) n old.desk.callers.sessions at.session was.archive.blocks at.found)
 
-      pub write_failed : (told : Refusal) (new_desk : DeskState) (faulted : Type 0) → told ≡ DeviceFault → faulted → new_desk ≡ broken_desk desk → Ended old new new_log new_desk a (λ b. ((IsTrue false → IsTrue new.obeys) → CallEnds a (events.Write n block) faulted (Err told) b) × Unit {0})
-      write_failed told new_desk faulted device cause same =
-          failed old new new_log new_desk a a.state _ was.well was.agrees moves.any_moment moves.frames (same ∙ ap broken_desk was.desk_is)
-          (written_failing (reads old.now) (reads new.now) a.state a.desk.callers a.blocks n target.session r opened only was.written a.desk.callers.next_session seats.rising seats.apart)
-          (λ obeys. was.reading (changes.obeyed obeys)) ((λ nothing. subst (λ (x : Refusal). CallEnds a (events.Write n block) faulted (Err x) (broken a.state a)) (sym device) (inr (cause, inr (refl, (a.state, (reply, (written a n block, write_ends, refl)), refl))))), tt)
+      module _ (new : EngineState) (result : Result (Unit {0}) Refusal) (changes : ChangesFile (file_of layout (unsigned_abs block.position)) old.life new.life)
+          (does : (s : State) (x : Recording) → IsSound old.life.now old.log s → find id_of layout.recording s.recordings ≡ Some x → layout ≡ layout_of x.descriptor → recorded_position x ≤ℤ block.position → Moves old.life new.life new.log s s result) where
+        moves : Moves old.life new.life new.log a.state a.state result
+        moves =
+            does a.state r (was.sound (no_doubt a was.archive let_by.works)) (ap (λ (id : ℤ). find id_of id a.state.recordings) id_is ∙ known.found) layout_is (omega (arith, ints, follows))
 
-      ready : (new_desk : DeskState) → new_log ≡ log → new_desk ≡ after_write n (span_to block end) desk
-          → HoldsFrames (reads new.now) layout (unsigned_abs block.position) block.frames (unsigned_abs block.position + covered block.frames) → IsReady new new_log new_desk (written a n block)
-      ready new_desk same_log same stand =
-          let desk_is : new_desk ≡ after_write n (span_of block) a.desk = same ∙ ap (λ (d : DeskState). after_write n (span_to block end) d) was.desk_is ∙ ap (λ (e : ℤ). after_write n (span_to block e) a.desk) target.end_is in
-          let counts : Counts log a.desk = subst (Counts log) was.desk_is (was.history doubtless) in
-          let here = subst (λ (p : ℤ). HoldsFrames (reads new.now) layout (unsigned_abs p) block.frames (unsigned_abs p + covered block.frames)) follows stand in
-          record {
-            history = subst (λ (l : LogState). Counts l new_desk) (sym same_log) (subst (Counts log) (sym desk_is) (record { counted = counts.counted; limit = counts.limit }));
-            desk_is = desk_is;
-            agrees = was.agrees;
-            works = let_through.works;
-            doubt = doubtless;
-            written = written_on (reads old.now) (reads new.now) a.state a.desk.callers a.blocks n target.session r opened only was.written block is_block follows
-                (subst (λ (l : Layout). HoldsFrames (reads new.now) l (last_of r) block.frames (last_of r + covered block.frames)) layout_is here) seats.rising seats.apart;
-            reading = λ obeys. was.reading (changes.obeyed obeys);
-          }
+        others : (b : Archive) (x : RecorderSession) → b.state ≡ a.state → ((m : ℤ) → m ≢ n → b.blocks m ≡ a.blocks m) → Other at.session x → StandsBehind (reads old.life.now) a x → StandsBehind (reads new.life.now) b x
+        others b x state blocks other stands =
+            stands_beside old.life new.life a b x layout (unsigned_abs block.position) changes (λ same. other.1 (same ∙ id_is)) state (blocks x.number (λ same. other.0 (same ∙ sym number_is))) stands
 
-      pub write_done : (new_desk : DeskState) (faulted : Type 0) → result ≡ Ok tt → new_log ≡ log → new_desk ≡ after_write n (span_to block end) desk
-          → HoldsFrames (reads new.now) layout (unsigned_abs block.position) block.frames (unsigned_abs block.position + covered block.frames)
-          → Ended old new new_log new_desk a (λ b. ((IsTrue false → IsTrue new.obeys) → CallEnds a (events.Write n block) faulted (Ok reply) b) × Unit {0})
-      write_done new_desk faulted went same_log same stand =
-          let rested : Moves old new new_log a.state a.state (Ok tt) = subst (Moves old new new_log a.state a.state) went moves in
-          done old new new_log new_desk a (written a n block) _ rested.any_moment rested.rests (ready new_desk same_log same stand) ((λ nothing. write_ends), tt)
+        -- it failed
+        stand_failing : Each (StandsBehind (reads new.life.now) a) a.desk.callers.sessions
+        stand_failing =
+            (each_other (StandsBehind (reads old.life.now) a) (StandsBehind (reads new.life.now) a) (λ x. x) n a.desk.callers.next_session at.session (λ x other stands. others a x refl (λ m differs. refl) other stands)
+            (pos 0) a.desk.callers.sessions number_is at.keeps.seats.sessions.rising at.keeps.seats.sessions.apart at.found was.stand).1 (stands_nothing (reads new.life.now) a at.session nothing)
 
--- ---- what an orderly desk asks of the files
+        failing : new.desk ≡ broken_desk old.desk → HasFailed old.life new.life → Ended old new a (EndsAs old.life new.life event a (Err DeviceFault))
+        failing desk cause =
+            failed old new a a.state (EndsAs old.life new.life event a (Err DeviceFault)) was.archive moves.any_moment moves.frames stand_failing (λ obeys. was.boundaries (changes.obeyed obeys)) desk
+            ((λ reading. fault_ends c reply (HasFailed old.life new.life) block_of is cause), tt)
 
-pub lays_out : (d : DeskState) (n : ℤ) (block : Block) (layout : Layout) (end : ℤ) → IsOrderly d → IsTarget d n block layout end → IsLayout layout
-lays_out d n block layout end orderly at = subst IsLayout (sym at.layout_is) (laid_out_of d at.session.recording at.registration orderly at.known).layout
+        -- it succeeded
+        elsewhere : (m : ℤ) → m ≢ n → (written a n block).blocks m ≡ a.blocks m
+        elsewhere m differs = other_blocks n (a.blocks n ++ block ∷ []) a.blocks m (not_same n m (λ same. differs (sym same)))
 
-module _ (d : DeskState) (n : ℤ) (block : Block) (layout : Layout) (end : ℤ) (reply : Reply) (orderly : IsOrderly d) (at : IsTarget d n block layout end) (is : Ok reply ≡ write_decision d n (span_to block end) true) where
-  pub from_start : IsFromStart layout block.position
-  from_start =
-      let goes_on = (lets d n (span_to block end) at.session reply at.found (sym is)).goes_on in
-      subst (λ (l : Layout). IsFromStart l block.position) (sym at.layout_is) (block_from_start d n at.session at.registration (span_to block end) orderly at.found at.known goes_on)
+        only : (written a n block).blocks at.session.number ≡ block ∷ []
+        only =
+            this_session n (a.blocks n ++ block ∷ []) a.blocks at.session.number number_is ∙ ap (λ (bs : List Block). bs ++ block ∷ []) (ap a.blocks (sym number_is) ∙ nothing)
 
-  one : (r q : Registration) → Some r ≡ Some q → r ≡ q
-  one r q e = cc
+        block_is_there : HoldsFrames (reads new.life.now) layout (unsigned_abs block.position) block.frames (unsigned_abs block.position + covered block.frames) → Stands (reads new.life.now) (file_of (layout_of r.descriptor) (last_of r)) r (frames_of (block ∷ []))
+        block_is_there holds =
+            let l : Layout = layout_of r.descriptor in
+            let laid : IsLayout l = subst IsLayout layout_is (target_layout old.desk n block layout end at) in
+            let from : IsFromStart l block.position = subst (λ (x : Layout). IsFromStart x block.position) layout_is (from_start old.desk n block layout end at reply is) in
+            let here : HoldsFrames (reads new.life.now) l (unsigned_abs block.position) block.frames (unsigned_abs block.position + covered block.frames) =
+            subst (λ (x : Layout). HoldsFrames (reads new.life.now) x (unsigned_abs block.position) block.frames (unsigned_abs block.position + covered block.frames)) layout_is holds in
+            let is_block : IsBlock (geometry_of r.descriptor) (publication_of r.descriptor) block = subst (λ (g : Registration). IsBlock (geometry_of g.descriptor) (publication_of g.descriptor) block) known.is at.is_block in
+            subst (λ (p : ℤ). Stands (reads new.life.now) (file_of l (unsigned_abs p)) r (frames_of (block ∷ []))) follows
+            (block_stands (reads new.life.now) r block laid from (record { geometry = geometry_of r.descriptor; publication = publication_of r.descriptor; term = refl; is_block = is_block }) follows here)
 
-  fits : (s : RecorderSession) (q : Registration) → session_in d n ≡ Some s → registration_in d.register s.recording ≡ Some q → IsBlock (geometry_of q.descriptor) (publication_of q.descriptor) block
-  fits s q found known =
-      let session : at.session ≡ s = the at.session s (sym at.found ∙ found) in
-      let same : at.registration ≡ q = one at.registration q (sym at.known ∙ ap (λ (x : RecorderSession). registration_in d.register x.recording) session ∙ known) in
-      subst (λ (x : Registration). IsBlock (geometry_of x.descriptor) (publication_of x.descriptor) block) same at.is_block
-    where
-      the : (x y : RecorderSession) → Some x ≡ Some y → x ≡ y
-      the x y e = cc
+        stand_written : HoldsFrames (reads new.life.now) layout (unsigned_abs block.position) block.frames (unsigned_abs block.position + covered block.frames)
+            → Each (StandsBehind (reads new.life.now) (written a n block)) (written a n block).desk.callers.sessions
+        stand_written holds =
+            let b : Archive = written a n block in
+            (each_other (StandsBehind (reads old.life.now) a) (StandsBehind (reads new.life.now) b) (with_written (Some (span_of block))) n a.desk.callers.next_session at.session (λ x other stands. others b x refl elsewhere other stands)
+            (pos 0) a.desk.callers.sessions number_is at.keeps.seats.sessions.rising at.keeps.seats.sessions.apart at.found was.stand).0
+            (λ x there.
+            let same : r ≡ x = the_same r x (sym known.found ∙ there) in
+            subst (λ (y : Recording). Stands (reads new.life.now) (file_of (layout_of y.descriptor) (last_of y)) y (frames_of (b.blocks at.session.number))) same
+            (subst (λ (bs : List Block). Stands (reads new.life.now) (file_of (layout_of r.descriptor) (last_of r)) r (frames_of bs)) (sym only) (block_is_there holds)))
+          where
+            the_same : (x y : Recording) → Some x ≡ Some y → x ≡ y
+            the_same x y e = cc
 
-  pub orderly_written : IsOrderly (after_write n (span_to block end) d)
-  orderly_written =
-      let decided : write_decision d n (span_of block) true ≡ Ok reply = ap (λ (e : ℤ). write_decision d n (span_to block e) true) (sym at.end_is) ∙ sym is in
-      subst (λ (e : ℤ). IsOrderly (after_write n (span_to block e) d)) (sym at.end_is) (orderly_write d n block true reply orderly at.seats (λ yes. fits) decided)
+        going : result ≡ Ok tt → new.desk ≡ after_write n (span_of block) old.desk → HoldsFrames (reads new.life.now) layout (unsigned_abs block.position) block.frames (unsigned_abs block.position + covered block.frames)
+            → Ended old new a (EndsAs old.life new.life event a (Ok reply))
+        going went desk holds =
+            let b : Archive = written a n block in
+            let rested : Moves old.life new.life new.log a.state a.state (Ok tt) = subst (Moves old.life new.life new.log a.state a.state) went moves in
+            let stays : StaysConsistent a b = consistent_call a event (Ok reply) b was.archive (write_ends c reply block_of is) in
+            done old new a b (EndsAs old.life new.life event a (Ok reply)) rested.any_moment
+            (sound_consistent new.life new.log b rested.rests stays.consistent (stand_written holds) (λ obeys. stays.boundaries (was.boundaries (changes.obeyed obeys)))) desk
+            ((λ reading. write_ends c reply block_of is), tt)
+
+  -- ---- the call
+
+  pub write_refuses : (refusal : Refusal) → Err refusal ≡ write_decision old.desk n (span_to block end) true → AnswersEvent old old event (Err refusal)
+  write_refuses refusal is =
+      answered_still old event (Err refusal) alone refl (λ sweep. absurd cc) (λ fault. no_fault (write_tests old.desk n (span_to block end) true) (WrittenReply end) (sym is ∙ fault)) (refused_ends alone refusal of_alone is)
+      (λ c was. refused_ends c refusal (block_of c was) is) (λ a. tt)
+
+  module _ (new : EngineState) (reply : Reply) (is : Ok reply ≡ write_decision old.desk n (span_to block end) true) (result : Result (Unit {0}) Refusal) (changes : ChangesFile (file_of layout (unsigned_abs block.position)) old.life new.life)
+      (does : (s : State) (x : Recording) → IsSound old.life.now old.log s → find id_of layout.recording s.recordings ≡ Some x → layout ≡ layout_of x.descriptor → recorded_position x ≤ℤ block.position → Moves old.life new.life new.log s s result) where
+    pub write_done : result ≡ Ok tt → new.desk ≡ after_write n (span_to block end) old.desk → HoldsFrames (reads new.life.now) layout (unsigned_abs block.position) block.frames (unsigned_abs block.position + covered block.frames)
+        → AnswersEvent old new event (Ok reply)
+    write_done went desk holds =
+        let same : new.desk ≡ after_write n (span_of block) old.desk = desk ∙ ap (λ (z : ℤ). after_write n (span_to block z) old.desk) at.end_is in
+        record {
+          goes_on = record { obeyed = changes.obeyed; faults = changes.faults };
+          cause = λ fault. absurd cc;
+          machine = subst (λ (d : DeskState). Stepped old.desk (asked_of event) (told_of old.desk event (Ok reply)) d) (sym same)
+              (call_is_allowed (archive_of old alone) event (Ok reply) (written (archive_of old alone) n block) (λ poll. absurd (true≢false (sym poll))) (write_ends alone reply of_alone is));
+          swept = λ removed e. absurd cc;
+          ended = λ c was cut. going c was reply is new result changes does went same holds;
+        }
+
+    pub write_fails : (told : Refusal) → told ≡ DeviceFault → HasFailed old.life new.life → new.desk ≡ broken_desk old.desk → AnswersEvent old new event (Err told)
+    write_fails told fault cause desk = subst (λ (x : Refusal). AnswersEvent old new event (Err x)) (sym fault) (record {
+      goes_on = record { obeyed = changes.obeyed; faults = changes.faults };
+      cause = λ e. cause;
+      machine = subst (λ (d : DeskState). Stepped old.desk (asked_of event) (told_of old.desk event (Err DeviceFault)) d) (sym desk)
+          (call_is_allowed (archive_of old alone) event (Err DeviceFault) (broken alone.state (archive_of old alone)) (λ poll. absurd (true≢false (sym poll))) (fault_ends alone reply (Unit {0}) of_alone is tt));
+      swept = λ removed e. absurd cc;
+      ended = λ c was cut. failing c was reply is new result changes does desk cause;
+    })

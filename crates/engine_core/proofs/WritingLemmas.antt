@@ -1,35 +1,128 @@
--- A recorder session's block is written, is refused, or fails.
-use Rattle.std.proofs.Common.{◌≡◌, ◌≢◌, ◌∙◌, sym, ap, subst, refl, ℕ, ℤ, pos, ◌+◌, ◌+ℤ◌, ◌<ℤ◌, ◌≤ℤ◌, Bool, true, false, cond, true≢false, List, [], ◌∷◌, ◌++◌, Option, Some, None, arith}
+-- A recorder session writes a block: what is decided, what that says of the desk, and what the sessions wrote then.
+use Rattle.std.proofs.Common.{◌≡◌, ◌≢◌, ◌∙◌, sym, ap, subst, refl, inl, inr, ℕ, ℤ, pos, ◌+◌, ◌*◌, ◌^◌, ◌+ℤ◌, ◌<ℤ◌, ◌≤ℤ◌, not, Bool, true, false, cond, true≢false, List, [], ◌∷◌, ◌++◌, Option, Some, None, Ok, Err, unsigned_abs, arith}
 use Rattle.std.proofs.lemmas.Int.{ints}
 use Rattle.std.proofs.lemmas.Bool.Decides.{Decides-int_eq}
+use Rattle.std.specs.Prelude.{IsSomeAnd, is_some}
 use Rattle.std.specs.Ordering.{int_eq}
-use Rattle.disk_core.specs.DiskImage.{DiskImage, bytes_of}
-use Rattle.disk_core.specs.Standing.{Holds}
+use Rattle.disk_core.specs.DiskImage.{FileState, reads}
+use Rattle.disk_core.specs.Life.{Life}
 use Rattle.frame_core.specs.declared.block.Block.{Block}
+use Rattle.frame_core.specs.declared.block.Publication.{Publication}
 use Rattle.frame_core.specs.declared.frame.Frame.{Frame}
-use Rattle.frame_core.specs.Block.{IsBlock, covered}
-use Rattle.frame_core.specs.FrameEncoding.{aligned_length, stored}
+use Rattle.frame_core.specs.declared.geometry.Geometry.{Geometry}
+use Rattle.frame_core.specs.declared.refusal.Refusal.{Refusal}
+use Rattle.frame_core.specs.declared.refusal.Refusal.TheVariants.{ActiveReplay, BadBlock, BadExtension, Broken, HistoryFull, MaxRecordings, MaxReplays, NeedSettle, StaleSession}
+use Rattle.frame_core.specs.Block.{AreBlockOf, block_ids, covered, end_position}
 use Rattle.segment_store.specs.declared.layout.Layout.{Layout}
-use Rattle.segment_store.specs.Layout.{file_of, offset_of}
-use Rattle.segment_store.specs.Stored.{HoldsFrames}
+use Rattle.segment_store.specs.Layout.{IsFromStart, IsLayout, file_of}
+use Rattle.segment_store.specs.Stored.{ChangesFile}
+use Rattle.segment_store.proofs.StoredLemmas.{run_covers}
+use Rattle.archive_model.specs.declared.registration.Registration.{Registration}
+use Rattle.archive_model.specs.declared.reply.Reply.{Reply}
+use Rattle.archive_model.specs.declared.reply.Reply.TheVariants.{Written as WrittenReply}
+use Rattle.archive_model.specs.Checks.{block_checks, checks, first_checks, last_checks, passes}
+use Rattle.archive_model.specs.Commands.{frames_of}
 use Rattle.archive_model.specs.Keyed.{Each, Rise, change, find}
-use Rattle.archive_model.specs.State.{Recording, State, geometry_of, id_of, publication_of, recorded_position}
+use Rattle.archive_model.specs.Register.{registration_in}
+use Rattle.archive_model.specs.State.{geometry_of, id_of, publication_of}
 use Rattle.archive_model.proofs.RegisterLemmas.{found_number}
 use Rattle.archive_model.proofs.StateLemmas.{each_found}
+use Rattle.archive_model.proofs.StreamLemmas.{ends_in_stream}
 use Rattle.control_core.specs.declared.callers.RecorderSession.{RecorderSession}
 use Rattle.control_core.specs.declared.callers.Written.{Written}
-use Rattle.control_core.specs.Changes.{with_blocks}
-use Rattle.control_core.specs.Callers.{CallersState, session_number, with_written}
-use Rattle.control_core.specs.Exact.{span_of, with_session_blocks}
+use Rattle.control_core.specs.Callers.{session_number}
+use Rattle.control_core.specs.Desk.{DeskState}
+use Rattle.control_core.specs.Exact.{Archive, recording_at}
+use Rattle.control_core.specs.Orderly.{LiesBehind, stream_end}
 use Rattle.control_core.specs.Seats.{AreApart}
-use Rattle.engine_core.specs.Consistent.{AreWritten, HasWritten}
+use Rattle.control_core.specs.Turns.{continues, has_written, session_in, write_decision, write_tests}
+use Rattle.control_core.proofs.AllowedLemmas.{both, passes_at}
+use Rattle.control_core.proofs.DecidedLemmas.{held}
+use Rattle.engine_core.specs.Consistent.{Stands, StandsBehind}
 use Rattle.engine_core.specs.Recovery.{last_of, layout_of}
-use Rattle.engine_core.proofs.FoundLemmas.{differs}
+use Rattle.engine_core.specs.Writing.{IsTarget}
+use Rattle.engine_core.proofs.FrameLemmas.{apart}
+use Rattle.engine_core.proofs.KnownLemmas.{block_behind, block_from_start, laid_found, layout_laid}
+use Rattle.engine_core.proofs.SettleCallLemmas.{not_so}
+use Rattle.engine_core.proofs.StandLemmas.{frames_behind}
 
--- ---- sessions
+-- ---- what is let through
+
+-- a block that is let through goes on where its session writes, which wrote nothing before, and no write has failed
+pub record Lets (d : DeskState) (s : RecorderSession) (w : Written) : Type 0 where
+  pub works : d.is_broken ≡ false
+  pub goes_on : continues d (Some s) w ≡ true
+  pub none : s.written ≡ None
+
+nothing_written : (o : Option Written) → not (is_some o) ≡ true → o ≡ None
+nothing_written None is = refl
+nothing_written (Some w) is = absurd (true≢false (sym is))
+
+pub lets : (d : DeskState) (n : ℤ) (w : Written) (s : RecorderSession) (reply : Reply) → session_in d n ≡ Some s → write_decision d n w true ≡ Ok reply → Lets d s w
+lets d n w s reply found is =
+    let all : passes (write_tests d n w true) checks ≡ true = (held (write_tests d n w true) checks (WrittenReply w.last) reply is).0 in
+    let unwritten : not (has_written (session_in d n)) ≡ true = passes_at (write_tests d n w true) (first_checks ++ block_checks) (ActiveReplay ∷ MaxRecordings ∷ MaxReplays ∷ HistoryFull ∷ []) NeedSettle all in
+    record {
+      works = not_so d.is_broken (both (not d.is_broken) _ all).0;
+      goes_on = subst (λ (o : Option RecorderSession). continues d o w ≡ true) found (passes_at (write_tests d n w true) (first_checks ++ BadExtension ∷ []) last_checks BadBlock all);
+      none = nothing_written s.written (subst (λ (o : Option RecorderSession). not (has_written o) ≡ true) found unwritten);
+    }
+
+-- a block that is of no session's recording is refused, wherever it lies
+pub is_refused : (d : DeskState) (n : ℤ) (v w : Written) → (refusal : Refusal) × (write_decision d n v false ≡ Err refusal) × (write_decision d n w false ≡ Err refusal)
+is_refused d n v w = by d.is_broken (is_some (session_in d n)) refl refl
+  where
+    by : (b there : Bool) → d.is_broken ≡ b → is_some (session_in d n) ≡ there → (refusal : Refusal) × (write_decision d n v false ≡ Err refusal) × (write_decision d n w false ≡ Err refusal)
+    by true there e f = (Broken, cc, cc)
+    by false false e f = (StaleSession, cc, cc)
+    by false true e f = (BadBlock, cc, cc)
+
+-- ---- what the files and the desk are asked
+
+-- a block ends in its stream
+block_ends : (g : Geometry) (p : Publication) (frames : List Frame) (position : ℤ) → AreBlockOf g p frames position → (position +ℤ pos (covered frames)) ≤ℤ pos (2 ^ 31 * unsigned_abs g.term_length)
+block_ends g p [] position is = absurd is
+block_ends g p (f ∷ fs) position (at, encodable, inl pad) =
+    let alone : covered fs ≡ 0 = ap covered pad.alone in
+    ends_in_stream g f.term_id f.term_offset position (covered (f ∷ fs)) at (omega (arith, ints, pad.inside, alone))
+block_ends g p (f ∷ fs) position (at, encodable, inr run) =
+    let covers = run_covers (block_ids g p f) run.offset run.end (f ∷ fs) run.ends in
+    let end : run.end ≡ run.offset + covered (f ∷ fs) = covers.0 in
+    ends_in_stream g f.term_id f.term_offset position (covered (f ∷ fs)) at (omega (arith, ints, run.begins, end, run.inside))
+
+abbrev pub span_to : Block → ℤ → Written
+span_to block end = record { first = block.position; last = end }
+
+pub span_same : (block : Block) (end at to : ℤ) → block.position ≡ at → end ≡ to → record { first = at; last = to } ≡ span_to block end
+span_same block end at to first last = ap (λ (x : ℤ). record { first = x; last = to }) (sym first) ∙ ap (λ (x : ℤ). span_to block x) (sym last)
+
+module _ (d : DeskState) (n : ℤ) (block : Block) (layout : Layout) (end : ℤ) (at : IsTarget d n block layout end) where
+  pub target_layout : IsLayout layout
+  target_layout = subst IsLayout (sym at.layout_is) (layout_laid at.registration (laid_found d at.session.recording at.registration at.keeps (sym at.known)).laid_out)
+
+  module _ (reply : Reply) (is : Ok reply ≡ write_decision d n (span_to block end) true) where
+    pub let_through : Lets d at.session (span_to block end)
+    let_through = lets d n (span_to block end) at.session reply at.found (sym is)
+
+    pub from_start : IsFromStart layout block.position
+    from_start = subst (λ (l : Layout). IsFromStart l block.position) (sym at.layout_is) (block_from_start d n at.session at.registration (span_to block end) at.keeps at.found at.known let_through.goes_on)
+
+    lies : LiesBehind (span_to block end) at.registration
+    lies =
+        let behind : at.registration.recorded ≤ℤ block.position = block_behind d n at.session at.registration (span_to block end) at.keeps at.found at.known let_through.goes_on in
+        let ends : end_position block ≤ℤ stream_end at.registration = block_ends (geometry_of at.registration.descriptor) (publication_of at.registration.descriptor) block.frames block.position at.is_block in
+        let last = at.end_is in
+        record { behind = behind; forward = omega (arith, ints, last); in_stream = omega (arith, ints, last, ends) }
+
+    pub lies_behind : IsSomeAnd (session_in d n) (λ s. IsSomeAnd (registration_in d.register s.recording) (LiesBehind (span_to block end)))
+    lies_behind =
+        subst (λ (o : Option RecorderSession). IsSomeAnd o (λ s. IsSomeAnd (registration_in d.register s.recording) (LiesBehind (span_to block end)))) (sym at.found)
+        (subst (λ (o : Option Registration). IsSomeAnd o (LiesBehind (span_to block end))) (sym at.known) lies)
+
+-- ---- the other sessions
 
 -- another session, which writes another recording
-abbrev Other : RecorderSession → RecorderSession → Type 0
+abbrev pub Other : RecorderSession → RecorderSession → Type 0
 Other s x = (x.number ≢ s.number) × (x.recording ≢ s.recording)
 
 module _ (P Q : RecorderSession → Type 0) (f : RecorderSession → RecorderSession) (n next : ℤ) (s : RecorderSession) (others : (x : RecorderSession) → Other s x → P x → Q x) where
@@ -61,107 +154,17 @@ module _ (P Q : RecorderSession → Type 0) (f : RecorderSession → RecorderSes
           let behind = later there in
           ((λ this. (here, behind.0 this)), (λ this. (here, behind.1 this)))
 
--- a session that is there has a number below the next one
-below_next : (n low next : ℤ) (xs : List RecorderSession) (s : RecorderSession) → Rise session_number low xs next → find session_number n xs ≡ Some s → (low ≤ℤ n) × (n <ℤ next)
-below_next n low next [] s rising found = absurd cc
-below_next n low next (x ∷ xs) s rising found = by (int_eq n x.number) refl found (λ there. below_next n (x.number +ℤ pos 1) next xs s rising.1 there)
-  where
-    high : (from : ℤ) (ys : List RecorderSession) → Rise session_number from ys next → from ≤ℤ next
-    high from [] up = up
-    high from (y ∷ ys) up = omega (arith, ints, up.0, high (y.number +ℤ pos 1) ys up.1)
-
-    by : (b : Bool) → int_eq n x.number ≡ b → cond b (Some x) (find session_number n xs) ≡ Some s → (find session_number n xs ≡ Some s → ((x.number +ℤ pos 1) ≤ℤ n) × (n <ℤ next)) → (low ≤ℤ n) × (n <ℤ next)
-    by true e there later =
-        let same : n ≡ x.number = (Decides-int_eq n x.number).0 e in
-        let end : (x.number +ℤ pos 1) ≤ℤ next = high (x.number +ℤ pos 1) xs rising.1 in
-        (omega (arith, ints, same, rising.0), omega (arith, ints, same, end))
-    by false e there later = let more = later there in (omega (arith, ints, rising.0, more.0), more.1)
-
--- ---- their blocks
-
--- blocks of a recording stand on where none of its files has changed
-frames_on : (old new : DiskImage) (l : Layout) (fs : List Frame) (from to : ℕ) → ((p : ℕ) → new (file_of l p) ≡ old (file_of l p)) → HoldsFrames old l from fs to → HoldsFrames new l from fs to
-frames_on old new l [] from to same stand = stand
-frames_on old new l (f ∷ fs) from to same stand = (
-  subst (λ (o : Option (List ℕ)). Holds (bytes_of o) (offset_of l from) (stored f)) (sym (same from)) stand.0,
-  frames_on old new l fs (from + aligned_length f) to same stand.1,
-)
-
--- what a session wrote stands on where only files of another recording have changed
-stays_written : (old new : DiskImage) (s : State) (blocks : List Block) (session : RecorderSession) (o : Option Written)
-    → ((x : Recording) (p : ℕ) → id_of x ≡ session.recording → new (file_of (layout_of x.descriptor) p) ≡ old (file_of (layout_of x.descriptor) p))
-    → HasWritten old s blocks session o → HasWritten new s blocks session o
-stays_written old new s blocks session None same has = has
-stays_written old new s blocks session (Some w) same has = record {
-  recording = has.recording;
-  found = has.found;
-  block = has.block;
-  only = has.only;
-  is_block = has.is_block;
-  follows = has.follows;
-  span = has.span;
-  stands = frames_on old new (layout_of has.recording.descriptor) has.block.frames (last_of has.recording) (last_of has.recording + covered has.block.frames)
-      (λ p. same has.recording p (found_number id_of session.recording s.recordings has.recording has.found)) has.stands;
-}
-
--- what a block of the session of a number is written to
-pub record IsOpen (s : State) (c : CallersState) (n : ℤ) (session : RecorderSession) (r : Recording) : Type 0 where
-  pub found : find session_number n c.sessions ≡ Some session
-  pub none : session.written ≡ None
-  pub recording : find id_of session.recording s.recordings ≡ Some r
-
--- no file of another recording has changed
-pub record ChangesOnly (old new : DiskImage) (r : Recording) : Type 0 where
-  pub others : (x : Recording) (p : ℕ) → id_of x ≢ id_of r → new (file_of (layout_of x.descriptor) p) ≡ old (file_of (layout_of x.descriptor) p)
-
-module _ (old new : DiskImage) (s : State) (c : CallersState) (blocks : ℤ → List Block) (n : ℤ) (session : RecorderSession) (r : Recording) (is : IsOpen s c n session r) (changes : ChangesOnly old new r) (all : AreWritten old s c blocks) where
-  number_is : session.number ≡ n
-  number_is = found_number session_number n c.sessions session is.found
-
-  other_stays : (x : RecorderSession) → Other session x → HasWritten old s (blocks x.number) x x.written → HasWritten new s (blocks x.number) x x.written
-  other_stays x other has =
-      let id : id_of r ≡ session.recording = found_number id_of session.recording s.recordings r is.recording in
-      stays_written old new s (blocks x.number) x x.written (λ y p same. changes.others y p (λ e. other.1 (sym same ∙ e ∙ id))) has
-
-  nothing : blocks n ≡ []
-  nothing =
-      let has : HasWritten old s (blocks session.number) session session.written = each_found session_number (λ x. HasWritten old s (blocks x.number) x x.written) n c.sessions session all.each is.found in
-      let none : HasWritten old s (blocks session.number) session None = subst (λ (o : Option Written). HasWritten old s (blocks session.number) session o) is.none has in
-      subst (λ (m : ℤ). blocks m ≡ []) number_is none
-
-  -- the write failed: what the others wrote stands on, and this session wrote nothing
-  pub written_failing : (next : ℤ) → Rise session_number (pos 0) c.sessions next → AreApart c.sessions → AreWritten new s c blocks
-  written_failing next rising away = record {
-    each = (each_other (λ x. HasWritten old s (blocks x.number) x x.written) (λ x. HasWritten new s (blocks x.number) x x.written) (λ x. x) n next session other_stays (pos 0) c.sessions number_is rising away is.found all.each).1
-        (subst (λ (o : Option Written). HasWritten new s (blocks session.number) session o) (sym is.none) (subst (λ (m : ℤ). blocks m ≡ []) (sym number_is) nothing));
-    none = all.none;
-  }
-
-  abbrev pub with_block : (block : Block) → ℤ → List Block
-  with_block block = with_session_blocks n (blocks n ++ block ∷ []) blocks
-
-  -- it succeeded: this session wrote the block
-  pub written_on : (block : Block) → IsBlock (geometry_of r.descriptor) (publication_of r.descriptor) block → block.position ≡ recorded_position r
-      → HoldsFrames new (layout_of r.descriptor) (last_of r) block.frames (last_of r + covered block.frames) → Rise session_number (pos 0) c.sessions c.next_session → AreApart c.sessions
-      → AreWritten new s (with_blocks n (Some (span_of block)) c) (with_block block)
-  written_on block is_block follows stands rising away = record {
-    each = (each_other (λ x. HasWritten old s (blocks x.number) x x.written) (λ x. HasWritten new s (with_block block x.number) x x.written) (with_written (Some (span_of block))) n c.next_session session
-        (λ x other has. subst (λ (bs : List Block). HasWritten new s bs x x.written) (sym (elsewhere x.number (λ e. other.0 (e ∙ sym number_is)))) (other_stays x other has))
-        (pos 0) c.sessions number_is rising away is.found all.each).0 (record {
-          recording = r;
-          found = is.recording;
-          block = block;
-          only = ap (with_block block) number_is ∙ here ∙ ap (λ (bs : List Block). bs ++ block ∷ []) nothing;
-          is_block = is_block;
-          follows = follows;
-          span = refl;
-          stands = stands;
-        });
-    none = λ number high. elsewhere number (λ e. omega (arith, ints, high, e, (below_next n (pos 0) c.next_session c.sessions session rising is.found).1)) ∙ all.none number high;
-  }
-    where
-      elsewhere : (m : ℤ) → m ≢ n → with_block block m ≡ blocks m
-      elsewhere m other = ap (λ (b : Bool). cond b (blocks n ++ block ∷ []) (blocks m)) (differs m n other)
-
-      here : with_block block n ≡ blocks n ++ block ∷ []
-      here = ap (λ (b : Bool). cond b (blocks n ++ block ∷ []) (blocks n)) ((Decides-int_eq n n).1 refl)
+-- what another session wrote stands on where a file of a recording has changed
+pub stands_beside : (old new : Life) (a b : Archive) (x : RecorderSession) (layout : Layout) (position : ℕ) → ChangesFile (file_of layout position) old new → x.recording ≢ layout.recording → b.state ≡ a.state → b.blocks x.number ≡ a.blocks x.number
+    → StandsBehind (reads old.now) a x → StandsBehind (reads new.now) b x
+stands_beside old new a b x layout position changes other state blocks stands r there =
+    let found : recording_at a x.recording ≡ Some r = ap (λ s. find id_of x.recording s.recordings) (sym state) ∙ there in
+    let was = stands r found in
+    let l : Layout = layout_of r.descriptor in
+    let differs : id_of r ≢ layout.recording = λ same. other (sym (found_number id_of x.recording a.state.recordings r found) ∙ same) in
+    let here : Stands (reads new.now) (file_of l (last_of r)) r (frames_of (a.blocks x.number)) = record {
+      holds = frames_behind (reads old.now) (reads new.now) l (frames_of (a.blocks x.number)) 0 (last_of r) (last_of r + covered (frames_of (a.blocks x.number))) (omega (arith))
+          (λ p from. ap (λ (f : FileState). f.reads) (changes.others (file_of l p) (apart r layout p position differs))) was.holds;
+      lie = was.lie;
+    } in
+    subst (λ (bs : List Block). Stands (reads new.now) (file_of l (last_of r)) r (frames_of bs)) (sym blocks) here

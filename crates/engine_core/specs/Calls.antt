@@ -1,28 +1,33 @@
--- A call of a crash-consistent archive, and calls one after another: docs/STORAGE.md, "Recovery"; docs/CONTROL.md, "Requests".
-use Rattle.std.specs.Prelude.{◌≡◌, ◌++◌, ◌+◌, ◌-◌, ◌^◌, ◌≤◌, ℕ, min, IsTrue, Bool, true, false, List, [], ◌∷◌, count_by, Result, Ok, Err}
+-- A call of an archive, and calls one after another: docs/STORAGE.md, "Recovery"; docs/CONTROL.md, "Requests".
+use Rattle.std.specs.Prelude.{◌≡◌, ◌+◌, ◌-◌, ◌^◌, ◌≤◌, ℕ, min, IsErrOf, IsFalse, IsTrue, Bool, true, false, List, [], ◌∷◌, count_by, Result, Ok, Err}
+use Rattle.disk_core.specs.DiskImage.{DiskImage, MayLeave}
 use Rattle.disk_core.specs.Life.{HasFailed, Life, LeavesOnly}
 use Rattle.frame_core.specs.declared.refusal.Refusal.{Refusal}
 use Rattle.frame_core.specs.declared.refusal.Refusal.TheVariants.{DeviceFault, NoMemory}
+use Rattle.segment_store.specs.Stale.{HasSwept}
 use Rattle.archive_model.specs.declared.reply.Reply.{Reply}
+use Rattle.archive_model.specs.declared.reply.Reply.TheVariants.{Swept}
 use Rattle.archive_model.specs.State.{State}
-use Rattle.catalogue_log.specs.LogState.{LogState}
 use Rattle.control_core.specs.declared.event.Event.{Event}
 use Rattle.control_core.specs.declared.event.Event.TheVariants as events
 use Rattle.control_core.specs.declared.request.Request.TheVariants.{Truncate}
-use Rattle.control_core.specs.Desk.{DeskState}
-use Rattle.control_core.specs.Exact.{Archive, ArchiveEnd, CallEnds, broken, reads_files, with_desk}
-use Rattle.engine_core.specs.Recovery.{RecoversTo}
-use Rattle.engine_core.specs.Consistent.{IsConsistent, MayStand, MayStandIn}
+use Rattle.control_core.specs.Exact.{Archive, ArchiveEnd, CallEnds, asked_of, broken, reads_files, told_of, with_desk}
+use Rattle.control_core.specs.Machine.{Stepped}
+use Rattle.control_core.specs.Runs.{Leave, StoodAmong, last_left}
+use Rattle.engine_core.specs.Recovery.{Recovers, RecoversTo}
+use Rattle.engine_core.specs.Engine.{Content, EngineState, GoesOn, archive_of}
+use Rattle.engine_core.specs.Consistent.{IsCrashConsistent, MayStandIn}
+use Rattle.engine_core.specs.Moves.{registered_keeps}
 
 -- ---- a call
 
 -- A call ends as it may and leaves a crash-consistent archive; a crash at any moment of it leaves the state before it,
 -- the one after it, or the one in doubt.
-pub record Ended (old new : Life) (log : LogState) (desk : DeskState) (a : Archive) (Ends : Archive → Type 0) : Type 0 where
-  pub after : Archive
-  pub ends : Ends after
-  pub consistent : IsConsistent new log desk after
-  pub any_moment : LeavesOnly old new (RecoversTo (MayStandIn a after))
+pub record Ended (old new : EngineState) (a : Archive) (Ends : Archive → Type 0) : Type 0 where
+  pub after : Content
+  pub ends : Ends (archive_of new after)
+  pub consistent : IsCrashConsistent new.life new.log (archive_of new after)
+  pub any_moment : LeavesOnly old.life new.life (RecoversTo (MayStandIn a (archive_of new after)))
 
 -- it changes the archive by what it reads: a truncation, at a position that frames have to have
 abbrev pub is_cut : Event → Bool
@@ -45,6 +50,24 @@ Keeps _ a b = Unit {0}
 abbrev pub EndsAs : Life → Life → Event → Archive → Result Reply Refusal → Archive → Type 0
 EndsAs old new event a outcome b = IfRead (reads_files a.desk event) new (CallEnds a event (HasFailed old new) outcome b) × Keeps event a b
 
+-- What an engine did to answer an event.
+pub record AnswersEvent (old new : EngineState) (event : Event) (result : Result Reply Refusal) : Type 0 where
+  -- Whatever the archive is: the disk's calls went on, and a fault has its cause.
+  pub goes_on : GoesOn old.life new.life
+  pub cause : IsErrOf result DeviceFault → HasFailed old.life new.life
+  -- The desk made a step of its machine.
+  pub machine : Stepped old.desk (asked_of event) (told_of old.desk event result) new.desk
+  -- What a sweep answers tells what became of the files.
+  pub swept : (removed : Bool) → event ≡ events.Sweep → result ≡ Ok (Swept removed) →
+      HasSwept (registered_keeps old.desk.register) old.life new.life removed
+  -- Of a crash-consistent archive: the exact answer, and what a crash leaves. A truncation rests on what it reads.
+  pub ended : (c : Content) → IsCrashConsistent old.life old.log (archive_of old c) → (IsTrue (is_cut event) → IsTrue new.life.obeys) →
+      Ended old new (archive_of old c) (EndsAs old.life new.life event (archive_of old c) result)
+
+-- every image that a crash now may leave recovers to this state
+abbrev pub LeavesAlone : Life → State → Type 0
+LeavesAlone life s = (image : DiskImage) → MayLeave life.now image → Recovers image s
+
 -- ---- a commit
 
 -- what a commit that is to lead from an archive to another ends with
@@ -56,37 +79,22 @@ CommitEnds a reply b faulted (Err refusal) c = ⊥
 
 -- ---- calls one after another
 
--- a call and its answer
-abbrev pub Call : Type 0
-Call = Event × Result Reply Refusal
+-- each event is answered, one after another
+abbrev pub IsRun : EngineState → List Event → List (Result Reply Refusal) → EngineState → Type 0
+IsRun old [] [] new = new ≡ old
+IsRun old (event ∷ events) (outcome ∷ outcomes) new = (mid : EngineState) × AnswersEvent old mid event outcome × IsRun mid events outcomes new
+IsRun old [] (outcome ∷ outcomes) new = ⊥
+IsRun old (event ∷ events) [] new = ⊥
 
--- each call ends as it may, from where the one before left the archive; of a fault nothing is asked
-abbrev pub Run : Archive → List Call → Archive → Type 0
-Run a [] b = b ≡ a
-Run a (call ∷ calls) b = (mid : Archive) × CallEnds a call.0 (Unit {0}) call.1 mid × Run mid calls b
-
--- a state that stood after the first of these calls, or was in doubt then
-pub record Stood (a : Archive) (calls : List Call) (x : State) : Type 0 where
-  pub front : List Call
-  pub back : List Call
-  pub split : calls ≡ front ++ back
-  pub mid : Archive
-  pub run : Run a front mid
-  pub stands : MayStand mid x
-
--- events with their answers
-abbrev pub calls_of : List Event → List (Result Reply Refusal) → List Call
-calls_of [] outcomes = []
-calls_of (event ∷ events) [] = []
-calls_of (event ∷ events) (outcome ∷ outcomes) = (event, outcome) ∷ calls_of events outcomes
-
--- Calls of a crash-consistent archive are a run and leave such an archive; a crash at any moment of them leaves a state
--- that stood after the first of them, or was in doubt then.
-pub record Ran (old new : Life) (log : LogState) (desk : DeskState) (a : Archive) (calls : List Call) : Type 0 where
-  pub after : Archive
-  pub run : Run a calls after
-  pub consistent : IsConsistent new log desk after
-  pub any_moment : LeavesOnly old new (RecoversTo (Stood a calls))
+-- Calls of a crash-consistent archive leave archives, one after another, the last of them crash-consistent; a crash at any
+-- moment of them leaves a state that stood after the first of them, or was in doubt then.
+pub record Ran (old new : EngineState) (a : Archive) (events : List Event) (outcomes : List (Result Reply Refusal)) : Type 0 where
+  pub left : List Archive
+  pub leave : Leave a events outcomes left
+  pub after : Content
+  pub last : last_left a left ≡ archive_of new after
+  pub consistent : IsCrashConsistent new.life new.log (archive_of new after)
+  pub any_moment : LeavesOnly old.life new.life (RecoversTo (StoodAmong a left))
 
 -- ---- faults
 

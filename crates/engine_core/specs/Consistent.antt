@@ -1,76 +1,63 @@
 -- What the engine keeps of an archive: docs/STORAGE.md, "Recovery".
-use Rattle.std.specs.Prelude.{◌≡◌, ◌⊎◌, ◌+◌, ◌≤ℤ◌, ℤ, IsTrue, List, [], ◌∷◌, Option, Some, None, is_some}
+use Rattle.std.specs.Prelude.{◌≡◌, ◌⊎◌, ◌+◌, ℕ, IsTrue, List, [], ◌∷◌, Some, None}
+use Rattle.disk_core.specs.declared.file_id.FileId.{FileId}
 use Rattle.disk_core.specs.DiskImage.{DiskImage, MayLeave, reads}
 use Rattle.disk_core.specs.Life.{Life}
-use Rattle.frame_core.specs.declared.block.Block.{Block}
-use Rattle.frame_core.specs.Block.{IsBlock, covered}
+use Rattle.frame_core.specs.declared.frame.Frame.{Frame}
+use Rattle.frame_core.specs.Block.{covered}
+use Rattle.frame_core.specs.FrameEncoding.{aligned_length}
+use Rattle.segment_store.specs.declared.layout.Layout.{Layout}
+use Rattle.segment_store.specs.Layout.{file_of}
 use Rattle.segment_store.specs.Stored.{HoldsFrames}
-use Rattle.archive_model.specs.Keyed.{Each, find}
-use Rattle.archive_model.specs.State.{Recording, State, geometry_of, id_of, publication_of, recorded_position}
-use Rattle.archive_model.specs.WellFormed.{IsWell}
+use Rattle.archive_model.specs.Keyed.{Each}
+use Rattle.archive_model.specs.State.{Recording, State}
+use Rattle.archive_model.specs.Commands.{frames_of}
 use Rattle.catalogue_log.specs.LogState.{LogState}
 use Rattle.control_core.specs.declared.callers.RecorderSession.{RecorderSession}
-use Rattle.control_core.specs.declared.callers.Written.{Written}
-use Rattle.control_core.specs.Agreement.{Agrees}
-use Rattle.control_core.specs.Callers.{CallersState}
-use Rattle.control_core.specs.Desk.{DeskState}
-use Rattle.control_core.specs.Exact.{Archive, span_of}
+use Rattle.control_core.specs.Consistent.{AreAtBoundaries, IsConsistent}
+use Rattle.control_core.specs.Exact.{Archive, recording_at}
+use Rattle.control_core.specs.Runs.{MayStand}
 use Rattle.engine_core.specs.Recovery.{IsDurable, IsSound, RecoversTo, last_of, layout_of}
-use Rattle.engine_core.specs.Reading.{IsAtBoundary}
 
 -- ---- which states a crash may leave
 
--- the archive's state, or the one in doubt
-abbrev pub MayStand : Archive → State → Type 0
-MayStand a x = (x ≡ a.state) ⊎ (a.doubt ≡ Some x)
-
--- that of the archive before a call or after it
+-- the state of the archive before a call or after it, or the one in doubt
 abbrev pub MayStandIn : Archive → Archive → State → Type 0
 MayStandIn a b x = MayStand a x ⊎ MayStand b x
 
 -- ---- what recorder sessions wrote and did not settle
 
--- one block, which stands behind what is recorded
-pub record HasBlock (image : DiskImage) (s : State) (blocks : List Block) (session : RecorderSession) (w : Written) : Type 0 where
-  pub recording : Recording
-  pub found : find id_of session.recording s.recordings ≡ Some recording
-  pub block : Block
-  pub only : blocks ≡ block ∷ []
-  pub is_block : IsBlock (geometry_of recording.descriptor) (publication_of recording.descriptor) block
-  pub follows : block.position ≡ recorded_position recording
-  pub span : w ≡ span_of block
-  pub stands : HoldsFrames image (layout_of recording.descriptor) (last_of recording) block.frames (last_of recording + covered block.frames)
+-- each of these frames, one after another from a position on, lies in a file that has P
+abbrev pub Lie : (FileId → Type 0) → Layout → ℕ → List Frame → Type 0
+Lie P l from [] = Unit {0}
+Lie P l from (f ∷ fs) = P (file_of l from) × Lie P l (from + aligned_length f) fs
 
-abbrev pub HasWritten : DiskImage → State → List Block → RecorderSession → Option Written → Type 0
-HasWritten image s blocks session None = blocks ≡ []
-HasWritten image s blocks session (Some w) = HasBlock image s blocks session w
+-- they lie in one file
+abbrev pub LieIn : FileId → Layout → ℕ → List Frame → Type 0
+LieIn this l from frames = Lie (λ file. file ≡ this) l from frames
 
--- what each session wrote, and nothing under the numbers that none has yet
-pub record AreWritten (image : DiskImage) (s : State) (callers : CallersState) (blocks : ℤ → List Block) : Type 0 where
-  pub each : Each (λ session. HasWritten image s (blocks session.number) session session.written) callers.sessions
-  pub none : (number : ℤ) → callers.next_session ≤ℤ number → blocks number ≡ []
+-- These frames are read behind what is recorded, and lie in one file.
+pub record Stands (image : DiskImage) (this : FileId) (r : Recording) (frames : List Frame) : Type 0 where
+  pub holds : HoldsFrames image (layout_of r.descriptor) (last_of r) frames (last_of r + covered frames)
+  pub lie : LieIn this (layout_of r.descriptor) (last_of r) frames
+
+-- the frames of a session's blocks stand behind what is recorded, in the segment file where that ends
+abbrev pub StandsBehind : DiskImage → Archive → RecorderSession → Type 0
+StandsBehind image a s =
+    (r : Recording) → recording_at a s.recording ≡ Some r → Stands image (file_of (layout_of r.descriptor) (last_of r)) r (frames_of (a.blocks s.number))
 
 -- ---- an archive
 
--- the log has the desk's count of entries and its limit
-pub record Counts (log : LogState) (desk : DeskState) : Type 0 where
-  pub counted : log.counted ≡ desk.counted
-  pub limit : log.header.history_limit ≡ desk.limit
-
--- The archive is crash-consistent on a disk, with a log and a desk.
-pub record IsConsistent (life : Life) (log : LogState) (desk : DeskState) (a : Archive) : Type 0 where
+-- The archive is crash-consistent on a disk, with the log of its catalogue.
+pub record IsCrashConsistent (life : Life) (log : LogState) (a : Archive) : Type 0 where
+  pub archive : IsConsistent a
   -- a crash now leaves the archive's state, or the one in doubt
   pub images : (image : DiskImage) → MayLeave life.now image → RecoversTo (MayStand a) image
   -- while none is in doubt the log is ready for the next entry
   pub sound : a.doubt ≡ None → IsSound life.now log a.state
-  pub history : a.doubt ≡ None → Counts log desk
   -- reading goes on over the archive's state also where another is in doubt
   pub frames : Each (IsDurable life.now) a.state.recordings
-  pub well : IsWell a.state
-  -- the desk is the archive's, and knows of its recordings what the state has
-  pub desk_is : desk ≡ a.desk
-  pub agrees : Agrees a.desk a.state
-  pub broken : a.desk.is_broken ≡ is_some a.doubt
-  pub written : AreWritten (reads life.now) a.state a.desk.callers a.blocks
+  -- what each session wrote is read behind what is recorded
+  pub stand : Each (StandsBehind (reads life.now) a) a.desk.callers.sessions
   -- of what was read: where the disk obeys the crash model
-  pub reading : IsTrue life.obeys → Each (IsAtBoundary a.state) a.desk.callers.replays
+  pub boundaries : IsTrue life.obeys → AreAtBoundaries a

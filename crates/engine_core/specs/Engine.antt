@@ -1,9 +1,42 @@
--- An archive on one thread, as a caller has it: docs/ARCHITECTURE.md, "The engine".
-use Rattle.std.specs.Prelude.{ℕ, [], None}
-use Rattle.archive_model.specs.State.{empty}
-use Rattle.control_core.specs.Desk.{new_desk}
+-- An engine as its calls see it, and the archive that it keeps: docs/ARCHITECTURE.md, "The engine".
+use Rattle.std.specs.Prelude.{◌≡◌, ◌≤◌, ℕ, ℤ, IsFalse, IsTrue, List, [], Option, None}
+use Rattle.disk_core.specs.Life.{Life}
+use Rattle.frame_core.specs.declared.block.Block.{Block}
+use Rattle.archive_model.specs.State.{State, empty}
+use Rattle.catalogue_log.specs.LogState.{LogState}
+use Rattle.control_core.specs.Desk.{DeskState, new_desk}
 use Rattle.control_core.specs.Exact.{Archive}
+
+-- what befell its disk, the log of its catalogue, and its desk
+pub record EngineState : Type 0 where
+  pub life : Life
+  pub log : LogState
+  pub desk : DeskState
+
+-- what an archive is beside its desk
+pub record Content : Type 0 where
+  pub state : State
+  pub blocks : ℤ → List Block
+  pub doubt : Option State
+
+-- the archive with this content and the engine's desk
+abbrev pub archive_of : EngineState → Content → Archive
+archive_of e c = record { state = c.state; desk = e.desk; blocks = c.blocks; doubt = c.doubt }
+
+abbrev pub content_of : Archive → Content
+content_of a = record { state = a.state; blocks = a.blocks; doubt = a.doubt }
 
 -- the archive before its first recording: nobody calls yet, nothing is written and nothing is in doubt
 abbrev pub new_archive : ℕ → Archive
 new_archive limit = record { state = empty; desk = new_desk limit; blocks = λ number. []; doubt = None }
+
+-- while no write has failed the log works, and counts the entries that the desk counts, up to the desk's limit
+pub record IsTied (log : LogState) (desk : DeskState) : Type 0 where
+  pub works : IsFalse desk.is_broken → IsFalse log.is_broken
+  pub counted : IsFalse desk.is_broken → log.counted ≡ desk.counted
+  pub limit : IsFalse desk.is_broken → log.header.history_limit ≡ desk.limit
+
+-- what holds of every stretch of a disk's calls: what was obeyed at its end was at its start, and faults are not uncounted
+pub record GoesOn (old new : Life) : Type 0 where
+  pub obeyed : IsTrue new.obeys → IsTrue old.obeys
+  pub faults : old.faults ≤ new.faults

@@ -1,16 +1,14 @@
 -- What a reader has to believe: what an image recovers to, what the engine keeps of an archive, how calls end, and openings.
 pub mod Recovery
+pub mod Engine
 pub mod Consistent
 pub mod Calls
+pub mod Seen
 pub mod Opened
 pub mod Opening
 pub mod Reading
-pub mod Engine
 -- what only private functions say
 pub mod Moves
 pub mod Making
 pub mod Writing
 pub mod Replaying
--- Representation: what the values of src/ keep.
-pub mod Orderly
-pub mod OrderlyProps

@@ -1,18 +1,39 @@
 -- How commands are made.
-use Rattle.std.specs.Prelude.{◌≡◌, Bool, true, false, Result, Ok, Err}
+use Rattle.std.specs.Prelude.{◌≡◌, ◌⊎◌, ℕ, ℤ, pos, Bool, true, false, IfErr, IfOk, IsErrOf, IsTrue, OnOk, Result, Ok, Err, Some}
+use Rattle.disk_core.specs.Life.{HasFailed, LeavesOnly, Life}
 use Rattle.frame_core.specs.declared.refusal.Refusal.{Refusal}
-use Rattle.frame_core.specs.declared.refusal.Refusal.TheVariants.{BadPosition, DeviceFault}
+use Rattle.frame_core.specs.declared.refusal.Refusal.TheVariants.{BadPosition, DeviceFault, NoMemory}
 use Rattle.archive_model.specs.declared.command.Command.{Command}
+use Rattle.archive_model.specs.declared.command.Command.TheVariants.{Restart}
+use Rattle.archive_model.specs.declared.reply.Reply.{Reply}
+use Rattle.archive_model.specs.Accepting.{Accepts}
+use Rattle.archive_model.specs.Commands.{after}
+use Rattle.archive_model.specs.Register.{RegisterState, active_count, all_stopped, is_end}
+use Rattle.archive_model.specs.Replay.{begins_frame}
+use Rattle.archive_model.specs.State.{Recording, State, register_of, registration_of}
+use Rattle.catalogue_log.specs.Catalogue.{ChangesBank}
 use Rattle.control_core.specs.Changes.{broken_desk, reply_after}
-use Rattle.control_core.specs.Desk.{DeskState}
-use Rattle.control_core.specs.Exact.{Archive, ArchiveEnd, Is, archive_after}
-use Rattle.control_core.specs.Machine.{OrOutside}
-use Rattle.engine_core.specs.Calls.{CommitEnds}
+use Rattle.control_core.specs.Desk.{DeskState, opened_desk}
+use Rattle.control_core.specs.Exact.{Archive, ArchiveEnd, Is, archive_after, book_of, opened_archive, plain, recording_at}
+use Rattle.control_core.specs.Machine.{Does, OrOutside, UnlessBoundary}
+use Rattle.engine_core.specs.Recovery.{IsEither, RecoversTo}
+use Rattle.engine_core.specs.Engine.{Content, EngineState, GoesOn, archive_of}
+use Rattle.engine_core.specs.Consistent.{IsCrashConsistent}
+use Rattle.engine_core.specs.Calls.{CommitEnds, Ended}
 
 -- a device fault breaks the archive
 abbrev pub after_failure : Refusal → DeskState → DeskState
 after_failure DeviceFault d = broken_desk d
 after_failure _ d = d
+
+-- What an operation did that adds an entry, and so leads archives that fit to others.
+pub record Commits (old new : EngineState) (Fits : Archive → Type 0) (reply : Reply) (to : Archive → Archive) (result : Result Reply Refusal) : Type 0 where
+  pub goes_on : GoesOn old.life new.life
+  -- whatever the archive is
+  pub exact : (c : Content) → (after : Content) × CommitEnds (archive_of old c) reply (to (archive_of old c)) (HasFailed old.life new.life) result (archive_of new after)
+  -- of a crash-consistent one
+  pub ended : (c : Content) → IsCrashConsistent old.life old.log (archive_of old c) → Fits (archive_of old c) →
+      Ended old new (archive_of old c) (CommitEnds (archive_of old c) reply (to (archive_of old c)) (HasFailed old.life new.life) result)
 
 -- what is decided where a frame begins at a position: the command is made, or refused
 abbrev pub BegunEnds : Archive → Result Command Refusal → Type 0 → ArchiveEnd
@@ -23,3 +44,35 @@ BegunEnds a (Err refusal) faulted = Is (Err refusal) a
 abbrev pub InsideEnds : Archive → Bool → Result Command Refusal → Type 0 → ArchiveEnd
 InsideEnds a true decided faulted = OrOutside a faulted (λ b. b ≡ a) (BegunEnds a decided faulted)
 InsideEnds a false decided faulted = OrOutside a faulted (λ b. b ≡ a) (Is (Err BadPosition) a)
+
+-- What was done with what is decided where a frame begins at a position strictly inside a recording.
+pub record MakesInside (old new : EngineState) (id position : ℤ) (decided : Result Command Refusal) (result : Result Reply Refusal) : Type 0 where
+  pub goes_on : GoesOn old.life new.life
+  -- a fault has its cause, unless it is what was decided
+  pub cause : IsErrOf result DeviceFault → IsErrOf decided DeviceFault ⊎ HasFailed old.life new.life
+  pub machine : OrOutside old.desk ⊥ (λ d. ⊥) (UnlessBoundary old.desk (Does old.desk decided)) (plain result) new.desk
+  pub ended : (c : Content) (r : Recording) → IsCrashConsistent old.life old.log (archive_of old c) → recording_at (archive_of old c) id ≡ Some r → is_end position (registration_of r) ≡ false →
+      (begins_frame position r ≡ true → IfOk decided (λ command. Accepts (book_of (archive_of old c)) command)) → IsTrue new.life.obeys →
+      Ended old new (archive_of old c) (InsideEnds (archive_of old c) (begins_frame position r) decided (HasFailed old.life new.life) result)
+
+-- What a restart of an archive did that is opened.
+pub record Restarts (old new : EngineState) (result : Result ℤ Refusal) : Type 0 where
+  pub changes : ChangesBank old.life new.life
+  pub cause : IsErrOf result DeviceFault → HasFailed old.life new.life
+  pub outside : IfErr result (λ refusal. (refusal ≡ DeviceFault) ⊎ (refusal ≡ NoMemory))
+  -- refused by anything but a fault it has done nothing, and where nothing was active
+  pub kept : IfErr result (λ refusal. (refusal ≡ DeviceFault) ⊎ (new.life ≡ old.life))
+  pub idle : IfOk result (λ stopped. stopped ≡ pos 0 → new.life ≡ old.life)
+  pub stopped : IfOk result (λ stopped. stopped ≡ pos (active_count old.desk.register))
+  pub desk : OnOk result ((g : RegisterState) (counted limit : ℕ) → old.desk ≡ opened_desk g counted limit → new.desk ≡ opened_desk (all_stopped g) counted limit)
+  -- of an archive at which nobody calls yet
+  pub restarted : OnOk result ((s : State) (counted limit : ℕ) → old.desk ≡ opened_desk (register_of s) counted limit → IsCrashConsistent old.life old.log (opened_archive s counted limit) →
+      IsCrashConsistent new.life new.log (opened_archive (after s Restart) counted limit))
+  pub any_moment : (s : State) (counted limit : ℕ) → old.desk ≡ opened_desk (register_of s) counted limit → IsCrashConsistent old.life old.log (opened_archive s counted limit) →
+      LeavesOnly old.life new.life (RecoversTo (IsEither s (after s Restart)))
+
+-- It did not restart, and its disk is handed back.
+pub record HasNotStarted (old : EngineState) (disk : Life) (refusal : Refusal) : Type 0 where
+  pub new : EngineState
+  pub life : new.life ≡ disk
+  pub restarts : Restarts old new (Err refusal)

@@ -1,20 +1,14 @@
 -- What an operation on the files of an archive did: docs/STORAGE.md, "Recovery".
-use Rattle.std.specs.Prelude.{◌≡◌, ◌≢◌, ◌+◌, ◌<◌, ◌≤◌, ℕ, false, IsTrue, List, [], ◌∷◌, map, Result, Ok, Err}
+use Rattle.std.specs.Prelude.{◌≡◌, ◌≢◌, ◌⊎◌, ◌+◌, ◌<◌, ◌≤◌, false, IfErr, IsErrOf, IsFalse, IsTrue, List, ◌∷◌, map, OnOk, Result, Ok, Err, if◌then◌else◌}
 use Rattle.frame_core.specs.declared.refusal.Refusal.{Refusal}
 use Rattle.frame_core.specs.declared.refusal.Refusal.TheVariants.{DeviceFault, NoMemory}
-use Rattle.frame_core.specs.declared.frame.Frame.{Frame}
-use Rattle.frame_core.specs.Block.{covered}
-use Rattle.frame_core.specs.FrameEncoding.{aligned_length}
 use Rattle.disk_core.specs.declared.file_id.FileId.{FileId}
 use Rattle.disk_core.specs.declared.file_id.FileId.TheVariants.{BankA}
-use Rattle.disk_core.specs.DiskImage.{DiskImage, Files, reads}
-use Rattle.disk_core.specs.Life.{Life, LeavesOnly}
+use Rattle.disk_core.specs.DiskImage.{Files, reads}
+use Rattle.disk_core.specs.Life.{HasFailed, Life, LeavesOnly}
 use Rattle.segment_store.specs.declared.keep.Keep.{Keep}
 use Rattle.segment_store.specs.declared.keep.Keep.TheVariants as keeps
-use Rattle.segment_store.specs.declared.layout.Layout.{Layout}
-use Rattle.segment_store.specs.Layout.{file_of}
 use Rattle.segment_store.specs.Stale.{is_stale}
-use Rattle.segment_store.specs.Stored.{HoldsFrames}
 use Rattle.archive_model.specs.declared.registration.Registration.{Registration}
 use Rattle.archive_model.specs.Keyed.{Each}
 use Rattle.archive_model.specs.Register as register
@@ -24,7 +18,8 @@ use Rattle.archive_model.specs.WellFormed.{IsWell}
 use Rattle.catalogue_log.specs.declared.entry.Entry.{Entry}
 use Rattle.catalogue_log.specs.Fold.{admits, after_entry, counts}
 use Rattle.catalogue_log.specs.LogState.{LogState}
-use Rattle.engine_core.specs.Recovery.{IsDurable, IsEither, IsSound, RecoversTo, last_of, layout_of}
+use Rattle.engine_core.specs.Recovery.{IsDurable, IsEither, IsSound, RecoversTo, layout_of}
+use Rattle.engine_core.specs.Engine.{GoesOn}
 
 -- An entry may follow those of a state, and makes of all but the frames what another state has.
 pub record Enters (s u : State) (e : Entry) : Type 0 where
@@ -37,20 +32,6 @@ pub record Leads (files : Files) (s u : State) (e : Entry) : Type 0 where
   pub enters : Enters s u e
   pub frames : Each (IsDurable files) u.recordings
 
--- each of these frames, one after another from a position on, lies in a file that has P
-abbrev pub Lie : (FileId → Type 0) → Layout → ℕ → List Frame → Type 0
-Lie P l from [] = Unit {0}
-Lie P l from (f ∷ fs) = P (file_of l from) × Lie P l (from + aligned_length f) fs
-
--- they lie in one file
-abbrev pub LieIn : FileId → Layout → ℕ → List Frame → Type 0
-LieIn this l from frames = Lie (λ file. file ≡ this) l from frames
-
--- These frames are read behind what is recorded, and lie in one file.
-pub record Stands (image : DiskImage) (this : FileId) (r : Recording) (frames : List Frame) : Type 0 where
-  pub holds : HoldsFrames image (layout_of r.descriptor) (last_of r) frames (last_of r + covered frames)
-  pub lie : LieIn this (layout_of r.descriptor) (last_of r) frames
-
 -- no segment file reads otherwise than before
 pub record KeepsSegments (old new : Life) : Type 0 where
   pub same : (file : FileId) → file ≢ BankA → reads new.now file ≡ reads old.now file
@@ -60,6 +41,17 @@ pub record KeepsSegments (old new : Life) : Type 0 where
 -- the log has room for an entry more
 abbrev pub HasRoom : LogState → Entry → Type 0
 HasRoom log e = IsTrue (counts e) → log.counted < log.header.history_limit
+
+-- what adding an entry did to the disk's count of faults and to the log, and how it may have been refused
+pub record AddsEntry (old new : Life) (log new_log : LogState) (e : Entry) (result : Result (Unit {0}) Refusal) : Type 0 where
+  pub goes_on : GoesOn old new
+  pub cause : IsErrOf result DeviceFault → HasFailed old new
+  pub header : new_log.header ≡ log.header
+  pub counted : OnOk result (new_log.counted ≡ log.counted + (if counts e then 1 else 0))
+  pub works : OnOk result (new_log.is_broken ≡ log.is_broken)
+  pub kept : IfErr result (λ refusal. refusal ≢ DeviceFault → new_log ≡ log)
+  -- a log that works and has room refuses it by a fault or want of memory alone
+  pub outside : IfErr result (λ refusal. IsFalse log.is_broken → HasRoom log e → (refusal ≡ DeviceFault) ⊎ (refusal ≡ NoMemory))
 
 -- the archive is sound for this state, and no crash leaves another
 abbrev pub Stays : Life → Life → LogState → State → Type 0

@@ -11,11 +11,11 @@ use Rattle.catalogue_log.specs.declared.bank.BankHeader.{BankHeader}
 use Rattle.catalogue_log.specs.declared.entry.Entry.{Entry}
 use Rattle.catalogue_log.specs.Catalogue.{IsCatalogue}
 use Rattle.catalogue_log.specs.Fold.{after_entries, counts}
-use Rattle.catalogue_log.specs.LogState.{LogState}
 use Rattle.control_core.specs.Desk.{DeskState, opened_desk}
 use Rattle.control_core.specs.Exact.{Archive, opened_archive}
 use Rattle.engine_core.specs.Recovery.{IsEither, Recovers, RecoversTo}
-use Rattle.engine_core.specs.Consistent.{IsConsistent}
+use Rattle.engine_core.specs.Engine.{EngineState}
+use Rattle.engine_core.specs.Consistent.{IsCrashConsistent}
 
 -- every image that a crash now may leave recovers to one of two states
 abbrev pub LeavesEither : Life → State → State → Type 0
@@ -34,15 +34,16 @@ pub record IsFresh (image : DiskImage) (s : State) (a : Archive) : Type 0 where
 
 -- An archive is open: it is the restart of the state that the disk read as, which had so many active recordings, and a
 -- crash at any moment of the opening leaves one of the states before it or a restart of one of them.
-pub record IsOpened (old new : Life) (log : LogState) (desk : DeskState) (restarted : ℤ) (s u : State) : Type 0 where
+pub record IsOpened (old : Life) (new : EngineState) (restarted : ℤ) (s u : State) : Type 0 where
   pub read : State
   pub is : IsEither s u read
   pub recovers : Recovers (reads old.now) read
   pub stopped : restarted ≡ pos (active_count read)
   pub archive : Archive
   pub fresh : IsFresh (reads old.now) (after read Restart) archive
-  pub consistent : IsConsistent new log desk archive
-  pub any_moment : LeavesOnly old new (RecoversTo (IsNear s u))
+  pub desk : new.desk ≡ archive.desk
+  pub consistent : IsCrashConsistent new.life new.log archive
+  pub any_moment : LeavesOnly old new.life (RecoversTo (IsNear s u))
 
 -- An opening was refused: the disk leaves what it might have left before, or one of these states and its restart.
 pub record IsNotOpened (old new : Life) (s u : State) : Type 0 where

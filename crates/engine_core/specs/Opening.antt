@@ -5,6 +5,7 @@ use Rattle.frame_core.specs.declared.refusal.Refusal.TheVariants.{BadParameter, 
 use Rattle.disk_core.specs.declared.file_id.FileId.{FileId}
 use Rattle.disk_core.specs.DiskImage.{MayLeave, durable, reads}
 use Rattle.disk_core.specs.Life.{HasFailed, IsQuiet, Life, LeavesOnly}
+use Rattle.catalogue_log.specs.Catalogue.{RefusesCatalogue}
 
 -- each file is as it was, or on the disk as it reads, and no crash leaves what it might not have left before
 pub record SyncsOnly (old new : Life) : Type 0 where
@@ -34,3 +35,10 @@ pub record IsMadeIn (old new : Life) (limit : ℕ) : Type 0 where
   pub some : 1 ≤ limit
   pub most : limit ≤ 16777216
   pub empty : IsTrue new.obeys → (file : FileId) → reads old.now file ≡ None
+
+-- why a disk is not opened, whatever it holds: a device fault has its cause; and where it obeys, its catalogue is refused so.
+-- Refused by anything but a fault each file reads as before.
+pub record RefusesOpening (old new : Life) (refusal : Refusal) : Type 0 where
+  pub cause : refusal ≡ DeviceFault → HasFailed old new
+  pub catalogue : IsTrue new.obeys → RefusesCatalogue (reads old.now) refusal
+  pub kept : (refusal ≡ DeviceFault) ⊎ ReadsAsBefore old new

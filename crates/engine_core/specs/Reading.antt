@@ -14,11 +14,6 @@ use Rattle.archive_model.specs.WellFormed.{IsKept}
 use Rattle.control_core.specs.declared.callers.OpenReplay.{OpenReplay}
 use Rattle.engine_core.specs.Recovery.{HoldsRecording, layout_of}
 
--- terms and segments of a recording are such that its frames can be found
-pub record IsLaidOut (g : Registration) : Type 0 where
-  pub layout : IsLayout (layout_of g.descriptor)
-  pub geometry : IsGeometryOf (layout_of g.descriptor) (geometry_of g.descriptor)
-
 -- The disk obeys, the frames of a recording stand in what it reads as before a call, and a register has this of it.
 pub record IsRead (old new : Life) (g : Registration) (r : Recording) : Type 0 where
   pub obeys : IsTrue new.obeys
@@ -39,7 +34,3 @@ RefusesCount obeys image g (Damaged recording at) =
     (recording ≡ g.descriptor.recording)
     × (IsTrue obeys → (n : ℕ) × (at ≡ pos n) × BreaksAt image (layout_of g.descriptor) (geometry_of g.descriptor) g.recorded g.recorded n)
 RefusesCount obeys image g _ = ⊥
-
--- a replay goes on at a boundary of its recording, which is there
-abbrev pub IsAtBoundary : State → OpenReplay → Type 0
-IsAtBoundary s replay = IsSomeAnd (find id_of replay.recording s.recordings) (λ r. IsTrue (is_boundary replay.next r))

@@ -8,7 +8,7 @@ use Rattle.archive_model.specs.Register.{registration_in}
 use Rattle.archive_model.specs.State.{geometry_of, publication_of}
 use Rattle.control_core.specs.declared.callers.RecorderSession.{RecorderSession}
 use Rattle.control_core.specs.Desk.{DeskState}
-use Rattle.control_core.specs.Seats.{KeepsSeats}
+use Rattle.control_core.specs.Orderly.{KeepsDesk}
 use Rattle.control_core.specs.Turns.{session_in}
 use Rattle.engine_core.specs.Recovery.{layout_of}
 
@@ -22,7 +22,7 @@ pub record IsTarget (d : DeskState) (number : ℤ) (block : Block) (layout : Lay
   pub is_block : IsBlock (geometry_of registration.descriptor) (publication_of registration.descriptor) block
   pub layout_is : layout ≡ layout_of registration.descriptor
   pub end_is : end ≡ end_position block
-  pub seats : KeepsSeats d.register d.callers
+  pub keeps : KeepsDesk d.register d.callers
 
 -- no session of the number writes a recording whose block it is
 abbrev pub HasNoTarget : DeskState → ℤ → Block → Type 0

@@ -1,50 +1,30 @@
 //! Requests to the catalogue, and the commands that they make. docs/CONTROL.md, "Requests".
 
-ghost use Rattle.std.specs.Prelude.{◌≡◌, ◌⊎◌, ◌≤◌, true, false, IfOk, IsErrOf, IsFalse, IsTrue, Some};
-ghost use Rattle.frame_core.specs.declared.refusal.Refusal.TheVariants.{DeviceFault, NoMemory};
-ghost use Rattle.disk_core.specs.Life.{HasFailed};
-ghost use Rattle.archive_model.specs.Accepting.{Accepts};
-ghost use Rattle.archive_model.specs.Commands.{after};
-ghost use Rattle.archive_model.specs.Register.{is_end};
-ghost use Rattle.archive_model.specs.Replay.{begins_frame};
-ghost use Rattle.archive_model.specs.State.{Recording, registration_of};
+ghost use Rattle.std.specs.Prelude.{◌≡◌, IfOk, IsFalse, IsSome};
+ghost use Rattle.archive_model.specs.Register.{registration_in};
 ghost use Rattle.catalogue_log.specs.History.{IsRequested};
-ghost use Rattle.control_core.specs.Changes.{reply_after};
 ghost use Rattle.control_core.specs.Decisions.{Allows};
 ghost use Rattle.control_core.specs.declared.event.Event.TheVariants as events;
-ghost use Rattle.control_core.specs.Exact.{Archive, archive_after, book_of, recording_at};
-ghost use Rattle.engine_core.specs.Calls.{CommitEnds, Ended, EndsAs, is_cut};
-ghost use Rattle.engine_core.specs.Consistent.{IsConsistent};
-ghost use Rattle.engine_core.specs.Making.{InsideEnds};
-ghost use Rattle.engine_core.specs.Orderly.{IsOrderly};
+ghost use Rattle.engine_core.specs.Making.{MakesInside};
 
-use crate::parts::Parts;
+use crate::Engine;
 use crate::reading::begins_at;
 use archive_model::{Command, Reply};
-use catalogue_log::Entry;
 use control_core::{Decision, Request, decide};
 use disk_core::Disk;
 use frame_core::Refusal;
 use std::alloc::Global;
 
-impl<D: Disk> Parts<D> {
+impl<D: Disk> Engine<D> {
+    ghost use Rattle.engine_core.specs.Seen.{HasAnswered, seen};
+
     /// Answers a request: by what the desk decides, and where that is a command, by adding its entry to the catalogue, which
     /// takes four calls of the disk. Where a truncation lies strictly inside a recording, frames are read first.
     ///
     /// The refusals of docs/CONTROL.md, "Refusals"; `DeviceFault`, after a write with the archive broken; `NoMemory`. Costs
     /// a lookup at each recording, session and replay at most.
-    pub fn ask(&mut self, alloc: Global, request: &Request) -> Result<Reply, Refusal>
-        requires orderly { IsOrderly self.old.desk.state }
-        ensures orderly { IsOrderly self.new.desk.state }
-        ensures obeyed { IsTrue (D.life self.new.storage.disk).obeys → IsTrue (D.life self.old.storage.disk).obeys }
-        ensures faults { (D.life self.old.storage.disk).faults ≤ (D.life self.new.storage.disk).faults }
-        ensures cause { IsErrOf result DeviceFault →
-            HasFailed (D.life self.old.storage.disk) (D.life self.new.storage.disk) }
-        ensures asked { (a : Archive) →
-            IsConsistent (D.life self.old.storage.disk) self.old.storage.log self.old.desk.state a →
-            (IsTrue (is_cut (events.Ask request.now)) → IsTrue (D.life self.new.storage.disk).obeys) →
-            Ended (D.life self.old.storage.disk) (D.life self.new.storage.disk) self.new.storage.log self.new.desk.state a
-            (EndsAs (D.life self.old.storage.disk) (D.life self.new.storage.disk) (events.Ask request.now) a result) }
+    pub(crate) fn ask(&mut self, alloc: Global, request: &Request) -> Result<Reply, Refusal>
+        ensures { HasAnswered D.life self.old self.new (events.Ask request.now) result }
     {
         match decide(alloc, &self.desk, request) {
             Decision::Refused(refusal) => Err(refusal),
@@ -67,22 +47,11 @@ impl<D: Disk> Parts<D> {
         position: i64,
         decided: Result<Command, Refusal>,
     ) -> Result<Reply, Refusal>
-        requires orderly { IsOrderly self.old.desk.state }
-        requires requested { IfOk decided (λ command. IsRequested command × Allows self.old.desk.state command) }
-        ensures orderly { IsOrderly self.new.desk.state }
-        ensures obeyed { IsTrue (D.life self.new.storage.disk).obeys → IsTrue (D.life self.old.storage.disk).obeys }
-        ensures faults { (D.life self.old.storage.disk).faults ≤ (D.life self.new.storage.disk).faults }
-        // A fault has its cause, unless it is what was decided.
-        ensures cause { IsErrOf result DeviceFault → IsErrOf decided DeviceFault
-            ⊎ HasFailed (D.life self.old.storage.disk) (D.life self.new.storage.disk) }
-        ensures made { (a : Archive) (r : Recording) →
-            IsConsistent (D.life self.old.storage.disk) self.old.storage.log self.old.desk.state a →
-            recording_at a recording.now ≡ Some r → is_end position (registration_of r) ≡ false →
-            (begins_frame position r ≡ true → IfOk decided (λ command. IsFalse a.desk.is_broken × Accepts (book_of a) command)) →
-            IsTrue (D.life self.new.storage.disk).obeys →
-            Ended (D.life self.old.storage.disk) (D.life self.new.storage.disk) self.new.storage.log self.new.desk.state a
-            (InsideEnds a (begins_frame position r) decided
-            (HasFailed (D.life self.old.storage.disk) (D.life self.new.storage.disk)) result) }
+        requires requested { IfOk decided (λ command. IsRequested command × Allows self.old.desk.state command
+            × IsFalse self.old.desk.state.is_broken) }
+        requires there { IsSome (registration_in self.old.desk.state.register recording.now) }
+        ensures made { MakesInside (seen D.life self.old) (seen D.life self.new) recording.now position decided result }
+        ensures restarted { self.new.restarted ≡ self.old.restarted }
     {
         let Some(known) = self.desk.recording(recording) else {
             return Err(Refusal::UnknownRecording);
@@ -91,30 +60,5 @@ impl<D: Disk> Parts<D> {
             return Err(Refusal::BadPosition);
         }
         self.make(alloc, decided?)
-    }
-
-    /// Makes a command that is accepted: its entry is added, and then the desk follows. All memory is taken first.
-    ///
-    /// `NoMemory`; `DeviceFault` where a write fails: the archive is then broken.
-    pub fn make(&mut self, alloc: Global, command: Command) -> Result<Reply, Refusal>
-        requires orderly { IsOrderly self.old.desk.state }
-        requires requested { IsRequested command }
-        requires allowed { Allows self.old.desk.state command }
-        ensures orderly { IsOrderly self.new.desk.state }
-        ensures obeyed { IsTrue (D.life self.new.storage.disk).obeys → IsTrue (D.life self.old.storage.disk).obeys }
-        ensures faults { (D.life self.old.storage.disk).faults ≤ (D.life self.new.storage.disk).faults }
-        ensures cause { IsErrOf result DeviceFault →
-            HasFailed (D.life self.old.storage.disk) (D.life self.new.storage.disk) }
-        ensures made { (a : Archive) →
-            IsConsistent (D.life self.old.storage.disk) self.old.storage.log self.old.desk.state a →
-            IsFalse a.desk.is_broken → Accepts (book_of a) command →
-            Ended (D.life self.old.storage.disk) (D.life self.new.storage.disk) self.new.storage.log self.new.desk.state a
-            (CommitEnds a (reply_after a.desk command) (archive_after a command)
-            (HasFailed (D.life self.old.storage.disk) (D.life self.new.storage.disk)) result) }
-    {
-        let entry = Entry::of_command(alloc, &self.desk.next_recording(), &command)?;
-        self.desk.reserve(&command)?;
-        let reply = self.desk.reply(&command);
-        self.enter(&entry, reply, command)
     }
 }

@@ -1,13 +1,15 @@
 //! Laws of the definitions, each the contract of a function that does nothing.
 
-ghost use Rattle.std.specs.Prelude.{◌≡◌, ◌+◌, ◌∷◌, List, [], unsigned_abs};
+ghost use Rattle.std.specs.Prelude.{◌≡◌, ◌+◌, ◌++◌, ◌∷◌, IsFalse, IsTrue, List, [], Result, Ok, Err, length, unsigned_abs};
 ghost use Rattle.disk_core.specs.DiskImage.{DiskImage, Files, MayLeave, begun};
 ghost use Rattle.disk_core.specs.Life.{Life, MayHaveLeft, moment};
 ghost use Rattle.frame_core.specs.declared.block.Block.{Block};
+ghost use Rattle.frame_core.specs.declared.refusal.Refusal.{Refusal};
 ghost use Rattle.frame_core.specs.Block.{covered};
 ghost use Rattle.segment_store.specs.Layout.{IsBlockIn, IsFromStart, IsLayout, file_of};
 ghost use Rattle.segment_store.specs.Stored.{HoldsFrames};
 ghost use Rattle.archive_model.specs.declared.command.Command.{Command};
+ghost use Rattle.archive_model.specs.declared.reply.Reply.{Reply};
 ghost use Rattle.archive_model.specs.Acceptance.{BookState};
 ghost use Rattle.archive_model.specs.Accepting.{Accepts};
 ghost use Rattle.archive_model.specs.Commands.{after, frames_of};
@@ -16,17 +18,15 @@ ghost use Rattle.archive_model.specs.State.{Recording, State, recorded_position}
 ghost use Rattle.archive_model.specs.WellFormed.{IsWell};
 ghost use Rattle.catalogue_log.specs.History.{IsRequested, entry_of};
 ghost use Rattle.catalogue_log.specs.LogState.{LogState};
-ghost use Rattle.engine_core.specs.Calls.{Call, Ran, Stood};
-ghost use Rattle.engine_core.specs.Consistent.{IsConsistent, MayStand};
-ghost use Rattle.engine_core.specs.Moves.{Enters, Leads, Stands};
+ghost use Rattle.control_core.specs.declared.event.Event.{Event};
+ghost use Rattle.control_core.specs.Exact.{Archive, ArchiveEnds};
+ghost use Rattle.control_core.specs.Runs.{MayStand, StoodAmong};
+ghost use Rattle.engine_core.specs.Calls.{AnswersEvent, HasFailedOften, IsRun, LeavesAlone, Ran, faults_in};
+ghost use Rattle.engine_core.specs.Consistent.{IsCrashConsistent, Stands};
+ghost use Rattle.engine_core.specs.Engine.{Content, EngineState, GoesOn, archive_of};
+ghost use Rattle.engine_core.specs.Moves.{Enters, Leads};
 ghost use Rattle.engine_core.specs.Opened.{LeavesEither};
 ghost use Rattle.engine_core.specs.Recovery.{IsDurable, IsSound, Recovers, layout_of};
-ghost use Rattle.control_core.specs.Agreement.{Agrees};
-ghost use Rattle.control_core.specs.Changes.{desk_after};
-ghost use Rattle.control_core.specs.Decisions.{Allows};
-ghost use Rattle.control_core.specs.Desk.{DeskState};
-ghost use Rattle.control_core.specs.Exact.{Archive};
-ghost use Rattle.engine_core.specs.Reading.{IsAtBoundary};
 
 /// Every image that a crash may leave of a sound archive recovers to its state.
 pub fn a_sound_archive_recovers()
@@ -68,22 +68,55 @@ pub fn a_block_lies_in_one_segment()
         (frames_of (block ∷ [])) }
 {}
 
-/// While commands are accepted that the desk allows, the next position of each open replay stays a boundary of its
-/// recording.
-pub fn open_replays_stay_at_boundaries()
-    ensures { (d : DeskState) (b : BookState) (c : Command) → Agrees d b.state → IsWell b.state → Accepts b c → Allows d c →
-        Each (IsAtBoundary b.state) d.callers.replays →
-        Each (IsAtBoundary (after b.state c)) (desk_after d c).callers.replays }
+/// A run goes on: what was obeyed at its end was at its start, and its faults were counted. There are as many answers as
+/// events.
+pub fn a_run_goes_on()
+    ensures goes_on { (old new : EngineState) (events : List Event) (outcomes : List (Result Reply Refusal)) →
+        IsRun old events outcomes new → GoesOn old.life new.life }
+    ensures cause { (old new : EngineState) (events : List Event) (outcomes : List (Result Reply Refusal)) →
+        IsRun old events outcomes new → HasFailedOften (faults_in outcomes) old.life new.life }
+    ensures each { (old new : EngineState) (events : List Event) (outcomes : List (Result Reply Refusal)) →
+        IsRun old events outcomes new → length outcomes ≡ length events }
+{}
+
+/// For who answers one event at a time: no events are a run, and so are those of a run and one more.
+pub fn a_run_and_a_step_are_a_run()
+    ensures none { (e : EngineState) → IsRun e [] [] e }
+    ensures more { (old mid new : EngineState) (events : List Event) (outcomes : List (Result Reply Refusal))
+        (event : Event) (outcome : Result Reply Refusal) → IsRun old events outcomes mid →
+        AnswersEvent mid new event outcome → IsRun old (events ++ event ∷ []) (outcomes ++ outcome ∷ []) new }
+{}
+
+/// A run over a disk that obeys leaves a crash-consistent archive such; a crash at any moment of it leaves a state that
+/// stood after the first of its events, or was in doubt then.
+pub fn a_run_keeps_the_archive()
+    ensures { (old new : EngineState) (c : Content) (events : List Event) (outcomes : List (Result Reply Refusal)) →
+        IsRun old events outcomes new → IsCrashConsistent old.life old.log (archive_of old c) →
+        IsTrue new.life.obeys → Ran old new (archive_of old c) events outcomes }
+{}
+
+/// Once a call is answered, a crash leaves the state after it alone; refused, while no write has failed, the one before it
+/// alone.
+pub fn a_call_leaves_one_state()
+    ensures answered { (old new : EngineState) (c : Content) (event : Event) (reply : Reply) →
+        IsCrashConsistent old.life old.log (archive_of old c) → IsTrue new.life.obeys →
+        AnswersEvent old new event (Ok reply) → IsFalse new.desk.is_broken →
+        (after : Content) × ArchiveEnds (archive_of old c) event (Ok reply) (archive_of new after)
+        × LeavesAlone new.life after.state }
+    ensures refused { (old new : EngineState) (c : Content) (event : Event) (refusal : Refusal) →
+        IsCrashConsistent old.life old.log (archive_of old c) → IsTrue new.life.obeys →
+        AnswersEvent old new event (Err refusal) → IsFalse new.desk.is_broken → LeavesAlone new.life c.state }
 {}
 
 /// A crash leaves a disk that an archive can be opened from: at any moment of calls a state that stood after the first of
 /// them, or was in doubt then; behind them the state after all of them, or the one in doubt. `Engine::open` gives its
 /// restart.
 pub fn a_crash_leaves_an_archive_to_open()
-    ensures meanwhile { (old new left : Life) (log : LogState) (desk : DeskState) (a : Archive) (calls : List Call) (image : DiskImage) →
-        Ran old new log desk a calls → MayHaveLeft new (moment old) image → left.now ≡ begun image →
-        (s : State) × Stood a calls s × LeavesEither left s s }
-    ensures now { (life left : Life) (log : LogState) (desk : DeskState) (a : Archive) (image : DiskImage) →
-        IsConsistent life log desk a → MayLeave life.now image → left.now ≡ begun image →
+    ensures meanwhile { (old new : EngineState) (left : Life) (a : Archive) (events : List Event)
+        (outcomes : List (Result Reply Refusal)) (image : DiskImage) → (ran : Ran old new a events outcomes) →
+        MayHaveLeft new.life (moment old.life) image → left.now ≡ begun image →
+        (s : State) × StoodAmong a ran.left s × LeavesEither left s s }
+    ensures now { (life left : Life) (log : LogState) (a : Archive) (image : DiskImage) →
+        IsCrashConsistent life log a → MayLeave life.now image → left.now ≡ begun image →
         (s : State) × MayStand a s × LeavesEither left s s }
 {}

@@ -4,15 +4,15 @@
 mod ask;
 mod engine;
 pub mod laws;
+mod making;
 mod opening;
-mod order;
-mod parts;
 mod reading;
 mod replay_close;
 mod replay_open;
 mod replay_poll;
 mod settle;
-mod stepping;
+mod start;
+mod step;
 mod storage;
 mod sweep;
 mod verify;

@@ -1,6 +1,6 @@
 //! The files of an archive, opened or made anew: docs/STORAGE.md, "Opening" and "Recovery".
 
-ghost use Rattle.std.specs.Prelude.{◌≡◌, ◌⊎◌, ◌<◌, ◌≤◌, ◌^◌, ◌↔◌, ℕ, ℤ, IfErr, IfNone, IfOk, IfSome, IsErrOf, IsSome, IsTrue, List, OnOk, None};
+ghost use Rattle.std.specs.Prelude.{◌≡◌, ◌⊎◌, ◌<◌, ◌≤◌, ◌^◌, ◌↔◌, ℕ, ℤ, IfErr, IfNone, IfOk, IfSome, IsErrOf, IsFalse, IsSome, IsTrue, List, OnOk, None};
 ghost use Rattle.frame_core.specs.declared.refusal.Refusal.TheVariants.{BadParameter, DeviceFault, NoMemory};
 ghost use Rattle.disk_core.specs.declared.file_id.FileId.{FileId};
 ghost use Rattle.disk_core.specs.declared.file_id.FileId.TheVariants.{Segment};
@@ -14,7 +14,7 @@ ghost use Rattle.catalogue_log.specs.Fold.{AreAdmitted, after_entries};
 ghost use Rattle.catalogue_log.specs.LogState.{IsLogOf};
 ghost use Rattle.engine_core.specs.Opening.{IsMadeIn, ReadsAsBefore, RefusesNew, SyncsOnly};
 ghost use Rattle.control_core.specs.Desk.{opened_desk};
-ghost use Rattle.engine_core.specs.Orderly.{IsOrderly};
+ghost use Rattle.engine_core.specs.Engine.{IsTied};
 ghost use Rattle.engine_core.specs.Recovery.{Folds, IsSound, Recovers};
 
 use catalogue_log::{Entry, Log, register_from};
@@ -34,12 +34,12 @@ pub(crate) fn read_desk<D: Disk>(alloc: Global, disk: &mut D) -> Result<(Log, De
     ensures sound { IfOk result (λ opened. IsTrue (D.life disk.new).obeys → (x : State) →
         Recovers (reads (D.life disk.old).now) x → IsSound (D.life disk.new).now opened.0 x
         × (opened.1.state ≡ opened_desk (register_of x) opened.0.counted opened.0.header.history_limit)) }
-    ensures orderly { IfOk result (λ opened. IsOrderly opened.1.state) }
+    ensures tied { IfOk result (λ opened. IsTied opened.0 opened.1.state × IsFalse opened.1.state.is_broken
+        × (opened.0.counted < 2 ^ 32)) }
     // Of any catalogue, whatever the segment files hold.
     ensures log { IfOk result (λ opened. IsTrue (D.life disk.new).obeys →
         (entries : List Entry) × IsLogOf (bank_in_use (reads (D.life disk.old).now)) opened.0 entries
         × (opened.1.state ≡ opened_desk (after_entries no_recordings entries) opened.0.counted opened.0.header.history_limit)) }
-    ensures few { IfOk result (λ opened. opened.0.counted < 2 ^ 32) }
     ensures refused { IfErr result (λ refusal. IsTrue (D.life disk.new).obeys →
         RefusesCatalogue (reads (D.life disk.old).now) refusal) }
     ensures whole { IfErr result (λ refusal. IsTrue (D.life disk.new).obeys → (x : State) →
@@ -71,6 +71,7 @@ fn open_files<D: Disk>(alloc: Global, disk: &mut D) -> Result<(Log, Vec<Entry>),
     ensures admitted { IfOk result (λ opened. AreAdmitted no_recordings opened.1.items) }
     ensures log { IfOk result (λ opened. IsTrue (D.life disk.new).obeys →
         IsLogOf (bank_in_use (reads (D.life disk.old).now)) opened.0 opened.1.items) }
+    ensures works { IfOk result (λ opened. IsFalse opened.0.is_broken) }
     ensures refused { IfErr result (λ refusal. IsTrue (D.life disk.new).obeys →
         RefusesCatalogue (reads (D.life disk.old).now) refusal) }
     ensures before { ReadsAsBefore (D.life disk.old) (D.life disk.new) }
@@ -92,8 +93,8 @@ pub(crate) fn create<D: Disk>(
     history_limit: u32,
 ) -> Result<Log, Refusal>
     ensures sound { IfOk result (λ log. IsSound (D.life disk.new).now log empty) }
-    ensures header { IfOk result (λ log. log.header ≡ record { history_limit = history_limit; epoch = 1 }) }
-    ensures counted { IfOk result (λ log. log.counted ≡ 0) }
+    ensures log { IfOk result (λ log. (log.header ≡ record { history_limit = history_limit; epoch = 1 })
+        × (log.counted ≡ 0) × IsFalse log.is_broken) }
     ensures made { OnOk result (IsMadeIn (D.life disk.old) (D.life disk.new) history_limit) }
     ensures segments { (recording base : ℤ) →
         (D.life disk.new).now (Segment recording base) ≡ (D.life disk.old).now (Segment recording base) }

@@ -1,18 +1,19 @@
 //! What is read of a recording's frames. docs/CONTROL.md, "Replays"; docs/STORAGE.md, "Boundaries" and "Damaged frames".
 
-ghost use Rattle.std.specs.Prelude.{◌≡◌, ◌+ℤ◌, ◌<ℤ◌, ◌≤ℤ◌, ◌^◌, pos, false, length, IfOk, IfErr, IsErrOf, IsTrue, unsigned_abs};
+ghost use Rattle.std.specs.Prelude.{◌≡◌, ◌<◌, ◌+ℤ◌, ◌<ℤ◌, ◌≤ℤ◌, ◌^◌, pos, false, length, IfOk, IfErr, IsErrOf, IsTrue, unsigned_abs};
 ghost use Rattle.frame_core.specs.declared.refusal.Refusal.TheVariants.{DeviceFault, NoMemory};
 ghost use Rattle.frame_core.specs.Block.{covered};
 ghost use Rattle.disk_core.specs.DiskImage.{reads};
 ghost use Rattle.disk_core.specs.Life.{HasFailed, IsQuiet};
 ghost use Rattle.segment_store.specs.Boundary.{RefusesBoundary};
 ghost use Rattle.segment_store.specs.Layout.{IsFromStart};
-ghost use Rattle.replay_core.specs.Poll.{RefusesPoll};
+ghost use Rattle.replay_core.specs.Poll.{MovesTo, RefusesPoll};
 ghost use Rattle.archive_model.specs.Register.{is_end};
 ghost use Rattle.archive_model.specs.Replay.{begins_frame, is_boundary, placed, polled};
 ghost use Rattle.archive_model.specs.State.{Recording, geometry_of};
 ghost use Rattle.control_core.specs.Exact.{frames_end};
-ghost use Rattle.engine_core.specs.Reading.{IsLaidOut, IsOutside, IsRead, RefusesCount};
+ghost use Rattle.control_core.specs.Orderly.{IsLaidOut};
+ghost use Rattle.engine_core.specs.Reading.{IsOutside, IsRead, RefusesCount};
 ghost use Rattle.engine_core.specs.Recovery.{layout_of};
 
 use archive_model::{Descriptor, PolledFrame, Registration};
@@ -89,12 +90,12 @@ pub(crate) fn poll<D: Disk>(
     requires laid_out { IsLaidOut registration.now }
     requires from_start { IsFromStart (layout_of registration.now.descriptor) replay.now.next }
     ensures frames { (r : Recording) → IsRead (D.life disk.old) (D.life disk.new) registration.now r →
-        IsTrue (is_boundary replay.now.next r) →
-        IfOk result (λ given. given.frames ≡ polled replay.now.next replay.now.bound (unsigned_abs most) r) }
+        IsTrue (is_boundary replay.now.next r) → IfOk result (λ given. IsTrue (is_boundary given.next r)
+        × (given.frames ≡ polled replay.now.next replay.now.bound (unsigned_abs most) r)) }
     ensures next { IfOk result (λ given. given.next ≡ frames_end replay.now.next given.frames) }
-    ensures forward { IfOk result (λ given. replay.now.next ≤ℤ given.next) }
-    ensures boundary { (r : Recording) → IsRead (D.life disk.old) (D.life disk.new) registration.now r →
-        IsTrue (is_boundary replay.now.next r) → IfOk result (λ given. IsTrue (is_boundary given.next r)) }
+    // Whatever the disk answers: where frames are due it goes further, else it stays.
+    ensures moves { IfOk result (λ given. (replay.now.next ≤ℤ given.next) × (0 < unsigned_abs most →
+        MovesTo registration.now.recorded replay.now.bound replay.now.next given.next)) }
     ensures outside { (r : Recording) → IsRead (D.life disk.old) (D.life disk.new) registration.now r →
         IsTrue (is_boundary replay.now.next r) → IfErr result IsOutside }
     ensures refused { IfErr result (RefusesPoll (D.life disk.new).obeys (reads (D.life disk.old).now)

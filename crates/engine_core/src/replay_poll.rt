@@ -1,40 +1,26 @@
 //! A replay goes on. docs/CONTROL.md, "Replays".
 
-ghost use Rattle.std.specs.Prelude.{◌≡◌, ◌≤◌, IsErrOf, IsTrue, None, Some, if◌then◌else◌};
-ghost use Rattle.frame_core.specs.declared.refusal.Refusal.TheVariants.{DeviceFault};
-ghost use Rattle.disk_core.specs.Life.{HasFailed};
+ghost use Rattle.std.specs.Prelude.{◌≡◌, None, Some, if◌then◌else◌};
 ghost use Rattle.control_core.specs.declared.event.Event.TheVariants as events;
-ghost use Rattle.control_core.specs.Exact.{Archive};
 ghost use Rattle.control_core.specs.Turns.{is_done_at};
-ghost use Rattle.engine_core.specs.Calls.{Ended, EndsAs};
-ghost use Rattle.engine_core.specs.Consistent.{IsConsistent};
-ghost use Rattle.engine_core.specs.Orderly.{IsOrderly};
 
-use crate::parts::Parts;
-use crate::reading;
+use crate::{Engine, reading};
 use archive_model::{Registration, Reply};
 use control_core::decide_poll;
 use disk_core::Disk;
 use frame_core::{Refusal, is_replay_done};
 use std::alloc::Global;
 
-impl<D: Disk> Parts<D> {
+impl<D: Disk> Engine<D> {
+    ghost use Rattle.engine_core.specs.Seen.{HasAnswered};
+
     /// Takes the next frames of a replay, at most so many, and where it goes on, or that it is done: at its bound, or at the
     /// end of a recording that isn't active. What is written and not settled is not given.
     ///
     /// `BadParameter` where `most` is not from 1 to 4,096; `UnknownReplay`; `Damaged` where the frames break off;
     /// `DeviceFault`; `NoMemory`. Each leaves the replay where it was. Costs what the frames that are given cost.
-    pub fn poll(&mut self, alloc: Global, replay: &i64, most: &i64) -> Result<Reply, Refusal>
-        requires orderly { IsOrderly self.old.desk.state }
-        ensures orderly { IsOrderly self.new.desk.state }
-        ensures obeyed { IsTrue (D.life self.new.storage.disk).obeys → IsTrue (D.life self.old.storage.disk).obeys }
-        ensures faults { (D.life self.old.storage.disk).faults ≤ (D.life self.new.storage.disk).faults }
-        ensures cause { IsErrOf result DeviceFault →
-            HasFailed (D.life self.old.storage.disk) (D.life self.new.storage.disk) }
-        ensures polled { (a : Archive) →
-            IsConsistent (D.life self.old.storage.disk) self.old.storage.log self.old.desk.state a →
-            Ended (D.life self.old.storage.disk) (D.life self.new.storage.disk) self.new.storage.log self.new.desk.state a
-            (EndsAs (D.life self.old.storage.disk) (D.life self.new.storage.disk) (events.ReplayPoll replay.now most.now) a result) }
+    pub(crate) fn poll(&mut self, alloc: Global, replay: &i64, most: &i64) -> Result<Reply, Refusal>
+        ensures { HasAnswered D.life self.old self.new (events.ReplayPoll replay.now most.now) result }
     {
         let found = decide_poll(&self.desk, replay, most)?;
         let Some(known) = self.desk.recording(&found.replay.recording) else {

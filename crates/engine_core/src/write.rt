@@ -1,20 +1,15 @@
 //! A recorder session writes a block. docs/CONTROL.md, "Recorder sessions"; docs/STORAGE.md, "Segments".
 
-ghost use Rattle.std.specs.Prelude.{◌≡◌, ◌≤◌, IfSome, IsErrOf, IsTrue, MatchOption, None, Ok};
-ghost use Rattle.frame_core.specs.declared.refusal.Refusal.TheVariants.{DeviceFault};
-ghost use Rattle.disk_core.specs.Life.{HasFailed};
+ghost use Rattle.std.specs.Prelude.{◌≡◌, IfSome, MatchOption, None};
 ghost use Rattle.archive_model.specs.Numbered.{IsPlaceOf};
 ghost use Rattle.control_core.specs.declared.event.Event.TheVariants as events;
 ghost use Rattle.control_core.specs.Callers.{session_number};
 ghost use Rattle.control_core.specs.Seats.{IsFoundSession};
 ghost use Rattle.control_core.specs.Turns.{session_in};
-ghost use Rattle.control_core.specs.Exact.{Archive};
-ghost use Rattle.engine_core.specs.Calls.{Ended, EndsAs};
-ghost use Rattle.engine_core.specs.Consistent.{IsConsistent};
-ghost use Rattle.engine_core.specs.Orderly.{IsOrderly};
 ghost use Rattle.engine_core.specs.Writing.{HasNoTarget, IsTarget};
 
-use crate::parts::{Parts, failed};
+use crate::Engine;
+use crate::making::failed;
 use crate::reading::layout_of;
 use archive_model::Reply;
 use control_core::{Desk, FoundSession, Written, decide_write};
@@ -30,24 +25,16 @@ struct Target {
     end: i64,
 }
 
-impl<D: Disk> Parts<D> {
+impl<D: Disk> Engine<D> {
+    ghost use Rattle.engine_core.specs.Seen.{HasAnswered};
+
     /// Writes a recorder session's block behind what is recorded, by one call of the disk, and answers where it ends, in
     /// bytes of the stream. It is durable once it is settled.
     ///
     /// The refusals of docs/CONTROL.md, "Refusals"; `DeviceFault` where the disk fails, with the archive broken. Does not
     /// allocate. Costs the block's bytes and a lookup at each session and recording.
-    pub fn write(&mut self, session: &i64, block: &Block) -> Result<Reply, Refusal>
-        requires orderly { IsOrderly self.old.desk.state }
-        ensures orderly { IsOrderly self.new.desk.state }
-        ensures obeyed { IsTrue (D.life self.new.storage.disk).obeys → IsTrue (D.life self.old.storage.disk).obeys }
-        ensures faults { (D.life self.old.storage.disk).faults ≤ (D.life self.new.storage.disk).faults }
-        ensures cause { IsErrOf result DeviceFault →
-            HasFailed (D.life self.old.storage.disk) (D.life self.new.storage.disk) }
-        ensures written { (a : Archive) →
-            IsConsistent (D.life self.old.storage.disk) self.old.storage.log self.old.desk.state a →
-            Ended (D.life self.old.storage.disk) (D.life self.new.storage.disk) self.new.storage.log self.new.desk.state a
-            (EndsAs (D.life self.old.storage.disk) (D.life self.new.storage.disk) (events.Write session.now block.now) a
-            result) }
+    pub(crate) fn write(&mut self, session: &i64, block: &Block) -> Result<Reply, Refusal>
+        ensures { HasAnswered D.life self.old self.new (events.Write session.now block.now) result }
     {
         let found = self.desk.session(session);
         let Some(target) = target_of(&self.desk, session, &found, block) else {

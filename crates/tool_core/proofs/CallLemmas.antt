@@ -1,5 +1,5 @@
 -- Calls of an archive of whose disk no call has failed: none leaves a state in doubt.
-use Rattle.std.proofs.Common.{◌≡◌, ◌∙◌, ap, refl, inl, inr, subst, ℤ, IsTrue}
+use Rattle.std.proofs.Common.{◌≡◌, ◌∙◌, sym, ap, refl, inl, inr, subst, ℤ, IsTrue}
 use Rattle.std.specs.Prelude.{Option, Some, None, Result, Ok, Err}
 use Rattle.frame_core.specs.declared.refusal.Refusal.{Refusal}
 use Rattle.frame_core.specs.declared.refusal.Refusal.TheVariants.{DeviceFault, NoMemory}
@@ -7,7 +7,6 @@ use Rattle.disk_core.specs.Life.{HasFailed, Life}
 use Rattle.archive_model.specs.declared.reply.Reply.{Reply}
 use Rattle.archive_model.specs.Checks.{checked, checks}
 use Rattle.archive_model.specs.State.{Recording}
-use Rattle.catalogue_log.specs.LogState.{LogState}
 use Rattle.control_core.specs.declared.callers.OpenReplay.{OpenReplay}
 use Rattle.control_core.specs.declared.decision.Decision.{Decision}
 use Rattle.control_core.specs.declared.decision.Decision.TheVariants.{Accepted, Answered, IfBoundary, Refused}
@@ -21,8 +20,10 @@ use Rattle.control_core.specs.Desk.{DeskState}
 use Rattle.control_core.specs.Exact.{Archive, ArchiveEnds, DecisionEnds, Leaves, OpeningEnds, PolledEnds, PollingEnds, SettlingEnds, SweepEnds, asked_frames, asked_opening, recording_at, with_desk, written}
 use Rattle.control_core.specs.Turns.{close_decision, open_decision, poll_decision, settle_decision, sweep_tests}
 use Rattle.control_core.proofs.FaultLemmas.{other_cause}
-use Rattle.engine_core.specs.Calls.{Ended, EndsAs, is_cut}
-use Rattle.engine_core.specs.Consistent.{IsConsistent}
+use Rattle.engine_core.specs.Calls.{AnswersEvent, Ended, EndsAs, is_cut}
+use Rattle.engine_core.specs.Consistent.{IsCrashConsistent}
+use Rattle.engine_core.specs.Engine.{EngineState, archive_of, content_of}
+use Rattle.engine_core.specs.Seen.{seen}
 use Rattle.tool_core.specs.Script.{Works}
 use Rattle.engine_core.specs.declared.engine.Engine.{Engine}
 use Rattle.tool_core.specs.declared.archive.ScriptArchive.{ScriptArchive}
@@ -82,32 +83,38 @@ calls_doubt a event (Err refusal) b ends = elim ends [ inl exact ↦ ends_doubt 
 
 -- ---- faults
 
+-- an engine that keeps an archive answers an event of it
+pub answered_at : (old new : EngineState) (a : Archive) (event : Event) (outcome : Result Reply Refusal) → old.desk ≡ a.desk → IsCrashConsistent old.life old.log a → AnswersEvent old new event outcome → (IsTrue (is_cut event) → IsTrue new.life.obeys)
+    → Ended old new a (EndsAs old.life new.life event a outcome)
+answered_at old new a event outcome desk was answers cut =
+    let same : archive_of old (content_of a) ≡ a = ap (λ (d : DeskState). with_desk d a) desk in
+    subst (λ (b : Archive). Ended old new b (EndsAs old.life new.life event b outcome)) same (answers.ended (content_of a) (subst (λ (b : Archive). IsCrashConsistent old.life old.log b) (sym same) was) cut)
+
 -- an archive of which none is in doubt, as an event leaves it
-pub record Stepped (new : Life) (log : LogState) (desk : DeskState) (a : Archive) (event : Event) (outcome : Result Reply Refusal) : Type 0 where
+pub record Stepped (new : EngineState) (a : Archive) (event : Event) (outcome : Result Reply Refusal) : Type 0 where
   pub after : Archive
-  pub consistent : IsConsistent new log desk after
+  pub desk : new.desk ≡ after.desk
+  pub consistent : IsCrashConsistent new.life new.log after
   pub certain : after.doubt ≡ None
   pub ends : Calls event a outcome after
 
-pub stepped : (old new : Life) (log : LogState) (desk : DeskState) (a : Archive) (event : Event) (outcome : Result Reply Refusal) → Works old new → a.doubt ≡ None
-    → Ended old new log desk a (EndsAs old new event a outcome) → Stepped new log desk a event outcome
-stepped old new log desk a event outcome works certain ended =
-    let ends : Calls event a outcome ended.after = other_cause a event (HasFailed old new) ⊥ outcome ended.after (not_failed old new works) (ended.ends.0 (λ reads. works.obeys)) in
-    record { after = ended.after; consistent = ended.consistent; certain = calls_doubt a event outcome ended.after ends ∙ certain; ends = ends }
+pub stepped : (old new : EngineState) (a : Archive) (event : Event) (outcome : Result Reply Refusal) → Works old.life new.life → a.doubt ≡ None → Ended old new a (EndsAs old.life new.life event a outcome) → Stepped new a event outcome
+stepped old new a event outcome works certain ended =
+    let b : Archive = archive_of new ended.after in
+    let ends : Calls event a outcome b = other_cause a event (HasFailed old.life new.life) ⊥ outcome b (not_failed old.life new.life works) (ended.ends.0 (λ reads. works.obeys)) in
+    record { after = b; desk = refl; consistent = ended.consistent; certain = calls_doubt a event outcome b ends ∙ certain; ends = ends }
 
 -- ---- a script's archive
 
 -- an open archive is called, whatever it is named
-pub called : {D : Type 0} (life : D → Life) (archive : ScriptArchive D) (old new : Engine D) (event : Event) (outcome : Result Reply Refusal) (s : Standing) → archive ≡ Open old
-    → ((a : Archive) → IsConsistent (life old.parts.storage.disk) old.parts.storage.log old.parts.desk.state a → (IsTrue (is_cut event) → IsTrue (life new.parts.storage.disk).obeys)
-    → Ended (life old.parts.storage.disk) (life new.parts.storage.disk) new.parts.storage.log new.parts.desk.state a (EndsAs (life old.parts.storage.disk) (life new.parts.storage.disk) event a outcome))
-    → IsStanding life archive s → Works (life_of life archive) (life new.parts.storage.disk) → (t : Standing) × IsStanding life (Open new) t × WhereOpen (Calls event) s outcome t
-called life archive old new event outcome s is step stands works =
-    by s (subst (λ (x : ScriptArchive _). IsStanding life x s) is stands) (subst (λ (x : ScriptArchive _). Works (life_of life x) (life new.parts.storage.disk)) is works)
+pub called : {D : Type 0} (life : D → Life) (archive : ScriptArchive D) (old new : Engine D) (event : Event) (outcome : Result Reply Refusal) (s : Standing) → archive ≡ Open old → AnswersEvent (seen life old) (seen life new) event outcome
+    → IsStanding life archive s → Works (life_of life archive) (life new.storage.disk) → (t : Standing) × IsStanding life (Open new) t × WhereOpen (Calls event) s outcome t
+called life archive old new event outcome s is answers stands works =
+    by s (subst (λ (x : ScriptArchive _). IsStanding life x s) is stands) (subst (λ (x : ScriptArchive _). Works (life_of life x) (life new.storage.disk)) is works)
   where
-    by : (s : Standing) → IsStanding life (Open old) s → Works (life old.parts.storage.disk) (life new.parts.storage.disk) → (t : Standing) × IsStanding life (Open new) t × WhereOpen (Calls event) s outcome t
+    by : (s : Standing) → IsStanding life (Open old) s → Works (life old.storage.disk) (life new.storage.disk) → (t : Standing) × IsStanding life (Open new) t × WhereOpen (Calls event) s outcome t
     by (closed a) stands works = absurd stands
     by (refused image why) stands works = absurd stands
     by (opened a) stands works =
-        let done = stepped (life old.parts.storage.disk) (life new.parts.storage.disk) new.parts.storage.log new.parts.desk.state a event outcome works stands.1 (step a stands.0 (λ cut. works.obeys)) in
-        (opened done.after, (done.consistent, done.certain), done.ends)
+        let done = stepped (seen life old) (seen life new) a event outcome works stands.1 (answered_at (seen life old) (seen life new) a event outcome stands.0.desk stands.0.consistent answers (λ cut. works.obeys)) in
+        (opened done.after, (record { desk = done.desk; consistent = done.consistent }, done.certain), done.ends)

@@ -12,7 +12,8 @@ use Rattle.tool_core.specs.declared.state.ScriptState.{ScriptState}
 use Rattle.tool_core.specs.InputLines.{lines_of}
 use Rattle.tool_core.specs.Script.{Answers, Begins, EndsEarly, IsTranscript, IsTranscriptOfFirst, IsUnopened, LeavesScene, Works, disk_of, end_of, ended_by, quits}
 use Rattle.tool_core.specs.ScriptLines.{Scene, Standing, begun_with}
-use Rattle.tool_core.specs.Tie.{GoesOn, IsScene, IsStanding, life_of}
+use Rattle.engine_core.specs.Engine.{GoesOn}
+use Rattle.tool_core.specs.Tie.{IsScene, IsStanding, life_of}
 use Rattle.tool_core.specs.Transcript.{LeftNear, Writes, until_quit}
 use Rattle.tool_core.proofs.OpeningLemmas.{reads_as_before, standing_left}
 use Rattle.tool_core.proofs.WorksLemmas.{works_first, works_then}

@@ -1,6 +1,6 @@
 -- Archives that are begun, closed and opened again.
-use Rattle.std.proofs.Common.{◌≡◌, ◌≢◌, ◌<◌, ◌⊎◌, ◌∙◌, ap, refl, inl, inr, sym, subst, ℕ, ℤ, pos, List, IsTrue, arith}
-use Rattle.std.specs.Prelude.{Option, None, Result, Ok, Err, IfErr, IfOk, IsSome, count_by}
+use Rattle.std.proofs.Common.{◌≡◌, ◌≢◌, ◌<◌, ◌⊎◌, ◌∙◌, false, ap, refl, inl, inr, sym, subst, ℕ, ℤ, pos, List, IsTrue, arith}
+use Rattle.std.specs.Prelude.{Option, None, is_some, Result, Ok, Err, IfErr, IfOk, IsSome, count_by}
 use Rattle.frame_core.specs.declared.refusal.Refusal.{Refusal}
 use Rattle.disk_core.specs.declared.file_id.FileId.{FileId}
 use Rattle.disk_core.specs.declared.file_id.FileId.TheVariants.{BankA}
@@ -17,15 +17,15 @@ use Rattle.catalogue_log.specs.declared.bank.BankHeader.{BankHeader}
 use Rattle.catalogue_log.specs.declared.entry.Entry.{Entry}
 use Rattle.catalogue_log.specs.Catalogue.{IsCatalogue, RefusesBank, RefusesCatalogue}
 use Rattle.catalogue_log.specs.Fold.{counts}
-use Rattle.catalogue_log.specs.LogState.{LogState}
 use Rattle.catalogue_log.proofs.AppendLemmas.{rest_left}
 use Rattle.catalogue_log.proofs.OneLemmas.{bank_is_newer, bank_is_none, damaged_is_newer, damaged_is_none, not_damaged, one_bank, one_damage}
 use Rattle.control_core.specs.Desk.{DeskState}
 use Rattle.control_core.specs.Exact.{Archive, opened_archive}
-use Rattle.engine_core.specs.Consistent.{IsConsistent}
+use Rattle.engine_core.specs.Consistent.{IsCrashConsistent}
 use Rattle.engine_core.specs.Opened.{IsDeskOf, IsFresh, IsNotOpened, IsOpened, LeavesEither}
-use Rattle.engine_core.specs.Engine.{new_archive}
-use Rattle.engine_core.specs.Opening.{IsMadeIn, ReadsAsBefore, RefusesNew}
+use Rattle.engine_core.specs.Engine.{EngineState, GoesOn, IsTied, new_archive}
+use Rattle.engine_core.specs.Seen.{KeepsArchive, seen}
+use Rattle.engine_core.specs.Opening.{IsMadeIn, ReadsAsBefore, RefusesNew, RefusesOpening}
 use Rattle.engine_core.specs.Recovery.{Recovers}
 use Rattle.engine_core.proofs.RecoveryLemmas.{one_state, sound_recovers}
 use Rattle.engine_core.specs.declared.engine.Engine.{Engine}
@@ -33,7 +33,7 @@ use Rattle.tool_core.specs.declared.archive.ScriptArchive.{ScriptArchive}
 use Rattle.tool_core.specs.declared.archive.ScriptArchive.TheVariants.{Open, Closed}
 use Rattle.tool_core.specs.Script.{Begins, IsRefused, IsRefusedBy, LeavesArchive, LeavesStanding, Opens, Restarts, Works}
 use Rattle.tool_core.specs.ScriptLines.{Reopens, ReopensAs, Standing, closed, opened, refused, reopened}
-use Rattle.tool_core.specs.Tie.{GoesOn, IsStanding, closed_by, life_of}
+use Rattle.tool_core.specs.Tie.{IsStanding, closed_by, life_of}
 use Rattle.tool_core.proofs.WorksLemmas.{not_failed, works_then}
 
 -- ---- an archive at which nobody calls yet
@@ -51,23 +51,25 @@ one_fresh image s u a b first second same =
     one ∙ ap (λ (x : State). opened_archive x (count_by counts second.entries) second.header.history_limit) same ∙ sym other
 
 -- it is crash-consistent, and nothing is in doubt
-pub record IsAt (life : Life) (log : LogState) (desk : DeskState) (a : Archive) : Type 0 where
-  pub consistent : IsConsistent life log desk a
+pub record IsAt (e : EngineState) (a : Archive) : Type 0 where
+  pub desk : e.desk ≡ a.desk
+  pub consistent : IsCrashConsistent e.life e.log a
   pub certain : a.doubt ≡ None
 
-at_fresh : (life : Life) (log : LogState) (desk : DeskState) (image : DiskImage) (s : State) (a b : Archive) → IsConsistent life log desk b → IsFresh image s b → b ≡ a → IsAt life log desk a
-at_fresh life log desk image s a b consistent fresh same = record {
-  consistent = subst (λ (x : Archive). IsConsistent life log desk x) same consistent;
+at_fresh : (e : EngineState) (image : DiskImage) (s : State) (a b : Archive) → e.desk ≡ b.desk → IsCrashConsistent e.life e.log b → IsFresh image s b → b ≡ a → IsAt e a
+at_fresh e image s a b desk consistent fresh same = record {
+  desk = desk ∙ ap (λ (x : Archive). x.desk) same;
+  consistent = subst (λ (x : Archive). IsCrashConsistent e.life e.log x) same consistent;
   certain = ap (λ (x : Archive). x.doubt) (sym same ∙ fresh.is);
 }
 
 -- ---- beginning
 
 -- the archive of a disk that recovers to a state is opened
-pub begun : (old new : Life) (log : LogState) (desk : DeskState) (count : ℤ) (a : Archive) (restarts : Restarts old a) → IsOpened old new log desk count restarts.state restarts.other → IsAt new log desk a
-begun old new log desk count a restarts o =
+pub begun : (old : Life) (new : EngineState) (count : ℤ) (a : Archive) (restarts : Restarts old a) → IsOpened old new count restarts.state restarts.other → IsAt new a
+begun old new count a restarts o =
     let same : o.read ≡ restarts.state = one_state (reads old.now) o.read restarts.state o.recovers restarts.recovers in
-    at_fresh new log desk (reads old.now) (after o.read Restart) a o.archive o.consistent o.fresh
+    at_fresh new (reads old.now) (after o.read Restart) a o.archive o.desk o.consistent o.fresh
     (one_fresh (reads old.now) (after o.read Restart) (after restarts.state Restart) o.archive a o.fresh restarts.fresh (ap (λ (x : State). after x Restart) same))
 
 -- nothing has changed but the count of faults
@@ -89,17 +91,17 @@ reads_as_before life = record { same = λ file. refl; any_moment = started life 
 -- ---- closing, and opening again
 
 -- what an open archive leaves
-pub kept : (life : Life) (log : LogState) (desk : DeskState) (a : Archive) → IsConsistent life log desk a → a.doubt ≡ None → LeavesArchive life a
-kept life log desk a was certain =
+pub kept : (e : EngineState) (a : Archive) → IsTied e.log e.desk → e.desk ≡ a.desk → IsCrashConsistent e.life e.log a → a.doubt ≡ None → LeavesArchive e.life a
+kept e a tied desk was certain =
     let sound = was.sound certain in
-    let history = was.history certain in
-    let counted : a.desk.counted ≡ count_by counts sound.entries = ap (λ (d : DeskState). d.counted) (sym was.desk_is) ∙ sym history.counted ∙ sound.rests.is_log.counted in
-    let limit : a.desk.limit ≡ log.header.history_limit = ap (λ (d : DeskState). d.limit) (sym was.desk_is) ∙ sym history.limit in
+    let works : e.desk.is_broken ≡ false = ap (λ (d : DeskState). d.is_broken) desk ∙ was.archive.broken ∙ ap is_some certain in
+    let counted : a.desk.counted ≡ count_by counts sound.entries = ap (λ (d : DeskState). d.counted) (sym desk) ∙ sym (tied.counted works) ∙ sound.rests.is_log.counted in
+    let limit : a.desk.limit ≡ e.log.header.history_limit = ap (λ (d : DeskState). d.limit) (sym desk) ∙ sym (tied.limit works) in
     record {
-      recovers = λ image left. sound_recovers life.now log a.state image sound left;
-      header = log.header;
+      recovers = λ image left. sound_recovers e.life.now e.log a.state image sound left;
+      header = e.log.header;
       entries = sound.entries;
-      catalogue = λ image left. rest_left life.now log sound.entries image sound.rests left;
+      catalogue = λ image left. rest_left e.life.now e.log sound.entries image sound.rests left;
       counted = counted;
       limit = limit;
     }
@@ -108,17 +110,17 @@ leaves_one : (life : Life) (a : Archive) → LeavesArchive life a → LeavesEith
 leaves_one life a was image left = record { state = a.state; is = inl refl; recovers = was.recovers image left }
 
 -- the state that was read is the archive's
-read_is : (old new : Life) (log : LogState) (desk : DeskState) (count : ℤ) (a : Archive) (o : IsOpened old new log desk count a.state a.state) → o.read ≡ a.state
-read_is old new log desk count a o = elim o.is [ inl same ↦ same | inr same ↦ same ]
+read_is : (old : Life) (new : EngineState) (count : ℤ) (a : Archive) (o : IsOpened old new count a.state a.state) → o.read ≡ a.state
+read_is old new count a o = elim o.is [ inl same ↦ same | inr same ↦ same ]
 
-pub opened_again : (old new : Life) (log : LogState) (desk : DeskState) (count : ℤ) (a : Archive) → LeavesArchive old a → MayLeave old.now (reads old.now) → IsOpened old new log desk count a.state a.state → IsAt new log desk (reopened a) × (count ≡ pos (active_count a.state))
-opened_again old new log desk count a was may o =
-    let same : o.read ≡ a.state = read_is old new log desk count a o in
+pub opened_again : (old : Life) (new : EngineState) (count : ℤ) (a : Archive) → LeavesArchive old a → MayLeave old.now (reads old.now) → IsOpened old new count a.state a.state → IsAt new (reopened a) × (count ≡ pos (active_count a.state))
+opened_again old new count a was may o =
+    let same : o.read ≡ a.state = read_is old new count a o in
     let is : o.archive ≡ opened_archive (after o.read Restart) (count_by counts was.entries) was.header.history_limit = fresh_is (reads old.now) (after o.read Restart) o.archive was.header was.entries o.fresh (was.catalogue (reads old.now) may) in
     let whole : o.archive ≡ reopened a = is ∙ ap (λ (x : State). opened_archive (after x Restart) (count_by counts was.entries) was.header.history_limit) same
     ∙ ap (λ (n : ℕ). opened_archive (after a.state Restart) n was.header.history_limit) (sym was.counted)
     ∙ ap (λ (n : ℕ). opened_archive (after a.state Restart) a.desk.counted n) (sym was.limit) in
-    (at_fresh new log desk (reads old.now) (after o.read Restart) (reopened a) o.archive o.consistent o.fresh whole, o.stopped ∙ ap (λ (x : State). pos (active_count x)) same)
+    (at_fresh new (reads old.now) (after o.read Restart) (reopened a) o.archive o.desk o.consistent o.fresh whole, o.stopped ∙ ap (λ (x : State). pos (active_count x)) same)
 
 -- where it was refused for want of memory the disk keeps it
 pub stays_closed : (old new : Life) (a : Archive) → LeavesArchive old a → ReadsAsBefore old new → LeavesArchive new a
@@ -196,26 +198,24 @@ refused_once life why refusal is refuses = absurd refuses
 
 -- what `Engine::open` answers for a disk
 pub record Opened {D : Type 0} (life : D → Life) (old : Life) (engine : Engine D) : Type 0 where
-  pub opened_as : (s u : State) → LeavesEither old s u → IsTrue (life engine.parts.storage.disk).obeys → IsOpened old (life engine.parts.storage.disk) engine.parts.storage.log engine.parts.desk.state engine.restarted s u
-  pub desk : IsTrue (life engine.parts.storage.disk).obeys → IsDeskOf (reads old.now) engine.parts.desk.state engine.restarted
+  pub opened_as : (s u : State) → LeavesEither old s u → IsTrue (life engine.storage.disk).obeys → IsOpened old (seen life engine) engine.restarted s u
+  pub desk : IsTrue (life engine.storage.disk).obeys → IsDeskOf (reads old.now) engine.desk.state engine.restarted
 
 pub record Refused {D : Type 0} (life : D → Life) (old : Life) (refusal : Refusal) (disk : D) : Type 0 where
   pub whole : (s u : State) → LeavesEither old s u → IsTrue (life disk).obeys → IsNotOpened old (life disk) s u × ((refusal ≡ DeviceFault) ⊎ (refusal ≡ NoMemory))
-  pub other : IsTrue (life disk).obeys → RefusesCatalogue (reads old.now) refusal
-  pub cause : refusal ≡ DeviceFault → HasFailed old (life disk)
-  pub kept : (refusal ≡ DeviceFault) ⊎ ReadsAsBefore old (life disk)
+  pub refuses : RefusesOpening old (life disk) refusal
 
 -- no call failed: each file reads as before
 unfailed : {D : Type 0} (life : D → Life) (old : Life) (refusal : Refusal) (disk : D) → Refused life old refusal disk → Works old (life disk) → ReadsAsBefore old (life disk)
-unfailed life old refusal disk answer works = elim answer.kept [ inl fault ↦ absurd (not_failed old (life disk) works (answer.cause fault)) | inr before ↦ before ]
+unfailed life old refusal disk answer works = elim answer.refuses.kept [ inl fault ↦ absurd (not_failed old (life disk) works (answer.refuses.cause fault)) | inr before ↦ before ]
 
 -- ---- a script's archive
 
 -- opened for what the disk has
-pub opened_is : {D : Type 0} (life : D → Life) (old : Life) (engine : Engine D) → Opened life old engine → (first : Standing) → Opens old first → Works old (life engine.parts.storage.disk) → IsStanding life (Open engine) first
+pub opened_is : {D : Type 0} (life : D → Life) (old : Life) (engine : Engine D) → Opened life old engine → (first : Standing) → Opens old first → Works old (life engine.storage.disk) → IsStanding life (Open engine) first
 opened_is life old engine answer (opened a) restarts works =
-    let at = begun old (life engine.parts.storage.disk) engine.parts.storage.log engine.parts.desk.state engine.restarted a restarts (answer.opened_as restarts.state restarts.other restarts.leaves works.obeys) in
-    (at.consistent, at.certain)
+    let at = begun old (seen life engine) engine.restarted a restarts (answer.opened_as restarts.state restarts.other restarts.leaves works.obeys) in
+    (record { desk = at.desk; consistent = at.consistent }, at.certain)
 opened_is life old engine answer (closed a) opens works = absurd opens
 opened_is life old engine answer (refused image why) opens works = let desk = answer.desk works.obeys in absurd (no_catalogue old why desk.header desk.entries opens.0 desk.catalogue)
 
@@ -225,7 +225,7 @@ Begun life old archive = (first : Standing) → Opens old first → Works old (l
 
 still_refused : {D : Type 0} (life : D → Life) (old : Life) (refusal : Refusal) (disk : D) → Refused life old refusal disk → refusal ≢ NoMemory → Begun life old (Closed disk)
 still_refused life old refusal disk answer other (opened a) restarts works =
-    elim (answer.whole restarts.state restarts.other restarts.leaves works.obeys).1 [ inl fault ↦ absurd (not_failed old (life disk) works (answer.cause fault)) | inr memory ↦ absurd (other memory) ]
+    elim (answer.whole restarts.state restarts.other restarts.leaves works.obeys).1 [ inl fault ↦ absurd (not_failed old (life disk) works (answer.refuses.cause fault)) | inr memory ↦ absurd (other memory) ]
 still_refused life old refusal disk answer other (closed a) opens works = absurd opens
 still_refused life old refusal disk answer other (refused image why) opens works = refused_still old (life disk) image why (unfailed life old refusal disk answer works).same opens
 
@@ -250,7 +250,7 @@ closed_before life old refusal disk result is same = subst (λ (r : Result (Scri
 
 -- what the disk of a script's archive leaves
 pub standing_left : {D : Type 0} (life : D → Life) (archive : ScriptArchive D) (s : Standing) → IsStanding life archive s → LeavesStanding (life_of life archive) s
-standing_left life (Open engine) (opened a) stands = kept (life engine.parts.storage.disk) engine.parts.storage.log engine.parts.desk.state a stands.0 stands.1
+standing_left life (Open engine) (opened a) stands = kept (seen life engine) a engine.tied stands.0.desk stands.0.consistent stands.1
 standing_left life (Open engine) (closed a) stands = absurd stands
 standing_left life (Open engine) (refused image why) stands = absurd stands
 standing_left life (Closed disk) (opened a) stands = absurd stands
@@ -258,13 +258,13 @@ standing_left life (Closed disk) (closed a) stands = stands
 standing_left life (Closed disk) (refused image why) stands = stands
 
 -- it is open again
-open_as : {D : Type 0} (life : D → Life) (old : Life) (engine : Engine D) (a : Archive) → LeavesArchive old a → MayLeave old.now (reads old.now) → Opened life old engine → Works old (life engine.parts.storage.disk)
+open_as : {D : Type 0} (life : D → Life) (old : Life) (engine : Engine D) (a : Archive) → LeavesArchive old a → MayLeave old.now (reads old.now) → Opened life old engine → Works old (life engine.storage.disk)
     → (t : Standing) × IsStanding life (Open engine) t × ReopensAs a (Ok (Reopened engine.restarted)) t
 open_as life old engine a was may answer works =
-    let done = opened_again old (life engine.parts.storage.disk) engine.parts.storage.log engine.parts.desk.state engine.restarted a was may (answer.opened_as a.state a.state (leaves_one old a was) works.obeys) in
-    (opened (reopened a), (done.0.consistent, done.0.certain), (ap (λ (n : ℤ). Reopened n) done.1, refl))
+    let done = opened_again old (seen life engine) engine.restarted a was may (answer.opened_as a.state a.state (leaves_one old a was) works.obeys) in
+    (opened (reopened a), (record { desk = done.0.desk; consistent = done.0.consistent }, done.0.certain), (ap (λ (n : ℤ). Reopened n) done.1, refl))
 
-open_again : {D : Type 0} (life : D → Life) (old : Life) (engine : Engine D) (s : Standing) → LeavesStanding old s → MayLeave old.now (reads old.now) → Opened life old engine → Works old (life engine.parts.storage.disk) → (t : Standing) × IsStanding life (Open engine) t × Reopens s (Ok (Reopened engine.restarted)) t
+open_again : {D : Type 0} (life : D → Life) (old : Life) (engine : Engine D) (s : Standing) → LeavesStanding old s → MayLeave old.now (reads old.now) → Opened life old engine → Works old (life engine.storage.disk) → (t : Standing) × IsStanding life (Open engine) t × Reopens s (Ok (Reopened engine.restarted)) t
 open_again life old engine (opened a) was may answer works = open_as life old engine a was may answer works
 open_again life old engine (closed a) was may answer works = open_as life old engine a was may answer works
 open_again life old engine (refused image why) was may answer works = let desk = answer.desk works.obeys in absurd (no_catalogue old why desk.header desk.entries was.0 desk.catalogue)
@@ -272,7 +272,7 @@ open_again life old engine (refused image why) was may answer works = let desk =
 -- there was no memory for it
 closed_as : {D : Type 0} (life : D → Life) (old : Life) (refusal : Refusal) (disk : D) (a : Archive) → LeavesArchive old a → Refused life old refusal disk → Works old (life disk) → (t : Standing) × IsStanding life (Closed disk) t × ReopensAs a (Err refusal) t
 closed_as life old refusal disk a was answer works = elim (answer.whole a.state a.state (leaves_one old a was) works.obeys).1 [
-  | inl fault ↦ absurd (not_failed old (life disk) works (answer.cause fault))
+  | inl fault ↦ absurd (not_failed old (life disk) works (answer.refuses.cause fault))
   | inr memory ↦ (closed a, stays_closed old (life disk) a was (unfailed life old refusal disk answer works), subst (λ (r : Refusal). ReopensAs a (Err r) (closed a)) (sym memory) refl)
 ]
 
@@ -282,19 +282,19 @@ refused_again life old refusal disk (opened a) was answer works = closed_as life
 refused_again life old refusal disk (closed a) was answer works = closed_as life old refusal disk a was answer works
 refused_again life old refusal disk (refused image why) was answer works =
     let stays : IsStanding life (Closed disk) (refused image why) = refused_still old (life disk) image why (unfailed life old refusal disk answer works).same was in
-    elim (refused_once old why refusal was.0 (answer.other works.obeys)) [
+    elim (refused_once old why refusal was.0 (answer.refuses.catalogue works.obeys)) [
       | inl same ↦ (refused image why, stays, (inl (ap (λ (r : Refusal). Err r) same), refl))
       | inr (inl memory) ↦ (refused image why, stays, (inr (ap (λ (r : Refusal). Err r) memory), refl))
-      | inr (inr fault) ↦ absurd (not_failed old (life disk) works (answer.cause fault))
+      | inr (inr fault) ↦ absurd (not_failed old (life disk) works (answer.refuses.cause fault))
     ]
 
 -- the same of the disk that was handed on
 pub reopened_again : {D : Type 0} (life : D → Life) (archive : ScriptArchive D) (old : D) (engine : Engine D) → ((disk : D) → MayLeave (life disk).now (reads (life disk).now)) → life old ≡ life_of life archive → Opened life (life old) engine
-    → (reply : Reply) → reply ≡ Reopened engine.restarted → (s : Standing) → IsStanding life archive s → Works (life_of life archive) (life engine.parts.storage.disk)
+    → (reply : Reply) → reply ≡ Reopened engine.restarted → (s : Standing) → IsStanding life archive s → Works (life_of life archive) (life engine.storage.disk)
     → (t : Standing) × IsStanding life (Open engine) t × Reopens s (Ok reply) t
 reopened_again life archive old engine may same answer reply is s stands works =
     subst (λ (r : Reply). (t : Standing) × IsStanding life (Open engine) t × Reopens s (Ok r) t) (sym is)
-    (open_again life (life old) engine s (subst (λ (l : Life). LeavesStanding l s) (sym same) (standing_left life archive s stands)) (may old) answer (subst (λ (l : Life). Works l (life engine.parts.storage.disk)) (sym same) works))
+    (open_again life (life old) engine s (subst (λ (l : Life). LeavesStanding l s) (sym same) (standing_left life archive s stands)) (may old) answer (subst (λ (l : Life). Works l (life engine.storage.disk)) (sym same) works))
 
 pub reopened_not : {D : Type 0} (life : D → Life) (archive : ScriptArchive D) (old : D) (refusal : Refusal) (disk : D) → life old ≡ life_of life archive → Refused life (life old) refusal disk
     → (s : Standing) → IsStanding life archive s → Works (life_of life archive) (life disk) → (t : Standing) × IsStanding life (Closed disk) t × Reopens s (Err refusal) t
@@ -308,8 +308,8 @@ some_file : {x : Option (List ℕ)} → x ≡ None → IsSome x → ⊥
 some_file is some = let wrong : IsSome {T = List ℕ} None = subst IsSome is some in absurd cc
 
 -- no file was there, and an archive was made
-pub made : {D : Type 0} (life : D → Life) (old : Life) (engine : Engine D) → IsMadeIn old (life engine.parts.storage.disk) 1048576
-    → IsConsistent (life engine.parts.storage.disk) engine.parts.storage.log engine.parts.desk.state (new_archive 1048576) → (first : Standing) → Begins old first → Works old (life engine.parts.storage.disk) → IsStanding life (Open engine) first
+pub made : {D : Type 0} (life : D → Life) (old : Life) (engine : Engine D) → IsMadeIn old (life engine.storage.disk) 1048576
+    → KeepsArchive life engine (new_archive 1048576) → (first : Standing) → Begins old first → Works old (life engine.storage.disk) → IsStanding life (Open engine) first
 made life old engine is consistent first (inl blank) works = subst (λ (s : Standing). IsStanding life (Open engine) s) (sym blank.1) (consistent, refl)
 made life old engine is consistent first (inr files) works = absurd (some_file (is.empty works.obeys files.0.0) files.0.1)
 

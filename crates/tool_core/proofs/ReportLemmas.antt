@@ -17,15 +17,18 @@ use Rattle.control_core.specs.declared.event.Event.TheVariants.{Verify}
 use Rattle.control_core.specs.Exact.{Archive, CallEnds}
 use Rattle.control_core.proofs.FaultLemmas.{other_cause}
 use Rattle.engine_core.specs.declared.engine.Engine.{Engine}
-use Rattle.engine_core.specs.Calls.{Ended, EndsAs, HasFailedOften, faults_in, is_cut, is_fault}
-use Rattle.engine_core.proofs.RunLemmas.{fault_more}
+use Rattle.engine_core.specs.Calls.{AnswersEvent, HasFailedOften, faults_in, is_fault}
+use Rattle.engine_core.specs.Consistent.{IsCrashConsistent}
+use Rattle.engine_core.specs.Engine.{GoesOn, archive_of}
+use Rattle.engine_core.specs.Seen.{seen}
+use Rattle.engine_core.proofs.RunLemmas.{run_failed}
 use Rattle.tool_core.specs.declared.fault.EarlyEnd.{EarlyEnd}
 use Rattle.tool_core.specs.declared.fault.EarlyEnd.TheVariants as ends
 use Rattle.tool_core.specs.declared.reports.Verdict.{Verdict}
 use Rattle.tool_core.specs.declared.reports.Verdict.TheVariants.{Whole, Refused}
 use Rattle.tool_core.specs.Reports.{AnswersEach, HasReported, HasReportedFirst, HasReportedOne, IsEngineOf, IsWrittenBefore, ids_in, life_in, outcomes_text}
 use Rattle.tool_core.specs.Script.{FailsToAnswer, outcome_text}
-use Rattle.tool_core.specs.Tie.{GoesOn}
+use Rattle.tool_core.proofs.CallLemmas.{answered_at}
 
 and-true : (b : Bool) → (b && true) ≡ b
 and-true true = refl
@@ -54,23 +57,20 @@ module _ {D : Type 0} (life : D → Life) where
   pub none_yet : (engine : Engine D) → AnswersEach life engine engine [] []
   none_yet engine = record { goes_on = record { obeyed = λ obeys. obeys; faults = omega arith }; each = refl; cause = omega arith; stays = λ a is. is; exact = λ a is obeys. tt }
 
-  -- what an engine promises of an event
-  abbrev pub Steps : Engine D → Engine D → Event → Result Reply Refusal → Type 0
-  Steps old new event outcome = (a : Archive) → IsEngineOf life a old → (IsTrue (is_cut event) → IsTrue (life_in life new).obeys)
-      → Ended (life_in life old) (life_in life new) new.parts.storage.log new.parts.desk.state a (EndsAs (life_in life old) (life_in life new) event a outcome)
-
   -- an engine's answer to the verifying of one
-  pub one : (old new : Engine D) (id : ℤ) (outcome : Result Reply Refusal) → (IsTrue (life_in life new).obeys → IsTrue (life_in life old).obeys) → (life_in life old).faults ≤ (life_in life new).faults
-      → (outcome ≡ Err DeviceFault → HasFailed (life_in life old) (life_in life new)) → Steps old new (Verify id) outcome → AnswersEach life old new (id ∷ []) (outcome ∷ [])
-  one old new id outcome obeyed faults cause stepped = record {
-    goes_on = record { obeyed = obeyed; faults = faults };
+  pub one : (old new : Engine D) (id : ℤ) (outcome : Result Reply Refusal) → AnswersEvent (seen life old) (seen life new) (Verify id) outcome → AnswersEach life old new (id ∷ []) (outcome ∷ [])
+  one old new id outcome answers = record {
+    goes_on = answers.goes_on;
     each = refl;
-    cause = fault_more (life_in life old) (life_in life old) (life_in life new) [] outcome (omega arith) faults cause;
-    stays = λ a was. let ended = stepped a was (λ cut. absurd (true≢false (sym cut))) in subst (λ (b : Archive). IsEngineOf life b new) ended.ends.1 ended.consistent;
+    cause = run_failed (seen life old) (seen life new) (Verify id ∷ []) (outcome ∷ []) (seen life new, answers, refl);
+    stays = λ a was.
+        let ended = answered_at (seen life old) (seen life new) a (Verify id) outcome was.desk was.consistent answers (λ cut. absurd (true≢false (sym cut))) in
+        record { desk = ap (λ (b : Archive). b.desk) ended.ends.1; consistent = subst (λ (b : Archive). IsCrashConsistent (life_in life new) new.storage.log b) ended.ends.1 ended.consistent };
     exact = λ a was obeys.
-        let ended = stepped a was (λ cut. obeys) in
-        let ends = other_cause a (Verify id) (HasFailed (life_in life old) (life_in life new)) (Unit {0}) outcome ended.after (λ failed. tt) (ended.ends.0 (λ reads. obeys)) in
-        (subst (λ (b : Archive). CallEnds a (Verify id) (Unit {0}) outcome b) ended.ends.1 ends, tt);
+        let ended = answered_at (seen life old) (seen life new) a (Verify id) outcome was.desk was.consistent answers (λ cut. obeys) in
+        let b : Archive = archive_of (seen life new) ended.after in
+        let ends = other_cause a (Verify id) (HasFailed (life_in life old) (life_in life new)) (Unit {0}) outcome b (λ failed. tt) (ended.ends.0 (λ reads. obeys)) in
+        (subst (λ (x : Archive). CallEnds a (Verify id) (Unit {0}) outcome x) ended.ends.1 ends, tt);
   }
 
   goes_then : (old mid new : Engine D) → GoesOn (life_in life old) (life_in life mid) → GoesOn (life_in life mid) (life_in life new) → GoesOn (life_in life old) (life_in life new)

@@ -11,7 +11,8 @@ use Rattle.tool_core.specs.declared.state.ScriptState.{ScriptState}
 use Rattle.tool_core.specs.InputLines.{ReadsLine}
 use Rattle.tool_core.specs.Script.{Answers, EndsEarly, FailsToAnswer, IsTranscript, Replied, Works, asked, asked_copies, outcome_text, quits}
 use Rattle.tool_core.specs.ScriptLines.{Answered, Scene, Standing, begun_with}
-use Rattle.tool_core.specs.Tie.{GoesOn, IsScene, life_of}
+use Rattle.engine_core.specs.Engine.{GoesOn}
+use Rattle.tool_core.specs.Tie.{IsScene, life_of}
 use Rattle.tool_core.specs.Transcript.{Writes}
 use Rattle.tool_core.proofs.ProgressLemmas.{Near, Progress, near-here, near-next, progress-cut, progress-early, progress-end, progress-kept, progress-last, progress-more, progress-start}
 use Rattle.tool_core.proofs.WorksLemmas.{goes_further, no_calls, works_first, works_then}

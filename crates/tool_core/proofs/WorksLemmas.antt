@@ -2,7 +2,7 @@
 use Rattle.std.proofs.Common.{◌≡◌, ◌≤◌, ℕ, arith}
 use Rattle.disk_core.specs.Life.{HasFailed, Life}
 use Rattle.tool_core.specs.Script.{Works}
-use Rattle.tool_core.specs.Tie.{GoesOn}
+use Rattle.engine_core.specs.Engine.{GoesOn}
 
 pub not_failed : (old new : Life) → Works old new → HasFailed old new → ⊥
 not_failed old new works failed =

@@ -10,13 +10,13 @@ use Rattle.control_core.specs.declared.event.Event.TheVariants.{Verify}
 use Rattle.control_core.specs.Exact.{Archive, CallEnds}
 use Rattle.engine_core.specs.declared.engine.Engine.{Engine}
 use Rattle.engine_core.specs.Calls.{HasFailedOften, faults_in}
-use Rattle.engine_core.specs.Consistent.{IsConsistent}
+use Rattle.engine_core.specs.Engine.{GoesOn}
+use Rattle.engine_core.specs.Seen.{KeepsArchive}
 use Rattle.tool_core.specs.declared.fault.EarlyEnd.{EarlyEnd}
 use Rattle.tool_core.specs.declared.fault.EarlyEnd.TheVariants as ends
 use Rattle.tool_core.specs.declared.reports.Verdict.{Verdict}
 use Rattle.tool_core.specs.declared.reports.Verdict.TheVariants.{Whole, Refused}
 use Rattle.tool_core.specs.Script.{FailsToAnswer, outcome_text}
-use Rattle.tool_core.specs.Tie.{GoesOn}
 
 -- what is written of answers, one behind another
 abbrev pub outcomes_text : List (Result Reply Refusal) → List ℕ
@@ -34,16 +34,16 @@ IsWrittenBefore ends.Write contents written text = Unit {0}
 
 -- the ids of an engine's recordings, as they rise
 abbrev pub ids_in : {D : Type 0} → Engine D → List ℤ
-ids_in engine = map id_of engine.parts.desk.state.register.recordings
+ids_in engine = map id_of engine.desk.state.register.recordings
 
 module _ {D : Type 0} (life : D → Life) where
   -- the disk of an engine
   abbrev pub life_in : Engine D → Life
-  life_in engine = life engine.parts.storage.disk
+  life_in engine = life engine.storage.disk
 
   -- the engine is a crash-consistent archive's
   abbrev pub IsEngineOf : Archive → Engine D → Type 0
-  IsEngineOf a engine = IsConsistent (life_in engine) engine.parts.storage.log engine.parts.desk.state a
+  IsEngineOf a engine = KeepsArchive life engine a
 
   -- An answer to the verifying of each of these recordings, so many of them device faults at most as calls of the disk have
   -- failed; where the disk obeys the crash model each is one that the call may have over the archive. The archive stays,

@@ -5,7 +5,8 @@ ghost use Rattle.archive_model.specs.declared.reply.Reply.TheVariants.{Reopened}
 ghost use Rattle.engine_core.specs.Opening.{ReadsAsBefore};
 ghost use Rattle.tool_core.specs.Script.{Begins, Opens, Works};
 ghost use Rattle.tool_core.specs.ScriptLines.{Calls, OrWant, Records, Reopens, Standing, WhereOpen, WritesBytes};
-ghost use Rattle.tool_core.specs.Tie.{GoesOn, IsStanding, ReadsBlock, closed_by, life_of};
+ghost use Rattle.engine_core.specs.Engine.{GoesOn};
+ghost use Rattle.tool_core.specs.Tie.{IsStanding, ReadsBlock, closed_by, life_of};
 
 use archive_model::Reply;
 use control_core::{Event, read_terms};

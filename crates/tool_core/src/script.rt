@@ -7,7 +7,8 @@ ghost use Rattle.tool_core.specs.InputLines.{ReadsLine};
 ghost use Rattle.tool_core.specs.Transcript.{Writes};
 ghost use Rattle.tool_core.specs.ScriptLines.{Answered, Scene, Standing, begun_with};
 ghost use Rattle.tool_core.specs.Script.{Begins, EndsEarly, FailsToAnswer, IsTranscript, IsUnopened, LeavesScene, Replied, Works, asked, asked_copies, disk_of, end_of, ended_by, outcome_text, quits};
-ghost use Rattle.tool_core.specs.Tie.{GoesOn, IsScene, life_of};
+ghost use Rattle.engine_core.specs.Engine.{GoesOn};
+ghost use Rattle.tool_core.specs.Tie.{IsScene, life_of};
 
 use crate::answers::write_outcome;
 use crate::archive::ScriptArchive;

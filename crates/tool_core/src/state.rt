@@ -3,7 +3,8 @@
 ghost use Rattle.std.specs.Prelude.{◌≡◌, Ok};
 ghost use Rattle.tool_core.specs.Script.{Works};
 ghost use Rattle.tool_core.specs.ScriptLines.{LineEnds, Scene};
-ghost use Rattle.tool_core.specs.Tie.{GoesOn, IsScene, life_of};
+ghost use Rattle.engine_core.specs.Engine.{GoesOn};
+ghost use Rattle.tool_core.specs.Tie.{IsScene, life_of};
 
 use crate::archive::ScriptArchive;
 use crate::merging::answer_merge;

@@ -22,6 +22,3 @@ returns-clause-refused g c =
     let none : c.in_ok-files.files.items ≡ [] = empty_list c.in_ok-files.files.items (grind (arith, nat_tests)) in
     refused_in c.create.result (g.D.Disk.life c.args.disk.now) (g.D.Disk.life c.list.new.self) (g.D.Disk.life c.create.new.disk) c.args.history_limit c.in_ok-files.files.items c.create.ensures.range c.list.ensures.quiet c.create.ensures.obeyed none
     c.in_ok-files.ensures.files c.create.ensures.refusal
-
-pub returns-clause-counted : goal.returns-clause-counted
-returns-clause-counted g c = IfOk-weaker c.create.result _ _ (λ log rests. rests.is_log.counted) c.create.ensures.at_rest

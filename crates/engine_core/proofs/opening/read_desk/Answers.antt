@@ -1,13 +1,14 @@
-use Rattle.std.proofs.Common.{rules, ◌≡◌, ◌∙◌, subst, sym}
+use Rattle.std.proofs.Common.{rules, ◌≡◌, ◌∙◌, ◌<◌, ◌^◌, ap, subst, sym, ℕ}
 use Rattle.std.specs.Prelude.{Err, IfSome, Some}
 use Rattle.disk_core.specs.DiskImage.{reads}
 use Rattle.archive_model.specs.State.{register_of}
 use Rattle.archive_model.specs.Register.{no_recordings}
 use Rattle.catalogue_log.specs.Fold.{after_entries}
-use Rattle.control_core.specs.Desk.{opened_desk}
-use Rattle.engine_core.specs.Orderly.{IsOrderly}
+use Rattle.control_core.specs.Desk.{DeskState, opened_desk}
+use Rattle.control_core.specs.Orderly.{AreLaid}
+use Rattle.engine_core.specs.Engine.{IsTied}
 use Rattle.engine_core.proofs.OpeningLemmas.{whole_refused}
-use Rattle.engine_core.proofs.OrderlyCallLemmas.{orderly_opened}
+use Rattle.engine_core.proofs.EntryLaidLemmas.{entries_laid}
 use Rattle.engine_core.proofs.ReopenLemmas.{same_desk}
 use Rattle.engine_core.proofs.opening.read_desk.Goals as goal
 
@@ -37,8 +38,20 @@ returns-clause-log g c obeys =
       c.opened-desk.ensures ∙ same_desk c.in_ok-register.register.state (after_entries no_recordings entries) counted log.counted c.limit-limit.result log.header.history_limit made is c.limit-limit.ensures,
     )
 
-pub returns-clause-orderly : goal.returns-clause-orderly
-returns-clause-orderly g c =
+pub opened-desk-requires : goal.opened-desk-requires
+opened-desk-requires g c =
     let made : c.in_ok-register.register.state ≡ after_entries no_recordings c.in_ok-log.entries.items = search rules in
-    let orderly = subst (λ r. IsOrderly (opened_desk r c.in_ok-counted.counted c.limit-limit.result)) (sym made) (orderly_opened c.in_ok-log.entries.items c.in_ok-counted.counted c.limit-limit.result c.in_ok-log.ensures.admitted) in
-    subst IsOrderly (sym c.opened-desk.ensures) orderly
+    subst AreLaid (sym made) (entries_laid no_recordings c.in_ok-log.entries.items c.in_ok-log.ensures.admitted tt)
+
+pub returns-clause-tied : goal.returns-clause-tied
+returns-clause-tied g c =
+    let log = c.in_ok-log.log in
+    let counted = c.in_ok-counted.counted in
+    let register = c.in_ok-register.register.state in
+    let limit = c.limit-limit.result in
+    let is : counted ≡ log.counted = subst (λ o. IfSome o (λ n. n ≡ log.counted)) {y = Some counted} c.in_ok-counted.ensures.ok_part c.counted_by.ensures.some in
+    let few : counted < 2 ^ 32 = search rules in (
+      subst (IsTied log) (sym c.opened-desk.ensures) (record { works = λ works. c.in_ok-log.ensures.works; counted = λ works. sym is; limit = λ works. sym c.limit-limit.ensures }),
+      ap (λ (d : DeskState). d.is_broken) c.opened-desk.ensures,
+      subst (λ (n : ℕ). n < 2 ^ 32) is few,
+    )

@@ -1,10 +1,10 @@
-use Rattle.std.proofs.Common.{rules, ◌≡◌, ◌∙◌, sym, ap, subst, ℤ, ◌+ℤ◌, ◌≤ℤ◌, pos, to_z, of_z, w64, IsTrue, arith}
+use Rattle.std.proofs.Common.{rules, ◌≡◌, ◌∙◌, sym, ap, subst, ℤ, ◌+ℤ◌, ◌<◌, ◌≤ℤ◌, pos, to_z, of_z, w64, IsTrue, arith}
 use Rattle.std.proofs.lemmas.Int.{ints}
 use Rattle.std.proofs.lemmas.Result.{IfErr-weaker}
 use Rattle.std.specs.Prelude.{unsigned_abs}
 use Rattle.frame_core.specs.Block.{covered}
 use Rattle.disk_core.specs.DiskImage.{reads}
-use Rattle.replay_core.specs.Poll.{Polls}
+use Rattle.replay_core.specs.Poll.{MovesTo, Polls}
 use Rattle.archive_model.specs.Replay.{is_boundary, placed}
 use Rattle.archive_model.specs.State.{geometry_of}
 use Rattle.control_core.specs.Exact.{frames_end}
@@ -32,7 +32,12 @@ returns-clause-frames g c r read at =
     let polls : Polls (reads (g.D.Disk.life c.args.disk.now).now) (layout_of d) (geometry_of d) c.args.registration.now.recorded c.args.replay.now.bound (unsigned_abs c.args.most) (unsigned_abs c.args.replay.now.next) frames
     (unsigned_abs c.poll.new.self.next) = search (rules, these) in
     let given : c.from_vec.result ≡ placed c.args.replay.now.next frames = search rules in
-    given ∙ frames_read _ _ c.args.registration.now r read c.args.replay.now.next c.args.replay.now.bound _ _ frames at polls
+    let start : pos 0 ≤ℤ d.start_position = omega (arith, ints, c.requires.laid_out.layout.start_is) in
+    let low : pos 0 ≤ℤ c.poll.new.self.next = omega (arith, ints, start, c.requires.from_start, c.in_ok-frames.ensures.onwards) in
+    let same : pos (unsigned_abs c.poll.new.self.next) ≡ to_z w64 (of_z w64 c.poll.new.self.next) = (let back : to_z w64 (of_z w64 c.poll.new.self.next) ≡ c.poll.new.self.next = search rules in omega (arith, ints, low, back)) in (
+      subst (λ (z : ℤ). IsTrue (is_boundary z r)) same (boundary_read _ _ c.args.registration.now r read c.args.replay.now.next c.args.replay.now.bound _ _ frames at polls),
+      given ∙ frames_read _ _ c.args.registration.now r read c.args.replay.now.next c.args.replay.now.bound _ _ frames at polls,
+    )
 
 pub returns-clause-next : goal.returns-clause-next
 returns-clause-next g c =
@@ -42,19 +47,10 @@ returns-clause-next g c =
     let same : to_z w64 (of_z w64 c.poll.new.self.next) ≡ next +ℤ pos (covered frames) = search rules in
     same ∙ sym (placed_end next frames) ∙ ap (frames_end next) (sym given)
 
-pub returns-clause-forward : goal.returns-clause-forward
-returns-clause-forward g c =
-    let back : to_z w64 (of_z w64 c.poll.new.self.next) ≡ c.poll.new.self.next = search rules in omega (arith, ints, back, c.in_ok-frames.ensures.onwards)
-
-pub returns-clause-boundary : goal.returns-clause-boundary
-returns-clause-boundary g c r read at =
-    let d = c.args.registration.now.descriptor in
-    let frames = c.in_ok-frames.frames.items in
-    let obeys : IsTrue (g.D.Disk.life c.poll.new.store.disk.now).obeys = search (rules, read.obeys) in
-    let these = c.in_ok-frames.ensures.frames obeys in
-    let polls : Polls (reads (g.D.Disk.life c.args.disk.now).now) (layout_of d) (geometry_of d) c.args.registration.now.recorded c.args.replay.now.bound (unsigned_abs c.args.most) (unsigned_abs c.args.replay.now.next) frames
-    (unsigned_abs c.poll.new.self.next) = search (rules, these) in
-    let start : pos 0 ≤ℤ d.start_position = omega (arith, ints, c.requires.laid_out.layout.start_is) in
-    let low : pos 0 ≤ℤ c.poll.new.self.next = omega (arith, ints, start, c.requires.from_start, c.in_ok-frames.ensures.onwards) in
-    let same : pos (unsigned_abs c.poll.new.self.next) ≡ to_z w64 (of_z w64 c.poll.new.self.next) = (let back : to_z w64 (of_z w64 c.poll.new.self.next) ≡ c.poll.new.self.next = search rules in omega (arith, ints, low, back)) in
-    subst (λ (z : ℤ). IsTrue (is_boundary z r)) same (boundary_read _ _ c.args.registration.now r read c.args.replay.now.next c.args.replay.now.bound _ _ frames at polls)
+pub returns-clause-moves : goal.returns-clause-moves
+returns-clause-moves g c =
+    let registration = c.args.registration.now in
+    let replay = c.args.replay.now in
+    let back : to_z w64 (of_z w64 c.poll.new.self.next) ≡ c.poll.new.self.next = search rules in
+    let goes : 0 < unsigned_abs c.args.most → MovesTo registration.recorded replay.bound replay.next c.poll.new.self.next = search (rules, c.in_ok-frames.ensures.moves) in
+    (omega (arith, ints, back, c.in_ok-frames.ensures.onwards), λ some. subst (MovesTo registration.recorded replay.bound replay.next) (sym back) (goes some))

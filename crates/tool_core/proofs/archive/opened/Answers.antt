@@ -7,7 +7,7 @@ returns-in-Ok-clause-begun g c = opened_is g.D.Disk.life (g.D.Disk.life c.args.d
 pub returns-in-Err-clause-begun : goal.returns-in-Err-clause-begun
 returns-in-Err-clause-begun g c =
     not_closed_then g.D.Disk.life (g.D.Disk.life c.args.disk) c.in-Err.field-0.refusal c.in-Err.field-0.disk c.unless_memory.result c.unless_memory.ensures
-    (record { whole = c.in-Err.ensures.refused; other = c.in-Err.ensures.other; cause = c.in-Err.ensures.cause; kept = c.in-Err.ensures.kept })
+    (record { whole = c.in-Err.ensures.refused; refuses = c.in-Err.ensures.other })
 
 pub returns-in-Err-clause-unopened : goal.returns-in-Err-clause-unopened
-returns-in-Err-clause-unopened g c = closed_before g.D.Disk.life (g.D.Disk.life c.args.disk) c.in-Err.field-0.refusal c.in-Err.field-0.disk c.unless_memory.result c.unless_memory.ensures c.in-Err.ensures.kept
+returns-in-Err-clause-unopened g c = closed_before g.D.Disk.life (g.D.Disk.life c.args.disk) c.in-Err.field-0.refusal c.in-Err.field-0.disk c.unless_memory.result c.unless_memory.ensures (let refuses = c.in-Err.ensures.other in refuses.kept)

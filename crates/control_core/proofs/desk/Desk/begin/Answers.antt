@@ -3,7 +3,8 @@ use Rattle.std.proofs.lemmas.Int.{to_z-of_z}
 use Rattle.archive_model.specs.declared.command.Command.TheVariants as commands
 use Rattle.archive_model.specs.Register.{active_count, registered, with_one}
 use Rattle.control_core.specs.Seats.{DeskView}
-use Rattle.control_core.proofs.DeskLemmas.{keeps_begun}
+use Rattle.control_core.proofs.KeptLemmas.{kept_begun}
+use Rattle.control_core.proofs.OrderlyLemmas.{start_range}
 use Rattle.control_core.proofs.AllowedLemmas.{room_of, start_few, start_lengths}
 use Rattle.control_core.proofs.desk.Desk.begin.Goals as goal
 
@@ -27,4 +28,4 @@ invariant_of-self c =
     let register : c.self.inside.register.state ≡ c.args.self.now.state.register = ap (λ (v : DeskView). v.state.register) c.self.view_is in
     let few : active_count c.self.inside.register.state < 64 = rw register (start_few c.args.self.now.state c.args.fields c.requires.allowed) in
     rw (added, c.open.ensures.values, c.open.ensures.next, to_z-of_z w64 c.next_recording-id.result fits, c.next_recording-id.ensures)
-    (keeps_begun c.self.inside.register.state _ (registered c.self.inside.register.state.next c.args.fields) refl refl few c.self.invariant)
+    (kept_begun c.self.inside.register.state _ c.args.fields (start_range c.args.self.now.state c.args.fields c.requires.allowed) few c.self.invariant)

@@ -1,5 +1,5 @@
-use Rattle.control_core.proofs.DeskLemmas.{keeps_stopped}
+use Rattle.control_core.proofs.KeptLemmas.{kept_stopped}
 use Rattle.control_core.proofs.desk.Desk.stop.Goals as goal
 
 pub invariant_of-self : goal.invariant_of-self
-invariant_of-self c = rw (c.change.ensures.state, c.end.ensures.values, c.end.ensures.next) (keeps_stopped _ _ _ _ c.self.invariant)
+invariant_of-self c = rw (c.change.ensures.state, c.end.ensures.values, c.end.ensures.next) (kept_stopped _ _ _ _ c.self.invariant)

@@ -1,14 +1,15 @@
-use Rattle.std.proofs.Common.{subst, sym, refl, ◌∙◌, ◌+◌, arith}
-use Rattle.engine_core.proofs.RunLemmas.{HasRun, all_run, next_run, none_run}
+use Rattle.std.proofs.Common.{◌≡◌, ◌∙◌, ◌+◌, ap, refl, subst, sym, take, [], arith}
+use Rattle.std.proofs.lemmas.List.{take_all}
+use Rattle.engine_core.specs.Calls.{IsRun}
+use Rattle.engine_core.specs.Seen.{seen}
+use Rattle.engine_core.proofs.RunLemmas.{run_next, run_none}
 use Rattle.engine_core.proofs.engine.Engine.drive.Goals as goal
 
 pub loop-event-init : goal.loop-event-init
 loop-event-init g c =
-    let life = g.D.Disk.life c.args.self.now.parts.storage.disk in
-    let log = c.args.self.now.parts.storage.log in
-    let desk = c.args.self.now.parts.desk.state in
+    let e = seen g.D.Disk.life c.args.self.now in
     let none = c.in_ok-outcomes.ensures in (
-      subst (λ outcomes. HasRun life life log log desk desk c.args.events.now 0 outcomes) (sym none.items) (none_run life log desk c.args.events.now),
+      subst (λ outcomes. IsRun e [] outcomes e) (sym none.items) (run_none e),
       none.len,
       none.capacity,
       refl,
@@ -19,37 +20,26 @@ push_reserved-requires g c = omega (arith, c.loop-event.invariant.1, c.loop-even
 
 pub loop-event-preserved : goal.loop-event-preserved
 loop-event-preserved g c =
-    let old = g.D.Disk.life c.args.self.now.parts.storage.disk in
-    let mid = g.D.Disk.life c.loop-event.self.parts.storage.disk in
-    let new = g.D.Disk.life c.step-outcome.new.self.parts.storage.disk in
-    let pushed = c.push_reserved.ensures in (
-      subst
-          (λ outcomes. HasRun old new c.args.self.now.parts.storage.log c.step-outcome.new.self.parts.storage.log c.args.self.now.parts.desk.state c.step-outcome.new.self.parts.desk.state c.args.events.now (c.loop-event.event-index + 1) outcomes)
-          (sym pushed.items)
-          (next_run old mid new c.args.self.now.parts.storage.log c.loop-event.self.parts.storage.log c.step-outcome.new.self.parts.storage.log c.args.self.now.parts.desk.state c.loop-event.self.parts.desk.state
-          c.step-outcome.new.self.parts.desk.state c.args.events.now c.loop-event.event-index c.event-item.result c.loop-event.outcomes.items c.step-outcome.result c.loop-event-test.true c.event-item.is c.loop-event.invariant.0
-          c.step-outcome.ensures.obeyed c.step-outcome.ensures.faults c.step-outcome.ensures.cause c.step-outcome.ensures.stepped),
+    let old = seen g.D.Disk.life c.args.self.now in
+    let mid = seen g.D.Disk.life c.loop-event.self in
+    let new = seen g.D.Disk.life c.step-outcome.new.self in
+    let pushed = c.push_reserved.ensures in
+    let events = c.args.events.now in
+    let i = c.loop-event.event-index in (
+      subst (λ outcomes. IsRun old (take (i + 1) events) outcomes new) (sym pushed.items)
+          (run_next old mid new events i c.event-item.result c.loop-event.outcomes.items c.step-outcome.result c.loop-event-test.true c.event-item.is c.loop-event.invariant.0 c.step-outcome.ensures.answers),
       omega (arith, pushed.len, c.loop-event.invariant.1),
       omega (arith, pushed.capacity, c.loop-event.invariant.2),
       c.step-outcome.ensures.restarted ∙ c.loop-event.invariant.3,
     )
 
-pub returns-clause-obeyed : goal.returns-clause-obeyed
-returns-clause-obeyed g c = c.loop-event.invariant.0.obeyed
-
-pub returns-clause-faults : goal.returns-clause-faults
-returns-clause-faults g c = c.loop-event.invariant.0.faults
-
-pub returns-clause-cause : goal.returns-clause-cause
-returns-clause-cause g c = c.loop-event.invariant.0.cause
-
-pub returns-clause-each : goal.returns-clause-each
-returns-clause-each g c = omega (arith, c.loop-event.invariant.0.answered, c.loop-event-test.false, c.loop-event.auto.event-index-end)
-
 pub returns-clause-ran : goal.returns-clause-ran
 returns-clause-ran g c =
-    all_run (g.D.Disk.life c.args.self.now.parts.storage.disk) (g.D.Disk.life c.loop-event.self.parts.storage.disk) c.args.self.now.parts.storage.log c.loop-event.self.parts.storage.log c.args.self.now.parts.desk.state c.loop-event.self.parts.desk.state
-    c.args.events.now c.loop-event.event-index c.loop-event.outcomes.items c.loop-event.invariant.0 c.loop-event-test.false
+    let old = seen g.D.Disk.life c.args.self.now in
+    let new = seen g.D.Disk.life c.loop-event.self in
+    let events = c.args.events.now in
+    let i = c.loop-event.event-index in
+    subst (λ es. IsRun old es c.loop-event.outcomes.items new) (take_all i events c.loop-event-test.false) c.loop-event.invariant.0
 
 pub returns-clause-restarted : goal.returns-clause-restarted
 returns-clause-restarted g c = c.loop-event.invariant.3

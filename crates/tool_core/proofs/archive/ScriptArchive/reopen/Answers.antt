@@ -8,4 +8,4 @@ returns-in-Ok-clause-reopened g c =
 pub returns-in-Err-clause-reopened : goal.returns-in-Err-clause-reopened
 returns-in-Err-clause-reopened g c =
     reopened_not g.D.Disk.life c.args.self c.into_disk.result c.in-Err.field-0.refusal c.in-Err.field-0.disk c.into_disk.ensures
-    (record { whole = c.in-Err.ensures.refused; other = c.in-Err.ensures.other; cause = c.in-Err.ensures.cause; kept = c.in-Err.ensures.kept })
+    (record { whole = c.in-Err.ensures.refused; refuses = c.in-Err.ensures.other })

@@ -1,0 +1,58 @@
+use Rattle.std.proofs.Common.{rules, ◌≡◌, ◌≢◌, sym, ap, subst, refl, inl, inr, ◌∙◌}
+use Rattle.std.specs.Prelude.{Result, Ok, Err}
+use Rattle.frame_core.specs.declared.refusal.Refusal.{Refusal}
+use Rattle.frame_core.specs.declared.refusal.Refusal.TheVariants.{DeviceFault, NoMemory}
+use Rattle.archive_model.specs.State.{State}
+use Rattle.control_core.specs.Changes.{desk_after, reply_after}
+use Rattle.control_core.specs.Decisions.{Allows}
+use Rattle.control_core.specs.Desk.{DeskState}
+use Rattle.control_core.specs.Exact.{archive_after}
+use Rattle.engine_core.specs.Engine.{EngineState, IsTied}
+use Rattle.engine_core.specs.Making.{after_failure}
+use Rattle.engine_core.proofs.CommitCallLemmas.{exact_commit, tied_refused}
+use Rattle.engine_core.proofs.MakeLemmas.{IsEntryFor, commits_done, commits_refused, made_tied, unmade}
+use Rattle.engine_core.proofs.engine.Engine.make.Goals as goal
+
+pub returns-in_err-entry-clause-made : goal.returns-in_err-entry-clause-made
+returns-in_err-entry-clause-made g c =
+    let is : c.from_residual.result ≡ Err c.in_err-entry.field-0.0 = search rules in
+    unmade _ _ _ _ _ c.from_residual.result refl refl refl (is ∙ ap Err c.in_err-entry.ensures.err)
+
+pub returns-in_err-reserve-clause-made : goal.returns-in_err-reserve-clause-made
+returns-in_err-reserve-clause-made g c =
+    let is : c.from_residual-in_err-reserve.result ≡ Err c.in_err-reserve.field-0.0 = search rules in
+    unmade _ _ _ _ _ c.from_residual-in_err-reserve.result refl refl c.in_err-reserve.ensures.state (is ∙ ap Err c.in_err-reserve.ensures.err)
+
+pub invariant_of-self-in-Ok : goal.invariant_of-self-in-Ok
+invariant_of-self-in-Ok g c =
+    let d = c.args.self.now.desk.state in
+    let went = c.in-Ok.ensures in
+    let adds = went.adds in
+    let entry : IsEntryFor d c.args.command c.in_ok-entry.entry = record { is = λ s next. (let known : s.next ≡ c.next_recording.result = next ∙ sym c.next_recording.ensures in c.in_ok-entry.ensures.ok s (search (rules, known))) } in
+    let desk : desk_after d c.args.command ≡ c.accept.new.self.state = sym (c.accept.ensures ∙ ap (λ (s : DeskState). desk_after s c.args.command) c.in_ok-reserve.ensures.state) in
+    record { tied = subst (IsTied c.commit.new.self.log) desk (made_tied c.args.self.now.storage.log c.commit.new.self.log d c.args.command c.in_ok-entry.entry c.args.self.now.tied c.requires.works c.requires.requested entry adds.header adds.works adds.counted) }
+
+pub returns-in-Ok-clause-made : goal.returns-in-Ok-clause-made
+returns-in-Ok-clause-made g c =
+    let d = c.args.self.now.desk.state in
+    let went = c.in-Ok.ensures in
+    let entry : IsEntryFor d c.args.command c.in_ok-entry.entry = record { is = λ s next. (let known : s.next ≡ c.next_recording.result = next ∙ sym c.next_recording.ensures in c.in_ok-entry.ensures.ok s (search (rules, known))) } in
+    commits_done _ _ c.args.command c.in_ok-entry.entry c.args.self.now.tied c.requires.works c.requires.allowed c.requires.requested entry went.changes c.reply-reply.result
+    (c.reply-reply.ensures.reply ∙ ap (λ (s : DeskState). reply_after s c.args.command) c.in_ok-reserve.ensures.state)
+    (c.accept.ensures ∙ ap (λ (s : DeskState). desk_after s c.args.command) c.in_ok-reserve.ensures.state)
+    went.adds went.moves
+
+pub returns-in-Err-clause-made : goal.returns-in-Err-clause-made
+returns-in-Err-clause-made g c =
+    let d = c.args.self.now.desk.state in
+    let went = c.in-Err.ensures in
+    let entry : IsEntryFor d c.args.command c.in_ok-entry.entry = record { is = λ s next. (let known : s.next ≡ c.next_recording.result = next ∙ sym c.next_recording.ensures in c.in_ok-entry.ensures.ok s (search (rules, known))) } in
+    let same = c.failed.ensures.same in
+    rw same (
+    commits_refused _ _ c.args.command c.in_ok-entry.entry c.args.self.now.tied c.requires.works c.requires.allowed c.requires.requested entry went.changes c.in-Err.refusal
+    (c.failed.ensures.state ∙ ap (λ (s : DeskState). after_failure c.in-Err.refusal s) c.in_ok-reserve.ensures.state)
+    went.adds went.moves
+    )
+
+pub returns-in-Err-clause-quiet : goal.returns-in-Err-clause-quiet
+returns-in-Err-clause-quiet g c = λ other. c.in-Err.ensures.quiet (λ is. other (c.failed.ensures.same ∙ is))

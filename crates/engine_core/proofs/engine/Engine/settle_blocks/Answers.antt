@@ -1,0 +1,89 @@
+use Rattle.std.proofs.Common.{rules, ◌≡◌, sym, subst, ℤ, Ok, to_z, of_z, w64}
+use Rattle.segment_store.specs.declared.layout.Layout.{Layout}
+use Rattle.segment_store.specs.Layout.{IsFromStart, IsLayout}
+use Rattle.archive_model.specs.declared.reply.Reply.TheVariants as replies
+use Rattle.catalogue_log.specs.declared.entry.Entry.TheVariants as entries
+use Rattle.engine_core.specs.Engine.{EngineState, IsTied}
+use Rattle.engine_core.specs.Seen.{seen}
+use Rattle.engine_core.proofs.CommitCallLemmas.{tied_refused}
+use Rattle.engine_core.proofs.SettleCallLemmas.{SettlesTo, asked, settled_layout, settled_start, settled_there, settled_tied, settles, settling_done, settling_failed}
+use Rattle.engine_core.proofs.engine.Engine.settle_blocks.Goals as goal
+
+pub settle-requires-clause-layout : goal.settle-requires-clause-layout
+settle-requires-clause-layout g c =
+    subst IsLayout (sym c.layout_of-layout.ensures)
+    (settled_layout c.args.self.now.desk.state c.args.session.now c.args.recording.now c.args.written.now c.in-Some.known.now c.in-Some.ensures.keeps c.requires.decided c.in-Some.ensures.found)
+
+pub settle-requires-clause-recorded : goal.settle-requires-clause-recorded
+settle-requires-clause-recorded g c =
+    let at = to_z w64 (of_z w64 c.args.written.now.first) in
+    let same : c.args.written.now.first ≡ at = search rules in
+    subst (λ (p : ℤ). IsFromStart c.layout_of-layout.result p) same
+    (subst (λ (l : Layout). IsFromStart l c.args.written.now.first) (sym c.layout_of-layout.ensures)
+    (settled_start c.args.self.now.desk.state c.args.session.now c.args.recording.now c.args.written.now c.in-Some.known.now c.in-Some.ensures.keeps c.requires.decided c.in-Some.ensures.found))
+
+pub returns-in_default-clause-settled : goal.returns-in_default-clause-settled
+returns-in_default-clause-settled g c =
+    absurd (settled_there c.args.self.now.desk.state c.args.session.now c.args.recording.now c.args.written.now c.in_default.ensures.keeps c.requires.decided c.in_default.ensures.found)
+
+pub settle-requires-in-Ok-clause-room : goal.settle-requires-in-Ok-clause-room
+settle-requires-in-Ok-clause-room g c = (settles c.args.self.now.desk.state c.args.session.now c.args.recording.now c.args.written.now c.requires.decided).room
+
+pub invariant_of-self : goal.invariant_of-self
+invariant_of-self g c =
+    let desk = c.args.self.now.desk.state in
+    let log = c.args.self.now.storage.log in
+    let n = c.args.session.now in
+    let id = c.args.recording.now in
+    let w = c.args.written.now in
+    let layout = c.layout_of-layout.result in
+    let first = to_z w64 (of_z w64 w.first) in
+    let last = to_z w64 (of_z w64 w.last) in
+    let number = to_z w64 (of_z w64 id) in
+    let same_first : w.first ≡ first = search rules in
+    let same_last : w.last ≡ last = search rules in
+    let same_id : id ≡ number = search rules in
+    let asks = asked desk n id w layout first last number c.in-Some.known.now c.requires.decided c.in-Some.ensures.found c.layout_of-layout.ensures same_first same_last same_id in
+    record { tied = settled_tied log desk n id w layout first (entries.Settle number last) c.args.self.now.tied asks c.settle.new.self.log c.settle-in-Ok.new.self.state c.in-Ok.ensures.adds.header c.in-Ok.ensures.adds.works c.in-Ok.ensures.adds.counted c.settle-in-Ok.ensures }
+
+pub returns-in-Ok-clause-settled : goal.returns-in-Ok-clause-settled
+returns-in-Ok-clause-settled g c =
+    let life = g.D.Disk.life in
+    let old = seen life c.args.self.now in
+    let new : EngineState = record { life = life c.settle.new.self.disk; log = c.settle.new.self.log; desk = c.settle-in-Ok.new.self.state } in
+    let n = c.args.session.now in
+    let id = c.args.recording.now in
+    let w = c.args.written.now in
+    let layout = c.layout_of-layout.result in
+    let first = to_z w64 (of_z w64 w.first) in
+    let last = to_z w64 (of_z w64 w.last) in
+    let number = to_z w64 (of_z w64 id) in
+    let same_first : w.first ≡ first = search rules in
+    let same_last : w.last ≡ last = search rules in
+    let same_id : id ≡ number = search rules in
+    let entry = entries.Settle number last in
+    let asks = asked old.desk n id w layout first last number c.in-Some.known.now c.requires.decided c.in-Some.ensures.found c.layout_of-layout.ensures same_first same_last same_id in
+    subst (λ (z : ℤ). SettlesTo old new n id w layout first entry c.args.self.now.tied asks c.in-Ok.ensures.keeps (Ok (replies.Settled z))) same_last
+    (settling_done old new n id w layout first entry c.args.self.now.tied asks c.in-Ok.ensures.keeps c.in-Ok.ensures.adds c.settle-in-Ok.ensures c.in-Ok.ensures.moves)
+
+pub invariant_of-self-in-Err : goal.invariant_of-self-in-Err
+invariant_of-self-in-Err g c =
+    record { tied = subst (IsTied c.settle.new.self.log) (sym c.failed.ensures.state) (tied_refused c.args.self.now.storage.log c.settle.new.self.log c.args.self.now.desk.state c.in-Err.refusal c.args.self.now.tied c.in-Err.ensures.adds.kept) }
+
+pub returns-clause-settled : goal.returns-clause-settled
+returns-clause-settled g c =
+    let life = g.D.Disk.life in
+    let old = seen life c.args.self.now in
+    let new : EngineState = record { life = life c.settle.new.self.disk; log = c.settle.new.self.log; desk = c.failed.new.desk.state } in
+    let n = c.args.session.now in
+    let id = c.args.recording.now in
+    let w = c.args.written.now in
+    let layout = c.layout_of-layout.result in
+    let first = to_z w64 (of_z w64 w.first) in
+    let last = to_z w64 (of_z w64 w.last) in
+    let number = to_z w64 (of_z w64 id) in
+    let same_first : w.first ≡ first = search rules in
+    let same_last : w.last ≡ last = search rules in
+    let same_id : id ≡ number = search rules in
+    let asks = asked old.desk n id w layout first last number c.in-Some.known.now c.requires.decided c.in-Some.ensures.found c.layout_of-layout.ensures same_first same_last same_id in
+    settling_failed old new n id w layout first (entries.Settle number last) c.args.self.now.tied asks c.in-Err.ensures.keeps c.in-Err.refusal c.failed.result c.failed.ensures.same c.in-Err.ensures.adds c.failed.ensures.state c.in-Err.ensures.moves

@@ -1,0 +1,26 @@
+-- What a call says of the engine that it was made on.
+use Rattle.std.specs.Prelude.{◌≡◌, Result}
+use Rattle.disk_core.specs.Life.{Life}
+use Rattle.frame_core.specs.declared.refusal.Refusal.{Refusal}
+use Rattle.archive_model.specs.declared.reply.Reply.{Reply}
+use Rattle.control_core.specs.declared.event.Event.{Event}
+use Rattle.control_core.specs.Exact.{Archive}
+use Rattle.engine_core.specs.declared.engine.Engine.{Engine}
+use Rattle.engine_core.specs.Engine.{EngineState, new_archive}
+use Rattle.engine_core.specs.Consistent.{IsCrashConsistent}
+use Rattle.engine_core.specs.Calls.{AnswersEvent}
+
+module _ {D : Type 0} (life : D → Life) where
+  -- the engine as its calls see it
+  abbrev pub seen : Engine D → EngineState
+  seen e = record { life = life e.storage.disk; log = e.storage.log; desk = e.desk.state }
+
+  -- the engine answered an event
+  pub record HasAnswered (old new : Engine D) (event : Event) (result : Result Reply Refusal) : Type 0 where
+    pub answers : AnswersEvent (seen old) (seen new) event result
+    pub restarted : new.restarted ≡ old.restarted
+
+  -- the engine keeps this archive, which is crash-consistent
+  pub record KeepsArchive (e : Engine D) (a : Archive) : Type 0 where
+    pub desk : e.desk.state ≡ a.desk
+    pub consistent : IsCrashConsistent (life e.storage.disk) e.storage.log a
