@@ -131,7 +131,7 @@ fn note(desk: &mut Desk, last: i64) -> Result<(), Refusal> {
     let Some(known) = desk.recording(&found.session.recording) else {
         return Err(Refusal::UnknownRecording);
     };
-    if known.recorded != 0 || last < 0 || last > 65_536 {
+    if known.recorded != 0 || last < 0 || last > 131_072 {
         return Err(Refusal::BadPosition);
     }
     desk.note_written(&0, found.index, &Written { first: 0, last });
