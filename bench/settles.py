@@ -1,12 +1,14 @@
 #!/usr/bin/env python3
-"""Measures the program over a folder: settles beside a plain program, a settle's system calls, a replay and an opening.
+"""Measures the program over a folder: settles beside a plain program that makes the same writes and syncs and does nothing
+else (plain_settles.rs), a settle's system calls, a replay and an opening.
 
-Usage: bench/settles.py <program> <plain program> <settles of a run>, as bench/settles.sh runs it.
+Usage: bench/settles.py [--settles N] [program], on the file system of TRIAL_ROOM, else that of TMPDIR.
 
 A run of settles is one `block` line each, read from a file. Runs come in turn as proved, plain, plain, proved, so that a
 file system that grows slower does so for both; medians are compared. Answers are looked at, so that no line was refused.
 The folders of the replay and of the opening are written here, by docs/STORAGE.md.
 """
+import argparse
 import os
 import re
 import shutil
@@ -17,6 +19,7 @@ import time
 from collections.abc import Sequence
 from pathlib import Path
 
+from measure import compiled, seconds
 from tool import MTU, Fault, Stream, bank, file_system, program, room, run, settle_entry, stop_entry
 
 STREAM = Stream(term_length=2**30, segment_length=2**30)
@@ -31,14 +34,6 @@ ENTRIES = 100_000
 def message(place: int, length: int) -> bytes:
     """A message of some length at a position, with a payload that tells the position."""
     return STREAM.message(place, place.to_bytes(8, "little") * ((length - 32) // 8))
-
-
-def seconds(words: Sequence[str | Path], given: Path | None = None, into: Path | None = None) -> float:
-    """How long a command takes, with its standard input from a file and its output into one."""
-    with open(given or "/dev/null", "rb") as lines, open(into or "/dev/null", "wb") as told:
-        begin = time.monotonic()
-        subprocess.run(words, stdin=lines, stdout=told, check=True)
-        return time.monotonic() - begin
 
 
 def write_lines(path: Path, settles: int, frames: int, length: int) -> None:
@@ -162,18 +157,17 @@ def measure_opening(trial: Trial) -> None:
 
 
 def main() -> int:
-    tool, plain, settles = program(sys.argv[1]), Path(sys.argv[2]), int(sys.argv[3])
+    words = argparse.ArgumentParser(description="Measures the program over a folder.")
+    words.add_argument("program", nargs="?")
+    words.add_argument("--settles", type=int, default=4_000, help="settles of a run")
+    asked = words.parse_args()
     with room() as path:
-        print(f"{settles} settles a run, {TURNS} times proved, plain, plain, proved, on {file_system(path)}", flush=True)
-        trial = Trial(tool, plain, path)
-        try:
-            compare_settles(trial, settles)
-            count_calls(trial)
-            measure_replay(trial)
-            measure_opening(trial)
-        except Fault as fault:
-            print(fault)
-            return 1
+        print(f"{asked.settles} settles a run, {TURNS} times proved, plain, plain, proved, on {file_system(path)}", flush=True)
+        trial = Trial(program(asked.program), compiled("plain_settles.rs", path), path)
+        compare_settles(trial, asked.settles)
+        count_calls(trial)
+        measure_replay(trial)
+        measure_opening(trial)
     return 0
 
 

@@ -1,8 +1,8 @@
 #!/usr/bin/env python3
 """Lets the file system of a folder run full under an archive, and asks what is there afterwards.
 
-Usage: bench/full_disk.py <program> <folder>, as bench/full_disk.sh runs it; the program may be an empty word, as nothing is
-named then, and the folder's file system has to be a small one.
+Usage: trials/full_disks.py [program]. It mounts a tmpfs of 4 MiB and an ext4 of 8 MiB; what may not be mounted here is skipped,
+and said to be.
 
 The disk runs full under the writing of a block, of an entry of the catalogue, and of the entry by which an opening stops the
 recordings that were active. Each time the line that meets it is DeviceFault, further changes are Broken, what was settled is
@@ -15,7 +15,8 @@ import subprocess
 import sys
 from pathlib import Path
 
-from tool import TIMESTAMP, Fault, Session, Stream, program, run
+from mounts import Skipped, make_ext4, mounted
+from tool import TIMESTAMP, Fault, Session, Stream, expect, program, room, run
 
 STREAM = Stream(term_length=2**30, segment_length=2**30)
 LENGTH = 1_408  # bytes of a frame
@@ -34,11 +35,6 @@ def frames(begin: int) -> list[tuple[int, bytes]]:
 def block(session: int, begin: int) -> str:
     """The line that records the block of a position."""
     return f"block {session} " + "".join(text.hex() for _, text in frames(begin))
-
-
-def expect(what: str, told: object, right: object) -> None:
-    if told != right:
-        raise Fault(f"{what}: {str(told)[:200]}, and not {str(right)[:200]}")
 
 
 class Archive:
@@ -178,16 +174,35 @@ def full_at_an_opening(archive: Archive) -> str:
     return "full at an opening: it is refused until there is room, and then nothing is lost"
 
 
-def main() -> int:
-    tool, disk = program(sys.argv[1]), Path(sys.argv[2])
-    for part in (full_in_a_segment, full_in_the_catalogue, full_at_an_opening):
+PARTS = full_in_a_segment, full_in_the_catalogue, full_at_an_opening
+
+
+def try_all(tool: Path, work: Path, disk: Path) -> None:
+    """Each part on a small file system. An archive of which something was found wrong is copied out of it."""
+    for part in PARTS:
         archive = Archive(tool, disk)
         try:
-            print(part(archive))
+            print(f"{disk.name}, {part(archive)}")
         except Fault as fault:
-            print(f"{part.__name__}: {fault}")
-            return 1
+            shutil.copytree(archive.folder, work / "archive")
+            raise Fault(f"{disk.name}, {part.__name__}: {fault}") from fault
         archive.end()
+
+
+def main() -> int:
+    tool = program(sys.argv[1] if len(sys.argv) > 1 else None)
+    with room() as work:
+        try:
+            with mounted(work / "tmpfs", "-t", "tmpfs", "-o", "size=4m", "tmpfs") as disk:
+                try_all(tool, work, disk)
+        except Skipped as why:
+            print(f"tmpfs: skipped, {why}")
+        try:
+            make_ext4(work / "image", 8 * 2**20)
+            with mounted(work / "ext4", "-o", "loop", work / "image") as disk:
+                try_all(tool, work, disk)
+        except Skipped as why:
+            print(f"ext4: skipped, {why}")
     return 0
 
 

@@ -1,5 +1,5 @@
 /* Loaded before the C library's allocator (LD_PRELOAD), it refuses the request for memory whose number FAIL_AT says, and
-   with SHOW tells how many there were. bench/refusing.py builds it and runs programs with it. */
+   with SHOW tells how many there were. trials/refused_memory.py builds it and runs programs with it. */
 #define _GNU_SOURCE
 #include <dlfcn.h>
 #include <stdio.h>

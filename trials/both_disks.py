@@ -6,9 +6,12 @@ both have to give the test's text, byte for byte; those over another disk are ru
 Then each command is run on archives that are whole, damaged, absent or in use: its status, and what it prints on either
 stream.
 
-Usage: bench/folder_and_memory.py [program]. Prints what differs, and ends with status 1 where anything does.
+Usage: trials/both_disks.py [program]. Prints what differs and the folder that it lies in, and ends with status 1 where
+anything does.
 """
+import os
 import re
+import shutil
 import subprocess
 import sys
 import tempfile
@@ -49,11 +52,16 @@ class Trial:
 
     @contextmanager
     def folder(self, *scripts: str) -> Iterator[Path]:
-        """A folder, over which some scripts have been run."""
+        """A folder, over which some scripts have been run. Where an answer in the block is wrong, a copy of it stays."""
+        before = self.wrong
         with room() as path:
             for script in scripts:
                 self.ended("run", path, given=script)
             yield path
+            if self.wrong > before:
+                kept = tempfile.mkdtemp(prefix="trial-", dir=os.environ.get("TRIAL_ROOM"))
+                shutil.copytree(path, kept, symlinks=True, dirs_exist_ok=True)
+                print(f"  what failed lies in {kept}")
 
     def ended(self, *words: str | Path, given: str = "", into: str | None = None) -> Ended:
         """Status, standard output and standard error of a command."""

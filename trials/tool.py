@@ -1,5 +1,6 @@
-"""The built program, and the bytes that scripts give it: what the scripts beside this file share."""
+"""The built program, the bytes that scripts give it and the folders that they work in: what trials and measures share."""
 import os
+import shutil
 import signal
 import struct
 import subprocess
@@ -27,11 +28,25 @@ def program(named: str | None) -> Path:
 
 
 @contextmanager
-def room() -> Iterator[Path]:
-    """A temporary folder, which goes when the block ends, and where the script is told to end."""
+def room(default: str | None = None) -> Iterator[Path]:
+    """A new folder below that of TRIAL_ROOM, else below a default one. It goes when the block ends, also where the script is
+    told to end. Where something is found wrong it stays, that is told, and the script ends with status 1."""
     signal.signal(signal.SIGTERM, lambda *_: sys.exit(1))
-    with tempfile.TemporaryDirectory() as path:
-        yield Path(path)
+    path = Path(tempfile.mkdtemp(prefix="trial-", dir=os.environ.get("TRIAL_ROOM") or default))
+    try:
+        yield path
+    except Fault as fault:
+        sys.exit(f"{fault}\nwhat failed lies in {path}")
+    except BaseException:
+        shutil.rmtree(path, ignore_errors=True)
+        raise
+    shutil.rmtree(path, ignore_errors=True)
+
+
+def expect(what: str, told: object, right: object) -> None:
+    """Asks that an answer is the right one."""
+    if told != right:
+        raise Fault(f"{what}: {str(told)[:200]}, and not {str(right)[:200]}")
 
 
 def file_system(folder: str | Path) -> str:

@@ -7,7 +7,7 @@ that was answered `settled` has to be there. Those sent behind it may be there, 
 recording is replayed after each round, and all of them at the end.
 
 Prints rounds, frames and losses, and ends with status 1 where anything is wrong. A kill takes no power away: what the system
-was given stays, synced or not. What a loss of power may leave is tried on the disk in memory (docs/SCENARIOS.md).
+was given stays, synced or not. What a loss of power may leave is tried by power_cuts.py, and on the disk in memory (docs/SCENARIOS.md).
 """
 import argparse
 import random
@@ -216,8 +216,7 @@ def main() -> int:
                 storm.round()
             storm.end()
         except Fault as fault:
-            print(f"{storm.tally()}\nround {storm.rounds}: {fault}")
-            return 1
+            raise Fault(f"{storm.tally()}\nround {storm.rounds}: {fault}") from fault
     print(storm.tally())
     return 0
 
