@@ -4,7 +4,7 @@
 Usage: tools/sessions.py [program]            without a program the one in crates/archive_tool/out
 Each block of `console` is a session, which begins at the top of the repository: lines that begin with `$ ` are commands for
 bash, and under each stands all that it prints on either stream. `rt run --` and `archive_tool` are the program. What lies in
-/tmp lies in a folder that is the page's own and goes at its end.
+/var/tmp lies in a folder that is the page's own and goes at its end.
 What proves (`rt try`, `rt ci`, `tools/libraries.py`) is not run again. Status 1 where anything differs.
 """
 import os
@@ -40,10 +40,10 @@ def differences(page: Path, program: Path, room: str) -> Iterator[str]:
             if PROVES.search(command):
                 continue
             given = PROGRAM.sub(f"{shlex.quote(str(program))} ", command.replace("python3 tools/libraries.py && ", ""))
-            words = ["bash", "-c", re.sub(r"/tmp\b", room, given) + f"\npwd > {room}/.folder"]
+            words = ["bash", "-c", given.replace("/var/tmp", room) + f"\npwd > {room}/.folder"]
             ran = subprocess.run(words, cwd=folder, stdout=subprocess.PIPE, stderr=subprocess.STDOUT, text=True)
             folder = Path(room, ".folder").read_text().strip()
-            if ran.stdout.replace(room, "/tmp") != told:
+            if ran.stdout.replace(room, "/var/tmp") != told:
                 yield f"{page.relative_to(ROOT)}: $ {command}\n  told:  {ran.stdout!r}\n  right: {told!r}"
 
 

@@ -4,7 +4,7 @@
 The worked scripts are read from tool_tests. Those over an empty disk are run over memory and over a folder, and
 both have to give the test's text, byte for byte; those over another disk are run over a folder that was made to be like it.
 Then each command is run on archives that are whole, damaged, absent or in use: its status, and what it prints on either
-stream.
+stream. Then what docs/STORAGE.md tells an operator: retention to its end, and what `verify` and `frames` don't see.
 
 Usage: trials/both_disks.py [program]. Prints what differs and the folder that it lies in, and ends with status 1 where
 anything does.
@@ -300,10 +300,64 @@ def try_full_output(trial: Trial) -> None:
         trial.expect("create into a full output", trial.ended("create", folder, into="/dev/full"), (3, "", DEVICE_FAULT))
 
 
+def try_retention(trial: Trial) -> None:
+    """Old segments of an active recording go, and then the whole recording: docs/STORAGE.md, "Plan a deployment"."""
+    script = (ROOT / "examples/retention.lines").read_text()
+    swept = "swept 1\nswept 1\nswept 0\n"
+    told = f"started 0 0\nsettled 65536\nsettled 131072\nsettled 196608\npurged 2\n{swept}"
+    with trial.folder() as folder:
+        answer = trial.ended("run", folder, given=script)
+        trial.expect("retention", answer, (0, f"{told}positions 131072 196608 -1\nstopped 196608\nbye\n", ""))
+        names = sorted(it.name for it in folder.glob("*.rec"))
+        trial.expect("the files that stay", names, ["0-131072.rec"])
+        answer = trial.ended("run", folder, given="purge 0\nsweep\nsweep\nlist 0 1\n")
+        trial.expect("a whole recording", answer, (0, "purged-recording\nswept 1\nswept 0\nend 0\n", ""))
+        trial.expect("no file stays", list(folder.glob("*.rec")), [])
+
+
+def try_older_catalogue(trial: Trial) -> None:
+    """Behind an older catalogue `sweep` removes the files of what was recorded since: docs/STORAGE.md, "Plan a deployment"."""
+    stream = Stream(term_length=65_536, segment_length=65_536)
+    pads = [f"block 0 {stream.header(begin, 65_536, 0).hex()}" for begin in range(0, 4 * 65_536, 65_536)]
+    with trial.folder(f"{stream.start('c')}\n{pads[0]}\n") as folder:
+        older = (folder / "catalogue-a.bank").read_bytes()
+        trial.ended("run", folder, given="\n".join([stream.extend(0, 65_536), *pads[1:]]))
+        (folder / "catalogue-a.bank").write_bytes(older)
+        answer = trial.ended("run", folder, given="sweep\n" * 4)
+        trial.expect("an older catalogue", answer, (0, "swept 1\n" * 3 + "swept 0\n", ""))
+
+
+def try_blind_spots(trial: Trial) -> None:
+    """What `verify` does not find, and what `frames` does not show: docs/STORAGE.md, "What verify finds"."""
+    both = f"{START}\nblock 0 {STORED.hex()}\nblock 0 {STREAM.message(64, b'world').hex()}\nstop 0 2000\n"
+    with trial.folder(both) as folder:
+        overwrite(folder / "0-0.rec", 32, b"j")
+        trial.expect("verify of a changed payload", trial.ended("verify", folder), (0, "verified 2\n", ""))
+        entries = [STREAM.start_entry(0, b"c"), settle_entry(0, 64)]
+        overwrite(folder / "catalogue-a.bank", len(bank(1_048_576, entries)) - 1, b"\x00")
+        trial.expect("verify where a gate reads closed", trial.ended("verify", folder), (0, "verified 1\n", ""))
+    with trial.folder(f"{STREAM.start('c', 64)}\nblock 0 {STREAM.message(64, b'hello').hex()}\n") as folder:
+        trial.expect("verify past the base", trial.ended("verify", folder), (0, "verified 1\n", ""))
+        trial.expect("frames past the base", trial.ended("frames", folder / "0-0.rec"), (0, "end 0\n", ""))
+
+
+def try_version(trial: Trial) -> None:
+    """The version names the catalogue's that a new archive has."""
+    with trial.folder() as folder:
+        trial.ended("create", folder)
+        status, told, fault = trial.ended("--version")
+        catalogue = (folder / "catalogue-a.bank").read_bytes()[1]
+        named = told.startswith("archive_tool ") and f"(catalogue {catalogue}, " in told
+        trial.expect(f"--version: {told}", (status, named, fault), (0, True, ""))
+
+
+PARTS = (try_scripts, try_creation, try_absence, try_use_by_two, try_reports, try_catalogues, try_frames, try_words,
+         try_full_output, try_retention, try_older_catalogue, try_blind_spots, try_version)
+
+
 def main() -> int:
     trial = Trial(program(sys.argv[1] if len(sys.argv) > 1 else None))
-    for part in (try_scripts, try_creation, try_absence, try_use_by_two, try_reports, try_catalogues, try_frames, try_words,
-                 try_full_output):
+    for part in PARTS:
         part(trial)
     print(f"{trial.right} answers as they have to be, {trial.wrong} wrong")
     return 1 if trial.wrong else 0
