@@ -15,26 +15,13 @@ import time
 from pathlib import Path
 
 from measure import seconds
+from settles import STREAM, write_lines
 from tool import MTU, Session, Stream, bank, expect, file_system, program, room, run, settle_entry, stop_entry
 
-STREAM = Stream(term_length=2**30, segment_length=2**30)
 SHORT = Stream(term_length=65_536, segment_length=65_536)
 BLOCKS = {"one frame of 64 bytes": (1, 64, 2_000), "46 frames of 1,408 bytes": (46, MTU, 500)}
 HISTORIES = 1_048_576, 16_777_216
 DAY = 86_400
-
-
-def message(position: int, length: int) -> bytes:
-    return STREAM.message(position, bytes(length - 32))
-
-
-def write_lines(path: Path, settles: int, frames: int, length: int) -> None:
-    """A script of a start and so many blocks."""
-    with open(path, "w") as script:
-        print(STREAM.start("c"), file=script)
-        for begin in range(0, settles * frames * length, frames * length):
-            places = range(begin, begin + frames * length, length)
-            print("block 0 " + b"".join(message(at, length) for at in places).hex(), file=script)
 
 
 def made(tool: Path, work: Path) -> Path:
@@ -62,8 +49,8 @@ def measure_settles(tool: Path, work: Path) -> None:
             folder = made(tool, work)
             taken.append(seconds([tool, "run", folder], script))
         rate = settles / min(taken)
-        entries = (folder / "catalogue-a.bank").stat().st_size - 87 - 1
-        print(f"a settle of {name}: {rate:,.0f} a second, {rate * size / 1e6:,.1f} MB/s, {entries / settles:.1f} bytes of the catalogue")
+        entries = (folder / "catalogue-a.bank").stat().st_size - 88
+        print(f"a settle of {name}: {rate:,.0f} a second, {rate * size / 1e6:,.1f} MB/s, {entries / settles:g} bytes of the catalogue")
     counts = []
     for settles in (100, 200):
         write_lines(script, settles, 1, 64)
@@ -108,11 +95,12 @@ def measure_openings(tool: Path, work: Path) -> None:
         print(f"an opening with {count:,} entries: {taken:.3f} s, {most / 1024:.1f} MB at most", flush=True)
     for count in (1, 100, 1_000):
         folder = made(tool, work)
-        lines = [SHORT.start("c"), *(f"block 0 {SHORT.header(n * 65_536, 65_536, 0).hex()}" for n in range(count)), "stop 0 2000"]
-        run([tool, "run", folder], lines)
+        pads = (SHORT.header(begin, 65_536, 0).hex() for begin in range(0, count * 65_536, 65_536))
+        run([tool, "run", folder], [SHORT.start("c"), *(f"block 0 {pad}" for pad in pads), "stop 0 2000"])
         taken, most = opened(tool, folder, work, 0)
         traced = calls([tool, "run", folder], Path("/dev/null"), work)
-        print(f"an opening with {count:,} segment files: {taken:.3f} s, {traced['fdatasync']} fdatasync, {most / 1024:.1f} MB at most", flush=True)
+        syncs = f"{traced['fdatasync']} fdatasync, {traced.get('fsync', 0)} fsync"
+        print(f"an opening with {count:,} segment files: {taken:.3f} s, {syncs}, {most / 1024:.1f} MB at most", flush=True)
 
 
 def count_open_files(tool: Path, work: Path) -> None:
@@ -123,7 +111,7 @@ def count_open_files(tool: Path, work: Path) -> None:
         session.ask(SHORT.start("c"))
         session.ask(f"block {number} {SHORT.header(0, 65_536, 0).hex()}")
         session.ask(f"stop {number} 2000")
-    names = [os.readlink(f"/proc/{session.process.pid}/fd/{it}") for it in os.listdir(f"/proc/{session.process.pid}/fd")]
+    names = [str(it.readlink()) for it in Path(f"/proc/{session.process.pid}/fd").iterdir()]
     own = sum(name.startswith(str(folder)) for name in names)
     print(f"open files behind 200 recordings: {len(names)}, of which {own} are the folder and its files")
     session.end()

@@ -1,16 +1,15 @@
 #!/usr/bin/env python3
 """Measures the program over a folder: settles beside a plain program that makes the same writes and syncs and does nothing
-else (plain_settles.rs), a settle's system calls, a replay and an opening.
+else (plain_settles.rs), and a replay.
 
 Usage: bench/settles.py [--settles N] [program], on the file system of TRIAL_ROOM, else that of TMPDIR.
 
 A run of settles is one `block` line each, read from a file. Runs come in turn as proved, plain, plain, proved, so that a
 file system that grows slower does so for both; medians are compared. Answers are looked at, so that no line was refused.
-The folders of the replay and of the opening are written here, by docs/STORAGE.md.
+The folder of the replay is written here, by docs/STORAGE.md.
 """
 import argparse
 import os
-import re
 import shutil
 import statistics
 import subprocess
@@ -28,7 +27,6 @@ GOAL = 0.9
 BLOCKS = {"a 64-byte frame": (1, 64, 1), "46 frames of 1,408 bytes": (46, MTU, 4)}  # a run has one settle in so many
 REPLAYED = 142_046  # frames of 1,408 bytes, together 200 MB
 POLLED = 4_096  # frames of a poll
-ENTRIES = 100_000
 
 
 def message(place: int, length: int) -> bytes:
@@ -96,25 +94,6 @@ def compare_settles(trial: Trial, most: int) -> None:
         )
 
 
-def traced(trial: Trial, settles: int) -> dict[str, int]:
-    """How often a run of settles makes each system call."""
-    write_lines(trial.script, settles, 1, 64)
-    summary = trial.path / "summary"
-    trial.proved_settles(settles, 64, ["strace", "-f", "-c", "-U", "name,calls", "-o", str(summary)])
-    return {name: int(calls) for name, calls in re.findall(r"^\s*(\w+)\s+(\d+)\s*$", summary.read_text(), re.M)}
-
-
-def count_calls(trial: Trial) -> None:
-    """The system calls of a settle: those of 200 settles less those of 100."""
-    if not shutil.which("strace"):
-        print("system calls of a settle: skipped, there is no strace")
-        return
-    few, many = traced(trial, 100), traced(trial, 200)
-    more = {name: calls - few.get(name, 0) for name, calls in many.items() if name != "total"}
-    told = ", ".join(f"{name} {calls / 100:g}" for name, calls in sorted(more.items()) if calls)
-    print(f"system calls of a settle of a 64-byte frame: {told}", flush=True)
-
-
 def measure_replay(trial: Trial) -> None:
     """Megabytes of frames a second that a replay gives, in polls of 4,096 frames."""
     folder, size = trial.empty_folder(), REPLAYED * MTU
@@ -139,23 +118,6 @@ def measure_replay(trial: Trial) -> None:
     print(f"replay of {size / 1e6:.0f} MB: {size / 1e6 / taken:.0f} MB/s", flush=True)
 
 
-def measure_opening(trial: Trial) -> None:
-    """Seconds to open an archive with many entries, less those for one with three, and to end."""
-    taken = []
-    for entries in (3, ENTRIES):
-        folder = trial.empty_folder()
-        settles = [settle_entry(0, 64 * number) for number in range(1, entries - 1)]
-        whole = [STREAM.start_entry(0, b"c"), *settles, stop_entry(0, 2_000)]
-        (folder / "catalogue-a.bank").write_bytes(bank(1_048_576, whole))
-        trial.script.write_text("positions 0\n")
-        words, end = [trial.tool, "run", folder], 64 * (entries - 2)
-        seconds(words, trial.script, trial.answers)
-        if (told := trial.answers.read_text()) != f"positions 0 {end} {end}\n":
-            raise Fault(f"an archive of {entries} entries answered {told}")
-        taken.append(statistics.median(seconds(words, trial.script) for _ in range(5)))
-    print(f"opening with {ENTRIES:,} entries: {taken[1]:.3f} s, with three {taken[0]:.3f} s")
-
-
 def main() -> int:
     words = argparse.ArgumentParser(description="Measures the program over a folder.")
     words.add_argument("program", nargs="?")
@@ -165,9 +127,7 @@ def main() -> int:
         print(f"{asked.settles} settles a run, {TURNS} times proved, plain, plain, proved, on {file_system(path)}", flush=True)
         trial = Trial(program(asked.program), compiled("plain_settles.rs", path), path)
         compare_settles(trial, asked.settles)
-        count_calls(trial)
         measure_replay(trial)
-        measure_opening(trial)
     return 0
 
 

@@ -180,7 +180,7 @@ def report(specs: Specs, words: set[Word]) -> int:
     files, lines = by_file(words), sum(len(specs.text[word]) for word in words)
     print(f"The main guarantee unfolds to {len(words)} of {len(specs.text)} definitions: {lines} lines in {len(files)} files")
     is_marked = marked(text, words) == text
-    print("docs/DEFINITIONS.md marks their rows" if is_marked else "docs/DEFINITIONS.md marks other rows: tools/definitions.py --mark")
+    print(f"docs/DEFINITIONS.md marks {'their' if is_marked else 'other'} rows{'' if is_marked else ': tools/definitions.py --mark'}")
     return 1 if missing or not is_marked else 0
 
 
