@@ -194,7 +194,7 @@ def unit():
         def seconds() -> float:
             said = "".join(run.lines())
             if run.ran.returncode:
-                sys.exit(f"the unit was not proved:\n{said}")
+                sys.exit(f"the unit was not proved, status {run.ran.returncode}:\n{said}")
             return run.samples.seconds()[UNIT_CRATE, "proof"]
 
         yield seconds
