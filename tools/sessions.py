@@ -3,8 +3,8 @@
 
 Usage: tools/sessions.py [program]            without a program the one in crates/archive_tool/out
 Each block of `console` is a session, which begins at the top of the repository: lines that begin with `$ ` are commands for
-bash, and under each stands all that it prints on either stream. `rt run --` and `archive_tool` are the program. What lies in
-/var/tmp lies in a folder that is the page's own and goes at its end.
+bash, and under each stands all that it prints on either stream, `...` for what proofs tell. `rt run --` and `archive_tool` are
+the program. What lies in /var/tmp lies in a folder that is the page's own and goes at its end.
 What proves (`rt try`, `rt ci`, `tools/libraries.py`) is not run again. Status 1 where anything differs.
 """
 import os
@@ -43,7 +43,7 @@ def differences(page: Path, program: Path, room: str) -> Iterator[str]:
             words = ["bash", "-c", given.replace("/var/tmp", room) + f"\npwd > {room}/.folder"]
             ran = subprocess.run(words, cwd=folder, stdout=subprocess.PIPE, stderr=subprocess.STDOUT, text=True)
             folder = Path(room, ".folder").read_text().strip()
-            if ran.stdout.replace(room, "/var/tmp") != told:
+            if ran.stdout.replace(room, "/var/tmp") != told.rpartition("...\n")[2]:
                 yield f"{page.relative_to(ROOT)}: $ {command}\n  told:  {ran.stdout!r}\n  right: {told!r}"
 
 
