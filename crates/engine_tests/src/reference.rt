@@ -1,13 +1,14 @@
 //! The plain book beside an archive: what it makes of the same events, and both as text.
 
 use crate::calls::{answer, told};
-use archive_model::{Book, Command, Descriptor, Recording, Reply};
+use archive_model::{Command, Descriptor, Reply};
 use control_core::{Event, Request};
 use control_lines::print_reply;
 use disk_core::MemoryDisk;
 use engine_core::Engine;
 use frame_core::limits::LAST_NUMBER;
 use frame_core::{Block, Items, Refusal};
+use plain_book::{Book, Recording};
 use std::alloc::{AllocError, Global};
 
 /// A recorder session: its recording, and the block that it wrote and did not settle.
