@@ -1,6 +1,6 @@
 //! Scenarios of docs/SCENARIOS.md by events.
 
-use crate::calls::{disk_behind, goes_on, plays};
+use crate::calls::{disk_behind, goes_on, made, plays, run};
 use disk_core::{Disk, FileId, MemoryDisk};
 use frame_core::Refusal;
 use std::alloc::Global;
@@ -66,6 +66,56 @@ write 0 65536: written 65600
 #[test]
 fn settle_before_the_next_segment(rt: HostRuntime) -> Result<(), Fail> {
     played(&rt, rt.alloc(), SEGMENT_END)
+}
+
+const BATCH: &str = "\
+start 0: started 0 0
+write 0 0: written 64
+write 0 64: written 128
+write 0 64: error 13 BadBlock
+replay 0 -1 -1: replay 0
+poll 0 10: more 0
+positions 0: positions 0 0 -1
+settle 0: settled 128
+settle 0: settled 128
+poll 0 10: frame 0 2500000000c001000000000007000000e90300002a000000000000000000000068656c6c6f
+frame 64 2500000000c001004000000007000000e90300002a000000000000000000000068656c6c6f
+more 128
+write 0 128: written 192
+write 0 192: written 256
+stop 0 2000: stopped 128
+settle 0: error 12 StaleSession
+extend 0 128: extended 1
+write 1 128: written 192
+settle 1: settled 192
+verify 0: verified 3
+";
+
+/// Several blocks are recorded by one settle; what is written is not given before, and is lost at a stop.
+#[test]
+fn blocks_settled_together(rt: HostRuntime) -> Result<(), Fail> {
+    played(&rt, rt.alloc(), BATCH)
+}
+
+const BATCH_OVER_A_PURGE: &str = "\
+start 0: started 0 0
+pad 0 0: written 65536
+write 0 65536: error 14 NeedSettle
+settle 0: settled 65536
+write 0 65536: written 65600
+write 0 65600: written 65664
+purge-segments 0 65536: purged 1
+write 0 65664: written 65728
+settle 0: settled 65728
+verify 0: verified 3
+sweep: swept 1
+verify 0: verified 3
+";
+
+/// What is written stays where the segments before it are purged.
+#[test]
+fn blocks_written_before_a_purge(rt: HostRuntime) -> Result<(), Fail> {
+    played(&rt, rt.alloc(), BATCH_OVER_A_PURGE)
 }
 
 const TRUNCATION: &str = "\
@@ -185,6 +235,28 @@ verify 0
 close 0
 truncate 0 0
 ";
+
+/// How many changes of the disk 16 blocks make, each settled alone or all together.
+fn changes_of_blocks(alloc: Global, together: bool) -> Result<u64, Refusal> {
+    let mut engine = made(alloc, MemoryDisk::new(alloc), 32)?;
+    run(alloc, &mut engine, "start 0")?;
+    for block in 0_u64..16 {
+        let line = format!(in alloc; "write 0 {}", block.wrapping_mul(64))?;
+        run(alloc, &mut engine, line.as_str())?;
+        if !together || block == 15 {
+            run(alloc, &mut engine, "settle 0")?;
+        }
+    }
+    Ok(engine.into_disk().changes().wrapping_sub(10))
+}
+
+/// A settle makes five changes, three of them syncs, however many blocks it records.
+#[test]
+fn sixteen_blocks_to_one_settle(rt: HostRuntime) -> Result<(), Fail> {
+    assert!(rt; changes_of_blocks(rt.alloc(), true)? == 21);
+    assert!(rt; changes_of_blocks(rt.alloc(), false)? == 96);
+    Ok(())
+}
 
 /// How many calls of the disk a new archive makes for the first of these, behind those of its creation.
 fn calls_for(alloc: Global, most: usize) -> Result<u64, Refusal> {
