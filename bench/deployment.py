@@ -67,7 +67,7 @@ def tell_histories() -> None:
 
 
 def opened(tool: Path, folder: Path, work: Path, end: int) -> tuple[float, int]:
-    """Seconds and the most kilobytes of memory of an opening that answers one line."""
+    """Seconds and the most kilobytes of memory of an opening that answers where the recording ends."""
     script = work / "script"
     script.write_text("positions 0\nquit\n")
     taken, most = [], 0
@@ -91,13 +91,13 @@ def measure_openings(tool: Path, work: Path) -> None:
         entries = [STREAM.start_entry(0, b"c"), *settles, stop_entry(0, 2_000)]
         (folder / "catalogue-a.bank").write_bytes(bank(HISTORIES[1], entries))
         del settles, entries
-        taken, most = opened(tool, folder, work, 0)
+        taken, most = opened(tool, folder, work, 64 * (count - 2))
         print(f"an opening with {count:,} entries: {taken:.3f} s, {most / 1024:.1f} MB at most", flush=True)
     for count in (1, 100, 1_000):
         folder = made(tool, work)
         pads = (SHORT.header(begin, 65_536, 0).hex() for begin in range(0, count * 65_536, 65_536))
         run([tool, "run", folder], [SHORT.start("c"), *(f"block 0 {pad}" for pad in pads), "stop 0 2000"])
-        taken, most = opened(tool, folder, work, 0)
+        taken, most = opened(tool, folder, work, 65_536 * count)
         traced = calls([tool, "run", folder], Path("/dev/null"), work)
         syncs = f"{traced['fdatasync']} fdatasync, {traced.get('fsync', 0)} fsync"
         print(f"an opening with {count:,} segment files: {taken:.3f} s, {syncs}, {most / 1024:.1f} MB at most", flush=True)

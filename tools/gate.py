@@ -143,7 +143,7 @@ def report(samples: Samples, elapsed: float) -> None:
     seconds = samples.seconds()
     print("| Crate | proof, min | proof, s | tests, min | tests, s | edits | edits, min | edits, s |")
     print("|---|---|---|---|---|---|---|---|")
-    for crate in dependencies():
+    for crate in (it for it in dependencies() if any(seconds[it, part] for part in PARTS)):
         cells = [f"{samples.minutes(crate, it):.1f} | {seconds[crate, it]:.0f}" for it in PARTS]
         print(f"| {crate} | {cells[0]} | {cells[1]} | {len(edits_of(crate))} | {cells[2]} |")
     sums = [sum(spent for (_, part), spent in seconds.items() if part == it) for it in PARTS]

@@ -39,7 +39,8 @@ def copied(copy: Path, crates: list[str]) -> Path:
         for part in ("src", "specs", "proofs"):
             if (folder := ROOT / "crates" / crate / part).is_dir():
                 shutil.copytree(folder, copy / "crates" / crate / part)
-    shutil.copy(ROOT / "crates.txt", copy)
+    listed = (ROOT / "crates.txt").read_text().splitlines()
+    (copy / "crates.txt").write_text("".join(f"{it}\n" for it in listed if it.split(":")[0] in crates))
     return copy
 
 

@@ -80,6 +80,8 @@ def try_program(memory: Memory, tool: Path) -> None:
     ways = {number: told(memory.run(words, SCRIPT, number), whole.stdout) for number in range(1, count(whole) + 1)}
     counts = ", ".join(f"{way}: {number}" for way, number in sorted(Counter(ways.values()).items()))
     print(f"{count(whole)} requests refused in turn, told {counts}")
+    if not ways:
+        raise Fault("no request was seen: the program takes its memory elsewhere")
     if wrong := [number for number, way in ways.items() if way == "wrongly"]:
         raise Fault(f"told wrongly: requests {wrong}")
 
