@@ -1,6 +1,6 @@
 //! Scenarios of docs/SCENARIOS.md by events.
 
-use crate::calls::{disk_behind, goes_on, made, plays, run};
+use crate::calls::{disk_behind, goes_on, plays};
 use disk_core::{Disk, FileId, MemoryDisk};
 use frame_core::Refusal;
 use std::alloc::Global;
@@ -235,28 +235,6 @@ verify 0
 close 0
 truncate 0 0
 ";
-
-/// How many changes of the disk 16 blocks make, each settled alone or all together.
-fn changes_of_blocks(alloc: Global, together: bool) -> Result<u64, Refusal> {
-    let mut engine = made(alloc, MemoryDisk::new(alloc), 32)?;
-    run(alloc, &mut engine, "start 0")?;
-    for block in 0_u64..16 {
-        let line = format!(in alloc; "write 0 {}", block.wrapping_mul(64))?;
-        run(alloc, &mut engine, line.as_str())?;
-        if !together || block == 15 {
-            run(alloc, &mut engine, "settle 0")?;
-        }
-    }
-    Ok(engine.into_disk().changes().wrapping_sub(10))
-}
-
-/// A settle makes five changes, three of them syncs, however many blocks it records.
-#[test]
-fn sixteen_blocks_to_one_settle(rt: HostRuntime) -> Result<(), Fail> {
-    assert!(rt; changes_of_blocks(rt.alloc(), true)? == 21);
-    assert!(rt; changes_of_blocks(rt.alloc(), false)? == 96);
-    Ok(())
-}
 
 /// How many calls of the disk a new archive makes for the first of these, behind those of its creation.
 fn calls_for(alloc: Global, most: usize) -> Result<u64, Refusal> {
