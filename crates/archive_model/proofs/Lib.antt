@@ -4,6 +4,8 @@ pub mod ListLemmas
 pub mod HistoriesLemmas
 pub mod AnswerLemmas
 pub mod CommandsLemmas
+pub mod LeftLemmas
+pub mod CopyLemmas
 pub mod RegisterLemmas
 pub mod CutLemmas
 pub mod WellLemmas
