@@ -1,5 +1,5 @@
 -- Recordings that stand under their ids, and what becomes of them there.
-use Rattle.std.proofs.Common.{subst, negsuc, ◌≡◌, ◌<◌, ◌≤◌, ◌+◌, ◌+ℤ◌, ◌≤ℤ◌, ℕ, zero, suc, ℤ, pos, Bool, true, false, cond, nat_lt, List, [], ◌∷◌, ◌++◌, length, map, Some, None, refl, sym, ap, ◌∙◌, arith, slice_get, slice_set, remove, not}
+use Rattle.std.proofs.Common.{get_or, drop-cons, drop, subst, negsuc, ◌≡◌, ◌<◌, ◌≤◌, ◌+◌, ◌+ℤ◌, ◌≤ℤ◌, ℕ, zero, suc, ℤ, pos, Bool, true, false, cond, nat_lt, List, [], ◌∷◌, ◌++◌, length, map, Some, None, refl, sym, ap, ◌∙◌, arith, slice_get, slice_set, remove, not}
 use Rattle.std.proofs.lemmas.Int.{ints}
 use Rattle.std.proofs.lemmas.List.{length-map}
 use Rattle.std.proofs.lemmas.Bool.Decides.{nat_tests, Decides-int_eq}
@@ -73,7 +73,12 @@ module _ {X : Type 0} (number : X → ℤ) where
       let ids : number new ≡ number y = same ∙ ap number (sym is) in rw ids rising
   rise_set low next (y ∷ ys) (suc i) x new rising gets same = (rising.0, rise_set (number y +ℤ pos 1) next ys i x new rising.1 gets same)
 
-  rise_lower : (low least next : ℤ) (xs : List X) → least ≤ℤ low → Rise number low xs next → Rise number least xs next
+  -- they rise still, below a greater number
+  pub rise_more : (low next more : ℤ) (xs : List X) → Rise number low xs next → next ≤ℤ more → Rise number low xs more
+  rise_more low next more [] rising further = omega (arith, ints, rising, further)
+  rise_more low next more (y ∷ ys) rising further = (rising.0, rise_more (number y +ℤ pos 1) next more ys rising.1 further)
+
+  pub rise_lower : (low least next : ℤ) (xs : List X) → least ≤ℤ low → Rise number low xs next → Rise number least xs next
   rise_lower low least next [] lower rising = omega (arith, ints)
   rise_lower low least next (y ∷ ys) lower rising = (omega (arith, ints, rising.0), rising.1)
 
@@ -86,6 +91,14 @@ module _ {X : Type 0} (number : X → ℤ) where
   least_next : (low next : ℤ) (xs : List X) → Rise number low xs next → low ≤ℤ next
   least_next low next [] rising = rising
   least_next low next (y ∷ ys) rising = let more = least_next (number y +ℤ pos 1) next ys rising.1 in omega (arith, ints, rising.0)
+
+  -- the number of each is below the next one
+  pub below_next : (low next : ℤ) (xs : List X) (i : ℕ) (x : X) → i < length xs → x ≡ get_or xs i x → Rise number low (drop i xs) next → (number x +ℤ pos 1) ≤ℤ next
+  below_next low next xs i x within is rising =
+      let all : drop i xs ≡ get_or xs i x ∷ drop (suc i) xs = drop-cons xs i x within in
+      let first : Rise number low (get_or xs i x ∷ drop (suc i) xs) next = subst (λ (ys : List X). Rise number low ys next) all rising in
+      let here : Rise number low (x ∷ drop (suc i) xs) next = subst (λ (y : X). Rise number low (y ∷ drop (suc i) xs) next) (sym is) first in
+      least_next (number x +ℤ pos 1) next (drop (suc i) xs) here.1
 
   pub rise_length : (low next : ℤ) (xs : List X) → Rise number low xs next → (low +ℤ pos (length xs)) ≤ℤ next
   rise_length low next [] rising = omega (arith, ints, rising)

@@ -1,6 +1,6 @@
 //! The recordings of an archive without their frames, by rising id. docs/CONTROL.md, "Recordings".
 
-ghost use Rattle.std.specs.Prelude.{◌≡◌, ◌<◌, ◌<ℤ◌, ◌^◌, ℤ, pos, length, IfSome, IsOk, IfErr, OnOk, OnErr, MatchOption, count_by};
+ghost use Rattle.std.specs.Prelude.{◌≡◌, ◌<◌, ◌<ℤ◌, ◌≤ℤ◌, ◌^◌, ℤ, pos, length, IfOk, IfSome, IsOk, IfErr, OnOk, OnErr, MatchOption, count_by};
 ghost use Rattle.std.specs.Option.{option_copied};
 ghost use Rattle.frame_core.specs.declared.refusal.Refusal.TheVariants.{NoMemory};
 ghost use Rattle.archive_model.specs.Keyed.{Rise};
@@ -133,6 +133,30 @@ impl Register {
         self.map.insert(self.next, begun)?;
         self.next += 1;
         Ok(())
+    }
+
+    /// A copy. `NoMemory`. Costs each recording with its channel.
+    pub fn copy(&self, alloc: Global) -> Result<Register, Refusal>
+        ensures same { IfOk result (λ copy. copy.state ≡ self.now.state) }
+        ensures memory { IfErr result (λ refusal. refusal ≡ NoMemory) }
+    {
+        let next = self.next_recording();
+        let mut copy = Register::new(alloc);
+        for recording in self.map.values().as_slice() {
+            let known = recording.copy(alloc)?;
+            copy.skip_to(&known.descriptor.recording);
+            copy.add(known)?;
+        }
+        copy.skip_to(&next);
+        Ok(copy)
+    }
+
+    /// The next recording gets this id.
+    fn skip_to(&mut self, next: &i64)
+        requires { self.old.state.next ≤ℤ next.now }
+        ensures { self.new.state ≡ record { recordings = self.old.state.recordings; next = next.now } }
+    {
+        self.next = *next;
     }
 
     /// Changes the recording of an id, if there is one. In constant time; does not allocate.

@@ -110,6 +110,20 @@ impl Desk {
         self.is_broken
     }
 
+    /// How many entries of the history count.
+    pub fn counted(&self) -> u32
+        ensures { result ≡ self.now.state.counted }
+    {
+        self.counted
+    }
+
+    /// How many entries of the history may count.
+    pub fn limit(&self) -> u32
+        ensures { result ≡ self.now.state.limit }
+    {
+        self.limit
+    }
+
     /// Whether the history has room for one more entry.
     pub fn has_room(&self) -> bool
         ensures { result ≡ has_room self.now.state }
