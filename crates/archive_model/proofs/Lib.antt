@@ -1,11 +1,8 @@
-pub mod KeptLemmas
 pub mod NumberedLemmas
 pub mod ReplayLemmas
 pub mod ListLemmas
 pub mod HistoriesLemmas
-pub mod AcceptanceLemmas
 pub mod AnswerLemmas
-pub mod BookLemmas
 pub mod CommandsLemmas
 pub mod RegisterLemmas
 pub mod CutLemmas

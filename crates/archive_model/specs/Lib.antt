@@ -12,5 +12,4 @@ pub mod Accepting
 pub mod Histories
 pub mod WellFormed
 -- Representation: what the values of src/ keep.
-pub mod Kept
 pub mod Registered

@@ -1,12 +1,13 @@
-//! The plain book of an archive: scenarios of docs/SCENARIOS.md at archive_model's calls.
+//! The plain book of an archive, and the register: scenarios of docs/SCENARIOS.md at the calls of plain_book and archive_model.
 
 use crate::vectors::{HELLO_AT_0, HELLO_AT_64, HELLO_AT_128, HELLO_IN_NEXT_TERM, PAD_AT_TERM_END};
 use archive_model::{
-    Book, Change, Channel, Command, Descriptor, ExtendFields, PolledFrame, Recording, Register,
-    Registration, Reply, StartFields,
+    Change, Channel, Command, Descriptor, ExtendFields, PolledFrame, Register, Registration, Reply,
+    StartFields,
 };
 use frame_core::limits::LAST_NUMBER;
 use frame_core::{Geometry, Items, Refusal, block_of};
+use plain_book::{Book, Recording};
 use std::alloc::Global;
 use std::process::Abort;
 use std::test::Fail;

@@ -1,7 +1,6 @@
 //! The disk in memory: docs/STORAGE.md, "Crash model" and "Crashes in memory", by example; and each request for
 //! memory refused.
 
-use disk_core::two_slots::replace_text;
 use disk_core::{Disk, Fault, FileId, ListFault, MemoryDisk};
 use frame_core::Refusal;
 use std::process::Abort;
@@ -113,15 +112,6 @@ fn failing_calls_take_effect_and_stopped_ones_do_not(rt: HostRuntime) -> Result<
     disk.stop_after(0);
     assert!(rt; disk.write_at(FILE, 0, &[9]).is_err());
     reads(&rt, &mut disk.crash(&[1])?, FILE, None)
-}
-
-#[test]
-fn a_text_is_replaced(rt: HostRuntime) -> Result<(), Fail> {
-    let mut disk = MemoryDisk::new(rt.alloc());
-    disk.write_at(FileId::BankB, 0, &[0, 1, 2, 0, 0])?;
-    disk.sync(FileId::BankB)?;
-    replace_text(&mut disk, FileId::BankB, &[3, 4])?;
-    reads(&rt, &mut disk, FileId::BankB, Some(&[1, 1, 2, 3, 4]))
 }
 
 // What a crash leaves of a file by the bytes 0, 1 and 9.
