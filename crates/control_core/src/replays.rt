@@ -1,6 +1,6 @@
 //! The replays that are open. docs/CONTROL.md, "Replays".
 
-ghost use Rattle.std.specs.Prelude.{◌≡◌, ◌+ℤ◌, ◌++◌, ◌∷◌, [], ◌<◌, ◌≢◌, not, pos, filter, length, IfErr, OnOk, MatchOption, None};
+ghost use Rattle.std.specs.Prelude.{◌≡◌, ◌+ℤ◌, ◌++◌, ◌∷◌, [], ◌<◌, ◌≢◌, not, pos, filter, length, IfErr, IfOk, OnOk, MatchOption, None};
 ghost use Rattle.std.specs.List.{list_any};
 ghost use Rattle.frame_core.specs.declared.refusal.Refusal.TheVariants.{NoMemory};
 ghost use Rattle.archive_model.specs.Keyed.{find, change, without, Rise};
@@ -47,6 +47,18 @@ impl Replays {
             values: Vec::new(alloc),
             next: 0,
         }
+    }
+
+    /// A copy. Costs the replays that are open. `NoMemory`.
+    pub fn copy(&self, alloc: Global) -> Result<Replays, Refusal>
+        ensures values { IfOk result (λ copy. copy.values ≡ self.now.values) }
+        ensures next { IfOk result (λ copy. copy.next ≡ self.now.next) }
+        ensures memory { IfErr result (λ refusal. refusal ≡ NoMemory) }
+    {
+        Ok(Replays {
+            values: self.values.as_slice().to_vec(alloc)?,
+            next: self.next,
+        })
     }
 
     /// The open replay of a number. Costs the replays that are open.

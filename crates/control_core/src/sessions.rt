@@ -1,6 +1,6 @@
 //! The recorder sessions that are open. docs/CONTROL.md, "Recorder sessions".
 
-ghost use Rattle.std.specs.Prelude.{◌≡◌, ◌+ℤ◌, ◌++◌, ◌∷◌, [], ◌<◌, ◌≢◌, not, pos, filter, IfErr, OnOk, MatchOption, None, Some};
+ghost use Rattle.std.specs.Prelude.{◌≡◌, ◌+ℤ◌, ◌++◌, ◌∷◌, [], ◌<◌, ◌≢◌, not, pos, filter, IfErr, IfOk, OnOk, MatchOption, None, Some};
 ghost use Rattle.frame_core.specs.declared.refusal.Refusal.TheVariants.{NoMemory};
 ghost use Rattle.archive_model.specs.Keyed.{find, change};
 ghost use Rattle.archive_model.specs.Numbered.{IsPlaceOf};
@@ -46,6 +46,18 @@ impl Sessions {
             values: Vec::new(alloc),
             next: 0,
         }
+    }
+
+    /// A copy. Costs the sessions that are open. `NoMemory`.
+    pub fn copy(&self, alloc: Global) -> Result<Sessions, Refusal>
+        ensures values { IfOk result (λ copy. copy.values ≡ self.now.values) }
+        ensures next { IfOk result (λ copy. copy.next ≡ self.now.next) }
+        ensures memory { IfErr result (λ refusal. refusal ≡ NoMemory) }
+    {
+        Ok(Sessions {
+            values: self.values.as_slice().to_vec(alloc)?,
+            next: self.next,
+        })
     }
 
     /// The session of a number. Costs the sessions that are open.
