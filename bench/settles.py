@@ -1,14 +1,15 @@
 #!/usr/bin/env python3
-"""Measures the program over a folder: settles beside a plain program, a settle's system calls, a replay and an opening.
+"""Measures the program over a folder: settles of one block and of 16, beside a plain program that makes the same writes and
+syncs and does nothing else (plain_settles.rs), and a replay.
 
-Usage: bench/settles.py <program> <plain program> <settles of a run>, as bench/settles.sh runs it.
+Usage: bench/settles.py [--settles N] [program], on the file system of TRIAL_ROOM, else that of TMPDIR.
 
-A run of settles is one `block` line each, read from a file. Runs come in turn as proved, plain, plain, proved, so that a
+A run of settles is one `block` line each, or 16 `write` lines and a `settle`, read from a file. Runs come in turn as proved, plain, plain, proved, so that a
 file system that grows slower does so for both; medians are compared. Answers are looked at, so that no line was refused.
-The folders of the replay and of the opening are written here, by docs/STORAGE.md.
+The folder of the replay is written here, by docs/STORAGE.md.
 """
+import argparse
 import os
-import re
 import shutil
 import statistics
 import subprocess
@@ -17,15 +18,22 @@ import time
 from collections.abc import Sequence
 from pathlib import Path
 
+from measure import compiled, seconds
 from tool import MTU, Fault, Stream, bank, file_system, program, room, run, settle_entry, stop_entry
 
 STREAM = Stream(term_length=2**30, segment_length=2**30)
 TURNS = 4
 GOAL = 0.9
-BLOCKS = {"a 64-byte frame": (1, 64, 1), "46 frames of 1,408 bytes": (46, MTU, 4)}  # a run has one settle in so many
+# How many blocks a settle has, frames of a block, and bytes of a frame; a run has one settle in so many.
+SETTLES = {
+    "a 64-byte frame": (1, 1, 64, 1),
+    "a frame of 1,408 bytes": (1, 1, MTU, 1),
+    "16 blocks of 1,408 bytes": (16, 1, MTU, 4),
+    "46 frames of 1,408 bytes": (1, 46, MTU, 4),
+    "16 blocks of 46 frames of 1,408 bytes": (16, 46, MTU, 64),
+}
 REPLAYED = 142_046  # frames of 1,408 bytes, together 200 MB
 POLLED = 4_096  # frames of a poll
-ENTRIES = 100_000
 
 
 def message(place: int, length: int) -> bytes:
@@ -33,21 +41,17 @@ def message(place: int, length: int) -> bytes:
     return STREAM.message(place, place.to_bytes(8, "little") * ((length - 32) // 8))
 
 
-def seconds(words: Sequence[str | Path], given: Path | None = None, into: Path | None = None) -> float:
-    """How long a command takes, with its standard input from a file and its output into one."""
-    with open(given or "/dev/null", "rb") as lines, open(into or "/dev/null", "wb") as told:
-        begin = time.monotonic()
-        subprocess.run(words, stdin=lines, stdout=told, check=True)
-        return time.monotonic() - begin
-
-
-def write_lines(path: Path, settles: int, frames: int, length: int) -> None:
-    """A script of a start and so many blocks, each of so many frames of a length. No sync of a run has to write it."""
+def write_lines(path: Path, settles: int, blocks: int, frames: int, length: int) -> None:
+    """A script of a start and so many settles, each of so many blocks of frames of a length. No sync of a run has to write
+    it."""
     with open(path, "w") as script:
         print(STREAM.start("c"), file=script)
-        for begin in range(0, settles * frames * length, frames * length):
+        for index in range(settles * blocks):
+            begin = index * frames * length
             places = range(begin, begin + frames * length, length)
-            print("block 0 " + "".join(message(place, length).hex() for place in places), file=script)
+            print("block 0 " if blocks == 1 else "write 0 ", *(message(place, length).hex() for place in places), sep="", file=script)
+            if blocks > 1 and index % blocks == blocks - 1:
+                print("settle 0", file=script)
         script.flush()
         os.fsync(script.fileno())
 
@@ -75,49 +79,30 @@ class Trial:
             taken = time.monotonic() - begin
         last = told.decode().splitlines()[-1]
         if last != f"settled {settles * size}":
-            raise Fault(f"the last of {settles} blocks of {size} bytes was answered {last}")
+            raise Fault(f"the last of {settles} settles of {size} bytes was answered {last}")
         return taken
 
-    def plain_settles(self, settles: int, size: int) -> float:
-        """Seconds of the same settles by the plain program."""
-        return seconds([self.plain, self.empty_folder(), str(settles), str(size)])
+    def plain_settles(self, settles: int, blocks: int, size: int) -> float:
+        """Seconds of the same settles by the plain program, each of so many blocks of a size."""
+        return seconds([self.plain, self.empty_folder(), str(settles), str(blocks), str(size)])
 
 
 def compare_settles(trial: Trial, most: int) -> None:
-    """Settles a second of both programs, by runs of so many at most."""
-    for name, (frames, length, part) in BLOCKS.items():
-        settles, size, proved, plain = most // part, frames * length, [], []
-        write_lines(trial.script, settles, frames, length)
+    """Settles a second of both programs, by runs of so many at most, and megabytes a second of the proved one."""
+    for name, (blocks, frames, length, part) in SETTLES.items():
+        settles, size, proved, plain = most // part, blocks * frames * length, [], []
+        write_lines(trial.script, settles, blocks, frames, length)
         for _ in range(TURNS):
             proved.append(settles / trial.proved_settles(settles, size))
-            plain.append(settles / trial.plain_settles(settles, size))
-            plain.append(settles / trial.plain_settles(settles, size))
+            plain.append(settles / trial.plain_settles(settles, blocks, size // blocks))
+            plain.append(settles / trial.plain_settles(settles, blocks, size // blocks))
             proved.append(settles / trial.proved_settles(settles, size))
         medians = statistics.median(proved), statistics.median(plain)
         print(
-            f"settles of {name}: {medians[0]:.0f} a second ({min(proved):.0f} to {max(proved):.0f}), plain "
-            f"{medians[1]:.0f} ({min(plain):.0f} to {max(plain):.0f}): {medians[0] / medians[1]:.2f} of it, goal {GOAL}",
+            f"settles of {name}: {medians[0]:.0f} a second ({min(proved):.0f} to {max(proved):.0f}), {medians[0] * size / 1e6:.1f} MB/s, "
+            f"plain {medians[1]:.0f} ({min(plain):.0f} to {max(plain):.0f}): {medians[0] / medians[1]:.2f} of it, goal {GOAL}",
             flush=True,
         )
-
-
-def traced(trial: Trial, settles: int) -> dict[str, int]:
-    """How often a run of settles makes each system call."""
-    write_lines(trial.script, settles, 1, 64)
-    summary = trial.path / "summary"
-    trial.proved_settles(settles, 64, ["strace", "-f", "-c", "-U", "name,calls", "-o", str(summary)])
-    return {name: int(calls) for name, calls in re.findall(r"^\s*(\w+)\s+(\d+)\s*$", summary.read_text(), re.M)}
-
-
-def count_calls(trial: Trial) -> None:
-    """The system calls of a settle: those of 200 settles less those of 100."""
-    if not shutil.which("strace"):
-        print("system calls of a settle: skipped, there is no strace")
-        return
-    few, many = traced(trial, 100), traced(trial, 200)
-    more = {name: calls - few.get(name, 0) for name, calls in many.items() if name != "total"}
-    told = ", ".join(f"{name} {calls / 100:g}" for name, calls in sorted(more.items()) if calls)
-    print(f"system calls of a settle of a 64-byte frame: {told}", flush=True)
 
 
 def measure_replay(trial: Trial) -> None:
@@ -144,36 +129,16 @@ def measure_replay(trial: Trial) -> None:
     print(f"replay of {size / 1e6:.0f} MB: {size / 1e6 / taken:.0f} MB/s", flush=True)
 
 
-def measure_opening(trial: Trial) -> None:
-    """Seconds to open an archive with many entries, less those for one with three, and to end."""
-    taken = []
-    for entries in (3, ENTRIES):
-        folder = trial.empty_folder()
-        settles = [settle_entry(0, 64 * number) for number in range(1, entries - 1)]
-        whole = [STREAM.start_entry(0, b"c"), *settles, stop_entry(0, 2_000)]
-        (folder / "catalogue-a.bank").write_bytes(bank(1_048_576, whole))
-        trial.script.write_text("positions 0\n")
-        words, end = [trial.tool, "run", folder], 64 * (entries - 2)
-        seconds(words, trial.script, trial.answers)
-        if (told := trial.answers.read_text()) != f"positions 0 {end} {end}\n":
-            raise Fault(f"an archive of {entries} entries answered {told}")
-        taken.append(statistics.median(seconds(words, trial.script) for _ in range(5)))
-    print(f"opening with {ENTRIES:,} entries: {taken[1]:.3f} s, with three {taken[0]:.3f} s")
-
-
 def main() -> int:
-    tool, plain, settles = program(sys.argv[1]), Path(sys.argv[2]), int(sys.argv[3])
+    words = argparse.ArgumentParser(description="Measures the program over a folder.")
+    words.add_argument("program", nargs="?")
+    words.add_argument("--settles", type=int, default=4_000, help="settles of a run")
+    asked = words.parse_args()
     with room() as path:
-        print(f"{settles} settles a run, {TURNS} times proved, plain, plain, proved, on {file_system(path)}", flush=True)
-        trial = Trial(tool, plain, path)
-        try:
-            compare_settles(trial, settles)
-            count_calls(trial)
-            measure_replay(trial)
-            measure_opening(trial)
-        except Fault as fault:
-            print(fault)
-            return 1
+        print(f"{asked.settles} settles a run, {TURNS} times proved, plain, plain, proved, on {file_system(path)}", flush=True)
+        trial = Trial(program(asked.program), compiled("plain_settles.rs", path), path)
+        compare_settles(trial, asked.settles)
+        measure_replay(trial)
     return 0
 
 

@@ -15,23 +15,20 @@ import random
 import shutil
 import subprocess
 import sys
-import tempfile
 from pathlib import Path
 
 from power_cuts import library, script_of, shown
-
-sys.path.insert(0, str(Path(__file__).resolve().parent.parent / "bench"))
-from tool import Fault, program, run  # noqa: E402
+from tool import Fault, program, room, run
 
 DEVICE_FAULT, BROKEN = "error 17 DeviceFault", "error 16 Broken"
 
 
 class Trial:
-    def __init__(self, tool: Path, room: Path, seed: int) -> None:
-        self.tool, self.room, self.folder = tool, room, room / "archive"
+    def __init__(self, tool: Path, work: Path, seed: int) -> None:
+        self.tool, self.work, self.folder = tool, work, work / "archive"
         self.lines = script_of(random.Random(seed))
         self.count = sum(line.startswith("start ") for line in self.lines)
-        self.library = library(room)
+        self.library = library(work)
         self.right = run([tool, "run"], self.lines)
         self.states = [shown(tool, None, self.lines[:number], self.count) for number in range(len(self.lines) + 1)]
         self.reopened = 0
@@ -53,7 +50,7 @@ class Trial:
     def calls(self) -> int:
         """How many calls the script makes."""
         self.begin()
-        counted = self.room / "count"
+        counted = self.work / "count"
         if self.answers(self.lines, TRIAL_COUNT=str(counted)) != self.right:
             raise Fault("the script is answered otherwise in a folder than in memory")
         return int(counted.read_text())
@@ -91,17 +88,14 @@ def main() -> int:
     given.add_argument("--seed", type=int, default=1)
     given.add_argument("program", nargs="?")
     asked = given.parse_args()
-    with tempfile.TemporaryDirectory(dir=os.environ.get("TRIAL_ROOM", "/dev/shm")) as path:
-        try:
-            trial = Trial(program(asked.program), Path(path), asked.seed)
-            calls = trial.calls()
-            for number in range(1, calls + 1):
-                for error in (errno.ENOSPC, errno.EIO):
-                    trial.fail(number, error)
-        except Fault as fault:
-            print(fault)
-            return 1
-    print(f"each of {calls} calls failed twice, seed {asked.seed}: nothing was lost; `reopen` went on after {trial.reopened}")
+    print(f"seed {asked.seed}", flush=True)
+    with room("/dev/shm") as work:
+        trial = Trial(program(asked.program), work, asked.seed)
+        calls = trial.calls()
+        for number in range(1, calls + 1):
+            for error in (errno.ENOSPC, errno.EIO):
+                trial.fail(number, error)
+    print(f"each of {calls} calls failed twice: nothing was lost; `reopen` went on after {trial.reopened}")
     return 0
 
 

@@ -21,13 +21,11 @@ import re
 import shutil
 import subprocess
 import sys
-import tempfile
 from concurrent.futures import ProcessPoolExecutor
 from dataclasses import dataclass, field
 from pathlib import Path
 
-sys.path.insert(0, str(Path(__file__).resolve().parent.parent / "bench"))
-from tool import MTU, Fault, Stream, aligned, program  # noqa: E402
+from tool import MTU, Fault, Stream, aligned, program, room
 
 STREAM = Stream(term_length=65_536, segment_length=131_072)
 TRACED = "openat,pwrite64,ftruncate,fdatasync,fsync,unlink,write,close,flock"
@@ -184,6 +182,7 @@ class Trace:
 def script_of(chance: random.Random) -> list[str]:
     """A script whose lines are mostly answered by success, one line of reply each."""
     lines, ends, sessions, active = [], [], [], []
+    unsettled = {}  # where the first block begins that a recording's session wrote and did not settle
     for _ in range(chance.randint(12, 24)):
         what = chance.random()
         if not ends or (what < 0.12 and len(ends) < 4):
@@ -204,9 +203,17 @@ def script_of(chance: random.Random) -> list[str]:
             if not text:
                 rest = STREAM.term_length - end % STREAM.term_length
                 text, end = STREAM.header(end, rest, 0), end + rest
-            if chance.random() < 0.1 and end % STREAM.term_length == 0:
+            begin, together = ends[recording], chance.random() < 0.4
+            first = unsettled.get(recording, begin)
+            if begin // STREAM.segment_length != first // STREAM.segment_length:
                 lines.append(f"settle {session}")
-            lines.append(f"block {session} {text.hex()}")
+                first = begin
+            lines.append(f"{'write' if together else 'block'} {session} {text.hex()}")
+            if together and chance.random() < 0.6:
+                unsettled[recording] = first
+            else:
+                lines += [f"settle {session}"] * together
+                unsettled.pop(recording, None)
             ends[recording] = end
         elif what < 0.8 and active:
             recording, session = active.pop(chance.randrange(len(active)))
@@ -239,17 +246,17 @@ def shown(tool: Path, folder: Path | None, before: list[str], count: int) -> lis
     return told[skipped:]
 
 
-def library(room: Path) -> Path:
+def library(work: Path) -> Path:
     """The library that lets calls fail or skips them, compiled."""
-    path = room / "failing_calls.so"
+    path = work / "failing_calls.so"
     source = Path(__file__).resolve().parent / "failing_calls.c"
     subprocess.run(["cc", "-O1", "-shared", "-fPIC", "-o", path, source, "-ldl"], check=True)
     return path
 
 
-def traced(tool: Path, lines: list[str], room: Path, skip: int) -> list[Moment]:
+def traced(tool: Path, lines: list[str], work: Path, skip: int) -> list[Moment]:
     """The moments of an archive that answers these lines; each line is sent once the one before it was answered."""
-    folder, log = room / "archive", room / "log"
+    folder, log = work / "archive", work / "log"
     folder.mkdir()
     made = subprocess.run([tool, "create", folder], capture_output=True, text=True)
     if made.stdout != "created\n":
@@ -261,7 +268,7 @@ def traced(tool: Path, lines: list[str], room: Path, skip: int) -> list[Moment]:
     trace.keep()
     traced_by: list[str | Path] = ["strace", "-qq", "-xx", "-s", "400000", "-e", f"trace={TRACED}", "-o", log]
     if skip:
-        traced_by += ["-E", f"LD_PRELOAD={library(room)}", "-E", f"TRIAL_FOLDER={folder}", "-E", f"TRIAL_SKIP={skip}"]
+        traced_by += ["-E", f"LD_PRELOAD={library(work)}", "-E", f"TRIAL_FOLDER={folder}", "-E", f"TRIAL_SKIP={skip}"]
     process = subprocess.Popen([*traced_by, tool, "run", folder], stdin=subprocess.PIPE, stdout=subprocess.PIPE, text=True)
     for line in lines:
         process.stdin.write(line + "\n")
@@ -279,13 +286,13 @@ def traced(tool: Path, lines: list[str], room: Path, skip: int) -> list[Moment]:
     return trace.moments
 
 
-def tried(tool: Path, seed: int, images: int, skip: int) -> tuple[int, int]:
-    """Opens so many images of a script's moments: how many moments and images there were."""
+def tried(tool: Path, seed: int, images: int, skip: int, work: Path) -> tuple[int, int]:
+    """Opens so many images of a script's moments, in a folder of its own: how many moments and images there were."""
     chance = random.Random(seed)
     lines = script_of(chance)
     count = sum(line.startswith("start ") for line in lines)
-    room = Path(tempfile.mkdtemp(prefix="power-cuts-", dir=os.environ.get("TRIAL_ROOM", "/dev/shm")))
-    moments = traced(tool, lines, room, skip)
+    work.mkdir()
+    moments = traced(tool, lines, work, skip)
     right: dict[int, list[str]] = {}
 
     def state(answered: int) -> list[str]:
@@ -293,7 +300,7 @@ def tried(tool: Path, seed: int, images: int, skip: int) -> tuple[int, int]:
             right[answered] = shown(tool, None, lines[:answered], count)
         return right[answered]
 
-    folder = room / "image"
+    folder = work / "image"
     for number in range(images):
         moment = moments[chance.randrange(len(moments))]
         files = moment.image(chance)
@@ -302,10 +309,9 @@ def tried(tool: Path, seed: int, images: int, skip: int) -> tuple[int, int]:
             (folder / name).write_bytes(text)
         told = shown(tool, folder, [], count)
         if told != state(moment.answered) and told != state(min(moment.answered + 1, len(lines))):
-            shutil.rmtree(room)
             raise Fault(f"script of seed {seed}, image {number}, after {moment.answered} answers: {told[:3]}")
         shutil.rmtree(folder)
-    shutil.rmtree(room)
+    shutil.rmtree(work)
     return len(moments), images
 
 
@@ -321,17 +327,18 @@ def main() -> int:
     tool = program(words_given.program)
     each = -(-words_given.images // words_given.scripts)
     moments = images = 0
-    with ProcessPoolExecutor(words_given.jobs) as pool:
-        runs = [pool.submit(tried, tool, words_given.seed * 1_000_003 + number, each, words_given.skip) for number in range(words_given.scripts)]
+    print(f"seed {words_given.seed}", flush=True)
+    with room("/dev/shm") as work, ProcessPoolExecutor(words_given.jobs) as pool:
+        seeds = [words_given.seed * 1_000_003 + number for number in range(words_given.scripts)]
+        runs = [pool.submit(tried, tool, seed, each, words_given.skip, work / str(seed)) for seed in seeds]
         try:
             for one in runs:
                 found = one.result()
                 moments, images = moments + found[0], images + found[1]
-        except Fault as fault:
-            print(fault)
+        except Fault:
             pool.shutdown(cancel_futures=True)
-            return 1
-    print(f"{images} images of {moments} moments of {words_given.scripts} scripts, seed {words_given.seed}: each as it has to be")
+            raise
+    print(f"{images} images of {moments} moments of {words_given.scripts} scripts: each as it has to be")
     return 0
 
 

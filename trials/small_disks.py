@@ -1,7 +1,7 @@
 #!/usr/bin/env python3
 """Lets `archive_tool` meet file systems that are read-only or whose device fails, names that are no files, and a limit of
 open files. Needs the right to mount; what may not be mounted here is skipped, and said to be. (A full disk is tried by
-bench/full_disk.sh.)
+trials/full_disks.py.)
 
 Usage: trials/small_disks.py [program]. Ends with status 1 where anything is wrong.
 """
@@ -11,39 +11,18 @@ import resource
 import shutil
 import subprocess
 import sys
-import tempfile
 from collections.abc import Callable
 from pathlib import Path
 
+from mounts import Skipped, make_ext4, mount, mounted
 from power_cuts import script_of, shown
-
-sys.path.insert(0, str(Path(__file__).resolve().parent.parent / "bench"))
-from tool import Fault, Stream, program, run  # noqa: E402
+from tool import Fault, Stream, expect, program, room, run
 
 BROKEN, DEVICE_FAULT = "error 16 Broken", "error 17 DeviceFault"
 STREAM = Stream(term_length=65_536, segment_length=131_072)
 BIG = Stream(term_length=2**30, segment_length=2**30)
 LINES = script_of(random.Random(7))
 COUNT = sum(line.startswith("start ") for line in LINES)
-
-
-class Skipped(Exception):
-    """What is not to be had on this machine."""
-
-
-def expect(what: str, told: object, right: object) -> None:
-    if told != right:
-        raise Fault(f"{what}: {str(told)[:200]}, and not {str(right)[:200]}")
-
-
-def mount(*words: str | Path) -> None:
-    made = subprocess.run(["mount", *words], capture_output=True, text=True)
-    if made.returncode != 0:
-        raise Skipped(made.stderr.strip())
-
-
-def unmount(where: Path) -> None:
-    subprocess.run(["umount", "-l", where], check=True)
 
 
 def recorded(tool: Path, folder: Path) -> list[str]:
@@ -61,66 +40,58 @@ def refused(tool: Path, folder: Path) -> None:
     expect("run", told, [BROKEN, DEVICE_FAULT, "bye"])
 
 
-def read_only(tool: Path, room: Path) -> str:
+def read_only(tool: Path, work: Path) -> str:
     """A file system that is mounted read-only: refused, and as it was once it may be written."""
-    disk = room / "disk"
-    disk.mkdir()
-    mount("-t", "tmpfs", "-o", "size=16m", "tmpfs", disk)
-    try:
+    with mounted(work / "disk", "-t", "tmpfs", "-o", "size=16m", "tmpfs") as disk:
         right = recorded(tool, disk / "archive")
         mount("-o", "remount,ro", disk)
         refused(tool, disk / "archive")
         mount("-o", "remount,rw", disk)
         expect("once it may be written", shown(tool, disk / "archive", [], COUNT), right)
-    finally:
-        unmount(disk)
     return "read-only: refused, and nothing was lost"
 
 
-def device_without_room(tool: Path, room: Path) -> str:
+def mount_point_without_its_mount(tool: Path, work: Path) -> str:
+    """An archive in a folder below the mount point is not there without the mount, and nothing is made in its place."""
+    with mounted(work / "disk", "-t", "tmpfs", "-o", "size=16m", "tmpfs") as disk:
+        recorded(tool, disk / "archive")
+    for command in ("run", "list", "verify"):
+        ended = subprocess.run([tool, command, work / "disk/archive"], input="", capture_output=True, text=True)
+        right = 3, "", f"{DEVICE_FAULT}\nthe folder cannot be opened\n"
+        expect(f"{command} without the mount", (ended.returncode, ended.stdout, ended.stderr), right)
+    expect("what was made", list((work / "disk").iterdir()), [])
+    return "a mount point without its mount: an archive in a folder below it is refused, and nothing is made"
+
+
+def recorded_to_a_fault(tool: Path, folder: Path) -> tuple[int, int]:
+    """Records blocks until one meets a device that fails: how many were settled, and where they end."""
+    run([tool, "create", folder])
+    given = "".join(line + "\n" for line in [BIG.start("c"), *blocks(400)])
+    ended = subprocess.run([tool, "run", folder], input=given, capture_output=True, text=True)
+    told = ended.stdout.splitlines()
+    if DEVICE_FAULT not in told:
+        raise Skipped("the device took everything")
+    met = told.index(DEVICE_FAULT)
+    for line in told[met + 1 :]:
+        expect("behind the fault", line, BROKEN)
+    return met - 1, int(told[met - 1].split()[1]) if met > 1 else 0
+
+
+def device_without_room(tool: Path, work: Path) -> str:
     """A device that fails: the loop device's own file finds no room, which is EIO at a sync, until it is taken away."""
-    thin, disk = room / "thin", room / "disk"
-    for path in (thin, disk):
-        path.mkdir()
-    mount("-t", "tmpfs", "-o", "size=12m", "tmpfs", thin)
-    try:
-        image = thin / "image"
-        with open(image, "wb") as file:
-            file.truncate(64 * 2**20)
-        made = subprocess.run(["mkfs.ext4", "-q", "-m", "0", image], capture_output=True, text=True)
-        if made.returncode != 0:
-            raise Skipped(made.stderr.strip())
-        mount("-o", "loop", image, disk)
-        try:
-            folder = disk / "archive"
-            run([tool, "create", folder])
-            lines = [BIG.start("c")]
-            told, sent = [], 0
-            given = "".join(line + "\n" for line in [*lines, *blocks(400)])
-            ended = subprocess.run([tool, "run", folder], input=given, capture_output=True, text=True)
-            told = ended.stdout.splitlines()
-            sent = next((index for index, line in enumerate(told) if line == DEVICE_FAULT), 0)
-            if not sent:
-                raise Skipped("the device took everything")
-            for line in told[sent + 1 :]:
-                expect("behind the fault", line, BROKEN)
-        finally:
-            unmount(disk)
-        with open(thin / "image", "rb") as file, open(room / "image", "wb") as copy:
-            shutil.copyfileobj(file, copy)
-        subprocess.run(["e2fsck", "-f", "-y", room / "image"], capture_output=True)
-        mount("-o", "loop", room / "image", disk)
-        try:
-            settled = int(told[sent - 1].split()[1]) if sent > 1 else 0
-            found = run([tool, "run", disk / "archive"], ["positions 0", "verify 0"])
-            expect("positions", found[0].split()[:2], ["positions", "0"])
-            expect("what is recorded", int(found[0].split()[2]) in (settled, settled + BLOCK), True)
-            expect("verify", found[1], f"verified {int(found[0].split()[2]) // LENGTH}")
-        finally:
-            unmount(disk)
-    finally:
-        unmount(thin)
-    return f"a device that fails: {sent - 1} blocks were settled and are there"
+    image, disk = work / "image", work / "disk"
+    with mounted(work / "thin", "-t", "tmpfs", "-o", "size=12m", "tmpfs") as thin:
+        make_ext4(thin / "image", 64 * 2**20)
+        with mounted(disk, "-o", "loop", thin / "image"):
+            count, settled = recorded_to_a_fault(tool, disk / "archive")
+        shutil.copyfile(thin / "image", image)
+    subprocess.run(["e2fsck", "-f", "-y", image], capture_output=True)
+    with mounted(disk, "-o", "loop", image):
+        found = run([tool, "run", disk / "archive"], ["positions 0", "verify 0"])
+        recorded_to = int(found[0].split()[2])
+        expect("what is recorded", recorded_to in (settled, settled + BLOCK), True)
+        expect("verify", found[1], f"verified {recorded_to // LENGTH}")
+    return f"a device that fails: {count} blocks were settled and are there"
 
 
 LENGTH, FRAMES = 1_408, 46
@@ -137,9 +108,9 @@ def blocks(count: int) -> list[str]:
     return lines
 
 
-def names_that_are_no_files(tool: Path, room: Path) -> str:
+def names_that_are_no_files(tool: Path, work: Path) -> str:
     """A folder, a link, a pipe and a file that may not be read, each under a file's name: one refusal, nothing removed."""
-    folder = room / "archive"
+    folder = work / "archive"
     right = recorded(tool, folder)
     in_the_way = folder / "9-0.rec"
 
@@ -173,9 +144,9 @@ def names_that_are_no_files(tool: Path, room: Path) -> str:
     return "names that are no files: refused or passed over, and nothing was removed"
 
 
-def limit_of_open_files(tool: Path, room: Path) -> str:
+def limit_of_open_files(tool: Path, work: Path) -> str:
     """More files than the limit of open files: the line that meets it is a device fault, and nothing settled is lost."""
-    folder, told = room / "many", []
+    folder = work / "many"
     run([tool, "create", folder])
     frame = STREAM.message(0, b"x").ljust(64, b"\x00").hex()
     lines = [line for n in range(40) for line in (STREAM.start(f"c{n}"), f"block {n} {frame}")]
@@ -191,17 +162,19 @@ def limit_of_open_files(tool: Path, room: Path) -> str:
     return f"a limit of open files: met by line {met}, and nothing was lost"
 
 
+PARTS = names_that_are_no_files, limit_of_open_files, read_only, mount_point_without_its_mount, device_without_room
+
+
 def main() -> int:
     tool = program(sys.argv[1] if len(sys.argv) > 1 else None)
-    for part in (names_that_are_no_files, limit_of_open_files, read_only, device_without_room):
-        with tempfile.TemporaryDirectory() as path:
+    for part in PARTS:
+        with room() as work:
             try:
-                print(part(tool, Path(path)))
+                print(part(tool, work), flush=True)
             except Skipped as why:
                 print(f"{part.__name__}: skipped, {why}")
             except Fault as fault:
-                print(f"{part.__name__}: {fault}")
-                return 1
+                raise Fault(f"{part.__name__}: {fault}") from fault
     return 0
 
 

@@ -34,9 +34,9 @@ create_app = with_rule (word_app (codes "create") (codes "folder")) history_opti
 abbrev pub run_app : App
 run_app = with_rule (new_app (codes "run")) (new_rule (codes "folder"))
 
--- the program, of which one command has to be asked for
+-- the program, which tells its version, and of which one command has to be asked for
 abbrev pub named_tool : App
-named_tool = on_top (λ s. record s { subcommand_required = true; arg_required_else_help = true }) (new_app (codes "archive_tool"))
+named_tool = on_top (λ s. record s { has_version = true; subcommand_required = true; arg_required_else_help = true }) (new_app (codes "archive_tool"))
 
 -- and its commands
 abbrev pub tool_app : App

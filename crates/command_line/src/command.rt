@@ -4,6 +4,7 @@ ghost use Rattle.std.specs.Prelude.{◌≡◌, ◌∷◌, [], ℕ, List, Ok, IfO
 ghost use Rattle.clap.specs.Words.{AddsSubcommand, app_of, fault_of, found_of, kind_of, rows_of, rule_of, subcommand_rows_of};
 ghost use Rattle.command_line.specs.CommandLine.{IsAsked, IsCommand, IsHeld, IsMet, IsPlain, IsWordsFault, create_app, history_option, named_tool, required_word, run_app, tool_app, word_app, words_of};
 
+use crate::version::VERSION;
 use clap::error::ErrorKind;
 use clap::{Arg, ArgMatches, Command, Error, value_parser};
 use std::alloc::{AllocError, Global};
@@ -61,8 +62,9 @@ Statuses: 0 done, 1 refused, 2 a wrong command line, 3 a device fault or damage,
 
 const VERIFY_HELP: &str =
     "Reads each recorded frame of the archive in a folder, and prints for each recording, by rising id, a line \
-`verified <frames>`, or a line `error <number> <name>`. The folder has to be on a local file system, and one process \
-may have it open at a time.";
+`verified <frames>`, or a line `error <number> <name>`. It asks that the header of each frame stands where the one before \
+it ends, and belongs to the recording; bytes of a payload that have changed it does not find, nor that the last entries of \
+the catalogue are gone. The folder has to be on a local file system, and one process may have it open at a time.";
 
 const VERIFY_EXAMPLE: &str = "Example: archive_tool verify /var/lib/recorder
 
@@ -157,6 +159,7 @@ fn named<'a>(alloc: Global) -> Command<'a>
     ensures { app_of result ≡ named_tool }
 {
     Command::new(alloc, "archive_tool")
+        .version(VERSION)
         .about("Records Aeron streams and replays them")
         .long_about(TOOL_HELP)
         .after_help(STATUSES)

@@ -2,5 +2,6 @@
 #![tactic(auto)]
 
 mod command;
+mod version;
 
 pub use command::{ToolCommand, command_of, unreadable_words};

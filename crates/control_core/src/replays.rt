@@ -127,7 +127,8 @@ impl Replays {
     /// Where the replay of a number goes on, which stands at an index. In constant time.
     pub fn set_next(&mut self, number: &i64, index: usize, next: &i64)
         requires { IsPlaceOf replay_number number.now self.old.values index }
-        ensures values { self.new.values ≡ change replay_number number.now (moved_to next.now) self.old.values }
+        ensures values { self.new.values ≡ change replay_number number.now
+            (moved_to next.now) self.old.values }
         ensures next { self.new.next ≡ self.old.next }
     {
         let replay = &mut self.values[index];
@@ -146,7 +147,8 @@ impl Replays {
 
     /// The replays of a recording are gone. Costs the replays that are open.
     pub fn end(&mut self, recording: &i64)
-        ensures values { self.new.values ≡ filter (λ r. not (is_replay_of recording.now r)) self.old.values }
+        ensures values { self.new.values ≡ filter (λ r. not
+            (is_replay_of recording.now r)) self.old.values }
         ensures next { self.new.next ≡ self.old.next }
     {
         self.values.retain(|replay| replay.recording != *recording);

@@ -106,7 +106,7 @@ fn put_place(line: &mut RefusalLine, refusal: &Refusal)
     }
 }
 
-/// The refusal's line, with its end: docs/CONTROL.md, "Refusals". Takes no memory.
+/// The refusal's line, with its end: docs/CONTROL.md, "Refusals". Does not allocate.
 #[tactic(auto, unfolding(crate::specs::RefusalText::refusal_text))]
 pub fn print_refusal(refusal: &Refusal) -> RefusalLine
     ensures { result ≡ refusal_text refusal.now }

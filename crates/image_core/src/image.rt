@@ -68,7 +68,7 @@ impl Model for Image {
 
 impl Image {
     /// An image of the publication that a setup frame tells of, with nothing received. BadFrame with offset 0 where the
-    /// frame may not be used: docs/PROTOCOL.md, "Setup frame". Takes no memory.
+    /// frame may not be used: docs/PROTOCOL.md, "Setup frame". Does not allocate.
     pub fn from_setup(alloc: Global, setup: &Setup) -> Result<Image, Refusal>
         ensures begun { IfOk result (IsBegun setup.now) }
         ensures unusable { OnErr result (IsUsable setup.now → ⊥) }
@@ -101,7 +101,7 @@ impl Image {
         }
     }
 
-    /// Where what was not taken yet begins, in bytes of the stream. Takes no memory.
+    /// Where what was not taken yet begins, in bytes of the stream. Does not allocate.
     pub fn taken(&self) -> i64
         ensures value { result ≡ pos self.now.from }
         ensures small { self.now.from ≤ 2 ^ 61 }
@@ -109,7 +109,7 @@ impl Image {
         self.from as i64
     }
 
-    /// The terms of the publication. Takes no memory.
+    /// The terms of the publication. Does not allocate.
     pub fn geometry(&self) -> &Geometry
         ensures { result.now ≡ self.now.geometry }
     {
@@ -117,7 +117,7 @@ impl Image {
     }
 
     /// The rebuild position, in bytes of the stream: the end of the longest chain of received frames from where the
-    /// image joined. Takes no memory.
+    /// image joined. Does not allocate.
     pub fn rebuilt(&self) -> i64
         ensures here { result ≡ pos (rebuilt self.now) }
         ensures whole { (all : Received) → StandsFor all self.now → result ≡ pos (rebuilt all) }
@@ -126,7 +126,7 @@ impl Image {
     }
 
     /// The high-water mark, in bytes of the stream: the greatest of the position where the image joined, the ends of the
-    /// received frames, and the positions of the publication's heartbeats. Takes no memory.
+    /// received frames, and the positions of the publication's heartbeats. Does not allocate.
     pub fn high(&self) -> i64
         ensures here { result ≡ pos self.now.high }
         ensures whole { (all : Received) → StandsFor all self.now → result ≡ pos all.high }

@@ -78,7 +78,7 @@ impl Feed {
     }
 
     /// Where what was not taken yet begins, in bytes of the stream: nothing is held that ends further past it than the
-    /// stock. Takes no memory.
+    /// stock. Does not allocate.
     pub fn taken(&self) -> i64
         ensures value { result ≡ pos self.now.from }
         ensures stock { HoldsItsStock self.now }
@@ -86,14 +86,14 @@ impl Feed {
         self.image.taken()
     }
 
-    /// The rebuild position, in bytes of the stream. Takes no memory.
+    /// The rebuild position, in bytes of the stream. Does not allocate.
     pub fn rebuilt(&self) -> i64
         ensures { result ≡ pos (rebuilt self.now) }
     {
         self.image.rebuilt()
     }
 
-    /// Whether something was rebuilt and not taken. Takes no memory.
+    /// Whether something was rebuilt and not taken. Does not allocate.
     pub fn has_block(&self) -> bool
         ensures { IsTrue result ↔ (self.now.from < rebuilt self.now) }
     {
@@ -101,7 +101,7 @@ impl Feed {
     }
 
     /// A request for what is missing first, as far as the window and the stock have room for it. None where nothing is
-    /// missing, or there is no room. Takes no memory.
+    /// missing, or there is no room. Does not allocate.
     pub fn request(&self) -> Option<Nak>
         ensures { MatchOption result (AsksNothing self.now) (Asks self.now) }
     {

@@ -62,7 +62,7 @@ impl Model for Merge {
 impl Merge {
     ghost use Rattle.merge_core.specs.Merge.{opened, answer_to, after_replay_frame, after_live_frame, after_take, next_frame};
 
-    /// A merge whose output begins at a position, in bytes of the stream. Takes no memory.
+    /// A merge whose output begins at a position, in bytes of the stream. Does not allocate.
     pub fn new(alloc: Global, geometry: Geometry, position: i64) -> Merge
         requires low { pos 0 ≤ℤ position }
         requires high { position <ℤ (pos (2 ^ 31) *ℤ geometry.term_length) }
@@ -78,7 +78,7 @@ impl Merge {
     }
 
     /// Where the output stands: the end of the frame that was taken last, or the position at which the merge began, in
-    /// bytes of the stream. Takes no memory.
+    /// bytes of the stream. Does not allocate.
     pub fn cursor(&self) -> i64
         ensures { result ≡ pos self.now.cursor }
     {
@@ -86,7 +86,7 @@ impl Merge {
     }
 
     /// Whether the live stream is joined: the cursor was once the end of a live frame that had been held, or ignored
-    /// when its end was the cursor or a held frame had its position and end. Takes no memory.
+    /// when its end was the cursor or a held frame had its position and end. Does not allocate.
     pub fn is_merged(&self) -> bool
         ensures { result ≡ self.now.is_merged }
     {
@@ -149,7 +149,7 @@ impl Merge {
         }
     }
 
-    /// The frame that is held at the cursor, if there is one: the cursor is then at its end. Takes no memory. Costs the
+    /// The frame that is held at the cursor, if there is one: the cursor is then at its end. Does not allocate. Costs the
     /// logarithm of what is held.
     pub fn take(&mut self) -> Option<Frame>
         ensures frame { result ≡ next_frame self.old }

@@ -1,0 +1,30 @@
+"""What measures share: the module of the built program, plain Rust programs to measure beside it, and how long a command takes."""
+import resource
+import subprocess
+import sys
+import time
+from collections.abc import Sequence
+from pathlib import Path
+
+HERE = Path(__file__).resolve().parent
+sys.path.insert(0, str(HERE.parent / "trials"))
+
+
+def compiled(source: str, work: Path) -> Path:
+    """A plain Rust program beside this file, compiled into a folder."""
+    program = work / source.removesuffix(".rs")
+    subprocess.run(["rustc", "-O", "--edition", "2021", "-o", program, HERE / source], check=True)
+    return program
+
+
+def seconds(words: Sequence[str | Path], given: Path | None = None, into: Path | None = None) -> float:
+    """How long a command takes, with its standard input from a file and its output into one."""
+    with open(given or "/dev/null", "rb") as lines, open(into or "/dev/null", "wb") as told:
+        begin = time.monotonic()
+        subprocess.run(words, stdin=lines, stdout=told, check=True)
+        return time.monotonic() - begin
+
+
+def most_memory() -> int:
+    """The most megabytes that a program which has ended held."""
+    return resource.getrusage(resource.RUSAGE_CHILDREN).ru_maxrss // 1024

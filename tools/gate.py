@@ -1,0 +1,217 @@
+#!/usr/bin/env python3
+"""Runs the gate anew and tells what it spent: first in units, the proof of frame_core as it stood in the commit 426571b, which
+is proved beside it; then the minutes and processor seconds of each crate's proof, tests and edits, the longest chain of these
+that wait for one another, and the dearest edits.
+
+Usage: tools/gate.py [NAME..]            runs `rt ci --anew [NAME..]` at the top of the repository; its status is that of rt ci
+The whole has to stay under 90 units, so that two slow cores run it in 180 minutes. The processors should be idle: minutes are
+by the clock. Processor seconds are sampled twice a second from /proc, so up to half a second of each process is missed.
+"""
+import os
+import re
+import subprocess
+import sys
+import tempfile
+import threading
+import time
+from collections import defaultdict
+from contextlib import contextmanager
+from pathlib import Path
+
+from repository import ROOT, dependencies
+
+TICKS = os.sysconf("SC_CLK_TCK")
+PERIOD = 0.5
+PARTS = ("proof", "tests", "edits")
+UNIT, UNIT_CRATE, MOST_UNITS = "426571b", "frame_core", 90
+DEAREST = 20
+# What processes work at beside a crate's proof and tests: the check that its edits begin with, and the one that ends them.
+BEGIN, END = "begin", "end"
+
+
+def edits_of(crate: str) -> list[str]:
+    """The names of a crate's edits, in the order of their numbers."""
+    return sorted(it.stem for it in (ROOT / "crates" / crate / "must-fail").glob("*.edit"))
+
+
+class Process:
+    """A process of the prover: the crate, and what of it. An edit has its number, or none where it is tried from nothing."""
+
+    def __init__(self, words: list[str], folder: str) -> None:
+        self.crate = words[words.index("--crate-name") + 1]
+        self.folder = folder
+        self.part, self.number = "tests" if "--test" in words else "proof", None
+        if "/rt-edit-" in folder + "/":
+            self.part = "edits"
+            seed = os.path.basename(words[words.index("--incremental") + 1]) if "--incremental" in words else ""
+            self.number = int(seed) if seed.isdigit() else BEGIN if seed == "seed" else None
+
+
+class Samples:
+    """What each part of each crate has taken: processor seconds, and when it was first and last seen."""
+
+    def __init__(self) -> None:
+        self.spent: dict[tuple[int, int], tuple[Process, float]] = {}
+        self.begun: dict[str, str] = {}  # of each crate, the folder of the check that its edits begin with
+        self.seen: dict[tuple[str, str], list[float]] = {}
+
+    def take(self, top: int) -> None:
+        """Notes the processes of the prover below one process."""
+        parents, found = {}, {}
+        for entry in os.listdir("/proc"):
+            if not entry.isdigit():
+                continue
+            try:
+                stat = Path(f"/proc/{entry}/stat").read_text()
+                fields = stat[stat.rindex(")") + 2 :].split()
+                parents[int(entry)] = int(fields[1])
+                words = Path(f"/proc/{entry}/cmdline").read_text().split("\0")
+                if os.path.basename(words[0]) == "rattle" and "--crate-name" in words:
+                    found[int(entry)] = fields, Process(words, os.readlink(f"/proc/{entry}/cwd"))
+            except (OSError, ValueError):
+                continue
+        for number, (fields, process) in found.items():
+            above = number
+            while above in parents and above != top:
+                above = parents[above]
+            if above == top:
+                self.note((number, int(fields[19])), process, (int(fields[11]) + int(fields[12])) / TICKS)
+
+    def note(self, name: tuple[int, int], process: Process, seconds: float) -> None:
+        if process.number == BEGIN and self.begun.setdefault(process.crate, process.folder) != process.folder:
+            process.number = END
+        self.spent[name] = process, seconds
+        part = BEGIN if process.number == BEGIN else process.part
+        self.seen.setdefault((process.crate, part), [time.time(), 0.0])[1] = time.time()
+
+    def seconds(self) -> dict[tuple[str, str], float]:
+        """The processor seconds of each part of each crate."""
+        total: dict[tuple[str, str], float] = defaultdict(float)
+        for process, spent in self.spent.values():
+            total[process.crate, process.part] += spent
+        return total
+
+    def edits(self, crate: str) -> list[tuple[float, str]]:
+        """The processor seconds of each edit, and of the checks that they begin and end with."""
+        names, total = edits_of(crate), defaultdict(float)
+        for process, spent in self.spent.values():
+            if process.crate == crate and process.part == "edits":
+                if isinstance(process.number, int):
+                    what = names[process.number]
+                else:
+                    what = {BEGIN: "(their first check)", END: "(their last check)"}.get(process.number)
+                total[what or (names[0] if len(names) == 1 else "(from nothing)")] += spent
+        return [(spent, f"{crate}/{what}") for what, spent in total.items()]
+
+    def minutes(self, crate: str, part: str) -> float:
+        first, last = self.seen.get((crate, part), (0.0, 0.0))
+        return (last - first) / 60
+
+    def minutes_of_edits(self, crate: str) -> float:
+        """From where a crate is proved, and what its edits begin with is, to its last edit."""
+        known = [self.seen[crate, it][1] for it in ("proof", BEGIN) if (crate, it) in self.seen]
+        last = self.seen.get((crate, "edits"), (0.0, 0.0))[1]
+        return max(0.0, last - max(known, default=last)) / 60
+
+
+def longest_chain(samples: Samples) -> tuple[float, list[str]]:
+    """The chain of parts that wait for one another and take longest, by the clock. What a crate's edits begin with is checked
+    beside its own proof."""
+    below, known = dependencies(), {}
+
+    def proof(crate: str) -> tuple[float, list[str]]:
+        if crate not in known:
+            before = max((proof(it) for it in below[crate]), default=(0.0, []))
+            known[crate] = before[0] + samples.minutes(crate, "proof"), [*before[1], f"{crate} proof"]
+        return known[crate]
+
+    def whole(crate: str) -> tuple[float, list[str]]:
+        minutes, names = proof(crate)
+        start = max((proof(it)[0] for it in below[crate]), default=0.0)
+        edits = samples.minutes_of_edits(crate)
+        ends = [
+            (minutes, names),
+            (start + samples.minutes(crate, "tests"), [*names[:-1], f"{crate} tests"]),
+            (max(minutes, start + samples.minutes(crate, BEGIN)) + edits, [*names, f"{crate} edits"]),
+        ]
+        return max(ends, key=lambda it: it[0])
+
+    return max(whole(crate) for crate in below)
+
+
+def report(samples: Samples, elapsed: float) -> None:
+    seconds = samples.seconds()
+    print("| Crate | proof, min | proof, s | tests, min | tests, s | edits | edits, min | edits, s |")
+    print("|---|---|---|---|---|---|---|---|")
+    for crate in (it for it in dependencies() if any(seconds[it, part] for part in PARTS)):
+        cells = [f"{samples.minutes(crate, it):.1f} | {seconds[crate, it]:.0f}" for it in PARTS]
+        print(f"| {crate} | {cells[0]} | {cells[1]} | {len(edits_of(crate))} | {cells[2]} |")
+    sums = [sum(spent for (_, part), spent in seconds.items() if part == it) for it in PARTS]
+    told = ", ".join(f"{part} {spent / 60:.0f}" for part, spent in zip(PARTS, sums))
+    print(f"\nProcessor minutes: {told}; together {sum(sums) / 60:.0f}. By the clock: {elapsed / 60:.1f} minutes.")
+    minutes, names = longest_chain(samples)
+    print(f"The longest chain: {', '.join(names)}: {minutes:.1f} minutes.")
+    dear = sorted((it for crate in dependencies() for it in samples.edits(crate)), reverse=True)[:DEAREST]
+    print(f"The dearest of the edits, in processor seconds: {', '.join(f'{name} {spent:.0f}' for spent, name in dear)}.")
+
+
+class Run:
+    """A run of rt ci, sampled until it ends."""
+
+    def __init__(self, top: Path, names: list[str]) -> None:
+        self.samples, self.begun = Samples(), time.time()
+        words = ["rt", "ci", "--anew", *names]
+        self.ran = subprocess.Popen(words, cwd=top, stdout=subprocess.PIPE, stderr=subprocess.STDOUT, text=True)
+        self.watcher = threading.Thread(target=self.watch)
+        self.watcher.start()
+
+    def watch(self) -> None:
+        while self.ran.poll() is None:
+            self.samples.take(self.ran.pid)
+            time.sleep(PERIOD)
+
+    def lines(self):
+        """What rt says, until it has ended."""
+        yield from self.ran.stdout
+        self.ran.wait()
+        self.watcher.join()
+
+
+@contextmanager
+def unit():
+    """Begins the proof of the unit beside the block, and gives a function that waits for it: its processor seconds."""
+    with tempfile.TemporaryDirectory() as room:
+        top = Path(room)
+        for part in ("src", "specs", "proofs"):
+            packed = subprocess.run(["git", "archive", UNIT, f"crates/{UNIT_CRATE}/{part}"], cwd=ROOT, stdout=subprocess.PIPE)
+            subprocess.run(["tar", "-x"], cwd=top, input=packed.stdout, check=True)
+        lines = subprocess.run(["git", "show", f"{UNIT}:crates.txt"], cwd=ROOT, capture_output=True, text=True, check=True).stdout
+        own = [line for line in lines.splitlines() if line.startswith(f"{UNIT_CRATE}:")]
+        (top / "crates.txt").write_text(own[0] + "\n")
+        subprocess.run(["git", "init", "-q", top], check=True)
+        run = Run(top, [])
+
+        def seconds() -> float:
+            said = "".join(run.lines())
+            if run.ran.returncode:
+                sys.exit(f"the unit was not proved, status {run.ran.returncode}:\n{said}")
+            return run.samples.seconds()[UNIT_CRATE, "proof"]
+
+        yield seconds
+
+
+def main() -> int:
+    kept = re.compile(r"^rt: |passed|FAILED|NOT ")
+    with unit() as unit_seconds:
+        run = Run(ROOT, sys.argv[1:])
+        said = [line for line in run.lines() if kept.search(line)]
+        elapsed, of_unit = time.time() - run.begun, unit_seconds()
+    units = sum(run.samples.seconds().values()) / of_unit
+    print(f"{units:.1f} units of {of_unit:.0f} processor seconds; the whole product has to stay under {MOST_UNITS}")
+    print("".join(said), end="")
+    report(run.samples, elapsed)
+    return run.ran.returncode
+
+
+if __name__ == "__main__":
+    sys.exit(main())

@@ -1,0 +1,91 @@
+#!/usr/bin/env python3
+"""Proves the libraries that the program stands on side by side, each as soon as those that it stands on are proved.
+
+Usage: tools/libraries.py            status 0 where each library is proved
+`rt` lets one call at a time work in a library and in all below it, so `rt run` proves one after another and leaves half of four
+processors idle. So calls work in copies of the repository, side by side; what is proved in one `rt` takes for the others, and
+at the end for this checkout, before the copies go.
+"""
+import os
+import shutil
+import subprocess
+import sys
+import time
+from concurrent.futures import FIRST_COMPLETED, Future, ThreadPoolExecutor, wait
+from pathlib import Path
+
+from repository import ROOT, dependencies
+
+PROGRAM = "archive_tool"
+COPIES = max(2, (os.cpu_count() or 1) - 1)
+
+
+def below(crate: str, uses: dict[str, list[str]]) -> list[str]:
+    """The libraries that a crate stands on, each after those that it stands on itself."""
+    found: list[str] = []
+    for used in uses[crate]:
+        found += [it for it in [*below(used, uses), used] if it not in found]
+    return found
+
+
+def levels(crate: str, uses: dict[str, list[str]]) -> int:
+    """How many proofs wait for one another above a library, up to the program's."""
+    return max((1 + levels(it, uses) for it in uses if crate in uses[it]), default=0)
+
+
+def copied(copy: Path, crates: list[str]) -> Path:
+    """A copy of the repository with these crates."""
+    for crate in crates:
+        for part in ("src", "specs", "proofs"):
+            if (folder := ROOT / "crates" / crate / part).is_dir():
+                shutil.copytree(folder, copy / "crates" / crate / part)
+    listed = (ROOT / "crates.txt").read_text().splitlines()
+    (copy / "crates.txt").write_text("".join(f"{it}\n" for it in listed if it.split(":")[0] in crates))
+    return copy
+
+
+def prove(crate: str, copy: Path) -> tuple[str, int, str]:
+    """Proves a library in a copy: its name, rt's status and what rt said."""
+    began = time.monotonic()
+    ran = subprocess.run(["rt", "lib", "--jobs", "2"], cwd=copy / "crates" / crate, capture_output=True, text=True)
+    if ran.returncode == 0:
+        print(f"{crate} proved, {time.monotonic() - began:.0f} s", flush=True)
+    return crate, ran.returncode, ran.stdout + ran.stderr
+
+
+def prove_all(left: list[str], uses: dict[str, list[str]], copies: list[Path]) -> str:
+    """Proves libraries, as many at once as there are copies. Gives what rt said where one is not proved."""
+    running: dict[Future, Path] = {}
+    proved: set[str] = set()
+    with ThreadPoolExecutor(len(copies)) as pool:
+        while left or running:
+            ready = sorted((it for it in left if set(uses[it]) <= proved), key=lambda it: levels(it, uses))
+            while ready and copies:
+                crate, copy = ready.pop(), copies.pop()
+                left.remove(crate)
+                running[pool.submit(prove, crate, copy)] = copy
+            for done in wait(running, return_when=FIRST_COMPLETED).done:
+                copies.append(running.pop(done))
+                crate, status, said = done.result()
+                if status:
+                    return said
+                proved.add(crate)
+    return ""
+
+
+def main() -> int:
+    listed = dependencies()
+    left = below(PROGRAM, listed)
+    uses = {it: listed[it] for it in [*left, PROGRAM]}
+    room = ROOT / "out/copies"
+    shutil.rmtree(room, ignore_errors=True)
+    try:
+        said = prove_all(list(left), uses, [copied(room / str(number), left) for number in range(COPIES)])
+        print(said, end="")
+        return 1 if said else max(subprocess.run(["rt", "lib"], cwd=ROOT / "crates" / it).returncode for it in uses[PROGRAM])
+    finally:
+        shutil.rmtree(room, ignore_errors=True)
+
+
+if __name__ == "__main__":
+    sys.exit(main())

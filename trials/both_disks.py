@@ -1,0 +1,367 @@
+#!/usr/bin/env python3
+"""Asks that a folder answers as memory does, and that each command of the program ends as docs/CONTROL.md says.
+
+The worked scripts are read from tool_tests. Those over an empty disk are run over memory and over a folder, and
+both have to give the test's text, byte for byte; those over another disk are run over a folder that was made to be like it.
+Then each command is run on archives that are whole, damaged, absent or in use: its status, and what it prints on either
+stream. Then what docs/STORAGE.md tells an operator: retention to its end, and what `verify` and `frames` don't see.
+
+Usage: trials/both_disks.py [program]. Prints what differs and the folder that it lies in, and ends with status 1 where
+anything does.
+"""
+import os
+import re
+import shutil
+import subprocess
+import sys
+import tempfile
+from collections.abc import Callable, Iterator
+from contextlib import contextmanager
+from pathlib import Path
+
+from tool import ROOT, Session, Stream, bank, program, room, settle_entry
+
+CRATES = ROOT / "crates"
+TEXT = r'"((?:[^"\\]|\\.|\\\n)*)"'
+HEAD = r"fn (\w+)\(rt: HostRuntime\)[^{]*\{\s*"
+TEXTS = rf"{TEXT},\s*{TEXT},?\s*\)"
+OVER_EMPTY = re.compile(rf"{HEAD}check\(\s*rt\.alloc\(\),\s*{TEXTS}")
+OVER_OTHER = re.compile(rf"{HEAD}check_on\(\s*rt\.alloc\(\),\s*(\S.*),\s*{TEXTS}")
+VECTOR = re.compile(r'\(\s*"([A-Z]\w+)",\s*"([0-9a-f]+)",?\s*\)')
+FEWEST_SCRIPTS = 25
+
+STREAM = Stream(term_length=65_536, segment_length=131_072)
+START = STREAM.start("c")
+HELLO = STREAM.message(0, b"hello")
+STORED = HELLO.ljust(64, b"\x00")
+RECORDED = f"{START}\nblock 0 {HELLO.hex()}\n"
+STOPPED = STREAM.descriptor(0, -1, 64, "c") + "\n"
+BAD_PARAMETER, DAMAGED, DEVICE_FAULT = "error 10 BadParameter\n", "error 15 Damaged", "error 17 DeviceFault\n"
+UNOPENED, BUSY = DEVICE_FAULT + "the folder cannot be opened\n", DEVICE_FAULT + "the folder is in use\n"
+NOT_CATALOGUE, NEWER_VERSION, BAD_FRAME = "error 19 NotCatalogue\n", "error 20 NewerVersion\n", "error 21 BadFrame"
+
+Ended = tuple[int, str, str]
+
+
+class Trial:
+    """The program, an empty folder for each question, and how many answers were as they have to be."""
+
+    def __init__(self, tool: Path) -> None:
+        self.tool = tool
+        self.right = self.wrong = 0
+
+    @contextmanager
+    def folder(self, *scripts: str) -> Iterator[Path]:
+        """A folder, over which some scripts have been run. Where an answer in the block is wrong, a copy of it stays."""
+        before = self.wrong
+        with room() as path:
+            for script in scripts:
+                self.ended("run", path, given=script)
+            yield path
+            if self.wrong > before:
+                kept = tempfile.mkdtemp(prefix="trial-", dir=os.environ.get("TRIAL_ROOM"))
+                shutil.copytree(path, kept, symlinks=True, dirs_exist_ok=True)
+                print(f"  what failed lies in {kept}")
+
+    def ended(self, *words: str | Path, given: str = "", into: str | None = None) -> Ended:
+        """Status, standard output and standard error of a command."""
+        with open(into, "wb") if into else tempfile.TemporaryFile() as output:
+            done = subprocess.run([self.tool, *words], input=given.encode(), stdout=output, stderr=subprocess.PIPE)
+            if into:
+                return done.returncode, "", done.stderr.decode()
+            output.seek(0)
+            return done.returncode, output.read().decode(), done.stderr.decode()
+
+    def expect(self, what: str, told: object, right: object) -> None:
+        """Counts an answer, and prints one that is wrong."""
+        if told == right:
+            self.right += 1
+            return
+        self.wrong += 1
+        print(f"{what}\n  told:  {told!r}\n  right: {right!r}")
+
+
+def overwrite(path: Path, offset: int, text: bytes) -> None:
+    """Writes over some bytes of a file."""
+    with open(path, "r+b") as file:
+        file.seek(offset)
+        file.write(text)
+
+
+def damage(folder: Path) -> None:
+    """The first byte of the first recording's first file becomes 0."""
+    overwrite(folder / "0-0.rec", 0, b"\x00")
+
+
+# Scripts, as the tests have them
+
+
+def text_of(literal: str, vectors: dict[str, str]) -> str:
+    """The lines of a text of the tests, in which lines stand apart by `; ` and vectors by their names."""
+    lines = re.sub(r"\\\n\s*", "", literal).split("; ")
+    return "".join(" ".join(vectors.get(word, word) for word in line.split(" ")) + "\n" for line in lines)
+
+
+def make_recorded(trial: Trial, folder: Path) -> None:
+    trial.ended("run", folder, given=RECORDED)
+
+
+def make_damaged(trial: Trial, folder: Path) -> None:
+    make_recorded(trial, folder)
+    damage(folder)
+
+
+def make_short_history(trial: Trial, folder: Path) -> None:
+    trial.ended("create", folder, "--history", "3")
+
+
+def make_no_catalogue(trial: Trial, folder: Path) -> None:
+    (folder / "catalogue-a.bank").write_bytes(bytes(32))
+
+
+MADE: dict[str, Callable[[Trial, Path], None]] = {
+    "recorded(rt.alloc(), MemoryDisk::new(rt.alloc()))?": make_recorded,
+    "damaged(recorded(rt.alloc(), MemoryDisk::new(rt.alloc()))?)?": make_damaged,
+    "with_short_history(rt.alloc())?": make_short_history,
+    "without_catalogue(rt.alloc())?": make_no_catalogue,
+}
+
+
+def try_scripts(trial: Trial) -> None:
+    """Each script of the tests, over memory and a folder, or over a folder that is like its disk."""
+    source = "".join((CRATES / "tool_tests/src" / name).read_text() for name in ("scenarios.rt", "disks.rt"))
+    vectors = dict(VECTOR.findall(source))
+    empty = [(name, text_of(lines, vectors), text_of(told, vectors)) for name, lines, told in OVER_EMPTY.findall(source)]
+    empty.append(("stdin", (CRATES / "archive_tool/stdin").read_text(), (CRATES / "archive_tool/stdout").read_text()))
+    empty += [("no line", "", ""), ("a last line without its end", "list 0 0", "end 0\n"), ("quit", "quit\nlist 0 0\n", "bye\n")]
+    for name, lines, told in empty:
+        trial.expect(f"{name}, over memory", trial.ended("run", given=lines), (0, told, ""))
+        with trial.folder() as folder:
+            trial.expect(f"{name}, over a folder", trial.ended("run", folder, given=lines), (0, told, ""))
+    other = OVER_OTHER.findall(source)
+    for name, disk, lines, told in other:
+        with trial.folder() as folder:
+            MADE[disk](trial, folder)
+            answer = trial.ended("run", folder, given=text_of(lines, vectors))
+            trial.expect(f"{name}, over a folder", answer, (0, text_of(told, vectors), ""))
+    trial.expect("scripts found in the tests", len(empty) + len(other) >= FEWEST_SCRIPTS, True)
+
+
+# Commands
+
+
+def try_creation(trial: Trial) -> None:
+    """An archive is made in a folder without files, with a history of 1 to 16,777,216 entries."""
+    with trial.folder() as folder:
+        trial.expect("create", trial.ended("create", folder), (0, "created\n", ""))
+        trial.expect("the bank", (folder / "catalogue-a.bank").read_bytes(), bank(1_048_576, []))
+        trial.expect("create twice", trial.ended("create", folder), (1, "", BAD_PARAMETER))
+        trial.expect("list nothing", trial.ended("list", folder), (0, "end 0\n", ""))
+        trial.expect("verify nothing", trial.ended("verify", folder), (0, "", ""))
+        trial.expect("run on it", trial.ended("run", folder, given=START), (0, "started 0 0\n", ""))
+        trial.expect("create over a recording", trial.ended("create", folder), (1, "", BAD_PARAMETER))
+    for history in ("1", "16777216"):
+        with trial.folder() as folder:
+            trial.expect(f"history {history}", trial.ended("create", folder, "--history", history), (0, "created\n", ""))
+            trial.expect("its bank", (folder / "catalogue-a.bank").read_bytes(), bank(int(history), []))
+    for history in ("0", "16777217", "4294967295"):
+        with trial.folder() as folder:
+            answer = trial.ended("create", folder, "--history", history)
+            trial.expect(f"history {history}", answer, (1, "", BAD_PARAMETER))
+            trial.expect("nothing is made", list(folder.iterdir()), [])
+
+
+def try_absence(trial: Trial) -> None:
+    """A folder or a file that is not there, which `create` alone makes, and a folder without an archive."""
+    with trial.folder() as folder:
+        for command in ("run", "list", "verify"):
+            trial.expect(f"{command} of nothing", trial.ended(command, folder / "gone"), (3, "", UNOPENED))
+        trial.expect("frames of nothing", trial.ended("frames", folder / "gone"), (3, "", DEVICE_FAULT))
+        trial.expect("create of nothing in nothing", trial.ended("create", folder / "gone" / "new"), (3, "", DEVICE_FAULT))
+        for command in ("list", "verify"):
+            trial.expect(f"{command} without an archive", trial.ended(command, folder), (1, "", NOT_CATALOGUE))
+        trial.expect("nothing is made", list(folder.iterdir()), [])
+        trial.expect("create of nothing", trial.ended("create", folder / "new"), (0, "created\n", ""))
+        trial.expect("list of what was made", trial.ended("list", folder / "new"), (0, "end 0\n", ""))
+        (folder / "file").touch()
+        for command in ("create", "run", "list", "verify"):
+            trial.expect(f"{command} of a file", trial.ended(command, folder / "file"), (3, "", UNOPENED))
+        trial.expect("frames of a folder", trial.ended("frames", folder), (3, "", DEVICE_FAULT))
+        trial.expect("create beside another file", trial.ended("create", folder), (0, "created\n", ""))
+
+
+def try_use_by_two(trial: Trial) -> None:
+    """A folder is one process's at a time, and the next one's as soon as that has ended."""
+    with trial.folder(RECORDED) as folder:
+        first = Session(trial.tool, folder)
+        trial.expect("the first process", first.ask("positions 0"), ["positions 0 64 64"])
+        for command in ("create", "run", "list", "verify"):
+            trial.expect(f"{command} in use", trial.ended(command, folder), (3, "", BUSY))
+        trial.expect("frames in use", trial.ended("frames", folder / "0-0.rec"), (0, "frame 42 0 1 37 c0\nend 1\n", ""))
+        trial.expect("the first process goes on", first.ask("verify 0"), ["verified 1"])
+        trial.expect("its status", first.end(), 0)
+        trial.expect("list behind it", trial.ended("list", folder), (0, STOPPED + "end 1\n", ""))
+
+
+def try_reports(trial: Trial) -> None:
+    """`list` and `verify` of an archive that is whole, and of one with a damaged frame."""
+    second = f"{STREAM.start('b c')}\nstop 1 2000\n"
+    with trial.folder(RECORDED + second) as folder:
+        listed = STOPPED + STREAM.descriptor(1, 2_000, 0, "b c") + "\nend 2\n"
+        trial.expect("list", trial.ended("list", folder), (0, listed, ""))
+        trial.expect("verify", trial.ended("verify", folder), (0, "verified 1\nverified 0\n", ""))
+        damage(folder)
+        trial.expect("list where a frame is damaged", trial.ended("list", folder), (0, listed, ""))
+        right = 3, f"{DAMAGED} 0 0\nverified 0\n", ""
+        trial.expect("verify where a frame is damaged", trial.ended("verify", folder), right)
+        (folder / "0-0.rec").unlink()
+        trial.expect("verify where a file is gone", trial.ended("verify", folder), right)
+    with trial.folder(f"{START}\nstop 0 2000\npurge 0\n{STREAM.start('d')}\n") as folder:
+        right = 0, STREAM.descriptor(1, -1, 0, "d") + "\nend 1\n", ""
+        trial.expect("list behind a purge", trial.ended("list", folder), right)
+        trial.expect("verify behind a purge", trial.ended("verify", folder), (0, "verified 0\n", ""))
+
+
+def try_catalogues(trial: Trial) -> None:
+    """A catalogue that is cut or changed: docs/STORAGE.md, "Opening". A script answers each line but `reopen` by Broken."""
+    whole = bank(3, [STREAM.start_entry(0, b"c"), settle_entry(0, 64)])
+    cases = {
+        "cut to nothing": (b"", 1, NOT_CATALOGUE),
+        "cut in its header": (whole[:31], 1, NOT_CATALOGUE),
+        "cut behind its header": (whole[:32], 3, f"{DAMAGED} -1 32\n"),
+        "cut in its second entry": (whole[:100], 3, f"{DAMAGED} -1 87\n"),
+        "cut in front of its last gate": (whole[:-1], 3, f"{DAMAGED} -1 87\n"),
+        "closed": (b"\x00" + whole[1:], 1, NOT_CATALOGUE),
+        "of a later version": (b"\x01\x02" + whole[2:], 1, NEWER_VERSION),
+        "with an unknown entry": (whole[:33] + b"\x09" + whole[34:], 3, f"{DAMAGED} -1 32\n"),
+    }
+    for what, (text, status, line) in cases.items():
+        with trial.folder() as folder:
+            (folder / "catalogue-a.bank").write_bytes(text)
+            for command in ("list", "verify"):
+                trial.expect(f"{command}, a catalogue {what}", trial.ended(command, folder), (status, "", line))
+            answer = trial.ended("run", folder, given="list 0 1\nreopen\nquit\n")
+            trial.expect(f"run, a catalogue {what}", answer, (0, f"error 16 Broken\n{line}bye\n", ""))
+            trial.expect(f"create, a catalogue {what}", trial.ended("create", folder), (1, "", BAD_PARAMETER))
+            trial.expect("the catalogue stays", (folder / "catalogue-a.bank").read_bytes(), text)
+    with trial.folder() as folder:
+        (folder / "catalogue-a.bank").write_bytes(whole)
+        (folder / "0-0.rec").write_bytes(STORED)
+        trial.expect("a bank by hand", trial.ended("list", folder), (0, STOPPED + "end 1\n", ""))
+        trial.expect("its frames", trial.ended("verify", folder), (0, "verified 1\n", ""))
+
+
+def try_frames(trial: Trial) -> None:
+    """`frames` of a segment file that is whole, cut or bad."""
+    hello, pad = "frame 42 0 1 37 c0\n", STREAM.header(64, 65_472, 0)
+    cases = {
+        "the worked file": (STORED + bytes(64), 0, hello + "end 1\n"),
+        "no byte": (b"", 0, "end 0\n"),
+        "a frame alone": (STORED, 0, hello + "end 1\n"),
+        "a frame without its zeros": (HELLO, 0, hello + "end 1\n"),
+        "a pad whose range is missing": (STORED + pad, 0, hello + "frame 42 64 0 65472 c0\nend 2\n"),
+        "a cut frame": (STORED + HELLO[:-1], 3, hello + f"{BAD_FRAME} 64\n"),
+        "a cut header": (HELLO[:31], 3, f"{BAD_FRAME} 0\n"),
+        "one byte": (b"\x01", 3, f"{BAD_FRAME} 0\n"),
+        "another version": (STORED + HELLO[:4] + b"\x01" + HELLO[5:], 3, hello + f"{BAD_FRAME} 64\n"),
+        "a setup frame": (STORED + HELLO[:6] + b"\x05" + HELLO[7:], 3, hello + f"{BAD_FRAME} 64\n"),
+        "many frames": (STORED * 5_000, 0, hello * 5_000 + "end 5000\n"),
+    }
+    for what, (text, status, told) in cases.items():
+        with trial.folder() as folder:
+            (folder / "0-0.rec").write_bytes(text)
+            trial.expect(f"frames of {what}", trial.ended("frames", folder / "0-0.rec"), (status, told, ""))
+
+
+def try_words(trial: Trial) -> None:
+    """Command lines that are none end with status 2 and a text on standard error, help with 0 and one on standard output."""
+    with trial.folder() as folder:
+        path = str(folder)
+        wrong = [(), ("play",), ("create",), ("list",), ("verify",), ("frames",), ("create", path, path), ("run", path, path)]
+        wrong += [("list", path, path), ("create", path, "--history"), ("create", path, "--history", "x")]
+        wrong += [("create", path, "--history", "4294967296"), ("create", path, "--history", "-1"), ("list", path, "--history", "1")]
+        for words in wrong:
+            status, told, fault = trial.ended(*words)
+            trial.expect(f"wrong words {words}", (status, told, fault != ""), (2, "", True))
+        for words in [("--help",), *((word, "--help") for word in ("create", "run", "list", "verify", "frames"))]:
+            status, told, fault = trial.ended(*words)
+            trial.expect(f"help {words}", (status, told != "", fault), (0, True, ""))
+        trial.expect("nothing is made", list(folder.iterdir()), [])
+
+
+def try_full_output(trial: Trial) -> None:
+    """A standard output that takes nothing is a fault of the device."""
+    with trial.folder(RECORDED) as folder:
+        for words in [("list", folder), ("verify", folder), ("frames", folder / "0-0.rec"), ("--help",)]:
+            trial.expect(f"{words[0]} into a full output", trial.ended(*words, into="/dev/full"), (3, "", DEVICE_FAULT))
+        answer = trial.ended("run", folder, given="list 0 1\n", into="/dev/full")
+        trial.expect("run into a full output", answer, (3, "", DEVICE_FAULT))
+    with trial.folder() as folder:
+        trial.expect("create into a full output", trial.ended("create", folder, into="/dev/full"), (3, "", DEVICE_FAULT))
+
+
+def try_retention(trial: Trial) -> None:
+    """Old segments of an active recording go, and then the whole recording: docs/STORAGE.md, "Plan a deployment"."""
+    script = (ROOT / "examples/retention.lines").read_text()
+    swept = "swept 1\nswept 1\nswept 0\n"
+    told = f"started 0 0\nsettled 65536\nsettled 131072\nsettled 196608\npurged 2\n{swept}"
+    with trial.folder() as folder:
+        answer = trial.ended("run", folder, given=script)
+        trial.expect("retention", answer, (0, f"{told}positions 131072 196608 -1\nstopped 196608\nbye\n", ""))
+        names = sorted(it.name for it in folder.glob("*.rec"))
+        trial.expect("the files that stay", names, ["0-131072.rec"])
+        answer = trial.ended("run", folder, given="purge 0\nsweep\nsweep\nlist 0 1\n")
+        trial.expect("a whole recording", answer, (0, "purged-recording\nswept 1\nswept 0\nend 0\n", ""))
+        trial.expect("no file stays", list(folder.glob("*.rec")), [])
+
+
+def try_older_catalogue(trial: Trial) -> None:
+    """Behind an older catalogue `sweep` removes the files of what was recorded since: docs/STORAGE.md, "Plan a deployment"."""
+    stream = Stream(term_length=65_536, segment_length=65_536)
+    pads = [f"block 0 {stream.header(begin, 65_536, 0).hex()}" for begin in range(0, 4 * 65_536, 65_536)]
+    with trial.folder(f"{stream.start('c')}\n{pads[0]}\n") as folder:
+        older = (folder / "catalogue-a.bank").read_bytes()
+        trial.ended("run", folder, given="\n".join([stream.extend(0, 65_536), *pads[1:]]))
+        (folder / "catalogue-a.bank").write_bytes(older)
+        answer = trial.ended("run", folder, given="sweep\n" * 4)
+        trial.expect("an older catalogue", answer, (0, "swept 1\n" * 3 + "swept 0\n", ""))
+
+
+def try_blind_spots(trial: Trial) -> None:
+    """What `verify` does not find, and what `frames` does not show: docs/STORAGE.md, "What verify finds"."""
+    both = f"{START}\nblock 0 {STORED.hex()}\nblock 0 {STREAM.message(64, b'world').hex()}\nstop 0 2000\n"
+    with trial.folder(both) as folder:
+        overwrite(folder / "0-0.rec", 32, b"j")
+        trial.expect("verify of a changed payload", trial.ended("verify", folder), (0, "verified 2\n", ""))
+        entries = [STREAM.start_entry(0, b"c"), settle_entry(0, 64)]
+        overwrite(folder / "catalogue-a.bank", len(bank(1_048_576, entries)) - 1, b"\x00")
+        trial.expect("verify where a gate reads closed", trial.ended("verify", folder), (0, "verified 1\n", ""))
+    with trial.folder(f"{STREAM.start('c', 64)}\nblock 0 {STREAM.message(64, b'hello').hex()}\n") as folder:
+        trial.expect("verify past the base", trial.ended("verify", folder), (0, "verified 1\n", ""))
+        trial.expect("frames past the base", trial.ended("frames", folder / "0-0.rec"), (0, "end 0\n", ""))
+
+
+def try_version(trial: Trial) -> None:
+    """The version names the catalogue's that a new archive has."""
+    with trial.folder() as folder:
+        trial.ended("create", folder)
+        status, told, fault = trial.ended("--version")
+        catalogue = (folder / "catalogue-a.bank").read_bytes()[1]
+        named = told.startswith("archive_tool ") and f"(catalogue {catalogue}, " in told
+        trial.expect(f"--version: {told}", (status, named, fault), (0, True, ""))
+
+
+PARTS = (try_scripts, try_creation, try_absence, try_use_by_two, try_reports, try_catalogues, try_frames, try_words,
+         try_full_output, try_retention, try_older_catalogue, try_blind_spots, try_version)
+
+
+def main() -> int:
+    trial = Trial(program(sys.argv[1] if len(sys.argv) > 1 else None))
+    for part in PARTS:
+        part(trial)
+    print(f"{trial.right} answers as they have to be, {trial.wrong} wrong")
+    return 1 if trial.wrong else 0
+
+
+if __name__ == "__main__":
+    sys.exit(main())

@@ -1,0 +1,140 @@
+#!/usr/bin/env python3
+"""Refuses each request for memory in turn, one a run, by a library before the C library's allocator (refused_memory.c).
+
+Usage: trials/refused_memory.py [program]   of a script that reaches every line, answered by the program
+       trials/refused_memory.py tests      of the tests `refused_memory_*` of each library's built tests
+
+Each run of the program has to answer `error 18 NoMemory` on one line and go on, or `error 17 DeviceFault` where the disk in
+memory found none; to answer by an archive that is not open, where that was at the first opening; to write what it writes with
+all memory, where the request was made again; or to end with NoMemory on standard error and status 1, what it wrote being a
+beginning of the right output.
+
+In each run of a test a call that finds no memory has to say so and change nothing, and a second try has to succeed; the test
+says so and passes. Then the requests of the tests `counted_memory_*` are counted, which may be no more than MOST says. `rt ci`
+builds these tests, or `rt test` in the crates' folders.
+"""
+import os
+import subprocess
+import sys
+from collections import Counter
+from collections.abc import Sequence
+from pathlib import Path
+
+from tool import ROOT, Fault, program, room
+
+HELLO = "2500000000c00100%s00000007000000e90300002a000000000000000000000068656c6c6f"
+LINES = ["start 1001 7 42 65536 1408 131072 0 1000 c", "block 0 " + HELLO % "00", "write 0 " + HELLO % "40", "settle 0",
+         "list 0 10", "find 0 1001 7 c", "positions 0", "replay 0 0 -1", "poll 0 1", "poll 0 5", "close 0", "verify 0",
+         "merge 42 65536 0", "merge-replay " + HELLO % "00", "merge-live " + HELLO % "40", "merge-take", "merge-state", "no line",
+         "reopen", "truncate 0 64", "extend 0 1001 7 42 65536 1408 64", "block 0 " + HELLO % "40", "stop 0 2000",
+         "purge-segments 0 131072", "purge 0", "sweep", "quit"]
+SCRIPT = "\n".join(LINES).encode()
+WANT = b"error 18 NoMemory\n"
+FAULT = b"error 17 DeviceFault\n"
+BROKEN = b"error 16 Broken\n"
+# How many requests a test may make: 100 polls that each ask for a list and the bytes of one frame, and what comes before.
+MOST = {"archives::counted_memory_of_a_late_poll": 2 * 100 + 50}
+
+
+class Memory:
+    """Runs programs with one request for memory refused, and tells how many requests they make."""
+
+    def __init__(self, work: Path) -> None:
+        self.library = work / "refused_memory.so"
+        source = Path(__file__).resolve().parent / "refused_memory.c"
+        subprocess.run(["cc", "-O1", "-shared", "-fPIC", "-o", self.library, source, "-ldl"], check=True)
+
+    def run(
+        self, words: Sequence[str | Path], given: bytes | None = None, refused: int | None = None
+    ) -> subprocess.CompletedProcess:
+        """Runs a program, with the request of that number refused if one is named. Else `count` tells how many there were."""
+        asked = {"SHOW": "1"} if refused is None else {"FAIL_AT": str(refused)}
+        given_words = os.environ | {"LD_PRELOAD": str(self.library)} | asked
+        return subprocess.run(words, input=given, capture_output=True, env=given_words)
+
+
+def count(whole: subprocess.CompletedProcess) -> int:
+    """How many requests a run made in which none was refused: the last word of its standard error."""
+    return int(whole.stderr.split()[-1])
+
+
+# The program
+
+
+def told(ran: subprocess.CompletedProcess, right: bytes) -> str:
+    """How a run told of the request that was refused."""
+    if ran.returncode == 1 and ran.stderr == WANT and right.startswith(ran.stdout):
+        return "at the end"
+    if ran.returncode != 0 or ran.stderr != b"":
+        return "wrongly"
+    wants, faults = ran.stdout.count(WANT), ran.stdout.count(FAULT)
+    if (wants, faults) == (0, 0):
+        return "nowhere" if ran.stdout == right else "by no archive" if ran.stdout.startswith(BROKEN) else "wrongly"
+    return "on one line" if (wants, faults) == (1, 0) else "as the disk's" if (wants, faults) == (0, 1) else "wrongly"
+
+
+def try_program(memory: Memory, tool: Path) -> None:
+    """Refuses each request of the script."""
+    words = [tool, "run"]
+    whole = memory.run(words, SCRIPT)
+    ways = {number: told(memory.run(words, SCRIPT, number), whole.stdout) for number in range(1, count(whole) + 1)}
+    counts = ", ".join(f"{way}: {number}" for way, number in sorted(Counter(ways.values()).items()))
+    print(f"{count(whole)} requests refused in turn, told {counts}")
+    if not ways:
+        raise Fault("no request was seen: the program takes its memory elsewhere")
+    if wrong := [number for number, way in ways.items() if way == "wrongly"]:
+        raise Fault(f"told wrongly: requests {wrong}")
+
+
+# Tests
+
+
+def names(tests: Path, kind: str) -> list[str]:
+    """The tests of a kind that a crate's built tests have."""
+    listed = subprocess.run([tests, "--list"], capture_output=True, text=True, check=True).stdout.splitlines()
+    return [line.removesuffix(": test") for line in listed if f"::{kind}_" in line]
+
+
+def refuse_each(memory: Memory, tests: Path, name: str) -> None:
+    """Refuses each request of a test in turn."""
+    whole = memory.run([tests, name])
+    if whole.returncode:
+        raise Fault(f"{tests.name} {name}: it fails where no request is refused: {whole.stderr.decode()}")
+    failed = [number for number in range(1, count(whole) + 1) if memory.run([tests, name], refused=number).returncode]
+    print(f"{tests.name} {name}: {count(whole)} requests refused in turn", flush=True)
+    if failed:
+        raise Fault(f"{tests.name} {name}: it fails for the requests {failed}")
+
+
+def count_requests(memory: Memory, tests: Path, name: str) -> None:
+    """Counts the requests of a test."""
+    whole = memory.run([tests, name])
+    print(f"{tests.name} {name}: {count(whole)} requests of at most {MOST[name]}")
+    if whole.returncode or count(whole) > MOST[name]:
+        raise Fault(f"{tests.name} {name}: too many requests, or it fails")
+
+
+def try_tests(memory: Memory) -> None:
+    built = sorted(ROOT.glob("crates/*/out/*_tests"))
+    tried = [(tests, name) for tests in built for name in names(tests, "refused_memory")]
+    if not tried:
+        raise Fault("no tests are built: rt ci builds them, or rt test in their folders")
+    for tests, name in tried:
+        refuse_each(memory, tests, name)
+    for tests in built:
+        for name in names(tests, "counted_memory"):
+            count_requests(memory, tests, name)
+
+
+def main() -> int:
+    with room() as work:
+        memory = Memory(work)
+        if sys.argv[1:] == ["tests"]:
+            try_tests(memory)
+        else:
+            try_program(memory, program(sys.argv[1] if len(sys.argv) > 1 else None))
+    return 0
+
+
+if __name__ == "__main__":
+    sys.exit(main())

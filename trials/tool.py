@@ -1,0 +1,155 @@
+"""The built program, the bytes that scripts give it and the folders that they work in: what trials and measures share."""
+import os
+import shutil
+import signal
+import struct
+import subprocess
+import sys
+import tempfile
+from collections.abc import Iterable, Iterator, Sequence
+from contextlib import contextmanager
+from dataclasses import dataclass
+from pathlib import Path
+
+ROOT = Path(__file__).resolve().parent.parent
+STREAM_ID, SESSION_ID, INITIAL_TERM, MTU, TIMESTAMP = 1_001, 7, 42, 1_408, 1_000
+
+
+class Fault(Exception):
+    """What a script found wrong."""
+
+
+def program(named: str | None) -> Path:
+    """The program that was named, else that of ARCHIVE_TOOL, else the built one."""
+    path = Path(named or os.environ.get("ARCHIVE_TOOL") or ROOT / "crates/archive_tool/out/archive_tool").resolve()
+    if not os.access(path, os.X_OK):
+        sys.exit(f"there is no program {path}")
+    return path
+
+
+@contextmanager
+def room(default: str | None = None) -> Iterator[Path]:
+    """A new folder below that of TRIAL_ROOM, else below a default one. It goes when the block ends, also where the script is
+    told to end. Where something is found wrong it stays, that is told, and the script ends with status 1."""
+    signal.signal(signal.SIGTERM, lambda *_: sys.exit(1))
+    path = Path(tempfile.mkdtemp(prefix="trial-", dir=os.environ.get("TRIAL_ROOM") or default))
+    try:
+        yield path
+    except Fault as fault:
+        sys.exit(f"{fault}\nwhat failed lies in {path}")
+    except BaseException:
+        shutil.rmtree(path, ignore_errors=True)
+        raise
+    shutil.rmtree(path, ignore_errors=True)
+
+
+def expect(what: str, told: object, right: object) -> None:
+    """Asks that an answer is the right one."""
+    if told != right:
+        raise Fault(f"{what}: {str(told)[:200]}, and not {str(right)[:200]}")
+
+
+def file_system(folder: str | Path) -> str:
+    """The kind of file system that a folder lies on."""
+    told = subprocess.run(["df", "--output=fstype", folder], capture_output=True, text=True, check=True).stdout
+    return told.split()[-1]
+
+
+def aligned(length: int) -> int:
+    """A length, rounded up to a multiple of 32."""
+    return -(-length // 32) * 32
+
+
+@dataclass(frozen=True)
+class Stream:
+    """The geometry of a recorded stream: docs/PROTOCOL.md, "Data and pad header"."""
+
+    term_length: int
+    segment_length: int
+
+    def header(self, position: int, length: int, kind: int) -> bytes:
+        """The header of the frame at a position."""
+        term, offset = divmod(position, self.term_length)
+        return struct.pack(
+            "<iBBHiiiiq", length, 0, 0xC0, kind, offset, SESSION_ID, STREAM_ID, INITIAL_TERM + term, 0
+        )
+
+    def message(self, position: int, payload: bytes) -> bytes:
+        """The encoding of a data frame."""
+        return self.header(position, 32 + len(payload), 1) + payload
+
+    def start(self, channel: str, position: int = 0) -> str:
+        """The line that starts a recording."""
+        geometry = f"{INITIAL_TERM} {self.term_length} {MTU} {self.segment_length}"
+        return f"start {STREAM_ID} {SESSION_ID} {geometry} {position} {TIMESTAMP} {channel}"
+
+    def extend(self, recording: int, position: int) -> str:
+        """The line that goes on with a recording which stopped at a position."""
+        return f"extend {recording} {STREAM_ID} {SESSION_ID} {INITIAL_TERM} {self.term_length} {MTU} {position}"
+
+    def descriptor(self, recording: int, stop_timestamp: int, stop: int, channel: str) -> str:
+        """A recording from position 0, as a listing tells it."""
+        geometry = f"{INITIAL_TERM} {self.segment_length} {self.term_length} {MTU}"
+        return (
+            f"recording {recording} {TIMESTAMP} {stop_timestamp} 0 {stop} {geometry} {SESSION_ID} {STREAM_ID} {channel}"
+        )
+
+    def start_entry(self, recording: int, channel: bytes) -> bytes:
+        """The catalogue's entry of a start at position 0: docs/STORAGE.md, "Entries"."""
+        fields = INITIAL_TERM, self.segment_length, self.term_length, MTU, SESSION_ID, STREAM_ID, len(channel)
+        return entry(1, struct.pack("<qqq6iH", recording, TIMESTAMP, 0, *fields) + channel)
+
+
+def entry(kind: int, body: bytes) -> bytes:
+    """An entry behind its gate."""
+    return struct.pack("<BH", kind, len(body)) + body
+
+
+def settle_entry(recording: int, position: int) -> bytes:
+    """The catalogue's entry of a settled position."""
+    return entry(2, struct.pack("<qq", recording, position))
+
+
+def stop_entry(recording: int, timestamp: int) -> bytes:
+    """The catalogue's entry of a stop."""
+    return entry(3, struct.pack("<qq", recording, timestamp))
+
+
+def bank(history_limit: int, entries: Iterable[bytes]) -> bytes:
+    """A catalogue's bank: docs/STORAGE.md, "Banks"."""
+    header = struct.pack("<BBHIQ16x", 1, 1, 0, history_limit, 1)
+    return header + b"".join(b"\x01" + text for text in entries) + b"\x00"
+
+
+def run(words: Sequence[str | Path], lines: Iterable[str] = ()) -> list[str]:
+    """The lines that a command answers to lines on its standard input; it has to end with status 0."""
+    given = "".join(line + "\n" for line in lines)
+    ended = subprocess.run(words, input=given, capture_output=True, text=True)
+    if ended.returncode != 0 or ended.stderr:
+        raise Fault(f"{' '.join(map(str, words[1:]))} ended with status {ended.returncode}: {ended.stderr.strip()}")
+    return ended.stdout.splitlines()
+
+
+class Session:
+    """A `run <folder>` that is asked line by line."""
+
+    def __init__(self, program: Path, folder: str | Path) -> None:
+        words = [program, "run", folder]
+        self.process = subprocess.Popen(words, stdin=subprocess.PIPE, stdout=subprocess.PIPE, text=True)
+
+    def ask(self, line: str) -> list[str]:
+        """The lines that answer a line; no line where the program has ended. Not for lines to a merge."""
+        self.process.stdin.write(line + "\n")
+        self.process.stdin.flush()
+        told = []
+        for answer in self.process.stdout:
+            told.append(answer.rstrip("\n"))
+            if not answer.startswith(("recording ", "frame ")):
+                break
+        return told
+
+    def end(self) -> int:
+        """Ends the script, and gives the program's status."""
+        self.process.stdin.close()
+        self.process.stdout.read()
+        return self.process.wait()
