@@ -320,3 +320,14 @@ fn a_register_restarts_and_forgets(rt: HostRuntime) -> Result<(), Fail> {
     assert!(rt; register.recordings().is_empty() && register.next_recording() == 1);
     Ok(())
 }
+
+/// A copy has the same recordings, and gives the same next id.
+#[test]
+fn a_register_is_copied(rt: HostRuntime) -> Result<(), Fail> {
+    let register = registered(&rt, rt.alloc(), &Change::Settle { position: 64 })?;
+    let copy = register.copy(rt.alloc())?;
+    let found = copy.recording(&0).ok_or("no recording")?;
+    assert!(rt; found.recorded == 64 && found.descriptor.channel.as_str() == "c");
+    assert!(rt; copy.recordings().len() == 1 && copy.next_recording() == 1);
+    Ok(())
+}
