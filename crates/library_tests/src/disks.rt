@@ -173,7 +173,7 @@ fn leaves(rt: &impl Abort, disk: &mut MemoryDisk, a: Left<'_>, b: Left<'_>) -> R
 }
 
 /// Want of memory in a call is a fault, and nothing has changed then. A second try succeeds here:
-/// bench/refused_test_memory.py runs this test for each of its requests for memory, which it refuses.
+/// trials/refused_memory.py runs this test for each of its requests for memory, which it refuses.
 #[test]
 fn refused_memory_changes_nothing(rt: HostRuntime) -> Result<(), Fail> {
     let mut disk = MemoryDisk::new(rt.alloc());
