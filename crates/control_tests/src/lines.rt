@@ -318,7 +318,7 @@ fn refusal_lines(rt: HostRuntime) {
     }
 }
 
-/// A refused request for memory is told as NoMemory, and the call may be made again: bench/refused_test_memory.py runs
+/// A refused request for memory is told as NoMemory, and the call may be made again: trials/refused_memory.py runs
 /// this test for each of its requests for memory, which it refuses.
 #[test]
 fn refused_memory_is_told(rt: HostRuntime) -> Result<(), Fail> {
