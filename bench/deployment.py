@@ -6,10 +6,8 @@ Usage: bench/deployment.py [program], on the file system of TRIAL_ROOM, else tha
 Each table of that section is printed: what a settle costs, how long a history lasts, what an opening costs by entries and by
 segment files, how many files are open, and what a terabyte a day takes.
 """
-import os
 import re
 import shutil
-import subprocess
 import sys
 import time
 from pathlib import Path
@@ -66,21 +64,18 @@ def tell_histories() -> None:
         print(f"a history of {limit:,} entries, 20 bytes each, {limit * 20 / 2**20:,.0f} MiB: {lasts}")
 
 
-def opened(tool: Path, folder: Path, work: Path, end: int) -> tuple[float, int]:
-    """Seconds and the most kilobytes of memory of an opening that answers where the recording ends."""
-    script = work / "script"
-    script.write_text("positions 0\nquit\n")
+def opened(tool: Path, folder: Path, end: int) -> tuple[float, float]:
+    """Seconds and the most megabytes of memory of an opening that answers where the recording ends."""
     taken, most = [], 0
     for _ in range(3):
         begin = time.monotonic()
-        with open(script, "rb") as lines:
-            process = subprocess.Popen([tool, "run", folder], stdin=lines, stdout=subprocess.PIPE, text=True)
-            told = process.stdout.read()
-            _, _, usage = os.wait4(process.pid, 0)
+        session = Session(tool, folder)
+        expect("an opening", session.ask("positions 0"), [f"positions 0 {end} {end}"])
         taken.append(time.monotonic() - begin)
-        most = max(most, usage.ru_maxrss)
-        expect("an opening", told.split()[:3], ["positions", "0", str(end)])
-    return min(taken), most
+        status = Path(f"/proc/{session.process.pid}/status").read_text()
+        most = max(most, int(re.search(r"VmHWM:\s+(\d+) kB", status)[1]))
+        session.end()
+    return min(taken), most / 1_024
 
 
 def measure_openings(tool: Path, work: Path) -> None:
@@ -91,16 +86,16 @@ def measure_openings(tool: Path, work: Path) -> None:
         entries = [STREAM.start_entry(0, b"c"), *settles, stop_entry(0, 2_000)]
         (folder / "catalogue-a.bank").write_bytes(bank(HISTORIES[1], entries))
         del settles, entries
-        taken, most = opened(tool, folder, work, 64 * (count - 2))
-        print(f"an opening with {count:,} entries: {taken:.3f} s, {most / 1024:.1f} MB at most", flush=True)
+        taken, most = opened(tool, folder, 64 * (count - 2))
+        print(f"an opening with {count:,} entries: {taken:.3f} s, {most:.1f} MB at most", flush=True)
     for count in (1, 100, 1_000):
         folder = made(tool, work)
         pads = (SHORT.header(begin, 65_536, 0).hex() for begin in range(0, count * 65_536, 65_536))
         run([tool, "run", folder], [SHORT.start("c"), *(f"block 0 {pad}" for pad in pads), "stop 0 2000"])
-        taken, most = opened(tool, folder, work, 65_536 * count)
+        taken, most = opened(tool, folder, 65_536 * count)
         traced = calls([tool, "run", folder], Path("/dev/null"), work)
         syncs = f"{traced['fdatasync']} fdatasync, {traced.get('fsync', 0)} fsync"
-        print(f"an opening with {count:,} segment files: {taken:.3f} s, {syncs}, {most / 1024:.1f} MB at most", flush=True)
+        print(f"an opening with {count:,} segment files: {taken:.3f} s, {syncs}, {most:.1f} MB at most", flush=True)
 
 
 def count_open_files(tool: Path, work: Path) -> None:
