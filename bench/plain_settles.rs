@@ -1,5 +1,5 @@
-//! The writes and syncs of settling a block, as often as the second argument says and with no other work: what the settles
-//! of the proved program are measured against. docs/STORAGE.md, "Entries", "Recovery".
+//! The writes and syncs of settling blocks, as often as the second argument says and with no other work: what the settles of
+//! the proved program are measured against. docs/STORAGE.md, "Entries", "Recovery".
 
 use std::fs::{File, OpenOptions};
 use std::io::Result;
@@ -13,9 +13,8 @@ fn opened(folder: &Path, name: &str) -> Result<File> {
     OpenOptions::new().create(true).truncate(false).write(true).open(folder.join(name))
 }
 
-/// Writes a block, and the entry that says so behind the gate at an offset.
-fn settle(segment: &File, bank: &File, block: &[u8], at: u64, gate: u64) -> Result<()> {
-    segment.write_all_at(block, at)?;
+/// Syncs the blocks that were written, and writes the entry that says so behind the gate at an offset.
+fn settle(segment: &File, bank: &File, gate: u64) -> Result<()> {
     segment.sync_data()?;
     bank.write_all_at(&ENTRY, gate + 1)?;
     bank.sync_data()?;
@@ -25,16 +24,20 @@ fn settle(segment: &File, bank: &File, block: &[u8], at: u64, gate: u64) -> Resu
 
 fn main() -> Result<()> {
     let words: Vec<String> = std::env::args().collect();
-    let [_, folder, settles, size] = words.as_slice() else {
-        panic!("a folder, how many settles, and bytes of a block");
+    let [_, folder, settles, blocks, size] = words.as_slice() else {
+        panic!("a folder, how many settles, blocks of each, and bytes of a block");
     };
     let folder = Path::new(folder);
     let block = vec![7; size.parse().expect("bytes of a block")];
     let segment = opened(folder, "0-0.rec")?;
     let bank = opened(folder, "catalogue-a.bank")?;
     File::open(folder)?.sync_all()?;
+    let blocks: u64 = blocks.parse().expect("blocks of a settle");
     for index in 0..settles.parse().expect("how many settles") {
-        settle(&segment, &bank, &block, index * block.len() as u64, 87 + index * 20)?;
+        for number in 0..blocks {
+            segment.write_all_at(&block, (index * blocks + number) * block.len() as u64)?;
+        }
+        settle(&segment, &bank, 87 + index * 20)?;
     }
     Ok(())
 }

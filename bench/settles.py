@@ -1,10 +1,10 @@
 #!/usr/bin/env python3
-"""Measures the program over a folder: settles beside a plain program that makes the same writes and syncs and does nothing
-else (plain_settles.rs), and a replay.
+"""Measures the program over a folder: settles of one block and of 16, beside a plain program that makes the same writes and
+syncs and does nothing else (plain_settles.rs), and a replay.
 
 Usage: bench/settles.py [--settles N] [program], on the file system of TRIAL_ROOM, else that of TMPDIR.
 
-A run of settles is one `block` line each, read from a file. Runs come in turn as proved, plain, plain, proved, so that a
+A run of settles is one `block` line each, or 16 `write` lines and a `settle`, read from a file. Runs come in turn as proved, plain, plain, proved, so that a
 file system that grows slower does so for both; medians are compared. Answers are looked at, so that no line was refused.
 The folder of the replay is written here, by docs/STORAGE.md.
 """
@@ -24,7 +24,14 @@ from tool import MTU, Fault, Stream, bank, file_system, program, room, run, sett
 STREAM = Stream(term_length=2**30, segment_length=2**30)
 TURNS = 4
 GOAL = 0.9
-BLOCKS = {"a 64-byte frame": (1, 64, 1), "46 frames of 1,408 bytes": (46, MTU, 4)}  # a run has one settle in so many
+# How many blocks a settle has, frames of a block, and bytes of a frame; a run has one settle in so many.
+SETTLES = {
+    "a 64-byte frame": (1, 1, 64, 1),
+    "a frame of 1,408 bytes": (1, 1, MTU, 1),
+    "16 blocks of 1,408 bytes": (16, 1, MTU, 4),
+    "46 frames of 1,408 bytes": (1, 46, MTU, 4),
+    "16 blocks of 46 frames of 1,408 bytes": (16, 46, MTU, 64),
+}
 REPLAYED = 142_046  # frames of 1,408 bytes, together 200 MB
 POLLED = 4_096  # frames of a poll
 
@@ -34,13 +41,17 @@ def message(place: int, length: int) -> bytes:
     return STREAM.message(place, place.to_bytes(8, "little") * ((length - 32) // 8))
 
 
-def write_lines(path: Path, settles: int, frames: int, length: int) -> None:
-    """A script of a start and so many blocks, each of so many frames of a length. No sync of a run has to write it."""
+def write_lines(path: Path, settles: int, blocks: int, frames: int, length: int) -> None:
+    """A script of a start and so many settles, each of so many blocks of frames of a length. No sync of a run has to write
+    it."""
     with open(path, "w") as script:
         print(STREAM.start("c"), file=script)
-        for begin in range(0, settles * frames * length, frames * length):
+        for index in range(settles * blocks):
+            begin = index * frames * length
             places = range(begin, begin + frames * length, length)
-            print("block 0 " + "".join(message(place, length).hex() for place in places), file=script)
+            print("block 0 " if blocks == 1 else "write 0 ", *(message(place, length).hex() for place in places), sep="", file=script)
+            if blocks > 1 and index % blocks == blocks - 1:
+                print("settle 0", file=script)
         script.flush()
         os.fsync(script.fileno())
 
@@ -68,28 +79,28 @@ class Trial:
             taken = time.monotonic() - begin
         last = told.decode().splitlines()[-1]
         if last != f"settled {settles * size}":
-            raise Fault(f"the last of {settles} blocks of {size} bytes was answered {last}")
+            raise Fault(f"the last of {settles} settles of {size} bytes was answered {last}")
         return taken
 
-    def plain_settles(self, settles: int, size: int) -> float:
-        """Seconds of the same settles by the plain program."""
-        return seconds([self.plain, self.empty_folder(), str(settles), str(size)])
+    def plain_settles(self, settles: int, blocks: int, size: int) -> float:
+        """Seconds of the same settles by the plain program, each of so many blocks of a size."""
+        return seconds([self.plain, self.empty_folder(), str(settles), str(blocks), str(size)])
 
 
 def compare_settles(trial: Trial, most: int) -> None:
-    """Settles a second of both programs, by runs of so many at most."""
-    for name, (frames, length, part) in BLOCKS.items():
-        settles, size, proved, plain = most // part, frames * length, [], []
-        write_lines(trial.script, settles, frames, length)
+    """Settles a second of both programs, by runs of so many at most, and megabytes a second of the proved one."""
+    for name, (blocks, frames, length, part) in SETTLES.items():
+        settles, size, proved, plain = most // part, blocks * frames * length, [], []
+        write_lines(trial.script, settles, blocks, frames, length)
         for _ in range(TURNS):
             proved.append(settles / trial.proved_settles(settles, size))
-            plain.append(settles / trial.plain_settles(settles, size))
-            plain.append(settles / trial.plain_settles(settles, size))
+            plain.append(settles / trial.plain_settles(settles, blocks, size // blocks))
+            plain.append(settles / trial.plain_settles(settles, blocks, size // blocks))
             proved.append(settles / trial.proved_settles(settles, size))
         medians = statistics.median(proved), statistics.median(plain)
         print(
-            f"settles of {name}: {medians[0]:.0f} a second ({min(proved):.0f} to {max(proved):.0f}), plain "
-            f"{medians[1]:.0f} ({min(plain):.0f} to {max(plain):.0f}): {medians[0] / medians[1]:.2f} of it, goal {GOAL}",
+            f"settles of {name}: {medians[0]:.0f} a second ({min(proved):.0f} to {max(proved):.0f}), {medians[0] * size / 1e6:.1f} MB/s, "
+            f"plain {medians[1]:.0f} ({min(plain):.0f} to {max(plain):.0f}): {medians[0] / medians[1]:.2f} of it, goal {GOAL}",
             flush=True,
         )
 

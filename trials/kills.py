@@ -1,10 +1,11 @@
 #!/usr/bin/env python3
 """Kills `archive_tool run <folder>` at random moments while it records, and looks each time for what it had settled.
 
-A round starts a writer that goes on with the last recording, or begins one, and sends it `block` lines of one to six frames
-until it is killed (SIGKILL). Then the archive is opened again, now and then after an opening that was killed too. Each block
-that was answered `settled` has to be there. Those sent behind it may be there, whole and in order; nothing else may be. The
-recording is replayed after each round, and all of them at the end.
+A round starts a writer that goes on with the last recording, or begins one, and sends it blocks of one to six frames, each
+by a `block` line, or several by `write` lines and one `settle`, until it is killed (SIGKILL). Then the archive is opened
+again, now and then after an opening that was killed too. What was answered `settled` has to be there. What was sent behind it
+may be there, in order, of a settle all blocks or none; nothing else may be. The recording is replayed after each round, and
+all of them at the end.
 
 Prints rounds, frames and losses, and ends with status 1 where anything is wrong. A kill takes no power away: what the system
 was given stays, synced or not. What a loss of power may leave is tried by power_cuts.py, and on the disk in memory (docs/SCENARIOS.md).
@@ -26,6 +27,8 @@ LONGEST_LIFE = 0.3  # seconds from a writer's first answer, or one time in four 
 LONGEST_OPENING = 0.02  # seconds from the start of an opening to its kill
 AHEAD = 0, 0, 2, 12  # lines that a writer is sent ahead of its answers, by chance one of these
 MOST_AT_ONCE = 4_096  # frames of a poll
+BATCHES = 0.3  # how often blocks are settled together
+MOST_IN_BATCH = 16  # blocks of these
 
 
 class Recording:
@@ -37,7 +40,8 @@ class Recording:
         self.is_known = False
         self.settled = 0
         self.frames: list[tuple[int, str]] = []  # where each frame ends, and how a poll tells it
-        self.ends: list[int] = []  # where each block ends
+        self.ends: list[int] = []  # where each settle ends
+        self.end = 0  # where the last block ends that was sent
 
     def told_to(self, stop: int) -> list[str]:
         """How a replay tells the frames up to a position."""
@@ -49,7 +53,7 @@ class Recording:
 
     def keep(self, stop: int) -> None:
         """Takes what stands as settled, and forgets what was sent behind it."""
-        self.is_known, self.settled = True, stop
+        self.is_known, self.settled, self.end = True, stop, stop
         self.frames = [(end, line) for end, line in self.frames if end <= stop]
         self.ends = [end for end in self.ends if end <= stop]
 
@@ -60,7 +64,7 @@ class Recording:
 
     def next_block(self, chance: random.Random) -> bytes:
         """A block behind the last one: some frames, or a pad where the term has no room for the first."""
-        begin = position = self.ends[-1] if self.ends else 0
+        begin = position = self.end
         term_end = begin + STREAM.term_length - begin % STREAM.term_length
         block = b""
         for _ in range(chance.randint(1, 6)):
@@ -73,7 +77,7 @@ class Recording:
         if position == begin:
             block = self.send(begin, term_end - begin, STREAM.header(begin, term_end - begin, 0))
             position = term_end
-        self.ends.append(position)
+        self.end = position
         return block
 
 
@@ -85,13 +89,40 @@ class Storm:
         self.verification = [tool, "verify", folder]
         self.chance = random.Random(seed)
         self.recordings = [Recording(0)]
+        self.rights: list[tuple[str, int | None]] = []  # what each line is answered, and up to where that settles
         self.rounds = self.answered = self.unanswered = self.lost = 0
+
+    def asked(self, line: str, right: str, settled: int | None = None) -> str:
+        """A line, whose right answer is noted."""
+        self.rights.append((right, settled))
+        return line
 
     def lines(self, recording: Recording) -> Iterator[str]:
         """What a writer is sent: its recording, and blocks without end."""
-        yield STREAM.extend(recording.number, recording.settled) if recording.is_known else STREAM.start(recording.channel)
+        self.rights = []
+        if recording.is_known:
+            yield self.asked(STREAM.extend(recording.number, recording.settled), "extended 0")
+        else:
+            yield self.asked(STREAM.start(recording.channel), f"started {recording.number} 0")
         while True:
-            yield f"block 0 {recording.next_block(self.chance).hex()}"
+            yield from self.batch(recording) if self.chance.random() < BATCHES else self.single(recording)
+
+    def single(self, recording: Recording) -> Iterator[str]:
+        """A block that is written and settled by one line."""
+        block = recording.next_block(self.chance)
+        recording.ends.append(recording.end)
+        yield self.asked(f"block 0 {block.hex()}", f"settled {recording.end}", recording.end)
+
+    def batch(self, recording: Recording) -> Iterator[str]:
+        """Some blocks that begin in one segment, and their settle."""
+        segment = recording.end // STREAM.segment_length
+        for _ in range(self.chance.randint(2, MOST_IN_BATCH)):
+            if recording.end // STREAM.segment_length != segment:
+                break
+            block = recording.next_block(self.chance)
+            yield self.asked(f"write 0 {block.hex()}", f"written {recording.end}")
+        recording.ends.append(recording.end)
+        yield self.asked("settle 0", f"settled {recording.end}", recording.end)
 
     def write(self, recording: Recording) -> None:
         """A writer that is killed, and what its answers say is there. Up to so many lines are sent ahead of the answers."""
@@ -115,18 +146,18 @@ class Storm:
         self.note(recording, [answer[:-1] for answer in answers if answer.endswith("\n")])
 
     def note(self, recording: Recording, answers: list[str]) -> None:
-        """Takes each answered block as settled; no other answer may come."""
-        first = "extended 0" if recording.is_known else f"started {recording.number} 0"
-        behind = [end for end in recording.ends if end > recording.settled]
-        right = [first, *(f"settled {end}" for end in behind)]
-        for index, answer in enumerate(answers):
-            if [answer] != right[index : index + 1]:
-                raise Fault(f"recording {recording.number}: a writer was answered {answer} to its line {index}")
+        """Takes what is answered as settled; no other answer may come."""
+        for index, (answer, (right, _)) in enumerate(zip(answers, self.rights)):
+            if answer != right:
+                raise Fault(f"recording {recording.number}: a writer was answered {answer} to its line {index}, not {right}")
+        if len(answers) > len(self.rights):
+            raise Fault(f"recording {recording.number}: {len(answers)} answers to {len(self.rights)} lines")
+        settled = [end for _, end in self.rights[: len(answers)] if end is not None]
         if answers:
             recording.is_known = True
-        if len(answers) > 1:
-            recording.settled = behind[len(answers) - 2]
-            self.answered += len(answers) - 1
+        if settled:
+            recording.settled = settled[-1]
+            self.answered += len(settled)
 
     def kill_an_opening(self) -> None:
         """An opening that is killed before it is asked for anything."""
@@ -161,7 +192,7 @@ class Storm:
         if stop < recording.settled:
             raise Fault(f"recording {recording.number}: settled to {recording.settled}, it stopped at {stop}")
         if stop != recording.settled and stop not in recording.ends:
-            raise Fault(f"recording {recording.number}: it stopped at {stop}, where no block ends")
+            raise Fault(f"recording {recording.number}: it stopped at {stop}, where no settle ends")
         if told != recording.told_to(stop):
             raise Fault(f"recording {recording.number}: not the frames that were sent up to {stop}")
 
@@ -196,7 +227,7 @@ class Storm:
         frames = sum(len(recording.told_to(recording.settled)) for recording in self.recordings)
         return (
             f"{self.rounds} rounds, {frames} frames of {len(self.recordings)} recordings, {self.lost} lost; "
-            f"{self.answered} blocks were answered, {self.unanswered} more were there"
+            f"{self.answered} settles were answered, {self.unanswered} more were there"
         )
 
 

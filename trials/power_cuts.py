@@ -182,6 +182,7 @@ class Trace:
 def script_of(chance: random.Random) -> list[str]:
     """A script whose lines are mostly answered by success, one line of reply each."""
     lines, ends, sessions, active = [], [], [], []
+    unsettled = {}  # where the first block begins that a recording's session wrote and did not settle
     for _ in range(chance.randint(12, 24)):
         what = chance.random()
         if not ends or (what < 0.12 and len(ends) < 4):
@@ -202,9 +203,17 @@ def script_of(chance: random.Random) -> list[str]:
             if not text:
                 rest = STREAM.term_length - end % STREAM.term_length
                 text, end = STREAM.header(end, rest, 0), end + rest
-            if chance.random() < 0.1 and end % STREAM.term_length == 0:
+            begin, together = ends[recording], chance.random() < 0.4
+            first = unsettled.get(recording, begin)
+            if begin // STREAM.segment_length != first // STREAM.segment_length:
                 lines.append(f"settle {session}")
-            lines.append(f"block {session} {text.hex()}")
+                first = begin
+            lines.append(f"{'write' if together else 'block'} {session} {text.hex()}")
+            if together and chance.random() < 0.6:
+                unsettled[recording] = first
+            else:
+                lines += [f"settle {session}"] * together
+                unsettled.pop(recording, None)
             ends[recording] = end
         elif what < 0.8 and active:
             recording, session = active.pop(chance.randrange(len(active)))

@@ -32,8 +32,13 @@ SCRIPT = "\n".join(LINES).encode()
 WANT = b"error 18 NoMemory\n"
 FAULT = b"error 17 DeviceFault\n"
 BROKEN = b"error 16 Broken\n"
-# How many requests a test may make: 100 polls that each ask for a list and the bytes of one frame, and what comes before.
-MOST = {"archives::counted_memory_of_a_late_poll": 2 * 100 + 50}
+# How many requests a test may make: 100 polls that each ask for a list and the bytes of one frame, and what comes before;
+# and none, where 300 pads and 600 frames that their file has no room for are read.
+MOST = {
+    "archives::counted_memory_of_a_late_poll": 2 * 100 + 50,
+    "sparse::counted_memory_of_a_long_pad": 0,
+    "sparse::counted_memory_of_a_short_file": 0,
+}
 
 
 class Memory:

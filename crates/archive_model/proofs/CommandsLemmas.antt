@@ -88,7 +88,8 @@ changed_stays : (id other : ℤ) (f : Recording → Recording) → ((x : Recordi
 changed_stays id other f same rs r found low =
     elim (find_changed id other f same rs r found) [ inl this ↦ rw this.1 (low this.0) | inr that ↦ stays r _ that ]
 
-find_restarted : (id : ℤ) (rs : List Recording) (r : Recording) → find id_of id rs ≡ Some r → find id_of id (map restarted rs) ≡ Some (restarted r)
+-- each recording that was active is found stopped
+pub find_restarted : (id : ℤ) (rs : List Recording) (r : Recording) → find id_of id rs ≡ Some r → find id_of id (map restarted rs) ≡ Some (restarted r)
 find_restarted id [] r found = absurd cc
 find_restarted id (x ∷ rs) r found = by (int_eq id (id_of x)) refl found (find_restarted id rs r)
   where

@@ -1,9 +1,8 @@
 -- What a truncation and a purge of segments leave of a recording's frames.
-use Rattle.std.proofs.Common.{◌≡◌, ◌<◌, ◌≤◌, ◌+◌, ◌*◌, ◌+ℤ◌, ◌≤ℤ◌, ◌*ℤ◌, ℕ, ℤ, pos, negsuc, Bool, true, false, cond, List, [], ◌∷◌, ◌++◌, append-nil, append_assoc, length, get_or, take, drop, filter, ◌||◌, ◌⊎◌, inl, inr, refl, sym, ap, subst, ◌∙◌, true≢false, int_le, int_lt, nat_lt, nat_le, add-one, arith}
+use Rattle.std.proofs.Common.{◌≡◌, ◌<◌, ◌≤◌, ◌+◌, ◌*◌, ◌+ℤ◌, ◌≤ℤ◌, ◌*ℤ◌, ℕ, ℤ, pos, negsuc, Bool, true, false, cond, List, [], ◌∷◌, length, filter, ◌||◌, ◌⊎◌, inl, inr, refl, sym, ap, subst, true≢false, int_le, int_lt, nat_lt, nat_le, arith}
 use Rattle.std.proofs.lemmas.Int.{ints}
 use Rattle.std.proofs.lemmas.Bool.Decides.{nat_tests, Decides-int_eq}
 use Rattle.std.proofs.Math.Nat.{mul-le-mul_right}
-use Rattle.std.proofs.Math.Seq.{take-suc}
 use Rattle.std.specs.Ordering.{int_eq}
 use Rattle.std.specs.List.{list_any}
 use Rattle.frame_core.specs.declared.frame.Frame.{Frame}
@@ -15,7 +14,6 @@ use Rattle.archive_model.specs.declared.reply.PolledFrame.{PolledFrame}
 use Rattle.archive_model.specs.Replay.{placed, frames_in}
 use Rattle.archive_model.specs.Commands.{ends_by}
 use Rattle.archive_model.specs.Histories.{AreContiguous}
-use Rattle.archive_model.proofs.ListLemmas.{rest_at, rest_past, take_whole}
 
 -- the frames that are left of those from a position on, and where they lie
 pub record Leaves (g : Geometry) (from upto : ℤ) (left : List Frame) : Type 0 where
@@ -50,7 +48,7 @@ edge_low p at (f ∷ fs) (inl is) = omega arith
 edge_low p at (f ∷ fs) (inr edge) = let rest = edge_low p (at + aligned_length f) fs edge in omega arith
 
 -- behind a position no frame ends by it
-keep_none : (p at : ℕ) (fs : List Frame) → p < at → filter (ends_by (pos p)) (placed (pos at) fs) ≡ []
+pub keep_none : (p at : ℕ) (fs : List Frame) → p < at → filter (ends_by (pos p)) (placed (pos at) fs) ≡ []
 keep_none p at [] behind = refl
 keep_none p at (f ∷ fs) behind =
     let past : nat_le (at + aligned_length f) p ≡ false = grind (arith, nat_tests) in
@@ -127,42 +125,13 @@ cut_back g p at t k (f ∷ fs) is base contiguous encodable low high = by (nat_l
         let left = leaves (omega arith) (omega arith) in
         let sums = left.ends in record { contiguous = left.contiguous; encodable = left.encodable; ends = omega (arith, ints) }
 
--- frames from an index on that a cut leaves
-
-abbrev pub ended_from : ℤ → ℕ → ℕ → List Frame → List Frame
-ended_from p at i fs = frames_in (filter (ends_by p) (placed (pos at) (drop i fs)))
-
-none_ends : (p : ℤ) (at : ℕ) (fs : List Frame) → int_le (pos at) p ≡ false → filter (ends_by p) (placed (pos at) fs) ≡ []
-none_ends (negsuc n) at [] past = refl
-none_ends (negsuc n) at (f ∷ fs) past = none_ends (negsuc n) (at + aligned_length f) fs refl
-none_ends (pos q) at fs past = keep_none q at fs (grind (arith, nat_tests))
-
-pub ended_all : (p : ℤ) (at i : ℕ) (f : Frame) (fs : List Frame) → i < length fs → f ≡ get_or fs i f → int_le (pos (at + aligned_length f)) p ≡ false → ended_from p at i fs ≡ []
-ended_all p at i f fs within is past = rw (rest_at fs i f within is, past) (ap frames_in (none_ends p (at + aligned_length f) (drop (i + 1) fs) past))
-
-pub ended_more : (p : ℤ) (at i : ℕ) (f : Frame) (fs : List Frame) → i < length fs → f ≡ get_or fs i f → int_le (pos (at + aligned_length f)) p ≡ true
-    → take (i + 1) fs ++ ended_from p (at + aligned_length f) (i + 1) fs ≡ take i fs ++ ended_from p at i fs
-ended_more p at i f fs within is by =
-    let next : take (i + 1) fs ≡ take i fs ++ f ∷ [] = rw (add-one, take-suc fs i f within) (ap (λ (g : Frame). take i fs ++ g ∷ []) (sym is)) in
-    rw (next, rest_at fs i f within is, by) (append_assoc (take i fs) (f ∷ []) (ended_from p (at + aligned_length f) (i + 1) fs))
-
-pub ended_none : (p : ℤ) (at i : ℕ) (fs : List Frame) → length fs ≤ i → take i fs ++ ended_from p at i fs ≡ take (length fs) fs
-ended_none p at i fs past = rw (rest_past fs i past) (append-nil (take i fs) ∙ take_whole fs i past ∙ sym (take_whole fs (length fs) (omega arith)))
-
-abbrev pub begun_from : ℤ → ℕ → ℕ → List Frame → List Frame
-begun_from p at i fs = frames_in (filter (λ (f : PolledFrame). int_le p f.position) (placed (pos at) (drop i fs)))
-
+-- and so it does from any position, one before the stream too
 pub begun_all : (p : ℤ) (at : ℕ) (fs : List Frame) → int_lt (pos at) p ≡ false → frames_in (filter (λ (f : PolledFrame). int_le p f.position) (placed (pos at) fs)) ≡ fs
 begun_all (negsuc n) at [] reached = refl
 begun_all (negsuc n) at (f ∷ fs) reached = ap (λ gs. f ∷ gs) (begun_all (negsuc n) (at + aligned_length f) fs refl)
 begun_all (pos q) at fs reached = keep_all q at fs (grind (arith, nat_tests))
 
+-- a position that was not reached is not behind
 pub unreached : (p : ℤ) (at : ℕ) → int_lt (pos at) p ≡ true → int_le p (pos at) ≡ false
 unreached (negsuc n) at before = absurd (true≢false (sym before))
 unreached (pos q) at before = grind (arith, nat_tests)
-
-pub begun_more : (p : ℤ) (at i : ℕ) (f : Frame) (fs : List Frame) → i < length fs → f ≡ get_or fs i f → int_lt (pos at) p ≡ true → begun_from p (at + aligned_length f) (i + 1) fs ≡ begun_from p at i fs
-begun_more p at i f fs within is before = rw (rest_at fs i f within is, unreached p at before) refl
-
-pub begun_none : (p : ℤ) (at i : ℕ) (fs : List Frame) → length fs ≤ i → begun_from p at i fs ≡ drop (length fs) fs
-begun_none p at i fs past = rw (rest_past fs i past, rest_past fs (length fs) (omega arith)) refl

@@ -1,12 +1,11 @@
-pub mod KeptLemmas
 pub mod NumberedLemmas
 pub mod ReplayLemmas
 pub mod ListLemmas
 pub mod HistoriesLemmas
-pub mod AcceptanceLemmas
 pub mod AnswerLemmas
-pub mod BookLemmas
 pub mod CommandsLemmas
+pub mod LeftLemmas
+pub mod CopyLemmas
 pub mod RegisterLemmas
 pub mod CutLemmas
 pub mod WellLemmas

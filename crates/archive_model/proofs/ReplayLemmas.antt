@@ -1,8 +1,7 @@
 -- Frames with where each begins, and those between two positions.
-use Rattle.std.proofs.Common.{◌≡◌, ◌<◌, ◌≤◌, ◌+◌, ℕ, zero, suc, ℤ, pos, negsuc, ◌+ℤ◌, ◌≤ℤ◌, ◌<ℤ◌, T, Bool, true, false, cond, ◌&&◌, ◌||◌, List, [], ◌∷◌, ◌++◌, length, get_or, take, drop, filter, refl, append-nil, sym, ap, subst, ◌∙◌, true≢false, int_le, int_lt, nat_lt, arith}
+use Rattle.std.proofs.Common.{◌≡◌, ◌<◌, ◌≤◌, ◌+◌, ℕ, zero, suc, ℤ, pos, negsuc, ◌+ℤ◌, ◌≤ℤ◌, ◌<ℤ◌, T, Bool, true, false, cond, ◌&&◌, ◌||◌, List, [], ◌∷◌, ◌++◌, take, drop, filter, refl, ap, ◌∙◌, int_le, int_lt, nat_lt, arith}
 use Rattle.std.proofs.lemmas.Int.{ints}
 use Rattle.std.proofs.lemmas.Bool.Decides.{nat_tests, Decides-int_eq}
-use Rattle.std.proofs.Math.Seq.{take-append_seam}
 use Rattle.std.specs.Ordering.{int_eq}
 use Rattle.std.specs.List.{list_any}
 use Rattle.frame_core.specs.declared.frame.Frame.{Frame}
@@ -13,7 +12,6 @@ use Rattle.archive_model.specs.declared.reply.PolledFrame.{PolledFrame}
 use Rattle.archive_model.specs.State.{Recording, recorded_position}
 use Rattle.archive_model.specs.Commands.{appended, frames_of}
 use Rattle.archive_model.specs.Replay.{placed, placed_frames, frames_in, is_between, replayed, polled, EndBy}
-use Rattle.archive_model.proofs.ListLemmas.{rest_at, rest_past, take_whole}
 
 abbrev pub begins_at : ℤ → List PolledFrame → Bool
 begins_at p fs = list_any (λ f. int_eq p f.position) fs
@@ -21,46 +19,19 @@ begins_at p fs = list_any (λ f. int_eq p f.position) fs
 or_none : (a b : Bool) → a ≡ false → b ≡ false → a || b ≡ false
 or_none a b x y = rw (x, y) refl
 
-apart : (m n : ℕ) → nat_lt m n ≡ true → int_eq (pos m) (pos n) ≡ false
+pub apart : (m n : ℕ) → nat_lt m n ≡ true → int_eq (pos m) (pos n) ≡ false
 apart m n below = grind (arith, nat_tests, Decides-int_eq (pos m) (pos n))
 
-apart_above : (m n : ℕ) → nat_lt n m ≡ true → int_eq (pos m) (pos n) ≡ false
+pub apart_above : (m n : ℕ) → nat_lt n m ≡ true → int_eq (pos m) (pos n) ≡ false
 apart_above m n above = grind (arith, nat_tests, Decides-int_eq (pos m) (pos n))
 
 -- behind a position no frame begins at it
-none_behind : (p : ℤ) (at : ℕ) (fs : List Frame) → int_lt p (pos at) ≡ true → begins_at p (placed (pos at) fs) ≡ false
+pub none_behind : (p : ℤ) (at : ℕ) (fs : List Frame) → int_lt p (pos at) ≡ true → begins_at p (placed (pos at) fs) ≡ false
 none_behind p at [] behind = refl
 none_behind (negsuc k) at (f ∷ fs) behind = none_behind (negsuc k) (at + aligned_length f) fs refl
 none_behind (pos k) at (f ∷ fs) behind =
     let further : nat_lt k (at + aligned_length f) ≡ true = grind (arith, nat_tests) in
     or_none (int_eq (pos k) (pos at)) _ (apart k at behind) (none_behind (pos k) (at + aligned_length f) fs further)
-
-or_first : (p : ℤ) (at : ℕ) (f : Frame) (fs : List Frame) (same : Bool) → int_eq p (pos at) ≡ same → int_lt (pos at) p ≡ false
-    → begins_at p (placed (pos at) (f ∷ fs)) ≡ same
-or_first p at f fs true is reached = rw is refl
-or_first (negsuc k) at f fs false is reached = none_behind (negsuc k) at (f ∷ fs) refl
-or_first (pos k) at f fs false is reached =
-    let behind : nat_lt k at ≡ true = grind (arith, nat_tests, Decides-int_eq (pos k) (pos at)) in none_behind (pos k) at (f ∷ fs) behind
-
--- once a position is reached, only the next frame may begin at it
-only_next : (p : ℤ) (at : ℕ) (f : Frame) (fs : List Frame) → int_lt (pos at) p ≡ false → begins_at p (placed (pos at) (f ∷ fs)) ≡ int_eq p (pos at)
-only_next p at f fs reached = or_first p at f fs (int_eq p (pos at)) refl reached
-
-pub begins_here : (p : ℤ) (at i : ℕ) (f : Frame) (fs : List Frame) → i < length fs → f ≡ get_or fs i f → int_lt (pos at) p ≡ false
-    → begins_at p (placed (pos at) (drop i fs)) ≡ int_eq p (pos at)
-begins_here p at i f fs within is reached = rw (rest_at fs i f within is) (only_next p at f (drop (i + 1) fs) reached)
-
--- a frame that begins before a position does not begin at it
-not_next : (p : ℤ) (at : ℕ) (f : Frame) (fs : List Frame) → int_lt (pos at) p ≡ true → begins_at p (placed (pos at) (f ∷ fs)) ≡ begins_at p (placed (pos (at + aligned_length f)) fs)
-not_next (negsuc k) at f fs before = absurd (true≢false (sym before))
-not_next (pos k) at f fs before = rw (apart_above k at before) refl
-
-pub begins_later : (p : ℤ) (at i : ℕ) (f : Frame) (fs : List Frame) → i < length fs → f ≡ get_or fs i f → int_lt (pos at) p ≡ true
-    → begins_at p (placed (pos at) (drop i fs)) ≡ begins_at p (placed (pos (at + aligned_length f)) (drop (i + 1) fs))
-begins_later p at i f fs within is before = rw (rest_at fs i f within is) (not_next p at f (drop (i + 1) fs) before)
-
-pub begins_nowhere : (p : ℤ) (at i : ℕ) (fs : List Frame) → length fs ≤ i → begins_at p (placed (pos at) (drop i fs)) ≡ false
-begins_nowhere p at i fs past = rw (rest_past fs i past) refl
 
 -- the frames from an index on, the first of them beginning at a position, that lie between two others
 abbrev pub rest_between : ℤ → ℤ → ℕ → ℕ → List Frame → List PolledFrame
@@ -80,21 +51,6 @@ none_between from (pos k) at (f ∷ fs) past =
 -- from the bound on, and at the end, there is none
 pub past_bound : (from bound : ℤ) (at i : ℕ) (fs : List Frame) → int_lt (pos at) bound ≡ false → rest_between from bound at i fs ≡ []
 past_bound from bound at i fs past = none_between from bound at (drop i fs) past
-
--- frames that were found, and the rest of those between two positions
-
-pub replays_all : (found all : List Frame) (rest : List PolledFrame) → found ++ frames_in rest ≡ all → rest ≡ [] → found ≡ all
-replays_all found all rest is none = sym (append-nil found) ∙ ap (λ (fs : List PolledFrame). found ++ frames_in fs) (sym none) ∙ is
-
--- the first of them, up to a count
-
-pub polls_all : (count : ℕ) (found all rest : List PolledFrame) → length found ≤ count → found ++ rest ≡ all → rest ≡ [] → found ≡ take count all
-polls_all count found all rest few is none =
-    let whole : found ≡ all = sym (append-nil found) ∙ ap (λ (fs : List PolledFrame). found ++ fs) (sym none) ∙ is in
-    whole ∙ sym (take_whole all count (subst (λ (fs : List PolledFrame). length fs ≤ count) whole few))
-
-pub polls_first : (count : ℕ) (found all rest : List PolledFrame) → length found ≡ count → found ++ rest ≡ all → found ≡ take count all
-polls_first count found all rest many is = subst (λ (n : ℕ). found ≡ take n all) many (sym (take-append_seam found rest) ∙ ap (take (length found)) is)
 
 -- frames behind others begin where those end
 pub placed-append : (at : ℤ) (fs gs : List Frame) → placed at (fs ++ gs) ≡ placed at fs ++ placed (at +ℤ pos (covered fs)) gs

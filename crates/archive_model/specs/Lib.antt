@@ -11,6 +11,6 @@ pub mod Acceptance
 pub mod Accepting
 pub mod Histories
 pub mod WellFormed
+pub mod Left
 -- Representation: what the values of src/ keep.
-pub mod Kept
 pub mod Registered

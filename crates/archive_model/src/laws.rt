@@ -1,8 +1,10 @@
 //! Laws of the definitions, each the contract of a function that does nothing.
 
-ghost use Rattle.std.specs.Prelude.{◌≡◌, ◌≢◌, ◌↔◌, ◌≤ℤ◌, ◌<ℤ◌, ◌++◌, ℕ, ℤ, pos, Err, IsFalse, IsSomeAnd, IsTrue, List, Ok, Some};
+ghost use Rattle.std.specs.Prelude.{◌≡◌, ◌≢◌, ◌↔◌, ◌≤ℤ◌, ◌<ℤ◌, ◌++◌, ◌+ℤ◌, ℕ, ℤ, pos, Err, IsFalse, IsSomeAnd, IsTrue, List, Ok, Some};
 ghost use Rattle.frame_core.specs.declared.block.Block.{Block};
+ghost use Rattle.frame_core.specs.declared.frame.Frame.{Frame};
 ghost use Rattle.frame_core.specs.declared.refusal.Refusal.{Refusal};
+ghost use Rattle.frame_core.specs.Block.{covered};
 ghost use Rattle.frame_core.specs.declared.refusal.Refusal.TheVariants.{NoMemory};
 ghost use Rattle.archive_model.specs.declared.command.Command.{Command};
 ghost use Rattle.archive_model.specs.declared.reply.Reply.{Reply};
@@ -10,6 +12,7 @@ ghost use Rattle.archive_model.specs.State.{Recording as Recorded, State, empty,
 ghost use Rattle.archive_model.specs.Keyed.{find, Rise};
 ghost use Rattle.archive_model.specs.Replay.{begins_frame, placed, placed_frames, replayed};
 ghost use Rattle.archive_model.specs.Commands.{after, after_all, appended, frames_of, purged, register_after, reply_to, truncated};
+ghost use Rattle.archive_model.specs.Left.{left_of};
 ghost use Rattle.archive_model.specs.Histories.{new_book};
 ghost use Rattle.archive_model.specs.Acceptance.{BookState};
 ghost use Rattle.archive_model.specs.Accepting.{Accepts, Answers};
@@ -94,4 +97,38 @@ pub fn a_purge_of_segments_leaves_the_recorded_position()
     ensures { (r : Recorded) (position : ℤ) → IsKept r →
         IsTrue (is_later_base position (registration_of r)) →
         recorded_position (purged position r) ≡ recorded_position r }
+{}
+
+/// A command changes the recording that it names, as its equation says, and leaves each other one, but for a restart, which
+/// stops all that are active.
+#[tactic(auto, using(crate::proofs::LeftLemmas::command_leaves))]
+pub fn a_command_changes_its_recording_alone()
+    ensures { (s : State) (c : Command) → IsWell s → (id : ℤ) (r : Recorded) →
+        find id_of id s.recordings ≡ Some r →
+        find id_of id (after s c).recordings ≡ left_of id c r }
+{}
+
+/// A purge of segments is accepted only where a later segment of its recording begins.
+#[tactic(auto, using(crate::proofs::StateLemmas::base_of_purge))]
+pub fn an_accepted_purge_is_at_a_later_base()
+    ensures { (b : BookState) (id position : ℤ) (r : Recorded) →
+        Accepts b (Command.PurgeSegments id position) →
+        find id_of id b.state.recordings ≡ Some r →
+        IsTrue (is_later_base position (registration_of r)) }
+{}
+
+/// A purge of segments leaves the last frames of a recording, those from its position on.
+#[tactic(auto, using(crate::proofs::LeftLemmas::purge_leaves_last))]
+pub fn a_purge_of_segments_leaves_the_last_frames()
+    ensures { (r : Recorded) (position : ℤ) → IsKept r →
+        IsTrue (is_later_base position (registration_of r)) →
+        (gone : List Frame) × (r.frames ≡ gone ++ (purged position r).frames)
+        × (position ≡ r.descriptor.start_position +ℤ pos (covered gone)) }
+{}
+
+/// A truncation leaves the first frames of a recording.
+#[tactic(auto, using(crate::proofs::LeftLemmas::truncation_leaves_first))]
+pub fn a_truncation_leaves_the_first_frames()
+    ensures { (r : Recorded) (position : ℤ) →
+        (gone : List Frame) × (r.frames ≡ (truncated position r).frames ++ gone) }
 {}

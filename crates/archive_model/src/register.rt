@@ -1,6 +1,6 @@
 //! The recordings of an archive without their frames, by rising id. docs/CONTROL.md, "Recordings".
 
-ghost use Rattle.std.specs.Prelude.{◌≡◌, ◌<◌, ◌<ℤ◌, ◌^◌, ℤ, pos, length, IfSome, IsOk, IfErr, OnOk, OnErr, MatchOption, count_by};
+ghost use Rattle.std.specs.Prelude.{◌≡◌, ◌<◌, ◌<ℤ◌, ◌≤ℤ◌, ◌^◌, ℤ, pos, length, IfOk, IfSome, IsOk, IfErr, OnOk, OnErr, MatchOption, count_by};
 ghost use Rattle.std.specs.Option.{option_copied};
 ghost use Rattle.frame_core.specs.declared.refusal.Refusal.TheVariants.{NoMemory};
 ghost use Rattle.archive_model.specs.Keyed.{Rise};
@@ -165,5 +165,32 @@ impl Register {
             let recording = &mut self.map[index];
             recording.restart();
         }
+    }
+}
+
+impl Register {
+    /// A copy: the same recordings and the same next id. `NoMemory` where there is none for them. Costs the
+    /// channels' lengths.
+    pub fn copy(&self, alloc: Global) -> Result<Register, Refusal>
+        ensures same { IfOk result (λ copy. copy.state ≡ self.now.state) }
+        ensures err { IfErr result (λ refusal. refusal ≡ NoMemory) }
+    {
+        let next = self.next_recording();
+        let mut copy = Register::new(alloc);
+        for recording in self.map.values().as_slice() {
+            let known = recording.copy(alloc)?;
+            copy.skip_to(&known.descriptor.recording);
+            copy.add(known)?;
+        }
+        copy.skip_to(&next);
+        Ok(copy)
+    }
+
+    /// Leaves ids out, up to the next one.
+    fn skip_to(&mut self, next: &i64)
+        requires { self.old.state.next ≤ℤ next.now }
+        ensures { self.new.state ≡ record { recordings = self.old.state.recordings; next = next.now } }
+    {
+        self.next = *next;
     }
 }

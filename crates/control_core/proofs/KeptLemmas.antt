@@ -1,5 +1,5 @@
 -- What is made of a desk keeps its seats and what is orderly.
-use Rattle.std.proofs.Common.{◌≡◌, ◌<◌, ◌+ℤ◌, ◌≤ℤ◌, ◌++◌, ℤ, pos, Bool, true, false, refl, sym, ap, subst, ◌∙◌, [], ◌∷◌, length, not, Some, None}
+use Rattle.std.proofs.Common.{◌≡◌, ◌<◌, ◌+ℤ◌, ◌≤ℤ◌, ◌++◌, ℤ, pos, Bool, true, false, refl, sym, ap, subst, ◌∙◌, [], ◌∷◌, length, not, Option, Some, None}
 use Rattle.std.specs.Prelude.{IsSomeAnd, is_some}
 use Rattle.archive_model.specs.declared.command.Command.TheVariants as commands
 use Rattle.archive_model.specs.declared.command.StartFields.{StartFields}
@@ -12,7 +12,7 @@ use Rattle.control_core.specs.declared.callers.OpenReplay.{OpenReplay}
 use Rattle.control_core.specs.declared.callers.RecorderSession.{RecorderSession}
 use Rattle.control_core.specs.declared.callers.Written.{Written}
 use Rattle.control_core.specs.Callers.{CallersState, moved_to, no_callers, replay_number, session_number}
-use Rattle.control_core.specs.Changes.{with_blocks, with_session, without_callers, without_sessions, writer_of}
+use Rattle.control_core.specs.Changes.{with_block, with_blocks, with_session, without_callers, without_sessions, writer_of, written_of}
 use Rattle.control_core.specs.Desk.{is_replay_before}
 use Rattle.control_core.specs.Orderly.{AreLaid, AreOrderly, KeepsDesk, LiesBehind, ReadsFromStart}
 use Rattle.control_core.proofs.DeskLemmas as seats
@@ -46,8 +46,17 @@ kept_restarted g c keeps = record { seats = seats.keeps_restarted g c keeps.seat
 pub kept_none : (g : RegisterState) → Rise id_of (pos 0) g.recordings g.next → AreLaid g → KeepsDesk g no_callers
 kept_none g rising laid = record { seats = seats.keeps_none g rising; orderly = orderly.nobody g laid }
 
-pub kept_written : (g : RegisterState) (c : CallersState) (n : ℤ) (w : Written) → IsSomeAnd (find session_number n c.sessions) (λ s. IsSomeAnd (registration_in g s.recording) (LiesBehind w)) → KeepsDesk g c → KeepsDesk g (with_blocks n (Some w) c)
-kept_written g c n w lies keeps = record { seats = seats.keeps_written g c n (Some w) keeps.seats; orderly = orderly.wrote g c n w keeps.orderly lies }
+-- a session that was found writes a block more
+wrote_behind : (g : RegisterState) (found : Option RecorderSession) (block : Written) → IsSomeAnd found (λ s. IsSomeAnd (registration_in g s.recording) (LiesBehind (with_block block s.written)))
+    → IsSomeAnd found (λ s. IsSomeAnd (registration_in g s.recording) (LiesBehind (with_block block (written_of found))))
+wrote_behind g None block lies = absurd lies
+wrote_behind g (Some s) block lies = lies
+
+pub kept_written : (g : RegisterState) (c : CallersState) (n : ℤ) (block : Written) → IsSomeAnd (find session_number n c.sessions) (λ s. IsSomeAnd (registration_in g s.recording) (LiesBehind (with_block block s.written))) → KeepsDesk g c
+    → KeepsDesk g (with_blocks n (Some (with_block block (written_of (find session_number n c.sessions)))) c)
+kept_written g c n block lies keeps =
+    let w = with_block block (written_of (find session_number n c.sessions)) in
+    record { seats = seats.keeps_written g c n (Some w) keeps.seats; orderly = orderly.wrote g c n w keeps.orderly (wrote_behind g (find session_number n c.sessions) block lies) }
 
 -- what the session of a number wrote is recorded
 pub kept_settled : (g : RegisterState) (c : CallersState) (n : ℤ) (s : RecorderSession) (w : Written) → find session_number n c.sessions ≡ Some s → s.written ≡ Some w → KeepsDesk g c → KeepsDesk (changed s.recording (changes.Settle w.last) g) (with_blocks n None c)

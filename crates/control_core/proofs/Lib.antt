@@ -9,6 +9,7 @@ mod SomeLemmas
 pub mod LaidLemmas
 mod OrderlyLemmas
 mod KeptLemmas
+mod WaitLemmas
 pub mod AgreementLemmas
 pub mod DecidedLemmas
 pub mod CallLemmas

@@ -109,9 +109,19 @@ reply_after d Restart = replies.Reopened (pos (active_count d.register))
 
 -- ---- the other calls
 
--- a session wrote a block
+-- what was written, with one block more
+abbrev pub with_block : Written → Option Written → Written
+with_block block None = block
+with_block block (Some w) = record w { last = block.last }
+
+-- what a session that was found has written
+abbrev pub written_of : Option RecorderSession → Option Written
+written_of None = None
+written_of (Some s) = s.written
+
+-- the session of a number wrote a block
 abbrev pub after_write : ℤ → Written → DeskState → DeskState
-after_write number block d = record d { callers = with_blocks number (Some block) d.callers }
+after_write number block d = record d { callers = with_blocks number (Some (with_block block (written_of (find session_number number d.callers.sessions)))) d.callers }
 
 abbrev pub after_open : ℤ → ℤ → ℤ → DeskState → DeskState
 after_open id next bound d = record d { callers = with_replay id next bound d.callers }

@@ -1,6 +1,6 @@
 -- What each call of an archive is answered exactly, by its state with the frames, its desk and what its sessions wrote.
 -- docs/CONTROL.md, "Requests", "Recorder sessions" and "Replays".
-use Rattle.std.specs.Prelude.{◌≡◌, ◌⊎◌, ◌++◌, ◌+ℤ◌, ℕ, ℤ, pos, Bool, true, false, IsTrue, IsSomeAnd, MatchBool, List, [], ◌∷◌, length, unsigned_abs, Option, Some, None, is_none, is_some, Result, Ok, Err, if◌then◌else◌}
+use Rattle.std.specs.Prelude.{◌≡◌, ◌⊎◌, ◌++◌, ◌+ℤ◌, ℕ, ℤ, pos, int_le, Bool, true, false, IsTrue, IsSomeAnd, MatchBool, List, [], ◌∷◌, length, unsigned_abs, Option, Some, None, is_none, is_some, Result, Ok, Err, if◌then◌else◌}
 use Rattle.std.specs.Ordering.{int_eq}
 use Rattle.frame_core.specs.declared.block.Block.{Block}
 use Rattle.frame_core.specs.declared.refusal.Refusal.{Refusal}
@@ -34,6 +34,7 @@ use Rattle.control_core.specs.declared.turns.OpeningDecision.{OpeningDecision}
 use Rattle.control_core.specs.declared.turns.OpeningDecision.TheVariants as opening
 use Rattle.control_core.specs.declared.turns.Settling.{Settling}
 use Rattle.control_core.specs.declared.turns.Settling.TheVariants as settling
+use Rattle.control_core.specs.Callers.{last_number}
 use Rattle.control_core.specs.Desk.{DeskState, opened_desk}
 use Rattle.control_core.specs.Changes.{after_close, after_open, after_poll, after_write, broken_desk, desk_after, reply_after, settled}
 use Rattle.control_core.specs.Decisions.{accepted, command_in, decision_of}
@@ -104,9 +105,9 @@ DecisionEnds a (IfBoundary id position decided) = λ outcome new. ⊥
 abbrev pub with_session_blocks : ℤ → List Block → (ℤ → List Block) → ℤ → List Block
 with_session_blocks session blocks all n = if int_eq n session then blocks else all n
 
--- where a block lies
+-- where a block lies; where its end is past the last position that there is, the first one stands for it
 abbrev pub span_of : Block → Written
-span_of block = record { first = block.position; last = end_position block }
+span_of block = record { first = block.position; last = if int_le (end_position block) last_number then end_position block else block.position }
 
 abbrev pub written : Archive → ℤ → Block → Archive
 written a session block = record a { desk = after_write session (span_of block) a.desk; blocks = with_session_blocks session (a.blocks session ++ block ∷ []) a.blocks }

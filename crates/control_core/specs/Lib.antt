@@ -13,3 +13,4 @@ pub mod Exact
 pub mod Bytes
 pub mod Consistent
 pub mod Runs
+pub mod Copies

@@ -11,6 +11,8 @@ use Rattle.archive_model.specs.declared.reply.Reply.TheVariants.{Closed, Written
 use Rattle.archive_model.specs.Keyed.{find}
 use Rattle.archive_model.specs.Checks.{Tests, block_checks, checked, checks, first_checks, is_boundary_by, is_of, last_checks}
 use Rattle.archive_model.specs.Register.{is_active, is_end, registration_in}
+use Rattle.record_core.specs.declared.recording.Recording.{Recording}
+use Rattle.record_core.specs.Writing.{needs_settle}
 use Rattle.control_core.specs.declared.callers.OpenReplay.{OpenReplay}
 use Rattle.control_core.specs.declared.callers.RecorderSession.{RecorderSession}
 use Rattle.control_core.specs.declared.callers.Written.{Written}
@@ -19,7 +21,7 @@ use Rattle.control_core.specs.declared.turns.OpeningDecision.{OpeningDecision}
 use Rattle.control_core.specs.declared.turns.OpeningDecision.TheVariants as opening
 use Rattle.control_core.specs.declared.turns.Settling.{Settling}
 use Rattle.control_core.specs.declared.turns.Settling.TheVariants as settling
-use Rattle.control_core.specs.Callers.{last_number, replay_number, session_number}
+use Rattle.control_core.specs.Callers.{last_number, replay_number, session_number, written_to}
 use Rattle.control_core.specs.Desk.{DeskState, has_room}
 use Rattle.control_core.specs.Changes.{next_position, recorded_of}
 
@@ -40,12 +42,21 @@ abbrev pub has_written : Option RecorderSession → Bool
 has_written None = false
 has_written (Some s) = is_some s.written
 
+-- a session's part of its recording: where what it wrote ends, and up to where it is recorded
+abbrev pub part_of : Registration → RecorderSession → Recording
+part_of known s = record { session = s.number; written = written_to s.written known.recorded; committed = known.recorded }
+
+-- what a session wrote has to be settled first, since its next block would begin in another segment
+abbrev pub is_waiting : DeskState → Option RecorderSession → Bool
+is_waiting d None = false
+is_waiting d (Some s) = is_of (registration_in d.register s.recording) (λ known. needs_settle known.descriptor (part_of known s))
+
 -- `fits`: the block is one of the recording's terms, session and stream
 abbrev pub write_tests : DeskState → ℤ → Written → Bool → Tests
 write_tests d number block fits Broken = not d.is_broken
 write_tests d number block fits StaleSession = is_some (session_in d number)
 write_tests d number block fits BadBlock = fits && continues d (session_in d number) block
-write_tests d number block fits NeedSettle = not (has_written (session_in d number))
+write_tests d number block fits NeedSettle = not (is_waiting d (session_in d number))
 write_tests d number block fits _ = true
 
 -- a block is written, up to its end, or refused

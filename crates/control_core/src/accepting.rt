@@ -71,7 +71,8 @@ impl Desk {
 
     /// Up to where a recording is recorded once what its session wrote is; 0 where it has none.
     fn settled_position(&self, recording: &i64) -> i64
-        ensures { result ≡ settled_position self.now.state (writer_of self.now.state recording.now) }
+        ensures { result ≡ settled_position self.now.state
+            (writer_of self.now.state recording.now) }
     {
         match self.sessions.writer(recording) {
             Some(session) => self.next_position(&session),
@@ -81,8 +82,10 @@ impl Desk {
 
     /// How many segments of a recording lie before a position where a later one begins.
     fn segments_before(&self, recording: &i64, position: &i64) -> i64
-        requires { IsTrue (is_of (registration_in self.now.state.register recording.now) (is_later_base position.now)) }
-        ensures { result ≡ segments_of (registration_in self.now.state.register recording.now) position.now }
+        requires { IsTrue (is_of (registration_in self.now.state.register recording.now)
+            (is_later_base position.now)) }
+        ensures { result ≡ segments_of
+            (registration_in self.now.state.register recording.now) position.now }
     {
         match self.recording(recording) {
             Some(known) => known.segments_before(position),
@@ -158,7 +161,8 @@ impl Desk {
 
     fn stop(&mut self, recording: &i64, timestamp: i64)
         requires room { self.old.state.counted < self.old.state.limit }
-        ensures { self.new.state ≡ desk_after self.old.state (Command.Stop recording.now timestamp) }
+        ensures { self.new.state ≡ desk_after self.old.state
+            (Command.Stop recording.now timestamp) }
     {
         self.register.change(recording, &Change::Stop { timestamp });
         self.sessions.end(recording);
@@ -180,7 +184,8 @@ impl Desk {
 
     fn truncate(&mut self, recording: &i64, position: i64)
         requires { Allows self.old.state (Command.Truncate recording.now position) }
-        ensures { self.new.state ≡ desk_after self.old.state (Command.Truncate recording.now position) }
+        ensures { self.new.state ≡ desk_after self.old.state
+            (Command.Truncate recording.now position) }
     {
         self.register
             .change(recording, &Change::Truncate { position });
@@ -190,7 +195,8 @@ impl Desk {
 
     fn purge_segments(&mut self, recording: &i64, position: i64)
         requires { Allows self.old.state (Command.PurgeSegments recording.now position) }
-        ensures { self.new.state ≡ desk_after self.old.state (Command.PurgeSegments recording.now position) }
+        ensures { self.new.state ≡ desk_after self.old.state
+            (Command.PurgeSegments recording.now position) }
     {
         self.register
             .change(recording, &Change::PurgeSegments { position });
@@ -199,7 +205,8 @@ impl Desk {
 
     fn remove(&mut self, recording: &i64)
         requires room { self.old.state.counted < self.old.state.limit }
-        ensures { self.new.state ≡ desk_after self.old.state (Command.PurgeRecording recording.now) }
+        ensures { self.new.state ≡ desk_after self.old.state
+            (Command.PurgeRecording recording.now) }
     {
         self.register.remove(recording);
         self.sessions.end(recording);

@@ -3,8 +3,10 @@
 ghost use Rattle.std.specs.Prelude.{◌≡◌};
 ghost use Rattle.control_core.specs.Callers.{moved_to};
 ghost use Rattle.control_core.specs.Desk.{is_replay_before};
+ghost use Rattle.control_core.specs.Turns.{part_of};
 
-use archive_model::Numbered;
+use archive_model::{Numbered, Registration};
+use record_core::Recording;
 
 /// Where blocks lie that are written and not settled.
 #[derive(Clone, Copy, Debug, PartialEq, Eq)]
@@ -70,6 +72,19 @@ impl Numbered for OpenReplay {
 
     fn has_number(&self, number: &i64) -> bool {
         self.number == *number
+    }
+}
+
+impl RecorderSession {
+    /// Where what it wrote of its recording ends, and up to where that is recorded.
+    pub(crate) fn part_of(&self, known: &Registration) -> Recording
+        ensures { result ≡ part_of known.now self.now }
+    {
+        Recording {
+            session: self.number,
+            written: self.written.map_or(known.recorded, |it| it.last),
+            committed: known.recorded,
+        }
     }
 }
 

@@ -4,7 +4,7 @@ ghost use Rattle.std.specs.Prelude.{◌≡◌, ◌<◌, ◌≤ℤ◌, IfErr, IsS
 ghost use Rattle.frame_core.specs.declared.refusal.Refusal.TheVariants.{NoMemory};
 ghost use Rattle.archive_model.specs.Numbered.{IsPlaceOf};
 ghost use Rattle.control_core.specs.Callers.{replay_number, session_number};
-ghost use Rattle.control_core.specs.Changes.{after_close, after_open, after_poll, after_write, broken_desk, settled};
+ghost use Rattle.control_core.specs.Changes.{after_close, after_open, after_poll, after_write, broken_desk, settled, with_block};
 ghost use Rattle.archive_model.specs.Register.{registration_in};
 ghost use Rattle.control_core.specs.Orderly.{BeginsBy, LiesBehind};
 ghost use Rattle.control_core.specs.Seats.{IsFoundSession};
@@ -22,10 +22,11 @@ impl Desk {
     pub fn note_written(&mut self, session: &i64, index: usize, block: &Written)
         requires stands { IsPlaceOf session_number session.now self.old.state.callers.sessions index }
         requires behind { IsSomeAnd (session_in self.old.state session.now) (λ s.
-            IsSomeAnd (registration_in self.old.state.register s.recording) (LiesBehind block.now)) }
+            IsSomeAnd (registration_in self.old.state.register s.recording)
+            (LiesBehind (with_block block.now s.written))) }
         ensures { self.new.state ≡ after_write session.now block.now self.old.state }
     {
-        self.sessions.set_written(session, index, Some(*block));
+        self.sessions.add_written(session, index, block);
     }
 
     /// What the session of a number wrote is recorded, as one entry of the history; nothing changes where it wrote nothing.
@@ -60,7 +61,8 @@ impl Desk {
         requires room { 0 < self.old.replays }
         requires allowed { MayOpen self.old.state opening.now }
         requires from_start { BeginsBy opening.now.next self.old.state.register opening.now.recording }
-        ensures { self.new.state ≡ after_open opening.now.recording opening.now.next opening.now.bound self.old.state }
+        ensures { self.new.state
+            ≡ after_open opening.now.recording opening.now.next opening.now.bound self.old.state }
     {
         self.replays
             .open(&opening.recording, &opening.next, &opening.bound);
@@ -69,7 +71,8 @@ impl Desk {
     /// The replay of a number goes on from a position; it stands at an index. In constant time; does not allocate.
     pub fn move_replay(&mut self, replay: &i64, index: usize, next: &i64)
         requires stands { IsPlaceOf replay_number replay.now self.old.state.callers.replays index }
-        requires further { IsSomeAnd (replay_in self.old.state replay.now) (λ it. it.next ≤ℤ next.now) }
+        requires further { IsSomeAnd (replay_in self.old.state replay.now)
+            (λ it. it.next ≤ℤ next.now) }
         ensures { self.new.state ≡ after_poll replay.now next.now self.old.state }
     {
         self.replays.set_next(replay, index, next);

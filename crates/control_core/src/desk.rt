@@ -26,7 +26,7 @@ pub struct Desk {
     pub(crate) register: Register,
     pub(crate) sessions: Sessions,
     pub(crate) replays: Replays,
-    pub(crate) counted: u32,
+    pub(crate) counted: u64,
     pub(crate) limit: u32,
     pub(crate) is_broken: bool,
 }
@@ -105,16 +105,31 @@ impl Desk {
 
     /// Whether a write has failed.
     pub fn is_broken(&self) -> bool
-        ensures { result ≡ self.now.state.is_broken }
+        ensures broken { result ≡ self.now.state.is_broken }
+        ensures keeps { KeepsDesk self.now.state.register self.now.state.callers }
     {
         self.is_broken
+    }
+
+    /// How many entries of the history count.
+    pub fn counted(&self) -> u64
+        ensures { result ≡ self.now.state.counted }
+    {
+        self.counted
+    }
+
+    /// How many entries of the history may count.
+    pub fn limit(&self) -> u32
+        ensures { result ≡ self.now.state.limit }
+    {
+        self.limit
     }
 
     /// Whether the history has room for one more entry.
     pub fn has_room(&self) -> bool
         ensures { result ≡ has_room self.now.state }
     {
-        self.counted < self.limit
+        self.counted < u64::from(self.limit)
     }
 
     /// Whether one more recording may begin: there are fewer than 1,024, and there is an id for it.
@@ -150,7 +165,8 @@ impl Desk {
 
     /// Whether an open replay of a recording goes on below a position. Costs a lookup at each open replay.
     pub fn is_replayed_below(&self, recording: &i64, position: &i64) -> bool
-        ensures { result ≡ list_any (is_replay_before recording.now position.now) self.now.state.callers.replays }
+        ensures { result ≡ list_any
+            (is_replay_before recording.now position.now) self.now.state.callers.replays }
     {
         self.replays.is_replayed_below(recording, position)
     }

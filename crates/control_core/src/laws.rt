@@ -51,7 +51,8 @@ pub fn the_desk_changes_its_register_as_the_command_says()
 /// So the desk goes on agreeing with the state.
 #[tactic(auto, using(crate::proofs::AgreementLemmas::agrees))]
 pub fn the_desk_follows_the_state()
-    ensures { (d : DeskState) (b : BookState) (c : Command) → Agrees d b.state → HasWritten d b.state c →
+    ensures { (d : DeskState) (b : BookState) (c : Command) → Agrees d b.state →
+        HasWritten d b.state c →
         IsWell b.state → Accepts b c → Agrees (desk_after d c) (after b.state c) }
 {}
 
@@ -117,14 +118,16 @@ pub fn a_call_is_allowed()
 /// A consistent archive still is after an accepted command that is no append: docs/CONTROL.md, "Control state".
 #[tactic(auto, using(crate::proofs::CommandLemmas::consistent_after))]
 pub fn a_command_keeps_the_archive_consistent()
-    ensures { (a : Archive) (c : Command) → IsFalse (is_append c) → IsConsistent a → IsAcceptable a c →
+    ensures { (a : Archive) (c : Command) → IsFalse (is_append c) → IsConsistent a →
+        IsAcceptable a c →
         StaysConsistent a (archive_after a c) }
 {}
 
 /// What such a command makes of the recorder sessions: each was open before, and its recording stays, or wrote nothing.
 #[tactic(auto, using(crate::proofs::CommandLemmas::sessions_stay))]
 pub fn a_command_leaves_what_sessions_wrote()
-    ensures { (a : Archive) (c : Command) → IsFalse (is_append c) → IsConsistent a → IsAcceptable a c →
+    ensures { (a : Archive) (c : Command) → IsFalse (is_append c) → IsConsistent a →
+        IsAcceptable a c →
         Each (λ s. StaysOpen a (after a.state c) s ⊎ WroteNothing a s) (desk_after a.desk c).callers.sessions }
 {}
 
@@ -142,14 +145,16 @@ pub fn a_settling_leaves_what_other_sessions_wrote()
 /// An archive that is opened with a well-formed state is consistent: docs/CONTROL.md, "Control state".
 #[tactic(auto, using(crate::proofs::ConsistentLemmas::consistent_opened))]
 pub fn an_opened_archive_is_consistent()
-    ensures { (s : State) (counted limit : ℕ) → IsWell s → IsConsistent (opened_archive s counted limit) }
+    ensures { (s : State) (counted limit : ℕ) → IsWell s →
+        IsConsistent (opened_archive s counted limit) }
 {}
 
 /// A consistent archive still is after each call, whatever it ends with, want of memory and a device fault too:
 /// docs/CONTROL.md, "Control state".
 #[tactic(auto, using(crate::proofs::ConsistentLemmas::consistent_call))]
 pub fn a_call_keeps_the_archive_consistent()
-    ensures { (a : Archive) (event : Event) (outcome : Result Reply Refusal) (new : Archive) → IsConsistent a →
+    ensures { (a : Archive) (event : Event) (outcome : Result Reply Refusal) (new : Archive) →
+        IsConsistent a →
         CallEnds a event (Unit {0}) outcome new → StaysConsistent a new }
 {}
 
@@ -159,7 +164,8 @@ pub fn a_call_keeps_the_archive_consistent()
 /// "Recovery".
 #[tactic(auto, using(crate::proofs::RunLemmas::run_history))]
 pub fn a_run_is_a_history()
-    ensures { (a : Archive) (events : List Event) (outcomes : List (Result Reply Refusal)) (left : List Archive) →
+    ensures { (a : Archive) (events : List Event) (outcomes : List (Result Reply Refusal))
+        (left : List Archive) →
         IsConsistent a → a.doubt ≡ None → Leave a events outcomes left →
         (commands : List Command) × IsHistory a left commands }
 {}
@@ -182,7 +188,8 @@ pub fn what_is_decided_on_a_read_is_a_step()
 /// "Refusals".
 #[tactic(auto, using(crate::proofs::StepLemmas::stepped_stays))]
 pub fn a_refused_step_leaves_the_desk()
-    ensures { (d : DeskState) (asked : Asked) (refusal : Refusal) (new : DeskState) → refusal ≢ DeviceFault →
+    ensures { (d : DeskState) (asked : Asked) (refusal : Refusal) (new : DeskState) →
+        refusal ≢ DeviceFault →
         Stepped d asked (Err refusal) new → new ≡ d }
 {}
 

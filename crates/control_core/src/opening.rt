@@ -13,7 +13,7 @@ use std::alloc::Global;
 impl Desk {
     /// The desk of an archive with these recordings, each laid out and recorded inside its stream, of whose history so many
     /// entries count and may: nobody calls yet, and the numbers of sessions and replays begin at 0. Does not allocate.
-    pub fn opened(alloc: Global, register: Register, counted: u32, limit: u32) -> Desk
+    pub fn opened(alloc: Global, register: Register, counted: u64, limit: u32) -> Desk
         requires { AreLaid register.state }
         ensures { result.state ≡ opened_desk register.state counted limit }
     {

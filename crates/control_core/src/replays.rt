@@ -1,6 +1,6 @@
 //! The replays that are open. docs/CONTROL.md, "Replays".
 
-ghost use Rattle.std.specs.Prelude.{◌≡◌, ◌+ℤ◌, ◌++◌, ◌∷◌, [], ◌<◌, ◌≢◌, not, pos, filter, length, IfErr, OnOk, MatchOption, None};
+ghost use Rattle.std.specs.Prelude.{◌≡◌, ◌+ℤ◌, ◌++◌, ◌∷◌, [], ◌<◌, ◌≢◌, not, pos, filter, length, IfErr, IfOk, OnOk, MatchOption, None};
 ghost use Rattle.std.specs.List.{list_any};
 ghost use Rattle.frame_core.specs.declared.refusal.Refusal.TheVariants.{NoMemory};
 ghost use Rattle.archive_model.specs.Keyed.{find, change, without, Rise};
@@ -47,6 +47,18 @@ impl Replays {
             values: Vec::new(alloc),
             next: 0,
         }
+    }
+
+    /// A copy. Costs the replays that are open. `NoMemory`.
+    pub fn copy(&self, alloc: Global) -> Result<Replays, Refusal>
+        ensures values { IfOk result (λ copy. copy.values ≡ self.now.values) }
+        ensures next { IfOk result (λ copy. copy.next ≡ self.now.next) }
+        ensures memory { IfErr result (λ refusal. refusal ≡ NoMemory) }
+    {
+        Ok(Replays {
+            values: self.values.as_slice().to_vec(alloc)?,
+            next: self.next,
+        })
     }
 
     /// The open replay of a number. Costs the replays that are open.
@@ -127,7 +139,8 @@ impl Replays {
     /// Where the replay of a number goes on, which stands at an index. In constant time.
     pub fn set_next(&mut self, number: &i64, index: usize, next: &i64)
         requires { IsPlaceOf replay_number number.now self.old.values index }
-        ensures values { self.new.values ≡ change replay_number number.now (moved_to next.now) self.old.values }
+        ensures values { self.new.values ≡ change replay_number number.now
+            (moved_to next.now) self.old.values }
         ensures next { self.new.next ≡ self.old.next }
     {
         let replay = &mut self.values[index];
@@ -146,7 +159,8 @@ impl Replays {
 
     /// The replays of a recording are gone. Costs the replays that are open.
     pub fn end(&mut self, recording: &i64)
-        ensures values { self.new.values ≡ filter (λ r. not (is_replay_of recording.now r)) self.old.values }
+        ensures values { self.new.values ≡ filter (λ r. not
+            (is_replay_of recording.now r)) self.old.values }
         ensures next { self.new.next ≡ self.old.next }
     {
         self.values.retain(|replay| replay.recording != *recording);

@@ -1,11 +1,11 @@
 //! The recorder sessions that are open. docs/CONTROL.md, "Recorder sessions".
 
-ghost use Rattle.std.specs.Prelude.{◌≡◌, ◌+ℤ◌, ◌++◌, ◌∷◌, [], ◌<◌, ◌≢◌, not, pos, filter, IfErr, OnOk, MatchOption, None};
+ghost use Rattle.std.specs.Prelude.{◌≡◌, ◌+ℤ◌, ◌++◌, ◌∷◌, [], ◌<◌, ◌≢◌, not, pos, filter, IfErr, IfOk, OnOk, MatchOption, None, Some};
 ghost use Rattle.frame_core.specs.declared.refusal.Refusal.TheVariants.{NoMemory};
 ghost use Rattle.archive_model.specs.Keyed.{find, change};
 ghost use Rattle.archive_model.specs.Numbered.{IsPlaceOf};
 ghost use Rattle.control_core.specs.Callers.{last_number, session_number, with_written};
-ghost use Rattle.control_core.specs.Changes.{begun_session, is_session_of};
+ghost use Rattle.control_core.specs.Changes.{begun_session, is_session_of, with_block, written_of};
 ghost use Rattle.control_core.specs.Seats.{IsFoundSession};
 
 use crate::callers::{FoundSession, RecorderSession, Written};
@@ -46,6 +46,18 @@ impl Sessions {
             values: Vec::new(alloc),
             next: 0,
         }
+    }
+
+    /// A copy. Costs the sessions that are open. `NoMemory`.
+    pub fn copy(&self, alloc: Global) -> Result<Sessions, Refusal>
+        ensures values { IfOk result (λ copy. copy.values ≡ self.now.values) }
+        ensures next { IfOk result (λ copy. copy.next ≡ self.now.next) }
+        ensures memory { IfErr result (λ refusal. refusal ≡ NoMemory) }
+    {
+        Ok(Sessions {
+            values: self.values.as_slice().to_vec(alloc)?,
+            next: self.next,
+        })
     }
 
     /// The session of a number. Costs the sessions that are open.
@@ -92,7 +104,8 @@ impl Sessions {
     pub fn open(&mut self, recording: &i64)
         requires room { 0 < self.old.room }
         requires more { self.old.next ≢ last_number }
-        ensures values { self.new.values ≡ self.old.values ++ begun_session self.old.next recording.now ∷ [] }
+        ensures values { self.new.values
+            ≡ self.old.values ++ begun_session self.old.next recording.now ∷ [] }
         ensures next { self.new.next ≡ self.old.next +ℤ pos 1 }
     {
         let _ = self.values.push(RecorderSession {
@@ -106,15 +119,36 @@ impl Sessions {
     /// What the session of a number has written and not settled, which stands at an index. In constant time.
     pub fn set_written(&mut self, number: &i64, index: usize, written: Option<Written>)
         requires { IsPlaceOf session_number number.now self.old.values index }
-        ensures values { self.new.values ≡ change session_number number.now (with_written written) self.old.values }
+        ensures values { self.new.values ≡ change session_number number.now
+            (with_written written) self.old.values }
         ensures next { self.new.next ≡ self.old.next }
     {
         self.values[index].written = written;
     }
 
+    /// The session of a number, which stands at an index, has written a block more, from its first to its last position. In
+    /// constant time.
+    pub fn add_written(&mut self, number: &i64, index: usize, block: &Written)
+        requires { IsPlaceOf session_number number.now self.old.values index }
+        ensures values { self.new.values ≡ change session_number number.now (with_written (Some
+            (with_block block.now (written_of (find session_number number.now self.old.values))))) self.old.values }
+        ensures next { self.new.next ≡ self.old.next }
+    {
+        let first = match self.values[index].written {
+            Some(written) => written.first,
+            None => block.first,
+        };
+        let written = Written {
+            first,
+            last: block.last,
+        };
+        self.set_written(number, index, Some(written));
+    }
+
     /// The session of a number has nothing to settle. Costs the sessions that are open.
     pub fn clear_written(&mut self, number: &i64)
-        ensures values { self.new.values ≡ change session_number number.now (with_written None) self.old.values }
+        ensures values { self.new.values ≡ change session_number number.now
+            (with_written None) self.old.values }
         ensures next { self.new.next ≡ self.old.next }
     {
         let Some(index) = place_of(self.values.as_slice(), number) else {
@@ -125,7 +159,8 @@ impl Sessions {
 
     /// The sessions of a recording are gone. Costs the sessions that are open.
     pub fn end(&mut self, recording: &i64)
-        ensures values { self.new.values ≡ filter (λ s. not (is_session_of recording.now s)) self.old.values }
+        ensures values { self.new.values ≡ filter (λ s. not
+            (is_session_of recording.now s)) self.old.values }
         ensures next { self.new.next ≡ self.old.next }
     {
         self.values

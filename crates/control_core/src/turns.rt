@@ -1,7 +1,7 @@
 //! What is decided on a call that is no request, by the desk alone. docs/CONTROL.md, "Recorder sessions", "Replays" and
 //! "Refusals".
 
-ghost use Rattle.std.specs.Prelude.{◌≡◌, ◌++◌, ◌≤ℤ◌, negsuc, true, Some, Ok, None, Err, IfOk, MatchOption, MatchResult};
+ghost use Rattle.std.specs.Prelude.{◌≡◌, ◌++◌, ◌≤ℤ◌, negsuc, true, Some, Ok, None, Err, IfOk, IfSome, MatchOption, MatchResult, is_some, option_copied};
 ghost use Rattle.frame_core.specs.ReplayEnd.{bound_of};
 ghost use Rattle.archive_model.specs.Checks.{block_checks, checked, checks, last_checks};
 ghost use Rattle.archive_model.specs.Register.{registration_in};
@@ -59,18 +59,21 @@ pub enum OpeningDecision {
 }
 
 /// What is decided on writing a block that lies from its first to its last position. `found` is what the desk has under
-/// the session's number; `fits` tells whether it is a block of the terms, session and stream of the session's recording.
-/// Answers the block's end. In constant time.
+/// the session's number; `known` is the session's recording where it is a block of its terms, session and stream, else
+/// none. Answers the block's end. In constant time.
 pub fn decide_write(
     desk: &Desk,
     session: &i64,
     found: &Option<FoundSession>,
     block: &Written,
-    fits: bool,
+    known: Option<&Registration>,
 ) -> Result<Reply, Refusal>
-    requires { MatchOption found.now (session_in desk.now.state session.now ≡ None)
+    requires found { MatchOption found.now (session_in desk.now.state session.now ≡ None)
         (IsFoundSession session.now desk.now.state.callers.sessions) }
-    ensures { result ≡ write_decision desk.now.state session.now block.now fits }
+    requires known { IfSome (option_copied known) (λ known. IfSome found.now (λ found.
+        registration_in desk.now.state.register found.session.recording ≡ Some known)) }
+    ensures { result ≡ write_decision desk.now.state session.now block.now (is_some
+        (option_copied known.entry)) }
 {
     if desk.is_broken() {
         return Err(Refusal::Broken);
@@ -78,10 +81,14 @@ pub fn decide_write(
     let Some(found) = found else {
         return Err(Refusal::StaleSession);
     };
-    if !fits || block.first != desk.next_position(&found.session) {
+    let Some(known) = known else {
+        return Err(Refusal::BadBlock);
+    };
+    let part = found.session.part_of(known);
+    if block.first != part.written {
         return Err(Refusal::BadBlock);
     }
-    if found.session.written.is_some() {
+    if part.needs_settle(&known.descriptor) {
         return Err(Refusal::NeedSettle);
     }
     Ok(Reply::Written {
@@ -103,7 +110,8 @@ pub fn decide_settle(desk: &Desk, session: &i64) -> Result<FoundSettling, Refusa
     ensures decided { MatchResult result
         (λ decided. settle_decision desk.now.state session.now ≡ Ok decided.settling)
         (λ refusal. settle_decision desk.now.state session.now ≡ Err refusal) }
-    ensures found { IfOk result (λ decided. IsFoundSession session.now desk.now.state.callers.sessions decided.found) }
+    ensures found { IfOk result
+        (λ decided. IsFoundSession session.now desk.now.state.callers.sessions decided.found) }
 {
     if desk.is_broken() {
         return Err(Refusal::Broken);
@@ -178,7 +186,8 @@ fn behind_boundary(
     length: &i64,
 ) -> Result<Opening, Refusal>
     requires { negsuc 0 ≤ℤ length.now }
-    ensures { result ≡ checked (open_tests desk.now.state recording.now next.now length.now true) (block_checks ++ last_checks)
+    ensures { result ≡ checked (open_tests desk.now.state recording.now next.now length.now true)
+        (block_checks ++ last_checks)
         (Ok (record { recording = recording.now; next = next.now; bound = bound_of next.now length.now })) }
 {
     if desk.open_replays() >= MAX_OPEN_REPLAYS || desk.next_replay() == LAST_NUMBER {
@@ -231,7 +240,8 @@ pub fn decide_verify<'a>(desk: &'a Desk, recording: &i64) -> Result<&'a Registra
     ensures decided { MatchResult result
         (λ known. checked (verify_tests desk.now.state recording.now) checks (Ok (tt {0})) ≡ Ok (tt {0}))
         (λ refusal. checked (verify_tests desk.now.state recording.now) checks (Ok (tt {0})) ≡ Err refusal) }
-    ensures found { IfOk result (λ known. Some known.now ≡ registration_in desk.now.state.register recording.now) }
+    ensures found { IfOk result (λ known. Some known.now
+        ≡ registration_in desk.now.state.register recording.now) }
     ensures keeps { KeepsDesk desk.now.state.register desk.now.state.callers }
 {
     desk.recording(recording).ok_or(Refusal::UnknownRecording)

@@ -7,7 +7,6 @@ mod OverwriteLemmas
 mod DiskImageLemmas
 mod LifeLemmas
 mod StandingLemmas
-mod TwoSlotsLemmas
 mod EntryLemmas
 mod LogLemmas
 mod WellLemmas

@@ -10,5 +10,3 @@ pub mod CrashChoice
 pub mod Counts
 pub mod Memory
 pub mod MemoryDisk
--- a caller of its own
-pub mod TwoSlots

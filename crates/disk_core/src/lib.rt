@@ -12,7 +12,6 @@ pub mod laws;
 pub mod memory;
 mod memory_file;
 mod refusal;
-pub mod two_slots;
 
 pub use disk::Disk;
 pub use fault::{Fault, ListFault};

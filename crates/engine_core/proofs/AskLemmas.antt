@@ -36,7 +36,7 @@ use Rattle.control_core.proofs.DecidedLemmas.{decided_accepted}
 use Rattle.engine_core.specs.Calls.{AnswersEvent, CommitEnds, EndsAs, is_cut}
 use Rattle.engine_core.specs.Engine.{Content, EngineState, archive_of}
 use Rattle.engine_core.specs.Making.{BegunEnds, Commits, InsideEnds, MakesInside}
-use Rattle.engine_core.proofs.EndedLemmas.{ended_as}
+use Rattle.engine_core.proofs.EndedLemmas.{ended_as, spared_by}
 use Rattle.engine_core.proofs.InsideLemmas.{commit_cause, commit_step, some_content}
 use Rattle.engine_core.proofs.KnownLemmas.{known_recording}
 use Rattle.engine_core.proofs.SweepCallLemmas.{one_refusal, unmoved}
@@ -323,6 +323,7 @@ ask_made old new request command outcome is commits = record {
   goes_on = commits.goes_on;
   cause = λ fault. commit_cause (archive_of old some_content) (archive_after (archive_of old some_content) command) (reply_after old.desk command) (HasFailed old.life new.life) outcome (archive_of new some.0) some.1 fault;
   machine = step_by old.desk new.desk request (decisions.Accepted command) (plain outcome) is (commit_step (archive_of old some_content) command (HasFailed old.life new.life) outcome (archive_of new some.0) some.1);
+  kept = spared_by _ _ old new outcome (λ harmless. harmless.1) commits.kept;
   swept = λ removed sweep told. absurd (no_sweep request sweep);
   ended = λ c was cut.
       let a = archive_of old c in
@@ -346,6 +347,7 @@ ask_inside old new request id position behind outcome is makes = record {
     | inr failed ↦ failed
   ];
   machine = step_by old.desk new.desk request (decisions.IfBoundary id position behind) (plain outcome) is makes.machine;
+  kept = spared_by _ _ old new outcome (λ harmless. harmless.1) makes.kept;
   swept = λ removed sweep told. absurd (no_sweep request sweep);
   ended = λ c was cut.
       let a = archive_of old c in

@@ -1,6 +1,9 @@
 -- How a call of an archive ends: nothing has changed, or an operation on its files has succeeded, or has failed.
 use Rattle.std.proofs.Common.{◌≡◌, ◌∙◌, sym, ap, subst, refl, IsTrue, true, true≢false, false, Option, Some, None, inl, inr, arith}
-use Rattle.std.specs.Prelude.{is_some}
+use Rattle.std.specs.Prelude.{◌≢◌, ◌⊎◌, IsFalse, Result, Ok, Err, is_some}
+use Rattle.frame_core.specs.declared.refusal.Refusal.{Refusal}
+use Rattle.frame_core.specs.declared.refusal.Refusal.TheVariants.{DeviceFault, NoMemory}
+use Rattle.archive_model.specs.declared.reply.Reply.{Reply}
 use Rattle.disk_core.specs.DiskImage.{DiskImage, Files, MayLeave, reads}
 use Rattle.disk_core.specs.Life.{IsQuiet, Life, LeavesOnly}
 use Rattle.disk_core.proofs.CallerLemmas.{goes_quiet, now_leaves, started, weaker}
@@ -15,7 +18,8 @@ use Rattle.control_core.specs.Runs.{MayStand}
 use Rattle.control_core.proofs.ConsistentLemmas.{breaks}
 use Rattle.engine_core.specs.Calls.{Ended}
 use Rattle.engine_core.specs.Consistent.{IsCrashConsistent, MayStandIn, StandsBehind}
-use Rattle.engine_core.specs.Engine.{EngineState, GoesOn, content_of}
+use Rattle.engine_core.specs.Engine.{EngineState, GoesOn, IsAsBefore, IsSpared, content_of}
+use Rattle.engine_core.specs.Making.{after_failure}
 use Rattle.engine_core.specs.Recovery.{IsDurable, IsEither, IsSound, RecoversTo}
 use Rattle.engine_core.proofs.RecoveryLemmas.{sound_recovers}
 
@@ -51,6 +55,31 @@ quiet_goes_on old new quiet = record { obeyed = quiet.obeyed; faults = quiet.fau
 
 pub goes_on_here : (life : Life) → GoesOn life life
 goes_on_here life = record { obeyed = λ obeys. obeys; faults = omega arith }
+
+-- ---- what a refusal left
+
+pub as_before : (e : EngineState) → IsAsBefore e e
+as_before e = record { files = quiet_life e.life; log = refl; desk = refl }
+
+pub spared : (harmless : Type 0) (old new : EngineState) (result : Result Reply Refusal) → IsAsBefore old new → IsSpared harmless old new result
+spared harmless old new (Ok reply) same = tt
+spared harmless old new (Err refusal) same = λ fault. same
+
+pub spared_by : (G H : Type 0) (old new : EngineState) (result : Result Reply Refusal) → (G → H) → IsSpared H old new result → IsSpared G old new result
+spared_by G H old new (Ok reply) to is = tt
+spared_by G H old new (Err refusal) to is = λ fault. is (λ at. to (fault at))
+
+-- a fault broke the archive, and want of memory has changed nothing
+pub spared_unbroken : (old new : EngineState) (refusal : Refusal) → IsFalse old.desk.is_broken → new.desk ≡ after_failure refusal old.desk → (refusal ≡ DeviceFault) ⊎ (refusal ≡ NoMemory) → (refusal ≢ DeviceFault → new.life ≡ old.life)
+    → (refusal ≢ DeviceFault → new.log ≡ old.log) → IsSpared (new.desk.is_broken ≡ old.desk.is_broken) old new (Err refusal)
+spared_unbroken old new refusal works desk outside life log = λ harmless. elim outside [
+  | inl fault ↦ absurd (true≢false (sym (ap (λ (d : DeskState). d.is_broken) (desk ∙ ap (λ (r : Refusal). after_failure r old.desk) fault)) ∙ harmless fault ∙ works))
+  | inr memory ↦ (let other : refusal ≢ DeviceFault = λ is. absurd cc in record {
+    files = subst (IsQuiet old.life) (sym (life other)) (quiet_life old.life);
+    log = log other;
+    desk = desk ∙ ap (λ (r : Refusal). after_failure r old.desk) memory;
+  })
+]
 
 -- ---- archives that are crash-consistent
 

@@ -9,6 +9,7 @@ use Rattle.disk_core.specs.Life.{HasFailed, IsQuiet, Life}
 use Rattle.disk_core.proofs.CallerLemmas.{goes_on_part}
 use Rattle.segment_store.specs.declared.layout.Layout.{Layout}
 use Rattle.segment_store.specs.Boundary.{RefusesBoundary}
+use Rattle.segment_store.proofs.ChainLemmas.{quiet_on}
 use Rattle.archive_model.specs.declared.command.Command.{Command}
 use Rattle.archive_model.specs.declared.registration.Registration.{Registration}
 use Rattle.archive_model.specs.declared.reply.Reply.{Reply}
@@ -24,7 +25,7 @@ use Rattle.control_core.specs.Machine as machine
 use Rattle.control_core.specs.Machine.{Does, Ends, OrOutside, Outcome, UnlessBoundary, Unread}
 use Rattle.engine_core.specs.Calls.{CommitEnds, Ended}
 use Rattle.engine_core.specs.Consistent.{IsCrashConsistent, MayStandIn}
-use Rattle.engine_core.specs.Engine.{Content, EngineState, archive_of}
+use Rattle.engine_core.specs.Engine.{Content, EngineState, IsAsBefore, IsSpared, archive_of}
 use Rattle.engine_core.specs.Making.{Commits, InsideEnds, MakesInside}
 use Rattle.engine_core.specs.Reading.{IsRead}
 use Rattle.engine_core.specs.Recovery.{RecoversTo}
@@ -110,11 +111,15 @@ module _ (old : EngineState) (mid : Life) (id position : ℤ) (g : Registration)
   begins_is : (begins : Bool) (r : Recording) → Tells old.life mid g position begins → IsRead old.life mid g r → is_end position (registration_of r) ≡ false → begins_frame position r ≡ begins
   begins_is begins r tells read inside = sym (tells r read (subst (λ (x : Registration). is_end position x ≡ false) (sym read.is) inside))
 
+  read_before : IsAsBefore old (behind_read old mid)
+  read_before = record { files = asked.quiet; log = refl; desk = refl }
+
   -- the frames could not be read
   pub inside_unread : (outcome : Result Reply Refusal) (refusal : Refusal) (obeys : Bool) (image : DiskImage) (l : Layout) (geometry : Geometry) (recorded at : ℤ) → outcome ≡ Err refusal → RefusesBoundary obeys image l geometry recorded at refusal
       → ((r : Recording) → IsRead old.life mid g r → refusal ≡ DeviceFault) → (refusal ≡ DeviceFault → HasFailed old.life mid) → MakesInside old (behind_read old mid) id position decided outcome
   inside_unread outcome refusal obeys image l geometry recorded at is refuses fault cause = subst (MakesInside old (behind_read old mid) id position decided) (sym is) (record {
     goes_on = quiet_goes_on old.life mid asked.quiet;
+    kept = λ harmless. read_before;
     cause = λ failed. inr (cause (one_refusal (Err refusal) refusal DeviceFault refl failed));
     machine = inl (inr (inl (boundary_unread old.desk obeys image l geometry recorded at refusal refuses)));
     ended = λ c r was found inside accepts obeyed.
@@ -128,6 +133,7 @@ module _ (old : EngineState) (mid : Life) (id position : ℤ) (g : Registration)
   pub inside_none : Tells old.life mid g position false → MakesInside old (behind_read old mid) id position decided (Err BadPosition)
   inside_none tells = record {
     goes_on = quiet_goes_on old.life mid asked.quiet;
+    kept = λ harmless. read_before;
     cause = λ failed. absurd (let clash = failed in cc);
     machine = inl (inl (refl, refl));
     ended = λ c r was found inside accepts obeyed.
@@ -141,6 +147,7 @@ module _ (old : EngineState) (mid : Life) (id position : ℤ) (g : Registration)
   pub inside_refused : (outcome : Result Reply Refusal) (refusal : Refusal) → outcome ≡ Err refusal → decided ≡ Err refusal → Tells old.life mid g position true → MakesInside old (behind_read old mid) id position decided outcome
   inside_refused outcome refusal is refused tells = subst (MakesInside old (behind_read old mid) id position decided) (sym is) (record {
     goes_on = quiet_goes_on old.life mid asked.quiet;
+    kept = λ harmless. read_before;
     cause = λ failed. inl (refused ∙ as_decided failed);
     machine = inl (inr (inr (subst (λ (x : Result Command Refusal). Does old.desk x (Err refusal) old.desk) (sym refused) (refl, refl))));
     ended = λ c r was found inside accepts obeyed.
@@ -159,6 +166,7 @@ module _ (old : EngineState) (mid : Life) (id position : ℤ) (g : Registration)
       → Commits (behind_read old mid) new (λ a. Accepts (book_of a) command) (reply_after old.desk command) (λ a. archive_after a command) outcome → MakesInside old new id position decided outcome
   inside_made new command outcome is tells commits = record {
     goes_on = record { obeyed = λ obeys. asked.quiet.obeyed (commits.goes_on.obeyed obeys); faults = omega (arith, asked.quiet.faults, commits.goes_on.faults) };
+    kept = spared_behind new outcome commits.kept;
     cause = λ failed. inr (failed_later old.life mid new.life asked.quiet (commit_cause (archive_of old some_content) (archive_after (archive_of old some_content) command) (reply_after old.desk command) (HasFailed mid new.life) outcome (archive_of new some.0) some.1 failed));
     machine = behind_boundary old.desk new.desk (Does old.desk decided) (plain outcome)
         (subst (λ (x : Result Command Refusal). OrOutside old.desk ⊥ (λ d. ⊥) (Does old.desk x) (plain outcome) new.desk) (sym is) (commit_step (archive_of old some_content) command (HasFailed mid new.life) outcome (archive_of new some.0) some.1));
@@ -175,5 +183,9 @@ module _ (old : EngineState) (mid : Life) (id position : ℤ) (g : Registration)
         (commits.ended c (quiet_consistent old.life mid old.log a asked.quiet was) holds));
   }
     where
+      spared_behind : (now : EngineState) (o : Result Reply Refusal) → IsSpared (now.desk.is_broken ≡ old.desk.is_broken) (behind_read old mid) now o → IsSpared (now.desk.is_broken ≡ old.desk.is_broken) old now o
+      spared_behind now (Ok reply) is = tt
+      spared_behind now (Err refusal) is = λ harmless. (let same = is harmless in record { files = quiet_on old.life mid now.life asked.quiet same.files; log = same.log; desk = same.desk })
+
       some : (after : Content) × CommitEnds (archive_of old some_content) (reply_after old.desk command) (archive_after (archive_of old some_content) command) (HasFailed mid new.life) outcome (archive_of new after)
       some = commits.exact some_content

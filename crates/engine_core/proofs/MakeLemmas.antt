@@ -1,5 +1,5 @@
 -- How a command is made.
-use Rattle.std.proofs.Common.{rules, ◌≡◌, ◌⊎◌, ◌∙◌, ◌+◌, sym, ap, subst, refl, pos, [], cond, inl, inr}
+use Rattle.std.proofs.Common.{◌≢◌, rules, ◌≡◌, ◌⊎◌, ◌∙◌, ◌+◌, sym, ap, subst, refl, pos, [], cond, inl, inr}
 use Rattle.std.specs.Prelude.{IsFalse, Result, Ok, Err, Some, is_some}
 use Rattle.frame_core.specs.declared.refusal.Refusal.{Refusal}
 use Rattle.frame_core.specs.declared.refusal.Refusal.TheVariants.{DeviceFault, NoMemory}
@@ -37,7 +37,7 @@ use Rattle.engine_core.specs.Making.{Commits, after_failure}
 use Rattle.engine_core.specs.Moves.{AddsEntry, HasRoom, KeepsSegments, Leads, Moves}
 use Rattle.engine_core.specs.Recovery.{IsSound}
 use Rattle.engine_core.proofs.CommitCallLemmas.{commit_done, commit_refused, exact_commit, room_for, tied_behind}
-use Rattle.engine_core.proofs.EndedLemmas.{goes_on_here, no_doubt, quiet_life, still}
+use Rattle.engine_core.proofs.EndedLemmas.{as_before, goes_on_here, no_doubt, quiet_life, spared, spared_unbroken, still}
 use Rattle.engine_core.proofs.StandLemmas.{stands_either, stands_nothing}
 use Rattle.engine_core.proofs.StayLemmas.{leads}
 
@@ -155,21 +155,20 @@ module _ (old new : EngineState) (content : Content) (c : Command) (e : Entry) (
   stays = consistent_after a c (made_no_append c may.made) may.was.archive acceptable
 
   -- what the commit of its entry did
-  entered : (result : Result (Unit {0}) Refusal) → ((s u : State) → IsSound old.life.now old.log s → Leads old.life.now s u e → HasRoom old.log e → Moves old.life new.life new.log s u result) → Moves old.life new.life new.log a.state (after a.state c) result
+  entered : (result : Result (Unit {0}) Refusal) → ((s u : State) → IsSound old.life.now old.log s → Leads old.life.now s u e → Moves old.life new.life new.log s u result) → Moves old.life new.life new.log a.state (after a.state c) result
   entered result moves =
       let next : a.state.next ≡ old.desk.register.next = ap (λ g. g.next) (sym may.was.archive.agrees) in
       let led : Leads old.life.now a.state (after a.state c) (entry_of a.state c) = leads old.life.now (book_of a) c may.was.archive.well may.accepts may.made may.was.frames in
       moves a.state (after a.state c) (may.was.sound (no_doubt a may.was.archive may.works)) (subst (Leads old.life.now a.state (after a.state c)) (sym (may.for.is a.state next)) led)
-      (has_room old.log old.desk c e may.tied may.works may.allows may.for)
 
-  pub made_done : new.desk ≡ desk_after old.desk c → ((s u : State) → IsSound old.life.now old.log s → Leads old.life.now s u e → HasRoom old.log e → Moves old.life new.life new.log s u (Ok tt))
+  pub made_done : new.desk ≡ desk_after old.desk c → ((s u : State) → IsSound old.life.now old.log s → Leads old.life.now s u e → Moves old.life new.life new.log s u (Ok tt))
       → Ended old new a (CommitEnds a reply (archive_after a c) (HasFailed old.life new.life) (Ok reply))
   made_done desk moves =
       commit_done old new content may.was (archive_after a c) reply (bank_keeps old.life new.life changes) stays
       (stands_after (reads old.life.now) a c (made_no_append c may.made) may.was.archive stays acceptable may.was.stand) desk (entered (Ok tt) moves)
 
   pub made_refused : (refusal : Refusal) → (refusal ≡ DeviceFault → HasFailed old.life new.life) → new.desk ≡ after_failure refusal old.desk
-      → ((s u : State) → IsSound old.life.now old.log s → Leads old.life.now s u e → HasRoom old.log e → Moves old.life new.life new.log s u (Err refusal))
+      → ((s u : State) → IsSound old.life.now old.log s → Leads old.life.now s u e → Moves old.life new.life new.log s u (Err refusal))
       → Ended old new a (CommitEnds a reply (archive_after a c) (HasFailed old.life new.life) (Err refusal))
   made_refused refusal cause desk moves = commit_refused old new content may.was (archive_after a c) reply (bank_keeps old.life new.life changes) refusal cause desk (entered (Err refusal) moves)
 
@@ -183,7 +182,7 @@ one_refusal x y is = cc
 
 module _ (old new : EngineState) (c : Command) (e : Entry) (tied : IsTied old.log old.desk) (works : IsFalse old.desk.is_broken) (allows : Allows old.desk c) (made : IsRequested c) (entry : IsEntryFor old.desk c e) (changes : ChangesBank old.life new.life) where
   abbrev MovesBy : Result (Unit {0}) Refusal → Type 0
-  MovesBy result = (s u : State) → IsSound old.life.now old.log s → Leads old.life.now s u e → HasRoom old.log e → Moves old.life new.life new.log s u result
+  MovesBy result = (s u : State) → IsSound old.life.now old.log s → Leads old.life.now s u e → Moves old.life new.life new.log s u result
 
   may : (content : Content) → IsCrashConsistent old.life old.log (archive_of old content) → Accepts (book_of (archive_of old content)) c → MayMake old content c e
   may content was accepts = record { was = was; tied = tied; works = works; allows = allows; accepts = accepts; made = made; for = entry }
@@ -193,17 +192,19 @@ module _ (old new : EngineState) (c : Command) (e : Entry) (tied : IsTied old.lo
   commits_done reply told desk adds moves =
       subst (λ (r : Reply). Commits old new (λ a. Accepts (book_of a) c) (reply_after old.desk c) (λ a. archive_after a c) (Ok r)) (sym told) (record {
         goes_on = adds.goes_on;
+        kept = tt;
         exact = λ content. exact_commit old new (reply_after old.desk c) (λ a. archive_after a c) (Ok tt) (Ok (reply_after old.desk c)) content (λ done is. (refl, desk)) (λ refusal is. absurd cc);
         ended = λ content was accepts. made_done old new content c e (reply_after old.desk c) (may content was accepts) changes desk moves;
       })
 
-  pub commits_refused : (refusal : Refusal) → new.desk ≡ after_failure refusal old.desk → AddsEntry old.life new.life old.log new.log e (Err refusal) → MovesBy (Err refusal)
+  pub commits_refused : (refusal : Refusal) → new.desk ≡ after_failure refusal old.desk → (refusal ≢ DeviceFault → new.life ≡ old.life) → AddsEntry old.life new.life old.log new.log e (Err refusal) → MovesBy (Err refusal)
       → Commits old new (λ a. Accepts (book_of a) c) (reply_after old.desk c) (λ a. archive_after a c) (Err refusal)
-  commits_refused refusal desk adds moves =
-      let outside = adds.outside (tied.works works) (has_room old.log old.desk c e tied works allows entry) in
+  commits_refused refusal desk quiet adds moves =
+      let outside = adds.outside in
       let cause : refusal ≡ DeviceFault → HasFailed old.life new.life = λ is. adds.cause (ap Err is) in
       record {
         goes_on = adds.goes_on;
+        kept = spared_unbroken old new refusal works desk outside quiet adds.kept;
         exact = λ content. exact_commit old new (reply_after old.desk c) (λ a. archive_after a c) (Err refusal) (Err refusal) content (λ done is. absurd cc) (λ r is. (ap Err (one_refusal refusal r is), subst (λ (x : Refusal). new.desk ≡ after_failure x old.desk) (one_refusal refusal r is) desk, subst (λ (x : Refusal). (x ≡ DeviceFault) ⊎ (x ≡ NoMemory)) (one_refusal refusal r is) outside, subst (λ (x : Refusal). x ≡ DeviceFault → HasFailed old.life new.life) (one_refusal refusal r is) cause));
         ended = λ content was accepts. made_refused old new content c e (reply_after old.desk c) (may content was accepts) changes refusal cause desk moves;
       }
@@ -214,6 +215,7 @@ unmade old new Fits reply to outcome life log desk is =
     let same : new ≡ old = same_state old new life log desk in
     subst (λ (x : EngineState). Commits old x Fits reply to outcome) (sym same) (subst (λ (o : Result Reply Refusal). Commits old old Fits reply to o) (sym is) (record {
       goes_on = goes_on_here old.life;
+      kept = spared _ old old (Err NoMemory) (as_before old);
       exact = λ c. (c, refl);
       ended = λ c was fits. still old old (archive_of old c) _ (quiet_life old.life) refl refl was refl;
     }))

@@ -112,14 +112,13 @@ pub reads_otherwise : (old mid new : Life) → ReadsAsBefore old mid → Changes
 reads_otherwise old mid new before changes file other = ap (λ (state : FileState). state.reads) (changes.others file other) ∙ before.same file
 
 -- the desk of the bank whose log was read
-pub desk_read : (image : DiskImage) (log : LogState) (entries : List Entry) (read_desk desk : DeskState) (restarted : ℤ) → IsLogOf (bank_in_use image) log entries → log.counted < 2 ^ 32
+pub desk_read : (image : DiskImage) (log : LogState) (entries : List Entry) (read_desk desk : DeskState) (restarted : ℤ) → IsLogOf (bank_in_use image) log entries
     → read_desk ≡ opened_desk (after_entries no_recordings entries) log.counted log.header.history_limit → desk ≡ opened_desk (all_stopped (after_entries no_recordings entries)) log.counted log.header.history_limit
     → restarted ≡ pos (register.active_count read_desk.register) → IsDeskOf image desk restarted
-desk_read image log entries read_desk desk restarted read few known is stopped = record {
+desk_read image log entries read_desk desk restarted read known is stopped = record {
   header = log.header;
   entries = entries;
   catalogue = record { rest = read.rest; holds = read.holds; closed = read.closed };
-  few = subst (λ (n : ℕ). n < 2 ^ 32) read.counted few;
   is = is ∙ ap (λ (n : ℕ). opened_desk (all_stopped (after_entries no_recordings entries)) n log.header.history_limit) read.counted;
   stopped = stopped ∙ ap (λ (d : DeskState). pos (register.active_count d.register)) known;
 }

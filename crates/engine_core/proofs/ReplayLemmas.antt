@@ -34,7 +34,7 @@ use Rattle.engine_core.specs.Consistent.{IsCrashConsistent}
 use Rattle.engine_core.specs.Engine.{Content, EngineState, IsTied, archive_of}
 use Rattle.engine_core.specs.Reading.{IsOutside}
 use Rattle.engine_core.proofs.CommitLemmas.{memory_is_no_fault}
-use Rattle.engine_core.proofs.EndedLemmas.{quiet_goes_on, reread, still}
+use Rattle.engine_core.proofs.EndedLemmas.{quiet_goes_on, reread, spared, still}
 
 -- ---- a desk with other replays
 
@@ -80,6 +80,7 @@ reads_only old new event result quiet log desk other cause step ends = record {
   goes_on = quiet_goes_on old.life new.life quiet;
   cause = cause;
   machine = subst (λ (d : DeskState). Stepped old.desk (asked_of event) (told_of old.desk event result) d) (sym desk) step;
+  kept = spared _ old new result (record { files = quiet; log = log; desk = desk });
   swept = λ removed is. absurd (other is);
   ended = λ c was cut. still old new (archive_of old c) (EndsAs old.life new.life event (archive_of old c) result) quiet log desk was (ends c was);
 }
@@ -93,6 +94,7 @@ reads_on old new event reply rs next quiet log desk other step seats at ends = r
   goes_on = quiet_goes_on old.life new.life quiet;
   cause = λ fault. absurd (no_error fault);
   machine = subst (λ (d : DeskState). Stepped old.desk (asked_of event) (told_of old.desk event (Ok reply)) d) (sym desk) step;
+  kept = tt;
   swept = λ removed is. absurd (other is);
   ended = λ c was cut.
       let a : Archive = archive_of old c in

@@ -1,6 +1,6 @@
 -- How a call ends that settles what a session wrote.
 use Rattle.std.proofs.Common.{rules, ◌≡◌, ◌≢◌, ◌⊎◌, ◌∙◌, ◌+◌, ◌<◌, sym, ap, subst, refl, ℤ, pos, ◌+ℤ◌, ◌&&◌, ◌||◌, not, Bool, true, false, cond, true≢false, inl, inr, List, [], ◌∷◌, Option, Some, None, Result, Ok, Err, unsigned_abs, arith}
-use Rattle.std.specs.Prelude.{IsTrue, is_some}
+use Rattle.std.specs.Prelude.{IsFalse, IsTrue, is_some}
 use Rattle.disk_core.specs.DiskImage.{DiskImage, reads}
 use Rattle.disk_core.specs.Life.{HasFailed}
 use Rattle.frame_core.specs.declared.block.Block.{Block}
@@ -50,7 +50,7 @@ use Rattle.engine_core.specs.Making.{Commits, after_failure}
 use Rattle.engine_core.specs.Moves.{AddsEntry, Enters, HasRoom, KeepsSegments, Moves}
 use Rattle.engine_core.specs.Recovery.{IsSound, last_of, layout_of}
 use Rattle.engine_core.proofs.CommitCallLemmas.{commit_done, commit_refused, exact_commit, tied_behind}
-use Rattle.engine_core.proofs.EndedLemmas.{ended_as, goes_on_here, no_doubt, quiet_life, still}
+use Rattle.engine_core.proofs.EndedLemmas.{as_before, ended_as, goes_on_here, no_doubt, quiet_life, spared, spared_by, spared_unbroken, still}
 use Rattle.engine_core.proofs.FrameLemmas.{each_then}
 use Rattle.engine_core.proofs.KnownLemmas.{IsKnown, known_recording, laid_found, layout_laid, session_recording, written_from_start}
 use Rattle.engine_core.proofs.StandLemmas.{stands_nothing, stands_open}
@@ -102,6 +102,17 @@ module _ (d : DeskState) (n id : ℤ) (w : Written) (r : Registration) (keeps : 
       let known : registration_in d.register of.session.recording ≡ Some r = ap (λ (z : ℤ). registration_in d.register z) of.recording ∙ sym there in
       written_from_start d n of.session r w keeps of.found known of.written
 
+-- the log works, and has room for an entry
+pub settling_works : (log : LogState) (d : DeskState) (n id : ℤ) (w : Written) → IsTied log d → settle_decision d n ≡ Ok (settling.Blocks id w) → IsFalse log.is_broken
+settling_works log d n id w tied told = tied.works (settles d n id w told).works
+
+pub settling_room : (log : LogState) (d : DeskState) (n id : ℤ) (w : Written) (e : Entry) → IsTied log d → settle_decision d n ≡ Ok (settling.Blocks id w) → HasRoom log e
+settling_room log d n id w e tied told = λ is_yes.
+    let decided = settles d n id w told in
+    let less = decided.room in
+    let has = tied.counted decided.works in
+    let most = tied.limit decided.works in omega (arith, less, has, most)
+
 -- ---- what the files are asked for once blocks are to be settled
 
 pub record IsAsked (d : DeskState) (n id : ℤ) (w : Written) (layout : Layout) (position : ℤ) (entry : Entry) : Type 0 where
@@ -125,18 +136,6 @@ asked d n id w layout first last number r told there layout_is same_first same_l
 }
 
 module _ (log : LogState) (d : DeskState) (n id : ℤ) (w : Written) (layout : Layout) (position : ℤ) (entry : Entry) (tied : IsTied log d) (asks : IsAsked d n id w layout position entry) where
-  -- the log has room for the entry
-  pub settling_room : HasRoom log entry
-  settling_room is_yes =
-      let decided = settles d n id w asks.told in
-      let less = decided.room in
-      let has = tied.counted decided.works in
-      let most = tied.limit decided.works in omega (arith, less, has, most)
-
-  -- and works
-  pub settling_works : log.is_broken ≡ false
-  settling_works = tied.works (settles d n id w asks.told).works
-
   -- log and desk count it alike
   pub settled_tied : (new_log : LogState) (new_d : DeskState) → new_log.header ≡ log.header → new_log.is_broken ≡ log.is_broken → new_log.counted ≡ log.counted + (cond (counts entry) 1 0) → new_d ≡ settled (session_in d n) d → IsTied new_log new_d
   settled_tied new_log new_d header broke counted is =
@@ -162,7 +161,7 @@ stands_settled image a n id w was stand told =
 abbrev pub SettlesFiles : EngineState → EngineState → Layout → ℤ → Entry → Result (Unit {0}) Refusal → Type 0
 SettlesFiles old new layout position entry result =
     (x : State) (y : Recording) (blocks : List Block) → IsSound old.life.now old.log x → find id_of layout.recording x.recordings ≡ Some y → layout ≡ layout_of y.descriptor →
-    Stands (reads old.life.now) (file_of layout (unsigned_abs position)) y (frames_of blocks) → Enters x (after x (commands.Append layout.recording blocks)) entry → HasRoom old.log entry →
+    Stands (reads old.life.now) (file_of layout (unsigned_abs position)) y (frames_of blocks) → Enters x (after x (commands.Append layout.recording blocks)) entry →
     Moves old.life new.life new.log x (after x (commands.Append layout.recording blocks)) result
 
 module _ (old new : EngineState) (content : Content) (n id : ℤ) (w : Written) (layout : Layout) (position : ℤ) (entry : Entry) (was : IsCrashConsistent old.life old.log (archive_of old content)) (tied : IsTied old.log old.desk)
@@ -231,7 +230,7 @@ module _ (old new : EngineState) (content : Content) (n id : ℤ) (w : Written) 
       let goes : Enters a.state (after a.state (commands.Append layout.recording (a.blocks n))) entry = subst (λ (z : ℤ). Enters a.state (after a.state (commands.Append z (a.blocks n))) entry) (sym id_same) entered_by in
       let doubtless = no_doubt a was.archive (settles old.desk n id w asks.told).works in
       subst (λ (z : ℤ). Moves old.life new.life new.log a.state (after a.state (commands.Append z (a.blocks n))) result) id_same
-      (does a.state r (a.blocks n) (was.sound doubtless) there layout_same stands goes (settling_room old.log old.desk n id w layout position entry tied asks))
+      (does a.state r (a.blocks n) (was.sound doubtless) there layout_same stands goes)
 
   -- ---- it went well, or failed
 
@@ -259,18 +258,20 @@ module _ (old new : EngineState) (n id : ℤ) (w : Written) (layout : Layout) (p
   pub settling_done : AddsEntry old.life new.life old.log new.log entry (Ok tt) → new.desk ≡ settled (session_in old.desk n) old.desk → SettlesFiles old new layout position entry (Ok tt) → SettlesTo (Ok (replies.Settled w.last))
   settling_done adds desk does = record {
     goes_on = adds.goes_on;
+    kept = tt;
     exact = λ content. exact_commit old new (replies.Settled w.last) (λ a. settled_archive a n id) (Ok tt) (Ok (replies.Settled w.last)) content (λ done is. (refl, desk)) (λ refusal is. absurd cc);
     ended = λ content was fits. settle_done old new content n id w layout position entry was tied asks keeps (replies.Settled w.last) desk does;
   }
 
-  pub settling_failed : (refusal told : Refusal) → told ≡ refusal → AddsEntry old.life new.life old.log new.log entry (Err refusal) → new.desk ≡ after_failure refusal old.desk → SettlesFiles old new layout position entry (Err refusal) → SettlesTo (Err told)
-  settling_failed refusal told same adds desk does =
-      let outside = adds.outside (settling_works old.log old.desk n id w layout position entry tied asks) (settling_room old.log old.desk n id w layout position entry tied asks) in
+  pub settling_failed : (refusal told : Refusal) → told ≡ refusal → AddsEntry old.life new.life old.log new.log entry (Err refusal) → (refusal ≢ DeviceFault → new.life ≡ old.life) → new.desk ≡ after_failure refusal old.desk → SettlesFiles old new layout position entry (Err refusal) → SettlesTo (Err told)
+  settling_failed refusal told same adds quiet desk does =
+      let outside = adds.outside in
       let cause : refusal ≡ DeviceFault → HasFailed old.life new.life = λ is. adds.cause (ap Err is) in
       let outcome : Result Reply Refusal = Err refusal in
       let Told : Refusal → Type 0 = λ x. (outcome ≡ Err x) × (new.desk ≡ after_failure x old.desk) × ((x ≡ DeviceFault) ⊎ (x ≡ NoMemory)) × (x ≡ DeviceFault → HasFailed old.life new.life) in
       subst (λ (r : Refusal). SettlesTo (Err r)) (sym same) (record {
         goes_on = adds.goes_on;
+        kept = spared_unbroken old new refusal (settles old.desk n id w asks.told).works desk outside quiet adds.kept;
         exact = λ content.
             exact_commit old new (replies.Settled w.last) (λ a. settled_archive a n id) (Err refusal) (Err refusal) content (λ done is. absurd cc)
             (λ r is. let one : refusal ≡ r = cc in subst Told one (refl, desk, outside, cause));
@@ -306,6 +307,7 @@ answered_still e event outcome some no_poll no_sweep no_fault here ends keeps = 
   goes_on = goes_on_here e.life;
   cause = λ fault. absurd (no_fault fault);
   machine = call_is_allowed (archive_of e some) event outcome (archive_of e some) (λ poll. absurd (true≢false (sym poll ∙ no_poll))) (ends_exactly (archive_of e some) event (Unit {0}) outcome (archive_of e some) here);
+  kept = spared _ e e outcome (as_before e);
   swept = λ removed is. absurd (no_sweep is);
   ended = λ c was cut.
       still e e (archive_of e c) (EndsAs e.life e.life event (archive_of e c) outcome) (quiet_life e.life) refl refl was
@@ -352,6 +354,7 @@ settle_blocks old new n id w outcome told commits =
       cause = commit_cause (archive_of old blank) (replies.Settled w.last) (settled_archive (archive_of old blank) n id) faulted outcome (archive_of new made.0) made.1;
       machine = call_is_allowed (archive_of old blank) event outcome (archive_of new made.0) (λ poll. absurd (true≢false (sym poll)))
           (other_cause (archive_of old blank) event faulted (Unit {0}) outcome (archive_of new made.0) (λ failed. tt) (by blank (archive_of new made.0) made.1));
+      kept = spared_by _ _ old new outcome (λ harmless. harmless.1) commits.kept;
       swept = λ removed is. absurd cc;
       ended = λ c was cut.
           ended_as old new (archive_of old c) (CommitEnds (archive_of old c) (replies.Settled w.last) (settled_archive (archive_of old c) n id) faulted outcome) (EndsAs old.life new.life event (archive_of old c) outcome)

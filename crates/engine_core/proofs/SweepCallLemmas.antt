@@ -6,7 +6,7 @@ use Rattle.frame_core.specs.declared.refusal.Refusal.{Refusal}
 use Rattle.frame_core.specs.declared.refusal.Refusal.TheVariants.{DeviceFault, NoMemory}
 use Rattle.frame_core.specs.Block.{covered}
 use Rattle.disk_core.specs.DiskImage.{FileState, reads}
-use Rattle.disk_core.specs.Life.{HasFailed, Life}
+use Rattle.disk_core.specs.Life.{HasFailed, IsQuiet, Life}
 use Rattle.disk_core.proofs.CallerLemmas.{weaker}
 use Rattle.segment_store.specs.declared.keep.Keep.{Keep}
 use Rattle.segment_store.specs.Layout.{file_of}
@@ -41,7 +41,7 @@ use Rattle.engine_core.specs.Engine.{Content, EngineState, archive_of}
 use Rattle.engine_core.specs.Moves.{SparesKept, Stays, keeps_of, registered_keeps}
 use Rattle.engine_core.specs.Reading.{IsOutside}
 use Rattle.engine_core.specs.Recovery.{IsEither, IsSound, RecoversTo, first_of, last_of, layout_of}
-use Rattle.engine_core.proofs.EndedLemmas.{done, no_doubt, quiet_goes_on, quiet_life, recovers_as, sound_consistent, still}
+use Rattle.engine_core.proofs.EndedLemmas.{as_before, done, no_doubt, quiet_goes_on, quiet_life, recovers_as, sound_consistent, spared, still}
 use Rattle.engine_core.proofs.FrameLemmas.{each_both, each_then}
 use Rattle.engine_core.proofs.KnownLemmas.{keeps_same, registered_of}
 use Rattle.engine_core.proofs.StandLemmas.{frames_behind}
@@ -58,6 +58,7 @@ unmoved old event outcome no_fault no_sweep step ends = record {
   goes_on = quiet_goes_on old.life old.life (quiet_life old.life);
   cause = λ fault. absurd (no_fault fault);
   machine = step;
+  kept = spared _ old old outcome (as_before old);
   swept = λ removed sweep is. absurd (no_sweep removed sweep is);
   ended = λ c was cut. still old old (archive_of old c) (EndsAs old.life old.life event (archive_of old c) outcome) (quiet_life old.life) refl refl was (ends c was);
 }
@@ -155,6 +156,7 @@ swept_answers old new keeps removed did swept = record {
   goes_on = record { obeyed = did.spares.obeyed; faults = did.spares.faults };
   cause = λ fault. absurd (let clash = fault in cc);
   machine = subst (λ (d : DeskState). Stepped old.desk calls.Sweep (Ok (told.Reply (replies.Swept removed))) d) (sym did.desk) (swept_step old.desk removed did.decided.0 did.decided.1);
+  kept = tt;
   swept = λ other sweep is. subst (λ (b : Bool). HasSwept (registered_keeps old.desk.register) old.life new.life b) (one_swept _ removed other refl is) (subst (λ (ks : List Keep). HasSwept ks old.life new.life removed) did.asked swept);
   ended = λ c was cut. sweep_ended old new keeps c (EndsAs old.life new.life events.Sweep (archive_of old c) (Ok (replies.Swept removed))) did was
       ((λ reads. sweep_told (archive_of old c) (HasFailed old.life new.life) removed did.decided.0 did.decided.1), refl);
@@ -170,11 +172,15 @@ unswept_ends : (a : Archive) (faulted : Type 0) (x : Unit {0}) (refusal : Refusa
 unswept_ends a faulted x refusal decided cause (inl fault) = subst (λ (r : Refusal). CallEnds a events.Sweep faulted (Err r) a) (sym fault) (inr (cause fault, inl (sweep_passes a.desk x decided, refl)))
 unswept_ends a faulted x refusal decided cause (inr memory) = subst (λ (r : Refusal). CallEnds a events.Sweep faulted (Err r) a) (sym memory) (inr refl)
 
-pub unswept_answers : (old new : EngineState) (keeps : List Keep) (outcome : Result Reply Refusal) (refusal : Refusal) → outcome ≡ Err refusal → SweepsFiles old new keeps → IsOutside refusal → (refusal ≡ DeviceFault → HasFailed old.life new.life) → AnswersEvent old new events.Sweep outcome
-unswept_answers old new keeps outcome refusal is did outside cause = subst (AnswersEvent old new events.Sweep) (sym is) (record {
+pub unswept_answers : (old new : EngineState) (keeps : List Keep) (outcome : Result Reply Refusal) (refusal : Refusal) → outcome ≡ Err refusal → SweepsFiles old new keeps → IsOutside refusal → (refusal ≡ NoMemory → IsQuiet old.life new.life) → new.log ≡ old.log → (refusal ≡ DeviceFault → HasFailed old.life new.life) → AnswersEvent old new events.Sweep outcome
+unswept_answers old new keeps outcome refusal is did outside quiet log cause = subst (AnswersEvent old new events.Sweep) (sym is) (record {
   goes_on = record { obeyed = did.spares.obeyed; faults = did.spares.faults };
   cause = λ fault. cause (one_refusal _ refusal DeviceFault refl fault);
   machine = subst (λ (d : DeskState). Stepped old.desk calls.Sweep (Err refusal) d) (sym did.desk) (unswept_step old.desk did.decided.0 refusal did.decided.1 outside);
+  kept = λ harmless. elim outside [
+    | inl fault ↦ absurd ((harmless fault).0 refl)
+    | inr memory ↦ record { files = quiet memory; log = log; desk = did.desk }
+  ];
   swept = λ removed sweep told. absurd (let clash = told in cc);
   ended = λ c was cut. sweep_ended old new keeps c (EndsAs old.life new.life events.Sweep (archive_of old c) (Err refusal)) did was
       ((λ reads. unswept_ends (archive_of old c) (HasFailed old.life new.life) did.decided.0 refusal did.decided.1 cause outside), refl);

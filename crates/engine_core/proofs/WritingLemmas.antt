@@ -1,8 +1,8 @@
 -- A recorder session writes a block: what is decided, what that says of the desk, and what the sessions wrote then.
 use Rattle.std.proofs.Common.{◌≡◌, ◌≢◌, ◌∙◌, sym, ap, subst, refl, inl, inr, ℕ, ℤ, pos, ◌+◌, ◌*◌, ◌^◌, ◌+ℤ◌, ◌<ℤ◌, ◌≤ℤ◌, not, Bool, true, false, cond, true≢false, List, [], ◌∷◌, ◌++◌, Option, Some, None, Ok, Err, unsigned_abs, arith}
 use Rattle.std.proofs.lemmas.Int.{ints}
-use Rattle.std.proofs.lemmas.Bool.Decides.{Decides-int_eq}
-use Rattle.std.specs.Prelude.{IsSomeAnd, is_some}
+use Rattle.std.proofs.lemmas.Bool.Decides.{Decides-int_eq, nat_tests}
+use Rattle.std.specs.Prelude.{◌==◌, IsSomeAnd, is_some}
 use Rattle.std.specs.Ordering.{int_eq}
 use Rattle.disk_core.specs.DiskImage.{FileState, reads}
 use Rattle.disk_core.specs.Life.{Life}
@@ -20,9 +20,10 @@ use Rattle.segment_store.proofs.StoredLemmas.{run_covers}
 use Rattle.archive_model.specs.declared.registration.Registration.{Registration}
 use Rattle.archive_model.specs.declared.reply.Reply.{Reply}
 use Rattle.archive_model.specs.declared.reply.Reply.TheVariants.{Written as WrittenReply}
-use Rattle.archive_model.specs.Checks.{block_checks, checks, first_checks, last_checks, passes}
+use Rattle.archive_model.specs.Checks.{block_checks, checks, first_checks, is_of, last_checks, passes}
 use Rattle.archive_model.specs.Commands.{frames_of}
 use Rattle.archive_model.specs.Keyed.{Each, Rise, change, find}
+use Rattle.archive_model.specs.Register as register
 use Rattle.archive_model.specs.Register.{registration_in}
 use Rattle.archive_model.specs.State.{geometry_of, id_of, publication_of}
 use Rattle.archive_model.proofs.RegisterLemmas.{found_number}
@@ -30,43 +31,50 @@ use Rattle.archive_model.proofs.StateLemmas.{each_found}
 use Rattle.archive_model.proofs.StreamLemmas.{ends_in_stream}
 use Rattle.control_core.specs.declared.callers.RecorderSession.{RecorderSession}
 use Rattle.control_core.specs.declared.callers.Written.{Written}
-use Rattle.control_core.specs.Callers.{session_number}
+use Rattle.record_core.specs.Writing.{needs_settle}
+use Rattle.control_core.specs.Callers.{session_number, written_to}
+use Rattle.control_core.specs.Changes.{with_block}
 use Rattle.control_core.specs.Desk.{DeskState}
-use Rattle.control_core.specs.Exact.{Archive, recording_at}
+use Rattle.control_core.specs.Exact.{Archive, recording_at, span_of}
 use Rattle.control_core.specs.Orderly.{LiesBehind, stream_end}
 use Rattle.control_core.specs.Seats.{AreApart}
-use Rattle.control_core.specs.Turns.{continues, has_written, session_in, write_decision, write_tests}
+use Rattle.control_core.specs.Turns.{continues, is_waiting, part_of, session_in, write_decision, write_tests}
 use Rattle.control_core.proofs.AllowedLemmas.{both, passes_at}
 use Rattle.control_core.proofs.DecidedLemmas.{held}
+use Rattle.control_core.proofs.WriteLemmas.{span_ends}
 use Rattle.engine_core.specs.Consistent.{Stands, StandsBehind}
 use Rattle.engine_core.specs.Recovery.{last_of, layout_of}
 use Rattle.engine_core.specs.Writing.{IsTarget}
 use Rattle.engine_core.proofs.FrameLemmas.{apart}
-use Rattle.engine_core.proofs.KnownLemmas.{block_behind, block_from_start, laid_found, layout_laid}
+use Rattle.engine_core.proofs.KnownLemmas.{begins_behind, block_behind, block_from_start, laid_found, layout_laid, written_behind}
 use Rattle.engine_core.proofs.SettleCallLemmas.{not_so}
 use Rattle.engine_core.proofs.StandLemmas.{frames_behind}
 
 -- ---- what is let through
 
--- a block that is let through goes on where its session writes, which wrote nothing before, and no write has failed
+-- a block that is let through goes on where its session writes, which has not to settle first, and no write has failed
 pub record Lets (d : DeskState) (s : RecorderSession) (w : Written) : Type 0 where
   pub works : d.is_broken ≡ false
   pub goes_on : continues d (Some s) w ≡ true
-  pub none : s.written ≡ None
-
-nothing_written : (o : Option Written) → not (is_some o) ≡ true → o ≡ None
-nothing_written None is = refl
-nothing_written (Some w) is = absurd (true≢false (sym is))
+  pub soon : is_waiting d (Some s) ≡ false
 
 pub lets : (d : DeskState) (n : ℤ) (w : Written) (s : RecorderSession) (reply : Reply) → session_in d n ≡ Some s → write_decision d n w true ≡ Ok reply → Lets d s w
 lets d n w s reply found is =
     let all : passes (write_tests d n w true) checks ≡ true = (held (write_tests d n w true) checks (WrittenReply w.last) reply is).0 in
-    let unwritten : not (has_written (session_in d n)) ≡ true = passes_at (write_tests d n w true) (first_checks ++ block_checks) (ActiveReplay ∷ MaxRecordings ∷ MaxReplays ∷ HistoryFull ∷ []) NeedSettle all in
+    let soon : not (is_waiting d (session_in d n)) ≡ true = passes_at (write_tests d n w true) (first_checks ++ block_checks) (ActiveReplay ∷ MaxRecordings ∷ MaxReplays ∷ HistoryFull ∷ []) NeedSettle all in
     record {
       works = not_so d.is_broken (both (not d.is_broken) _ all).0;
       goes_on = subst (λ (o : Option RecorderSession). continues d o w ≡ true) found (passes_at (write_tests d n w true) (first_checks ++ BadExtension ∷ []) last_checks BadBlock all);
-      none = nothing_written s.written (subst (λ (o : Option RecorderSession). not (has_written o) ≡ true) found unwritten);
+      soon = not_so (is_waiting d (Some s)) (subst (λ (o : Option RecorderSession). not (is_waiting d o) ≡ true) found soon);
     }
+
+-- so it lies in the segment where what is recorded ends
+pub same_segment : (d : DeskState) (s : RecorderSession) (r : Registration) → registration_in d.register s.recording ≡ Some r → is_waiting d (Some s) ≡ false
+    → register.base_of r.descriptor (unsigned_abs (written_to s.written r.recorded)) ≡ register.base_of r.descriptor (unsigned_abs r.recorded)
+same_segment d s r there soon =
+    let test : not (register.base_of r.descriptor (unsigned_abs r.recorded) == register.base_of r.descriptor (unsigned_abs (written_to s.written r.recorded))) ≡ false =
+    subst (λ (o : Option Registration). is_of o (λ known. needs_settle known.descriptor (part_of known s)) ≡ false) there soon in
+    sym (grind (arith, nat_tests, test))
 
 -- a block that is of no session's recording is refused, wherever it lies
 pub is_refused : (d : DeskState) (n : ℤ) (v w : Written) → (refusal : Refusal) × (write_decision d n v false ≡ Err refusal) × (write_decision d n w false ≡ Err refusal)
@@ -100,6 +108,15 @@ module _ (d : DeskState) (n : ℤ) (block : Block) (layout : Layout) (end : ℤ)
   pub target_layout : IsLayout layout
   target_layout = subst IsLayout (sym at.layout_is) (layout_laid at.registration (laid_found d at.session.recording at.registration at.keeps (sym at.known)).laid_out)
 
+  -- its end
+  ends_inside : end_position block ≤ℤ stream_end at.registration
+  ends_inside = block_ends (geometry_of at.registration.descriptor) (publication_of at.registration.descriptor) block.frames block.position at.is_block
+
+  pub span_is : span_of block ≡ span_to block end
+  span_is =
+      let laid = laid_found d at.session.recording at.registration at.keeps (sym at.known) in
+      ap (λ (z : ℤ). span_to block z) (span_ends block at.registration.descriptor.term_length laid.laid_out.layout.term ends_inside ∙ sym at.end_is)
+
   module _ (reply : Reply) (is : Ok reply ≡ write_decision d n (span_to block end) true) where
     pub let_through : Lets d at.session (span_to block end)
     let_through = lets d n (span_to block end) at.session reply at.found (sym is)
@@ -107,17 +124,24 @@ module _ (d : DeskState) (n : ℤ) (block : Block) (layout : Layout) (end : ℤ)
     pub from_start : IsFromStart layout block.position
     from_start = subst (λ (l : Layout). IsFromStart l block.position) (sym at.layout_is) (block_from_start d n at.session at.registration (span_to block end) at.keeps at.found at.known let_through.goes_on)
 
-    lies : LiesBehind (span_to block end) at.registration
-    lies =
+    lies : (o : Option Written) → at.session.written ≡ o → LiesBehind (with_block (span_to block end) o) at.registration
+    lies o has =
         let behind : at.registration.recorded ≤ℤ block.position = block_behind d n at.session at.registration (span_to block end) at.keeps at.found at.known let_through.goes_on in
-        let ends : end_position block ≤ℤ stream_end at.registration = block_ends (geometry_of at.registration.descriptor) (publication_of at.registration.descriptor) block.frames block.position at.is_block in
+        let ends = ends_inside in
         let last = at.end_is in
-        record { behind = behind; forward = omega (arith, ints, last); in_stream = omega (arith, ints, last, ends) }
+        by o has behind (omega (arith, ints, last)) (omega (arith, ints, last, ends))
+      where
+        by : (o : Option Written) → at.session.written ≡ o → at.registration.recorded ≤ℤ block.position → block.position ≤ℤ end → end ≤ℤ stream_end at.registration → LiesBehind (with_block (span_to block end) o) at.registration
+        by None has behind forward inside = record { behind = behind; forward = forward; in_stream = inside }
+        by (Some v) has behind forward inside =
+            let was = written_behind d n at.session at.registration v at.keeps at.found at.known has in
+            let here : block.position ≡ v.last = begins_behind d at.session at.registration (Some v) (span_to block end) at.known has let_through.goes_on in
+            record { behind = was.behind; forward = omega (arith, ints, was.forward, here, forward); in_stream = inside }
 
-    pub lies_behind : IsSomeAnd (session_in d n) (λ s. IsSomeAnd (registration_in d.register s.recording) (LiesBehind (span_to block end)))
+    pub lies_behind : IsSomeAnd (session_in d n) (λ s. IsSomeAnd (registration_in d.register s.recording) (LiesBehind (with_block (span_to block end) s.written)))
     lies_behind =
-        subst (λ (o : Option RecorderSession). IsSomeAnd o (λ s. IsSomeAnd (registration_in d.register s.recording) (LiesBehind (span_to block end)))) (sym at.found)
-        (subst (λ (o : Option Registration). IsSomeAnd o (LiesBehind (span_to block end))) (sym at.known) lies)
+        subst (λ (o : Option RecorderSession). IsSomeAnd o (λ s. IsSomeAnd (registration_in d.register s.recording) (LiesBehind (with_block (span_to block end) s.written)))) (sym at.found)
+        (subst (λ (o : Option Registration). IsSomeAnd o (LiesBehind (with_block (span_to block end) at.session.written))) (sym at.known) (lies at.session.written refl))
 
 -- ---- the other sessions
 

@@ -1,5 +1,5 @@
 -- A call of an archive, and calls one after another: docs/STORAGE.md, "Recovery"; docs/CONTROL.md, "Requests".
-use Rattle.std.specs.Prelude.{◌≡◌, ◌+◌, ◌-◌, ◌^◌, ◌≤◌, ℕ, min, IsErrOf, IsFalse, IsTrue, Bool, true, false, List, [], ◌∷◌, count_by, Result, Ok, Err}
+use Rattle.std.specs.Prelude.{◌≡◌, ◌≢◌, ◌+◌, ◌-◌, ◌^◌, ◌≤◌, ℕ, min, IsErrOf, IsFalse, IsTrue, Bool, true, false, List, [], ◌∷◌, count_by, Result, Ok, Err}
 use Rattle.disk_core.specs.DiskImage.{DiskImage, MayLeave}
 use Rattle.disk_core.specs.Life.{HasFailed, Life, LeavesOnly}
 use Rattle.frame_core.specs.declared.refusal.Refusal.{Refusal}
@@ -15,7 +15,7 @@ use Rattle.control_core.specs.Exact.{Archive, ArchiveEnd, CallEnds, asked_of, br
 use Rattle.control_core.specs.Machine.{Stepped}
 use Rattle.control_core.specs.Runs.{Leave, StoodAmong, last_left}
 use Rattle.engine_core.specs.Recovery.{Recovers, RecoversTo}
-use Rattle.engine_core.specs.Engine.{Content, EngineState, GoesOn, archive_of}
+use Rattle.engine_core.specs.Engine.{Content, EngineState, GoesOn, IsSpared, archive_of}
 use Rattle.engine_core.specs.Consistent.{IsCrashConsistent, MayStandIn}
 use Rattle.engine_core.specs.Moves.{registered_keeps}
 
@@ -57,6 +57,8 @@ pub record AnswersEvent (old new : EngineState) (event : Event) (result : Result
   pub cause : IsErrOf result DeviceFault → HasFailed old.life new.life
   -- The desk made a step of its machine.
   pub machine : Stepped old.desk (asked_of event) (told_of old.desk event result) new.desk
+  -- Refused, it has changed nothing, unless a fault of the disk came in a sweep, or broke the archive.
+  pub kept : IsSpared ((event ≢ events.Sweep) × (new.desk.is_broken ≡ old.desk.is_broken)) old new result
   -- What a sweep answers tells what became of the files.
   pub swept : (removed : Bool) → event ≡ events.Sweep → result ≡ Ok (Swept removed) →
       HasSwept (registered_keeps old.desk.register) old.life new.life removed

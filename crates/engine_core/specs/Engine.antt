@@ -1,7 +1,10 @@
 -- An engine as its calls see it, and the archive that it keeps: docs/ARCHITECTURE.md, "The engine".
-use Rattle.std.specs.Prelude.{◌≡◌, ◌≤◌, ℕ, ℤ, IsFalse, IsTrue, List, [], Option, None}
-use Rattle.disk_core.specs.Life.{Life}
+use Rattle.std.specs.Prelude.{◌≡◌, ◌≤◌, ℕ, ℤ, IfErr, IsFalse, IsTrue, List, [], Option, None, Result}
+use Rattle.disk_core.specs.Life.{IsQuiet, Life}
+use Rattle.frame_core.specs.declared.refusal.Refusal.{Refusal}
+use Rattle.frame_core.specs.declared.refusal.Refusal.TheVariants.{DeviceFault}
 use Rattle.frame_core.specs.declared.block.Block.{Block}
+use Rattle.archive_model.specs.declared.reply.Reply.{Reply}
 use Rattle.archive_model.specs.State.{State, empty}
 use Rattle.catalogue_log.specs.LogState.{LogState}
 use Rattle.control_core.specs.Desk.{DeskState, new_desk}
@@ -40,3 +43,13 @@ pub record IsTied (log : LogState) (desk : DeskState) : Type 0 where
 pub record GoesOn (old new : Life) : Type 0 where
   pub obeyed : IsTrue new.obeys → IsTrue old.obeys
   pub faults : old.faults ≤ new.faults
+
+-- the same files, log and desk: nothing but the count of faults has changed
+pub record IsAsBefore (old new : EngineState) : Type 0 where
+  pub files : IsQuiet old.life new.life
+  pub log : new.log ≡ old.log
+  pub desk : new.desk ≡ old.desk
+
+-- a refusal has changed nothing; one by a fault of the disk where that was harmless
+abbrev pub IsSpared : (harmless : Type 0) → EngineState → EngineState → Result Reply Refusal → Type 0
+IsSpared harmless old new result = IfErr result (λ refusal. (refusal ≡ DeviceFault → harmless) → IsAsBefore old new)

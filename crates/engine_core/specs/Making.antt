@@ -17,7 +17,7 @@ use Rattle.control_core.specs.Desk.{DeskState, opened_desk}
 use Rattle.control_core.specs.Exact.{Archive, ArchiveEnd, Is, archive_after, book_of, opened_archive, plain, recording_at}
 use Rattle.control_core.specs.Machine.{Does, OrOutside, UnlessBoundary}
 use Rattle.engine_core.specs.Recovery.{IsEither, RecoversTo}
-use Rattle.engine_core.specs.Engine.{Content, EngineState, GoesOn, archive_of}
+use Rattle.engine_core.specs.Engine.{Content, EngineState, GoesOn, IsSpared, archive_of}
 use Rattle.engine_core.specs.Consistent.{IsCrashConsistent}
 use Rattle.engine_core.specs.Calls.{CommitEnds, Ended}
 
@@ -29,6 +29,8 @@ after_failure _ d = d
 -- What an operation did that adds an entry, and so leads archives that fit to others.
 pub record Commits (old new : EngineState) (Fits : Archive → Type 0) (reply : Reply) (to : Archive → Archive) (result : Result Reply Refusal) : Type 0 where
   pub goes_on : GoesOn old.life new.life
+  -- refused it has changed nothing, unless a fault broke the archive
+  pub kept : IsSpared (new.desk.is_broken ≡ old.desk.is_broken) old new result
   -- whatever the archive is
   pub exact : (c : Content) → (after : Content) × CommitEnds (archive_of old c) reply (to (archive_of old c)) (HasFailed old.life new.life) result (archive_of new after)
   -- of a crash-consistent one
@@ -48,6 +50,7 @@ InsideEnds a false decided faulted = OrOutside a faulted (λ b. b ≡ a) (Is (Er
 -- What was done with what is decided where a frame begins at a position strictly inside a recording.
 pub record MakesInside (old new : EngineState) (id position : ℤ) (decided : Result Command Refusal) (result : Result Reply Refusal) : Type 0 where
   pub goes_on : GoesOn old.life new.life
+  pub kept : IsSpared (new.desk.is_broken ≡ old.desk.is_broken) old new result
   -- a fault has its cause, unless it is what was decided
   pub cause : IsErrOf result DeviceFault → IsErrOf decided DeviceFault ⊎ HasFailed old.life new.life
   pub machine : OrOutside old.desk ⊥ (λ d. ⊥) (UnlessBoundary old.desk (Does old.desk decided)) (plain result) new.desk

@@ -50,8 +50,7 @@ pub record AddsEntry (old new : Life) (log new_log : LogState) (e : Entry) (resu
   pub counted : OnOk result (new_log.counted ≡ log.counted + (if counts e then 1 else 0))
   pub works : OnOk result (new_log.is_broken ≡ log.is_broken)
   pub kept : IfErr result (λ refusal. refusal ≢ DeviceFault → new_log ≡ log)
-  -- a log that works and has room refuses it by a fault or want of memory alone
-  pub outside : IfErr result (λ refusal. IsFalse log.is_broken → HasRoom log e → (refusal ≡ DeviceFault) ⊎ (refusal ≡ NoMemory))
+  pub outside : IfErr result (λ refusal. (refusal ≡ DeviceFault) ⊎ (refusal ≡ NoMemory))
 
 -- the archive is sound for this state, and no crash leaves another
 abbrev pub Stays : Life → Life → LogState → State → Type 0

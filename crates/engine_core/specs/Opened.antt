@@ -1,5 +1,5 @@
 -- Opening an archive after a crash: docs/STORAGE.md, "Recovery".
-use Rattle.std.specs.Prelude.{◌≡◌, ◌⊎◌, ◌<◌, ◌^◌, ℤ, pos, List, count_by}
+use Rattle.std.specs.Prelude.{◌≡◌, ◌⊎◌, ℤ, pos, List, count_by}
 use Rattle.disk_core.specs.DiskImage.{DiskImage, MayLeave, reads}
 use Rattle.disk_core.specs.Life.{Life, LeavesOnly}
 use Rattle.archive_model.specs.State.{State, active_count}
@@ -51,11 +51,10 @@ pub record IsNotOpened (old new : Life) (s u : State) : Type 0 where
   pub any_moment : LeavesOnly old new (RecoversTo (IsNear s u))
 
 -- The desk is that of the image's catalogue and a restart, which stopped so many recordings, whatever the segment files
--- hold. Fewer than 2^32 entries count.
+-- hold.
 pub record IsDeskOf (image : DiskImage) (desk : DeskState) (restarted : ℤ) : Type 0 where
   pub header : BankHeader
   pub entries : List Entry
   pub catalogue : IsCatalogue image header entries
-  pub few : count_by counts entries < 2 ^ 32
   pub is : desk ≡ opened_desk (all_stopped (after_entries no_recordings entries)) (count_by counts entries) header.history_limit
   pub stopped : restarted ≡ pos (register.active_count (after_entries no_recordings entries))

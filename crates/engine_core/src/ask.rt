@@ -47,10 +47,12 @@ impl<D: Disk> Engine<D> {
         position: i64,
         decided: Result<Command, Refusal>,
     ) -> Result<Reply, Refusal>
-        requires requested { IfOk decided (λ command. IsRequested command × Allows self.old.desk.state command
+        requires requested { IfOk decided (λ command. IsRequested command
+            × Allows self.old.desk.state command
             × IsFalse self.old.desk.state.is_broken) }
         requires there { IsSome (registration_in self.old.desk.state.register recording.now) }
-        ensures made { MakesInside (seen D.life self.old) (seen D.life self.new) recording.now position decided result }
+        ensures made { MakesInside (seen D.life self.old)
+            (seen D.life self.new) recording.now position decided result }
         ensures restarted { self.new.restarted ≡ self.old.restarted }
     {
         let Some(known) = self.desk.recording(recording) else {

@@ -29,8 +29,8 @@ pub struct OpenRefusal<D> {
 }
 
 impl<D: Disk> Engine<D> {
-    ghost use Rattle.std.specs.Prelude.{◌≡◌, ◌≢◌, ◌⊎◌, ◌≤◌, pos, IfErr, IfOk, IsTrue, MatchResult};
-    ghost use Rattle.frame_core.specs.declared.refusal.Refusal.TheVariants.{DeviceFault, NoMemory};
+    ghost use Rattle.std.specs.Prelude.{◌≡◌, ◌≢◌, ◌⊎◌, ◌<◌, ◌≤◌, pos, IfErr, IfOk, IsErrAnd, IsTrue, MatchResult};
+    ghost use Rattle.frame_core.specs.declared.refusal.Refusal.TheVariants.{BadParameter, DeviceFault, NoMemory};
     ghost use Rattle.disk_core.specs.declared.file_id.FileId.{FileId};
     ghost use Rattle.disk_core.specs.declared.file_id.FileId.TheVariants.{BankA};
     ghost use Rattle.disk_core.specs.DiskImage.{reads};
@@ -64,15 +64,21 @@ impl<D: Disk> Engine<D> {
     /// A new archive without recordings on a disk without files, with this limit of its history. From then on every
     /// image that a crash may leave recovers to the state without recordings.
     ///
-    /// `BadParameter` where a file is there or the limit is not from 1 to 16,777,216, and `NoMemory` for the listing: then
-    /// nothing was done. `DeviceFault` where a call of the disk fails: what the banks hold then is unknown. The disk comes
+    /// `BadParameter` where the limit is not from 1 to 16,777,216, before the disk is asked, or where a file is there, and
+    /// `NoMemory` for the listing: then nothing was done. `DeviceFault` where a call of the disk fails: what the banks hold then is unknown. The disk comes
     /// back. docs/STORAGE.md, "Banks"; docs/CONTROL.md, "Limits". By six calls of the disk behind a listing.
     pub fn create(alloc: Global, disk: D, history_limit: u32) -> Result<Engine<D>, OpenRefusal<D>>
-        ensures made { IfOk result (λ engine. IsMadeIn (D.life disk) (D.life engine.storage.disk) history_limit) }
-        ensures keeps { IfOk result (λ engine. KeepsArchive D.life engine (new_archive history_limit)) }
+        ensures made { IfOk result (λ engine. IsMadeIn (D.life disk)
+            (D.life engine.storage.disk) history_limit) }
+        ensures keeps { IfOk result (λ engine. KeepsArchive D.life engine
+            (new_archive history_limit)) }
         ensures restarted { IfOk result (λ engine. engine.restarted ≡ pos 0) }
         ensures refused { IfErr result (λ refused.
             RefusesNew (D.life disk) (D.life refused.disk) history_limit refused.refusal) }
+        // A limit out of its range is refused before the disk is asked.
+        ensures limit { (history_limit < 1) ⊎ (16777216 < history_limit) →
+            IsErrAnd result (λ refused.
+            (refused.refusal ≡ BadParameter) × (D.life refused.disk ≡ D.life disk)) }
         ensures faults { MatchResult result
             (λ engine. (D.life disk).faults ≤ (D.life engine.storage.disk).faults)
             (λ refused. (D.life disk).faults ≤ (D.life refused.disk).faults) }
@@ -94,8 +100,7 @@ impl<D: Disk> Engine<D> {
     /// Where each image that a crash now may leave recovers to one of two states, as every call of an archive leaves it,
     /// the archive is the restart of the one that the disk reads as; and it is refused by `DeviceFault` and `NoMemory`
     /// alone. Over any other disk the desk is that of its catalogue and a restart; or `NotCatalogue`, `NewerVersion` and
-    /// `Damaged`, as `catalogue_log::open`, and then each file reads as before. `NoMemory` also where 2^32 entries of the
-    /// catalogue count or more, which no desk counts. The disk comes back; an opening may be tried again. docs/STORAGE.md,
+    /// `Damaged`, as `catalogue_log::open`, and then each file reads as before. The disk comes back; an opening may be tried again. docs/STORAGE.md,
     /// "Opening" and "Recovery". Costs a call of the disk for each file and for each 64 KiB of the catalogue, four more
     /// where a recording was active, and the memory of the listing, the entries and the recordings.
     pub fn open(alloc: Global, disk: D) -> Result<Engine<D>, OpenRefusal<D>>
@@ -106,8 +111,9 @@ impl<D: Disk> Engine<D> {
             IsTrue (D.life refused.disk).obeys → IsNotOpened (D.life disk) (D.life refused.disk) s u
             × ((refused.refusal ≡ DeviceFault) ⊎ (refused.refusal ≡ NoMemory))) }
         // Also of a disk that no archive has left.
-        ensures other { IfErr result (λ refused. RefusesOpening (D.life disk) (D.life refused.disk) refused.refusal) }
-        // No archive is opened without a catalogue, nor where 2^32 of its entries count or more.
+        ensures other { IfErr result (λ refused. RefusesOpening (D.life disk)
+            (D.life refused.disk) refused.refusal) }
+        // No archive is opened without a catalogue.
         ensures desk { IfOk result (λ engine. IsTrue (D.life engine.storage.disk).obeys →
             IsDeskOf (reads (D.life disk).now) engine.desk.state engine.restarted) }
         ensures goes_on { MatchResult result

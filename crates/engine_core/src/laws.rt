@@ -6,7 +6,7 @@ ghost use Rattle.disk_core.specs.Life.{Life, MayHaveLeft, moment};
 ghost use Rattle.frame_core.specs.declared.block.Block.{Block};
 ghost use Rattle.frame_core.specs.declared.refusal.Refusal.{Refusal};
 ghost use Rattle.frame_core.specs.Block.{covered};
-ghost use Rattle.segment_store.specs.Layout.{IsBlockIn, IsFromStart, IsLayout, file_of};
+ghost use Rattle.segment_store.specs.Layout.{IsBlockIn, IsFromStart, IsLayout, base_of, file_of};
 ghost use Rattle.segment_store.specs.Stored.{HoldsFrames};
 ghost use Rattle.archive_model.specs.declared.command.Command.{Command};
 ghost use Rattle.archive_model.specs.declared.reply.Reply.{Reply};
@@ -14,7 +14,7 @@ ghost use Rattle.archive_model.specs.Acceptance.{BookState};
 ghost use Rattle.archive_model.specs.Accepting.{Accepts};
 ghost use Rattle.archive_model.specs.Commands.{after, frames_of};
 ghost use Rattle.archive_model.specs.Keyed.{Each};
-ghost use Rattle.archive_model.specs.State.{Recording, State, recorded_position};
+ghost use Rattle.archive_model.specs.State.{Recording, State};
 ghost use Rattle.archive_model.specs.WellFormed.{IsWell};
 ghost use Rattle.catalogue_log.specs.History.{IsRequested, entry_of};
 ghost use Rattle.catalogue_log.specs.LogState.{LogState};
@@ -26,7 +26,7 @@ ghost use Rattle.engine_core.specs.Consistent.{IsCrashConsistent, Stands};
 ghost use Rattle.engine_core.specs.Engine.{Content, EngineState, GoesOn, archive_of};
 ghost use Rattle.engine_core.specs.Moves.{Enters, Leads};
 ghost use Rattle.engine_core.specs.Opened.{LeavesEither};
-ghost use Rattle.engine_core.specs.Recovery.{IsDurable, IsSound, Recovers, layout_of};
+ghost use Rattle.engine_core.specs.Recovery.{IsDurable, IsSound, Recovers, last_of, layout_of};
 
 /// Every image that a crash may leave of a sound archive recovers to its state.
 pub fn a_sound_archive_recovers()
@@ -56,33 +56,40 @@ pub fn an_accepted_command_enters_the_state_after_it()
         Enters b.state (after b.state c) (entry_of b.state c) }
 {}
 
-/// A block that begins where a recording ends, and is read there, stands behind what is recorded in the segment of its
-/// position.
-pub fn a_block_lies_in_one_segment()
-    ensures { (image : DiskImage) (r : Recording) (block : Block) → IsLayout (layout_of r.descriptor) →
-        IsFromStart (layout_of r.descriptor) block.position → IsBlockIn (layout_of r.descriptor) block →
-        block.position ≡ recorded_position r →
+/// Blocks stand behind what is recorded, in the segment where that ends, and one more that begins there where they end,
+/// and is read there, stands with them: docs/STORAGE.md, "Segments".
+pub fn blocks_stand_together()
+    ensures { (image : DiskImage) (r : Recording) (blocks : List Block) (block : Block) →
+        IsLayout (layout_of r.descriptor) → IsFromStart (layout_of r.descriptor) block.position →
+        IsBlockIn (layout_of r.descriptor) block →
+        unsigned_abs block.position ≡ last_of r + covered (frames_of blocks) →
+        base_of (layout_of r.descriptor) (unsigned_abs block.position)
+        ≡ base_of (layout_of r.descriptor) (last_of r) →
+        Stands image (file_of (layout_of r.descriptor) (last_of r)) r (frames_of blocks) →
         HoldsFrames image (layout_of r.descriptor) (unsigned_abs block.position) block.frames
         (unsigned_abs block.position + covered block.frames) →
-        Stands image (file_of (layout_of r.descriptor) (unsigned_abs block.position)) r
-        (frames_of (block ∷ [])) }
+        Stands image (file_of (layout_of r.descriptor) (last_of r)) r (frames_of (blocks ++ block ∷ [])) }
 {}
 
 /// A run goes on: what was obeyed at its end was at its start, and its faults were counted. There are as many answers as
 /// events.
 pub fn a_run_goes_on()
-    ensures goes_on { (old new : EngineState) (events : List Event) (outcomes : List (Result Reply Refusal)) →
+    ensures goes_on { (old new : EngineState) (events : List Event) (outcomes : List
+        (Result Reply Refusal)) →
         IsRun old events outcomes new → GoesOn old.life new.life }
-    ensures cause { (old new : EngineState) (events : List Event) (outcomes : List (Result Reply Refusal)) →
+    ensures cause { (old new : EngineState) (events : List Event) (outcomes : List
+        (Result Reply Refusal)) →
         IsRun old events outcomes new → HasFailedOften (faults_in outcomes) old.life new.life }
-    ensures each { (old new : EngineState) (events : List Event) (outcomes : List (Result Reply Refusal)) →
+    ensures each { (old new : EngineState) (events : List Event) (outcomes : List
+        (Result Reply Refusal)) →
         IsRun old events outcomes new → length outcomes ≡ length events }
 {}
 
 /// For who answers one event at a time: no events are a run, and so are those of a run and one more.
 pub fn a_run_and_a_step_are_a_run()
     ensures none { (e : EngineState) → IsRun e [] [] e }
-    ensures more { (old mid new : EngineState) (events : List Event) (outcomes : List (Result Reply Refusal))
+    ensures more { (old mid new : EngineState) (events : List Event) (outcomes : List
+        (Result Reply Refusal))
         (event : Event) (outcome : Result Reply Refusal) → IsRun old events outcomes mid →
         AnswersEvent mid new event outcome → IsRun old (events ++ event ∷ []) (outcomes ++ outcome ∷ []) new }
 {}
@@ -90,7 +97,8 @@ pub fn a_run_and_a_step_are_a_run()
 /// A run over a disk that obeys leaves a crash-consistent archive such; a crash at any moment of it leaves a state that
 /// stood after the first of its events, or was in doubt then.
 pub fn a_run_keeps_the_archive()
-    ensures { (old new : EngineState) (c : Content) (events : List Event) (outcomes : List (Result Reply Refusal)) →
+    ensures { (old new : EngineState) (c : Content) (events : List Event) (outcomes : List
+        (Result Reply Refusal)) →
         IsRun old events outcomes new → IsCrashConsistent old.life old.log (archive_of old c) →
         IsTrue new.life.obeys → Ran old new (archive_of old c) events outcomes }
 {}

@@ -28,11 +28,13 @@ impl<D: Disk> Engine<D> {
         requires requested { IsRequested command }
         requires allowed { Allows self.old.desk.state command }
         requires works { IsFalse self.old.desk.state.is_broken }
-        ensures made { Commits (seen D.life self.old) (seen D.life self.new) (λ a. Accepts (book_of a) command)
+        ensures made { Commits (seen D.life self.old) (seen D.life self.new) (λ a. Accepts
+            (book_of a) command)
             (reply_after self.old.desk.state command) (λ a. archive_after a command) result }
         ensures quiet { IfErr result (λ refusal. refusal ≢ DeviceFault →
             D.life self.new.storage.disk ≡ D.life self.old.storage.disk) }
-        ensures changes { ChangesBank (D.life self.old.storage.disk) (D.life self.new.storage.disk) }
+        ensures changes { ChangesBank (D.life self.old.storage.disk)
+            (D.life self.new.storage.disk) }
         ensures restarted { self.new.restarted ≡ self.old.restarted }
     {
         let entry = Entry::of_command(alloc, &self.desk.next_recording(), &command)?;

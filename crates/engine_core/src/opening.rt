@@ -21,21 +21,21 @@ use catalogue_log::{Entry, Log, register_from};
 use control_core::Desk;
 use disk_core::{Disk, FileId};
 use frame_core::Refusal;
+use frame_core::limits::MAX_HISTORY;
 use std::alloc::Global;
 
 /// Syncs the files of an archive and reads its catalogue: the log, and the desk, at which nobody calls yet.
 ///
 /// Where the disk's files recover to a state, the archive is sound for it from then on, and the desk has that state's
 /// recordings; and then it refuses by `DeviceFault` and `NoMemory` alone. Else `NotCatalogue`, `NewerVersion` and
-/// `Damaged`, as `catalogue_log::open`. `NoMemory` also where 2^32 entries count or more, which no desk takes. In every
-/// case each file reads as before. docs/STORAGE.md, "Opening". Costs a call of the disk for each file and for each 64 KiB
+/// `Damaged`, as `catalogue_log::open`. In every case each file reads as before. docs/STORAGE.md, "Opening". Costs a call of the disk for each file and for each 64 KiB
 /// of the catalogue, and the memory of the listing, the entries and the recordings.
 pub(crate) fn read_desk<D: Disk>(alloc: Global, disk: &mut D) -> Result<(Log, Desk), Refusal>
     ensures sound { IfOk result (λ opened. IsTrue (D.life disk.new).obeys → (x : State) →
         Recovers (reads (D.life disk.old).now) x → IsSound (D.life disk.new).now opened.0 x
         × (opened.1.state ≡ opened_desk (register_of x) opened.0.counted opened.0.header.history_limit)) }
-    ensures tied { IfOk result (λ opened. IsTied opened.0 opened.1.state × IsFalse opened.1.state.is_broken
-        × (opened.0.counted < 2 ^ 32)) }
+    ensures tied { IfOk result (λ opened. IsTied opened.0 opened.1.state
+        × IsFalse opened.1.state.is_broken) }
     // Of any catalogue, whatever the segment files hold.
     ensures log { IfOk result (λ opened. IsTrue (D.life disk.new).obeys →
         (entries : List Entry) × IsLogOf (bank_in_use (reads (D.life disk.old).now)) opened.0 entries
@@ -49,18 +49,10 @@ pub(crate) fn read_desk<D: Disk>(alloc: Global, disk: &mut D) -> Result<(Log, De
 {
     let (log, entries) = open_files(alloc, disk)?;
     let register = register_from(alloc, &entries)?;
-    let counted = counted_by(&log).ok_or(Refusal::NoMemory)?;
+    let counted = log.counted() as u64;
     let limit = log.limit();
     let desk = Desk::opened(alloc, register, counted, limit);
     Ok((log, desk))
-}
-
-/// How many entries of a log count, unless these are 2^32 or more.
-fn counted_by(log: &Log) -> Option<u32>
-    ensures some { IfSome result (λ counted. counted ≡ log.now.counted) }
-    ensures none { IfNone result (2 ^ 32 ≤ log.now.counted) }
-{
-    u32::try_from(log.counted()).ok()
 }
 
 /// The log of the catalogue and its entries in order, once the files of the archive are synced.
@@ -93,14 +85,21 @@ pub(crate) fn create<D: Disk>(
     history_limit: u32,
 ) -> Result<Log, Refusal>
     ensures sound { IfOk result (λ log. IsSound (D.life disk.new).now log empty) }
-    ensures log { IfOk result (λ log. (log.header ≡ record { history_limit = history_limit; epoch = 1 })
+    ensures log { IfOk result (λ log. (log.header
+        ≡ record { history_limit = history_limit; epoch = 1 })
         × (log.counted ≡ 0) × IsFalse log.is_broken) }
     ensures made { OnOk result (IsMadeIn (D.life disk.old) (D.life disk.new) history_limit) }
     ensures segments { (recording base : ℤ) →
         (D.life disk.new).now (Segment recording base) ≡ (D.life disk.old).now (Segment recording base) }
     ensures refused { IfErr result (RefusesNew (D.life disk.old) (D.life disk.new) history_limit) }
+    // A limit out of its range is refused before the disk is asked.
+    ensures limit { (history_limit < 1) ⊎ (16777216 < history_limit) →
+        IsErrOf result BadParameter × (D.life disk.new ≡ D.life disk.old) }
     ensures faults { (D.life disk.old).faults ≤ (D.life disk.new).faults }
 {
+    if history_limit == 0 || history_limit > MAX_HISTORY {
+        return Err(Refusal::BadParameter);
+    }
     let files = disk.list()?;
     if !files.is_empty() {
         return Err(Refusal::BadParameter);

@@ -58,9 +58,11 @@ pub(crate) fn begins_at<D: Disk>(
     requires { IsLaidOut registration.now }
     ensures told { (r : Recording) → IsRead (D.life disk.old) (D.life disk.new) registration.now r →
         is_end position registration.now ≡ false → IfOk result (λ told. told ≡ begins_frame position r) }
-    ensures fault { (r : Recording) → IsRead (D.life disk.old) (D.life disk.new) registration.now r →
+    ensures fault { (r : Recording) → IsRead (D.life disk.old)
+        (D.life disk.new) registration.now r →
         IfErr result (λ refusal. refusal ≡ DeviceFault) }
-    ensures refused { IfErr result (RefusesBoundary (D.life disk.new).obeys (reads (D.life disk.old).now)
+    ensures refused { IfErr result (RefusesBoundary (D.life disk.new).obeys (reads
+        (D.life disk.old).now)
         (layout_of registration.now.descriptor) (geometry_of registration.now.descriptor) registration.now.recorded position) }
     ensures quiet { IsQuiet (D.life disk.old) (D.life disk.new) }
     ensures cause { IsErrOf result DeviceFault → HasFailed (D.life disk.old) (D.life disk.new) }
@@ -89,16 +91,19 @@ pub(crate) fn poll<D: Disk>(
 ) -> Result<Given, Refusal>
     requires laid_out { IsLaidOut registration.now }
     requires from_start { IsFromStart (layout_of registration.now.descriptor) replay.now.next }
-    ensures frames { (r : Recording) → IsRead (D.life disk.old) (D.life disk.new) registration.now r →
+    ensures frames { (r : Recording) → IsRead (D.life disk.old)
+        (D.life disk.new) registration.now r →
         IsTrue (is_boundary replay.now.next r) → IfOk result (λ given. IsTrue (is_boundary given.next r)
         × (given.frames ≡ polled replay.now.next replay.now.bound (unsigned_abs most) r)) }
     ensures next { IfOk result (λ given. given.next ≡ frames_end replay.now.next given.frames) }
     // Whatever the disk answers: where frames are due it goes further, else it stays.
     ensures moves { IfOk result (λ given. (replay.now.next ≤ℤ given.next) × (0 < unsigned_abs most →
         MovesTo registration.now.recorded replay.now.bound replay.now.next given.next)) }
-    ensures outside { (r : Recording) → IsRead (D.life disk.old) (D.life disk.new) registration.now r →
+    ensures outside { (r : Recording) → IsRead (D.life disk.old)
+        (D.life disk.new) registration.now r →
         IsTrue (is_boundary replay.now.next r) → IfErr result IsOutside }
-    ensures refused { IfErr result (RefusesPoll (D.life disk.new).obeys (reads (D.life disk.old).now)
+    ensures refused { IfErr result (RefusesPoll (D.life disk.new).obeys (reads
+        (D.life disk.old).now)
         (layout_of registration.now.descriptor) (geometry_of registration.now.descriptor) registration.now.recorded
         replay.now.bound (unsigned_abs most) (unsigned_abs replay.now.next)) }
     ensures quiet { IsQuiet (D.life disk.old) (D.life disk.new) }
@@ -156,11 +161,14 @@ pub(crate) fn count_frames<D: Disk>(
     registration: &Registration,
 ) -> Result<i64, Refusal>
     requires { IsLaidOut registration.now }
-    ensures count { (r : Recording) → IsRead (D.life disk.old) (D.life disk.new) registration.now r →
+    ensures count { (r : Recording) → IsRead (D.life disk.old)
+        (D.life disk.new) registration.now r →
         IfOk result (λ count. count ≡ pos (length r.frames)) }
-    ensures outside { (r : Recording) → IsRead (D.life disk.old) (D.life disk.new) registration.now r →
+    ensures outside { (r : Recording) → IsRead (D.life disk.old)
+        (D.life disk.new) registration.now r →
         IfErr result IsOutside }
-    ensures refused { IfErr result (RefusesCount (D.life disk.new).obeys (reads (D.life disk.old).now) registration.now) }
+    ensures refused { IfErr result (RefusesCount (D.life disk.new).obeys (reads
+        (D.life disk.old).now) registration.now) }
     ensures quiet { IsQuiet (D.life disk.old) (D.life disk.new) }
     ensures cause { IsErrOf result DeviceFault → HasFailed (D.life disk.old) (D.life disk.new) }
 {

@@ -34,7 +34,8 @@ impl<D: Disk> Engine<D> {
         position: &i64,
         length: &i64,
     ) -> Result<Reply, Refusal>
-        ensures { HasAnswered D.life self.old self.new (events.ReplayOpen recording.now position.now length.now) result }
+        ensures { HasAnswered D.life self.old self.new
+            (events.ReplayOpen recording.now position.now length.now) result }
     {
         let opening = decided_opening(
             &mut self.storage.disk,
@@ -61,7 +62,8 @@ fn decided_opening<D: Disk>(
     length: &i64,
 ) -> Result<Opening, Refusal>
     // Where no frame is asked, or the disk obeys the crash model, the refusal is exact too.
-    ensures decided { (log : LogState) (a : Archive) → desk.now.state ≡ a.desk → IsCrashConsistent (D.life disk.old) log a →
+    ensures decided { (log : LogState) (a : Archive) → desk.now.state ≡ a.desk →
+        IsCrashConsistent (D.life disk.old) log a →
         IfRead (opens_by_frames (open_decision a.desk recording.now position.now length.now)) (D.life disk.new)
         (IsDecided (asked_opening a recording.now (open_decision a.desk recording.now position.now length.now))
         (HasFailed (D.life disk.old) (D.life disk.new)

@@ -20,7 +20,8 @@ impl<D: Disk> Engine<D> {
     /// `BadParameter` where `most` is not from 1 to 4,096; `UnknownReplay`; `Damaged` where the frames break off;
     /// `DeviceFault`; `NoMemory`. Each leaves the replay where it was. Costs what the frames that are given cost.
     pub(crate) fn poll(&mut self, alloc: Global, replay: &i64, most: &i64) -> Result<Reply, Refusal>
-        ensures { HasAnswered D.life self.old self.new (events.ReplayPoll replay.now most.now) result }
+        ensures { HasAnswered D.life self.old self.new
+            (events.ReplayPoll replay.now most.now) result }
     {
         let found = decide_poll(&self.desk, replay, most)?;
         let Some(known) = self.desk.recording(&found.replay.recording) else {

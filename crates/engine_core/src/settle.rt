@@ -49,7 +49,8 @@ impl<D: Disk> Engine<D> {
         written: &Written,
     ) -> Result<Reply, Refusal>
         requires found { IsFoundSession session.now self.old.desk.state.callers.sessions found.now }
-        requires decided { settle_decision self.old.desk.state session.now ≡ Ok (Blocks recording.now written.now) }
+        requires decided { settle_decision self.old.desk.state session.now
+            ≡ Ok (Blocks recording.now written.now) }
         ensures settled { Commits (seen D.life self.old) (seen D.life self.new)
             (λ a. settle_decision a.desk session.now ≡ Ok (Blocks recording.now written.now))
             (replies.Settled written.now.last) (λ a. settled_archive a session.now recording.now) result }

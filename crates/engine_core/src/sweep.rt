@@ -36,7 +36,8 @@ impl<D: Disk> Engine<D> {
 /// What a sweep is told of an archive: below which id recordings were given, and what each that is there keeps.
 /// `NoMemory`. Costs the recordings.
 fn keeps_of(alloc: Global, next: &i64, recordings: &[Registration]) -> Result<Vec<Keep>, Refusal>
-    ensures ok { IfOk result (λ keeps. keeps.items ≡ Below next.now ∷ map registered_keep recordings.now) }
+    ensures ok { IfOk result (λ keeps. keeps.items
+        ≡ Below next.now ∷ map registered_keep recordings.now) }
     ensures err { IfErr result (λ refusal. refusal ≡ NoMemory) }
 {
     let mut keeps = Vec::new(alloc);

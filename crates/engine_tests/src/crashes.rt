@@ -2,17 +2,32 @@
 
 use crate::calls::{answered, answers, disk_behind, goes_on, made, opened, run};
 use disk_core::MemoryDisk;
+use engine_core::Engine;
 use frame_core::Refusal;
 use std::alloc::Global;
 use std::process::Abort;
 use std::test::Fail;
 
-/// What a settle answers in which the disk stops after so many changes, and the disk.
-fn settled(alloc: Global, changes: u64) -> Result<(Vec<u8>, MemoryDisk), Refusal> {
+/// Writes so many blocks of 64 bytes, one behind the other.
+fn write_blocks(
+    alloc: Global,
+    engine: &mut Engine<MemoryDisk>,
+    blocks: u64,
+) -> Result<(), Refusal> {
+    for block in 0..blocks {
+        let line = format!(in alloc; "write 0 {}", block.wrapping_mul(64))?;
+        run(alloc, engine, line.as_str())?;
+    }
+    Ok(())
+}
+
+/// What a settle of so many blocks answers in which the disk stops after so many changes, and the disk.
+fn settled(alloc: Global, blocks: u64, changes: u64) -> Result<(Vec<u8>, MemoryDisk), Refusal> {
     let mut disk = MemoryDisk::new(alloc);
-    disk.stop_after(changes.wrapping_add(11));
+    disk.stop_after(changes.wrapping_add(blocks).wrapping_add(10));
     let mut engine = made(alloc, disk, 3)?;
-    run(alloc, &mut engine, "start 0\nwrite 0 0")?;
+    run(alloc, &mut engine, "start 0")?;
+    write_blocks(alloc, &mut engine, blocks)?;
     let text = answered(alloc, &mut engine, "settle 0")?;
     Ok((text, engine.into_disk()))
 }
@@ -23,54 +38,89 @@ fn positions(alloc: Global, disk: MemoryDisk) -> Result<Vec<u8>, Refusal> {
     answered(alloc, &mut engine, "positions 0")
 }
 
-/// What a settle answers in which the disk stops after so many changes, and behind it the archive that a crash leaves.
-fn stopped_after(alloc: Global, changes: u64, choice: u8) -> Result<Vec<u8>, Refusal> {
-    let (mut text, disk) = settled(alloc, changes)?;
-    let mut left = positions(alloc, disk.crash(&[choice])?)?;
+/// A settle of blocks in which the disk stops after so many changes, and the choice of a crash behind it.
+#[derive(Clone, Copy)]
+struct Stop {
+    blocks: u64,
+    changes: u64,
+    choice: u8,
+}
+
+/// What the settle answers, and behind it the archive that the crash leaves.
+fn stopped_after(alloc: Global, stop: &Stop) -> Result<Vec<u8>, Refusal> {
+    let (mut text, disk) = settled(alloc, stop.blocks, stop.changes)?;
+    let mut left = positions(alloc, disk.crash(&[stop.choice])?)?;
     text.append(&mut left)?;
     Ok(text)
 }
 
-/// The same, as it is to be.
-fn is_left(alloc: Global, changes: u64, choice: u8, text: &str) -> Result<bool, Refusal> {
-    Ok(stopped_after(alloc, changes, choice)?.as_slice() == text.as_bytes())
+/// The same, as it is to be: nothing is recorded, or all blocks are, of a settle that failed or was answered.
+fn text_of(alloc: Global, stop: &Stop, left: &Left) -> Result<String, Refusal> {
+    let end = stop.blocks.wrapping_mul(64);
+    let text = match left {
+        Left::Lost => String::from_str(alloc, "error 17 DeviceFault\npositions 0 0 0\n")?,
+        Left::Recorded => format!(in alloc; "error 17 DeviceFault\npositions 0 {end} {end}\n")?,
+        Left::Settled => format!(in alloc; "settled {end}\npositions 0 {end} {end}\n")?,
+    };
+    Ok(text)
 }
 
-const LOST: &str = "error 17 DeviceFault\npositions 0 0 0\n";
+/// What a settle that was stopped leaves.
+#[derive(Clone, Copy)]
+enum Left {
+    Lost,
+    Recorded,
+    Settled,
+}
 
-const RECORDED: &str = "error 17 DeviceFault\npositions 0 64 64\n";
+fn is_left(alloc: Global, stop: &Stop, left: &Left) -> Result<bool, Refusal> {
+    let wanted = text_of(alloc, stop, left)?;
+    Ok(stopped_after(alloc, stop)?.as_slice() == wanted.as_bytes())
+}
 
-const SETTLED: &str = "settled 64\npositions 0 64 64\n";
-
-// After how many changes the disk stops, the crash's choice, and what is answered.
-const STOPS: [(u64, u8, &str); 18] = [
-    (0, 0, LOST),
-    (0, 1, LOST),
-    (0, 255, LOST),
-    (1, 0, LOST),
-    (1, 1, LOST),
-    (1, 255, LOST),
-    (2, 0, LOST),
-    (2, 1, LOST),
-    (2, 255, LOST),
-    (3, 0, LOST),
-    (3, 1, LOST),
-    (3, 255, LOST),
-    (4, 0, LOST),
-    (4, 1, RECORDED),
-    (4, 255, LOST),
-    (5, 0, SETTLED),
-    (5, 1, SETTLED),
-    (5, 255, SETTLED),
+// After how many changes the disk stops, the crash's choice, and what is left.
+const STOPS: [(u64, u8, Left); 18] = [
+    (0, 0, Left::Lost),
+    (0, 1, Left::Lost),
+    (0, 255, Left::Lost),
+    (1, 0, Left::Lost),
+    (1, 1, Left::Lost),
+    (1, 255, Left::Lost),
+    (2, 0, Left::Lost),
+    (2, 1, Left::Lost),
+    (2, 255, Left::Lost),
+    (3, 0, Left::Lost),
+    (3, 1, Left::Lost),
+    (3, 255, Left::Lost),
+    (4, 0, Left::Lost),
+    (4, 1, Left::Recorded),
+    (4, 255, Left::Lost),
+    (5, 0, Left::Settled),
+    (5, 1, Left::Settled),
+    (5, 255, Left::Settled),
 ];
 
+/// The stops of a settle of so many blocks that leave something else.
+fn other_stops(alloc: Global, blocks: u64) -> Result<u64, Refusal> {
+    let mut others = 0_u64;
+    for (changes, choice, left) in &STOPS {
+        let stop = Stop {
+            blocks,
+            changes: *changes,
+            choice: *choice,
+        };
+        if !is_left(alloc, &stop, left)? {
+            others = others.wrapping_add(1);
+        }
+    }
+    Ok(others)
+}
+
+/// Of a settle each crash leaves all blocks or none, however many there are.
 #[test]
 fn stop_at_each_device_call_of_a_settle(rt: HostRuntime) -> Result<(), Fail> {
-    for (changes, choice, text) in STOPS {
-        assert!(rt;
-            is_left(rt.alloc(), changes, choice, text)?,
-            "{changes}, {choice}"
-        );
+    for blocks in [1, 2, 50] {
+        assert!(rt; other_stops(rt.alloc(), blocks)? == 0, "{blocks}");
     }
     Ok(())
 }
@@ -93,6 +143,42 @@ fn a_fault_breaks_the_archive(rt: HostRuntime) -> Result<(), Fail> {
     assert!(rt; engine.desk().is_broken());
     let disk = engine.into_disk();
     goes_on(&rt, rt.alloc(), disk, "truncate 0 0: truncated 0\n")
+}
+
+const UNREAD: &str = "\
+start 0: started 0 0
+write 0 0: written 64
+settle 0: settled 64
+write 0 64: written 128
+settle 0: settled 128
+stop 0 2000: stopped 128
+truncate 0 64: error 17 DeviceFault
+truncate 0 64: truncated 64
+";
+
+/// A truncation inside a recording whose read fails leaves the archive as it was, and working.
+#[test]
+fn a_read_that_fails_breaks_nothing(rt: HostRuntime) -> Result<(), Fail> {
+    let mut disk = MemoryDisk::new(rt.alloc());
+    disk.fail_at(28);
+    let mut engine = made(rt.alloc(), disk, 8)?;
+    answers(&rt, rt.alloc(), &mut engine, UNREAD)
+}
+
+/// How many calls a disk was asked for an archive that was refused, where it was.
+fn calls_of_refusal(alloc: Global, limit: u32) -> Option<u64> {
+    match Engine::create(alloc, MemoryDisk::new(alloc), limit) {
+        Ok(_) => None,
+        Err(refused) => Some(refused.disk.calls()),
+    }
+}
+
+/// A history limit out of its range is refused before the disk is asked.
+#[test]
+fn a_limit_out_of_range_asks_no_disk(rt: HostRuntime) -> Result<(), Fail> {
+    assert!(rt; calls_of_refusal(rt.alloc(), 0) == Some(0));
+    assert!(rt; calls_of_refusal(rt.alloc(), 16_777_217) == Some(0));
+    Ok(())
 }
 
 /// How many changes of the disk an opening makes behind these calls, and how many recordings it stops.

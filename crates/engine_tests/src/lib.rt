@@ -13,3 +13,5 @@ mod random;
 mod reference;
 #[cfg(test)]
 mod scenarios;
+#[cfg(test)]
+mod syncs;

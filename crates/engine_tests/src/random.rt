@@ -47,11 +47,15 @@ fn call_by_chance(dice: &mut Dice, story: &Story) -> Call {
         .book
         .recording(&recording)
         .map_or(0, |found| found.recorded_position());
+    let next = match story.session(number) {
+        Some(session) if !session.written.is_empty() => session.end,
+        _ => end,
+    };
     match dice.below(32) {
         0..=1 if story.book.recordings().len() < 4 => ("start", dice.below(8).wrapping_mul(64), 0),
-        2..=10 => ("write", number, end),
-        11..=13 => ("pad", number, end),
-        14..=22 => ("settle", number, 0),
+        2..=14 => ("write", number, next),
+        15..=17 => ("pad", number, next),
+        18..=22 => ("settle", number, 0),
         throw => call_of_recording(dice, throw, recording, end),
     }
 }
@@ -110,9 +114,13 @@ impl Run {
     }
 
     fn accept(&mut self, alloc: Global, event: Event, reply: Reply) -> Result<(), Refusal> {
+        let end = match reply {
+            Reply::Written { position } => position,
+            _ => 0,
+        };
         let mut lines = told(alloc, &Ok(reply))?;
         self.answers.append(&mut lines)?;
-        self.story.note(alloc, event)
+        self.story.note(alloc, event, end)
     }
 
     fn stop(&mut self, alloc: Global, event: Event) -> Result<(), Refusal> {

@@ -1,22 +1,25 @@
 //! The plain book beside an archive: what it makes of the same events, and both as text.
 
 use crate::calls::{answer, told};
-use archive_model::{Book, Command, Descriptor, Recording, Reply};
+use archive_model::{Command, Descriptor, Reply};
 use control_core::{Event, Request};
 use control_lines::print_reply;
 use disk_core::MemoryDisk;
 use engine_core::Engine;
 use frame_core::limits::LAST_NUMBER;
 use frame_core::{Block, Items, Refusal};
+use plain_book::{Book, Recording};
 use std::alloc::{AllocError, Global};
 
-/// A recorder session: its recording, and the block that it wrote and did not settle.
+/// A recorder session: its recording, and the blocks that it wrote and did not settle.
 #[derive(Drop)]
 pub struct Session {
     /// The recording.
     pub recording: i64,
     /// What it wrote.
-    pub written: Option<Block>,
+    pub written: Items<Block>,
+    /// Where the last block ends, if there is one.
+    pub end: i64,
 }
 
 /// The book of the commands that were accepted, and the recorder sessions by number.
@@ -62,13 +65,6 @@ fn command_of(request: Request) -> Option<Command> {
     }
 }
 
-/// The command that records a block.
-fn append(alloc: Global, recording: i64, block: Block) -> Result<Command, AllocError> {
-    let mut blocks = Items::new(alloc);
-    blocks.push(block)?;
-    Ok(Command::Append { recording, blocks })
-}
-
 impl Story {
     /// Nothing yet.
     pub fn new(alloc: Global) -> Story {
@@ -88,63 +84,60 @@ impl Story {
     pub fn command(&mut self, alloc: Global, event: Event) -> Result<Option<Command>, Refusal> {
         match event {
             Event::Ask(request) => Ok(command_of(request)),
-            Event::Settle { session } => self.settled(alloc, session),
+            Event::Settle { session } => Ok(self.settled(alloc, session)),
             _ => Ok(None),
         }
     }
 
-    fn settled(&mut self, alloc: Global, number: i64) -> Result<Option<Command>, Refusal> {
-        let Some((recording, block)) = self.taken(number) else {
-            return Ok(None);
-        };
-        Ok(Some(append(alloc, recording, block)?))
-    }
-
-    /// The recording of a session and the block that it wrote, which is no longer its own.
-    fn taken(&mut self, number: i64) -> Option<(i64, Block)> {
+    /// The command that records what a session wrote, which is no longer its own.
+    fn settled(&mut self, alloc: Global, number: i64) -> Option<Command> {
         let index = usize::try_from(number).ok()?;
         let session = self.sessions.as_mut_slice().get_mut(index)?;
-        let block = session.written.take()?;
-        Some((session.recording, block))
+        let blocks = std::mem::replace(&mut session.written, Items::new(alloc));
+        if blocks.is_empty() {
+            return None;
+        }
+        Some(Command::Append {
+            recording: session.recording,
+            blocks,
+        })
     }
 
-    /// Notes an accepted event.
-    pub fn note(&mut self, alloc: Global, event: Event) -> Result<(), Refusal> {
+    /// Notes an accepted event; a block's end is the position that it was answered by.
+    pub fn note(&mut self, alloc: Global, event: Event, end: i64) -> Result<(), Refusal> {
         match event {
-            Event::Write { session, block } => {
-                self.write(session, block);
-                Ok(())
-            }
+            Event::Write { session, block } => self.write(session, block, end),
             event => match self.command(alloc, event)? {
-                Some(command) => self.accept(&command),
+                Some(command) => self.accept(alloc, &command),
                 None => Ok(()),
             },
         }
     }
 
-    fn write(&mut self, number: i64, block: Block) {
-        let Ok(index) = usize::try_from(number) else {
-            return;
-        };
+    fn write(&mut self, number: i64, block: Block, end: i64) -> Result<(), Refusal> {
+        let index = usize::try_from(number).map_err(|_| Refusal::StaleSession)?;
         if let Some(session) = self.sessions.as_mut_slice().get_mut(index) {
-            session.written = Some(block);
+            session.written.push(block)?;
+            session.end = end;
         }
+        Ok(())
     }
 
-    fn accept(&mut self, command: &Command) -> Result<(), Refusal> {
+    fn accept(&mut self, alloc: Global, command: &Command) -> Result<(), Refusal> {
         let next = self.book.next_recording();
         self.book.apply(command)?;
         match command {
-            Command::Start(_) => self.begin(next),
-            Command::Extend(fields) => self.begin(fields.recording),
+            Command::Start(_) => self.begin(alloc, next),
+            Command::Extend(fields) => self.begin(alloc, fields.recording),
             _ => Ok(()),
         }
     }
 
-    fn begin(&mut self, recording: i64) -> Result<(), Refusal> {
+    fn begin(&mut self, alloc: Global, recording: i64) -> Result<(), Refusal> {
         self.sessions.push(Session {
             recording,
-            written: None,
+            written: Items::new(alloc),
+            end: 0,
         })?;
         Ok(())
     }

@@ -68,6 +68,56 @@ fn settle_before_the_next_segment(rt: HostRuntime) -> Result<(), Fail> {
     played(&rt, rt.alloc(), SEGMENT_END)
 }
 
+const BATCH: &str = "\
+start 0: started 0 0
+write 0 0: written 64
+write 0 64: written 128
+write 0 64: error 13 BadBlock
+replay 0 -1 -1: replay 0
+poll 0 10: more 0
+positions 0: positions 0 0 -1
+settle 0: settled 128
+settle 0: settled 128
+poll 0 10: frame 0 2500000000c001000000000007000000e90300002a000000000000000000000068656c6c6f
+frame 64 2500000000c001004000000007000000e90300002a000000000000000000000068656c6c6f
+more 128
+write 0 128: written 192
+write 0 192: written 256
+stop 0 2000: stopped 128
+settle 0: error 12 StaleSession
+extend 0 128: extended 1
+write 1 128: written 192
+settle 1: settled 192
+verify 0: verified 3
+";
+
+/// Several blocks are recorded by one settle; what is written is not given before, and is lost at a stop.
+#[test]
+fn blocks_settled_together(rt: HostRuntime) -> Result<(), Fail> {
+    played(&rt, rt.alloc(), BATCH)
+}
+
+const BATCH_OVER_A_PURGE: &str = "\
+start 0: started 0 0
+pad 0 0: written 65536
+write 0 65536: error 14 NeedSettle
+settle 0: settled 65536
+write 0 65536: written 65600
+write 0 65600: written 65664
+purge-segments 0 65536: purged 1
+write 0 65664: written 65728
+settle 0: settled 65728
+verify 0: verified 3
+sweep: swept 1
+verify 0: verified 3
+";
+
+/// What is written stays where the segments before it are purged.
+#[test]
+fn blocks_written_before_a_purge(rt: HostRuntime) -> Result<(), Fail> {
+    played(&rt, rt.alloc(), BATCH_OVER_A_PURGE)
+}
+
 const TRUNCATION: &str = "\
 start 0: started 0 0
 write 0 0: written 64

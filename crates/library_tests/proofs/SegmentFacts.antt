@@ -38,3 +38,24 @@ geometry_at_0 = record { initial_term_id = pos 42; term_length = pos 65536; mtu 
 pub geometry_of_the_tests : IsGeometryOf layout_at_0 geometry_at_0
 unfolding is_mtu
 geometry_of_the_tests = record { term = refl; mtu = refl }
+
+-- the longest terms and segments
+abbrev pub layout_long : Layout
+layout_long = record { recording = pos 0; stream_id = pos 1001; start_position = pos 0; term_length = pos 1073741824; segment_length = pos 1073741824 }
+
+pub layout_of_long_terms : IsLayout layout_long
+layout_of_long_terms = record {
+  term = power_is (pos 1073741824) 30 (omega arith) (omega arith) refl;
+  segment = power_is (pos 1073741824) 30 (omega arith) (omega arith) refl;
+  no_less = omega (arith, ints);
+  start = 0;
+  start_is = refl;
+  in_terms = omega arith;
+}
+
+abbrev pub geometry_long : Geometry
+geometry_long = record { initial_term_id = pos 42; term_length = pos 1073741824; mtu = pos 1408 }
+
+pub geometry_of_long_terms : IsGeometryOf layout_long geometry_long
+unfolding is_mtu
+geometry_of_long_terms = record { term = refl; mtu = refl }

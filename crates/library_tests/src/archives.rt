@@ -1,12 +1,13 @@
-//! The plain book of an archive: scenarios of docs/SCENARIOS.md at archive_model's calls.
+//! The plain book of an archive, and the register: scenarios of docs/SCENARIOS.md at the calls of plain_book and archive_model.
 
 use crate::vectors::{HELLO_AT_0, HELLO_AT_64, HELLO_AT_128, HELLO_IN_NEXT_TERM, PAD_AT_TERM_END};
 use archive_model::{
-    Book, Change, Channel, Command, Descriptor, ExtendFields, PolledFrame, Recording, Register,
-    Registration, Reply, StartFields,
+    Change, Channel, Command, Descriptor, ExtendFields, PolledFrame, Register, Registration, Reply,
+    StartFields,
 };
 use frame_core::limits::LAST_NUMBER;
 use frame_core::{Geometry, Items, Refusal, block_of};
+use plain_book::{Book, Recording};
 use std::alloc::Global;
 use std::process::Abort;
 use std::test::Fail;
@@ -254,7 +255,7 @@ fn replayed_again(alloc: Global, book: &Book) -> Result<usize, Refusal> {
 }
 
 /// A refused request for memory is told as NoMemory and changes nothing, and the call may be made again:
-/// bench/refused_test_memory.py runs this test for each of its requests for memory, which it refuses.
+/// trials/refused_memory.py runs this test for each of its requests for memory, which it refuses.
 #[test]
 fn refused_memory_changes_nothing(rt: HostRuntime) -> Result<(), Fail> {
     let mut book = Book::new(rt.alloc(), 2);
@@ -267,7 +268,7 @@ fn refused_memory_changes_nothing(rt: HostRuntime) -> Result<(), Fail> {
     Ok(())
 }
 
-/// A poll copies the frames that it gives and no other: bench/refused_test_memory.py counts its requests for memory,
+/// A poll copies the frames that it gives and no other: trials/refused_memory.py counts its requests for memory,
 /// a list and the bytes of each frame given.
 #[test]
 fn counted_memory_of_a_late_poll(rt: HostRuntime) -> Result<(), Fail> {
@@ -317,5 +318,16 @@ fn a_register_restarts_and_forgets(rt: HostRuntime) -> Result<(), Fail> {
     assert!(rt; register.active_count() == 0 && register.may_begin() && register.may_record());
     register.remove(&0);
     assert!(rt; register.recordings().is_empty() && register.next_recording() == 1);
+    Ok(())
+}
+
+/// A copy has the same recordings, and gives the same next id.
+#[test]
+fn a_register_is_copied(rt: HostRuntime) -> Result<(), Fail> {
+    let register = registered(&rt, rt.alloc(), &Change::Settle { position: 64 })?;
+    let copy = register.copy(rt.alloc())?;
+    let found = copy.recording(&0).ok_or("no recording")?;
+    assert!(rt; found.recorded == 64 && found.descriptor.channel.as_str() == "c");
+    assert!(rt; copy.recordings().len() == 1 && copy.next_recording() == 1);
     Ok(())
 }

@@ -91,7 +91,7 @@ fn slots_and_readers_have_their_limits(rt: HostRuntime) {
     assert!(rt; is_refused(alloc, &[0], 65) && is_refused(alloc, &[0, -1], 1));
 }
 
-/// Where memory is refused once, a board may be made again: bench/refused_test_memory.py runs this test for each of its
+/// Where memory is refused once, a board may be made again: trials/refused_memory.py runs this test for each of its
 /// requests for memory, which it refuses.
 #[test]
 fn refused_memory_makes_no_board(rt: HostRuntime) {

@@ -1,7 +1,6 @@
 //! The disk in memory: docs/STORAGE.md, "Crash model" and "Crashes in memory", by example; and each request for
 //! memory refused.
 
-use disk_core::two_slots::replace_text;
 use disk_core::{Disk, Fault, FileId, ListFault, MemoryDisk};
 use frame_core::Refusal;
 use std::process::Abort;
@@ -115,15 +114,6 @@ fn failing_calls_take_effect_and_stopped_ones_do_not(rt: HostRuntime) -> Result<
     reads(&rt, &mut disk.crash(&[1])?, FILE, None)
 }
 
-#[test]
-fn a_text_is_replaced(rt: HostRuntime) -> Result<(), Fail> {
-    let mut disk = MemoryDisk::new(rt.alloc());
-    disk.write_at(FileId::BankB, 0, &[0, 1, 2, 0, 0])?;
-    disk.sync(FileId::BankB)?;
-    replace_text(&mut disk, FileId::BankB, &[3, 4])?;
-    reads(&rt, &mut disk, FileId::BankB, Some(&[1, 1, 2, 3, 4]))
-}
-
 // What a crash leaves of a file by the bytes 0, 1 and 9.
 type Left<'a> = [Option<&'a [u8]>; 3];
 
@@ -183,7 +173,7 @@ fn leaves(rt: &impl Abort, disk: &mut MemoryDisk, a: Left<'_>, b: Left<'_>) -> R
 }
 
 /// Want of memory in a call is a fault, and nothing has changed then. A second try succeeds here:
-/// bench/refused_test_memory.py runs this test for each of its requests for memory, which it refuses.
+/// trials/refused_memory.py runs this test for each of its requests for memory, which it refuses.
 #[test]
 fn refused_memory_changes_nothing(rt: HostRuntime) -> Result<(), Fail> {
     let mut disk = MemoryDisk::new(rt.alloc());

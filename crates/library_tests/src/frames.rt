@@ -271,7 +271,7 @@ fn item_count(alloc: Global) -> Result<usize, AllocError> {
     Ok(items.len())
 }
 
-/// A refused request for memory is told as NoMemory, and the call may be made again: bench/refused_test_memory.py runs
+/// A refused request for memory is told as NoMemory, and the call may be made again: trials/refused_memory.py runs
 /// this test for each of its requests for memory, which it refuses.
 #[test]
 fn refused_memory_of_frames(rt: HostRuntime) -> Result<(), Fail> {

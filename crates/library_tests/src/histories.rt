@@ -174,7 +174,7 @@ fn call_again(
     Ok(())
 }
 
-/// Where memory is refused once, nothing has changed, and the call may be made again: bench/refused_test_memory.py runs
+/// Where memory is refused once, nothing has changed, and the call may be made again: trials/refused_memory.py runs
 /// this test for each of its requests for memory, which it refuses.
 #[test]
 fn refused_memory_changes_nothing(rt: HostRuntime) -> Result<(), Fail> {

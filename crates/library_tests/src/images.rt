@@ -108,7 +108,7 @@ fn frames_taken(rt: &impl Abort, image: &mut Image) -> Result<usize, Fail> {
     Ok(block.frames.len())
 }
 
-/// Where memory is refused once, nothing has changed, and the call may be made again: bench/refused_test_memory.py runs
+/// Where memory is refused once, nothing has changed, and the call may be made again: trials/refused_memory.py runs
 /// this test for each of its requests for memory, which it refuses.
 #[test]
 fn refused_memory_changes_nothing(rt: HostRuntime) -> Result<(), Fail> {

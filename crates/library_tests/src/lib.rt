@@ -29,4 +29,6 @@ mod replays;
 #[cfg(test)]
 mod segments;
 #[cfg(test)]
+mod sparse;
+#[cfg(test)]
 mod vectors;

@@ -52,7 +52,7 @@ fn empty_frame(alloc: Global) -> Frame {
     }
 }
 
-/// Where memory is refused once, nothing has changed, and the frame may be offered again: bench/refused_test_memory.py
+/// Where memory is refused once, nothing has changed, and the frame may be offered again: trials/refused_memory.py
 /// runs this test for each of its requests for memory, which it refuses.
 #[test]
 fn refused_memory_changes_nothing(rt: HostRuntime) -> Result<(), Fail> {

@@ -75,7 +75,7 @@ fn a_stopped_session_takes_no_image(rt: HostRuntime) -> Result<(), Fail> {
     Ok(())
 }
 
-/// Where memory is refused once, pairs may be made again: bench/refused_test_memory.py runs this test for each of its
+/// Where memory is refused once, pairs may be made again: trials/refused_memory.py runs this test for each of its
 /// requests for memory, which it refuses.
 #[test]
 fn refused_memory_makes_no_pairs(rt: HostRuntime) {

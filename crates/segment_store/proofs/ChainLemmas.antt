@@ -137,6 +137,6 @@ quiet_on old mid new first second = record {
 }
 
 -- what is known of a refusal that is handed on
-pub handed_on : (r : Result Bool Refusal) (refusal : Refusal) (P : Refusal → Type 0) → IsErrAnd r (λ e. e ≡ refusal) → P refusal → IfErr r P
+pub handed_on : {X : Type 0} → (r : Result X Refusal) (refusal : Refusal) (P : Refusal → Type 0) → IsErrAnd r (λ e. e ≡ refusal) → P refusal → IfErr r P
 handed_on (Ok b) refusal P is holds = tt
 handed_on (Err e) refusal P is holds = subst P (sym is) holds

@@ -5,5 +5,6 @@ pub mod MomentLemmas
 pub mod ReadLemmas
 pub mod DurableLemmas
 pub mod SweepLemmas
+pub mod ShownLemmas
 pub mod WindowLemmas
 pub mod ChainLemmas

@@ -1,11 +1,12 @@
 -- Which frame the bytes of a segment file show.
-use Rattle.std.proofs.Common.{◌≡◌, ◌∙◌, sym, ap, subst, refl, ℕ, ℤ, pos, negsuc, ◌≤ℤ◌, ◌+◌, ◌-◌, ◌<◌, ◌≤◌, ◌&&◌, Bool, true, false, Option, List, [], ◌++◌, length, take, drop, get_or, length-append, length-take, length-drop, arith}
+use Rattle.std.proofs.Common.{◌≡◌, ◌∙◌, sym, ap, subst, refl, ℕ, ℤ, pos, negsuc, ◌≤ℤ◌, ◌+◌, ◌-◌, ◌<◌, ◌≤◌, ◌&&◌, Bool, true, false, List, ◌++◌, length, take, drop, get_or, length-append, length-take, length-drop, arith, append-nil, min, Some}
 use Rattle.std.proofs.lemmas.Int.{ints}
-use Rattle.std.proofs.lemmas.List.{get_or_append_left, get_or-take, get_or-drop, ext_get_or, take-append-drop, take-take}
-use Rattle.std.specs.Prelude.{int_le, unsigned_abs, unwrap_or}
-use Rattle.disk_core.specs.declared.file_id.FileId.{FileId}
+use Rattle.std.proofs.lemmas.List.{get_or_append_left, get_or-take, get_or-drop, ext_get_or, take-append-drop, take-take, drop-drop, drop-take, take_min, length-take-le}
+use Rattle.std.proofs.Math.Seq.{drop-length, take-append_seam}
+use Rattle.std.specs.Prelude.{int_le, unsigned_abs}
 use Rattle.frame_core.specs.Limits.{is_mtu}
 use Rattle.disk_core.specs.DiskImage.{DiskImage, bytes_of}
+use Rattle.disk_core.specs.Calls.{IsRead}
 use Rattle.disk_core.specs.Standing.{Holds}
 use Rattle.frame_core.specs.declared.frame.Frame.{Frame}
 use Rattle.frame_core.specs.declared.frame.FrameKind.{FrameKind}
@@ -13,13 +14,11 @@ use Rattle.frame_core.specs.declared.frame.FrameKind.TheVariants.{Pad, Message, 
 use Rattle.frame_core.specs.declared.geometry.Geometry.{Geometry}
 use Rattle.frame_core.specs.FrameEncoding.{IsEncodable, HasLength, aligned_length, encoded}
 use Rattle.frame_core.specs.Front.{IsFront, used_by}
-use Rattle.frame_core.specs.Header.{StartsWithHeader, without_payload}
-use Rattle.frame_core.proofs.HeaderLemmas.{encoding_starts, one_header}
 use Rattle.frame_core.proofs.FrontLemmas.{length-encoded, encoding_in_front}
 use Rattle.segment_store.specs.declared.layout.Layout.{Layout}
 use Rattle.segment_store.specs.Layout.{file_of, offset_of}
 use Rattle.segment_store.specs.DamagedFrame.{ShowsFrame, belongs_at, is_stored}
-use Rattle.segment_store.specs.Reading.{NeedsAtMost}
+use Rattle.segment_store.specs.Reading.{AreReadAt, TellsPayload}
 
 -- bytes in front of what was read at an offset stand there
 pub front_holds : (file bytes first rest : List ℕ) (at size : ℕ) → bytes ≡ take size (drop at file) → bytes ≡ first ++ rest → Holds file at first
@@ -77,27 +76,9 @@ covers_by Heartbeat f is long = absurd (cc)
 pub belongs_covers : (l : Layout) (g : Geometry) (p : ℕ) (limit : ℤ) (f : Frame) → IsEncodable f → belongs_at l g p limit f ≡ true → 0 < aligned_length f
 belongs_covers l g p limit f encodable belongs = covers_by f.kind f (belongs_stored l g p limit f belongs) encodable.length
 
-by_kind : (kind : FrameKind) (f : Frame) → HasLength kind f.length f.payload → is_stored kind ≡ true → length (encoded f) ≤ unsigned_abs f.length
-by_kind Pad f long is = omega (arith, ints, long.0, length-encoded f, ap length long.1)
-by_kind Message f long is = omega (arith, length-encoded f, ap unsigned_abs long)
-by_kind Heartbeat f long is = absurd (cc)
-
--- its encoding is no longer than its length says
-pub encoded_within : (l : Layout) (g : Geometry) (p : ℕ) (limit : ℤ) (f : Frame) → IsEncodable f → belongs_at l g p limit f ≡ true → length (encoded f) ≤ unsigned_abs f.length
-encoded_within l g p limit f encodable belongs = by_kind f.kind f encodable.length (belongs_stored l g p limit f belongs)
-
 module _ (image : DiskImage) (l : Layout) (g : Geometry) (limit : ℤ) (p : ℕ) where
   abbrev file : List ℕ
   file = bytes_of (image (file_of l p))
-
-  -- a frame in front of what was read, which belongs there, is shown
-  pub front_shown : (bytes : List ℕ) (f : Frame) (size used : ℕ) → bytes ≡ take size (drop (offset_of l p) file) → IsFront bytes f used → belongs_at l g p limit f ≡ true
-      → ShowsFrame image l g limit p f
-  front_shown bytes f size used are front belongs = record {
-    encodable = front.encodable;
-    stands = front_holds file bytes (encoded f) front.rest (offset_of l p) size are front.stands;
-    belongs = belongs;
-  }
 
   -- a frame that is shown is in front of what was read, where so much was read
   pub shown_front : (bytes : List ℕ) (f : Frame) (size : ℕ) → bytes ≡ take size (drop (offset_of l p) file) → ShowsFrame image l g limit p f → length (encoded f) ≤ size
@@ -127,51 +108,51 @@ module _ (image : DiskImage) (l : Layout) (g : Geometry) (limit : ℤ) (p : ℕ)
       same_first : (bytes : List ℕ) (m n : ℕ) → 32 ≤ m → m ≤ n → take 32 (take m bytes) ≡ take 32 (take n bytes)
       same_first bytes m n low high = take-take 32 m bytes low ∙ sym (take-take 32 n bytes (omega (arith, low, high)))
 
-  -- a frame that is shown needs no more bytes
-  pub shown_needs : (bytes : List ℕ) (f : Frame) (size : ℕ) (longer : Option ℕ) → bytes ≡ take size (drop (offset_of l p) file) → 32 ≤ size → NeedsAtMost l g p limit bytes longer
-      → ShowsFrame image l g limit p f → length (encoded f) ≤ unwrap_or longer (unsigned_abs g.mtu)
-  shown_needs bytes f size longer are room needs shown =
-      let begins = shown_begins f size room shown in
-      needs f begins.1.0 shown.encodable (subst (λ (bs : List ℕ). 32 ≤ length bs) (sym are) begins.0) (ap (take 32) are ∙ begins.1.1) shown.belongs
-
-positive : (kind : FrameKind) (f : Frame) → HasLength kind f.length f.payload → pos 0 ≤ℤ f.length
-positive Pad f long = omega (arith, ints, long.0)
-positive Message f long = omega (arith, ints, long)
-positive Heartbeat f long = omega (arith, ints, long.0)
-
-below : (n : ℕ) (z w : ℤ) → n ≤ unsigned_abs z → pos 0 ≤ℤ z → z ≤ℤ w → n ≤ unsigned_abs w
-below n (pos a) (pos b) small low high = omega (arith, ints, high)
-below n (pos a) (negsuc b) small low high = absurd (omega (arith, ints, high))
-below n (negsuc a) w small low high = absurd (omega (arith, ints, low))
-
-module _ (l : Layout) (g : Geometry) (p : ℕ) (limit : ℤ) (bytes : List ℕ) (header frame : Frame) (rest : List ℕ) (starts : StartsWithHeader bytes header)
-    (encodable : IsEncodable frame) (room : 32 ≤ length bytes) (same : take 32 bytes ≡ take 32 (encoded frame ++ rest)) (belongs : belongs_at l g p limit frame ≡ true) where
-  -- the header in front of a frame is the frame's
-  pub header_is : header ≡ without_payload frame
-  header_is = one_header bytes header (without_payload frame) starts (encoding_starts bytes rest frame encodable room same)
-
-  -- a frame is as long as the header in front of it says
-  pub as_long : length (encoded frame) ≤ unsigned_abs header.length
-  as_long = subst (λ (size : ℤ). length (encoded frame) ≤ unsigned_abs size) (sym (ap (λ (f : Frame). f.length) header_is)) (encoded_within l g p limit frame encodable belongs)
-
-  -- and no longer than the MTU where that says so
-  pub no_longer : header.length ≤ℤ g.mtu → length (encoded frame) ≤ unsigned_abs g.mtu
-  no_longer short =
-      below (length (encoded frame)) header.length g.mtu as_long
-      (subst (λ (size : ℤ). pos 0 ≤ℤ size) (sym (ap (λ (f : Frame). f.length) header_is)) (positive frame.kind frame encodable.length)) short
-
-  -- its header belongs there as the frame does
-  pub header_belongs : belongs_at l g p limit header ≡ true
-  header_belongs = ap (belongs_at l g p limit) header_is ∙ belongs_header l g p limit frame [] ∙ belongs
-
--- what was read at a spot is what stands at the position
-pub at_spot : (image : DiskImage) (l : Layout) (p : ℕ) (bytes : List ℕ) (file : FileId) (offset size : ℕ) → file ≡ file_of l p → offset ≡ offset_of l p
-    → bytes ≡ take size (drop offset (bytes_of (image file))) → bytes ≡ take size (drop (offset_of l p) (bytes_of (image (file_of l p))))
-at_spot image l p bytes file offset size file_is offset_is are =
-    are ∙ ap (λ (o : ℕ). take size (drop o (bytes_of (image file)))) offset_is ∙ ap (λ (f : FileId). take size (drop (offset_of l p) (bytes_of (image f)))) file_is
-
 -- an MTU has room for a header
 pub mtu_room : (mtu : ℤ) → is_mtu mtu ≡ true → 32 ≤ unsigned_abs mtu
 unfolding is_mtu
 mtu_room (pos n) is = grind (arith, is)
 mtu_room (negsuc n) is = absurd (cc)
+
+-- and is no longer than this
+pub mtu_short : (mtu : ℤ) → is_mtu mtu ≡ true → unsigned_abs mtu ≤ 65504
+unfolding is_mtu
+mtu_short (pos n) is = grind (arith, is)
+mtu_short (negsuc n) is = absurd (cc)
+
+-- what a call of the disk read into a buffer
+pub read_is : (file old new : List ℕ) (offset count : ℕ) → IsRead file offset old new count → take count new ≡ take (length old) (drop offset file)
+read_is file old new offset count read =
+    let xs : List ℕ = drop offset file in
+    let size : count ≡ min (length old) (length xs) = read.count_is ∙ ap (min (length old)) (sym (length-drop offset file)) in
+    let long : length (take count xs) ≡ count = length-take-le count xs (omega (arith, size)) in
+    ap (take count) read.buffer ∙ ap (λ (n : ℕ). take n (take count xs ++ drop count old)) (sym long) ∙ take-append_seam (take count xs) (drop count old)
+    ∙ ap (λ (n : ℕ). take n xs) size ∙ take_min (length old) xs
+
+-- the payload of a frame that was read whole
+pub payload_in : (file front payload : List ℕ) (offset size : ℕ) → AreReadAt file offset front → 32 ≤ size → size ≤ length front → payload ≡ take (size - 32) (drop 32 front)
+    → TellsPayload file offset size (Some payload)
+payload_in file front payload offset size read low whole is =
+    let xs : List ℕ = drop offset file in
+    let long : length front ≡ min read.asked (length file - offset) = ap length read.are ∙ length-take read.asked xs ∙ ap (min read.asked) (length-drop offset file) in
+    let parts : 32 + (read.asked - 32) ≡ read.asked = omega (arith, low, whole, long) in
+    let behind : drop 32 front ≡ take (read.asked - 32) (drop 32 xs) =
+    ap (drop 32) read.are ∙ ap (λ (n : ℕ). drop 32 (take n xs)) (sym parts) ∙ drop-take 32 (read.asked - 32) xs in (
+      omega (arith, low, whole, long),
+      is ∙ ap (take (size - 32)) behind ∙ take-take (size - 32) (read.asked - 32) (drop 32 xs) (omega (arith, whole, long)),
+    )
+
+-- and of one whose payload was read by a call of its own
+pub payload_read : (file old new : List ℕ) (offset size count : ℕ) → length old ≡ size - 32 → 32 < size → IsRead file (offset + 32) old new count → length old ≤ count → offset + size ≤ length file
+    → TellsPayload file offset size (Some new)
+payload_read file old new offset size count long some read all whole =
+    let xs : List ℕ = drop (offset + 32) file in
+    let full : count ≡ length old = omega (arith, read.count_is, all) in (
+      whole,
+      read.buffer ∙ ap (λ (n : ℕ). take n xs ++ drop n old) full ∙ ap (λ (ys : List ℕ). take (length old) xs ++ ys) (drop-length old) ∙ append-nil (take (length old) xs)
+          ∙ ap (λ (n : ℕ). take n xs) long ∙ ap (take (size - 32)) (sym (drop-drop 32 offset file)),
+    )
+
+-- a header's bytes are read where the buffer has room for them
+pub short_file : (file old new : List ℕ) (offset size count : ℕ) → length old ≡ size - 32 → 32 < size → IsRead file (offset + 32) old new count → count < length old → length file < offset + size
+short_file file old new offset size count long some read few = omega (arith, long, some, read.count_is, few)

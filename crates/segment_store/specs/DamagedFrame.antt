@@ -1,5 +1,5 @@
 -- Which frame a segment file shows at a position: docs/STORAGE.md, "Damaged frames".
-use Rattle.std.specs.Prelude.{◌≡◌, ◌+◌, ◌+ℤ◌, ◌&&◌, ◌==◌, ℕ, ℤ, pos, Bool, true, false, IsTrue, Option, Some, None, int_le, unsigned_abs}
+use Rattle.std.specs.Prelude.{◌≡◌, ◌<◌, ◌+◌, ◌+ℤ◌, ◌&&◌, ◌==◌, ℕ, ℤ, pos, Bool, true, false, IsTrue, Option, Some, None, length, int_le, unsigned_abs}
 use Rattle.std.specs.Ordering.{int_eq}
 use Rattle.disk_core.specs.DiskImage.{DiskImage, bytes_of}
 use Rattle.disk_core.specs.Standing.{Holds}
@@ -42,10 +42,15 @@ pub record ShowsFrame (image : DiskImage) (l : Layout) (g : Geometry) (limit : �
 abbrev pub IsDamaged : DiskImage → Layout → Geometry → ℤ → ℕ → Type 0
 IsDamaged image l g limit position = (f : Frame) → ShowsFrame image l g limit position f → ⊥
 
--- why no frame is read at a position: the damage is promised where the disk obeys the crash model
+-- a frame is shown there that carries something
+abbrev pub ShowsPayload : DiskImage → Layout → Geometry → ℤ → ℕ → Type 0
+ShowsPayload image l g limit position = (f : Frame) × ShowsFrame image l g limit position f × (0 < length f.payload)
+
+-- why no frame is read at a position. Memory is wanted only for the payload of a frame that is shown there; this, and the
+-- damage, are promised where the disk obeys the crash model
 abbrev pub RefusesFrame : Bool → DiskImage → Layout → Geometry → ℤ → ℤ → Refusal → Type 0
 RefusesFrame obeys image l g limit position DeviceFault = Unit {0}
-RefusesFrame obeys image l g limit position NoMemory = Unit {0}
+RefusesFrame obeys image l g limit position NoMemory = IsTrue obeys → ShowsPayload image l g limit (unsigned_abs position)
 RefusesFrame obeys image l g limit position (Damaged recording at) =
     (recording ≡ l.recording) × (at ≡ position) × (IsTrue obeys → IsDamaged image l g limit (unsigned_abs position))
 RefusesFrame obeys image l g limit position _ = ⊥

@@ -1,9 +1,7 @@
 -- A part of a segment file, and the frames that it shows.
-use Rattle.std.specs.Prelude.{◌≡◌, ◌+◌, ◌-◌, ◌≤◌, ℕ, ℤ, pos, min, IsTrue, Bool, length, take, drop, unsigned_abs}
+use Rattle.std.specs.Prelude.{◌≡◌, ◌+◌, ◌-◌, ◌≤◌, ℕ, ℤ, pos, min, IsTrue, Bool, length, take, drop}
 use Rattle.disk_core.specs.DiskImage.{DiskImage, bytes_of}
 use Rattle.frame_core.specs.declared.frame.Frame.{Frame}
-use Rattle.frame_core.specs.declared.frame.FrameKind.{FrameKind}
-use Rattle.frame_core.specs.declared.frame.FrameKind.TheVariants.{Pad, Message, Heartbeat}
 use Rattle.frame_core.specs.declared.geometry.Geometry.{Geometry}
 use Rattle.frame_core.specs.declared.refusal.Refusal.{Refusal}
 use Rattle.frame_core.specs.declared.refusal.Refusal.TheVariants.{Damaged, DeviceFault}
@@ -42,12 +40,3 @@ RefusesEnd obeys image l g limit position DeviceFault = Unit {0}
 RefusesEnd obeys image l g limit position (Damaged recording at) =
     (recording ≡ l.recording) × (at ≡ pos position) × (IsTrue obeys → IsDamaged image l g limit position)
 RefusesEnd obeys image l g limit position _ = ⊥
-
-abbrev pub size_of : FrameKind → Frame → ℕ
-size_of Pad header = 32
-size_of Message header = unsigned_abs header.length
-size_of Heartbeat header = 32
-
--- how many bytes the encoding of a frame with this header has
-abbrev pub encoded_size : Frame → ℕ
-encoded_size header = size_of header.kind header

@@ -1,120 +1,155 @@
--- Calls of an archive of whose disk no call has failed: none leaves a state in doubt.
-use Rattle.std.proofs.Common.{◌≡◌, ◌∙◌, sym, ap, refl, inl, inr, subst, ℤ, IsTrue}
-use Rattle.std.specs.Prelude.{Option, Some, None, Result, Ok, Err}
+-- Calls of a script's archive, and the bytes of blocks, from how it stands on.
+use Rattle.std.proofs.Common.{◌≡◌, ◌∙◌, sym, ap, refl, inl, inr, subst, ℤ, ℕ, List, IsTrue}
+use Rattle.std.specs.Prelude.{Result, Ok, Err}
+use Rattle.frame_core.specs.declared.block.Block.{Block}
+use Rattle.frame_core.specs.declared.geometry.Geometry.{Geometry}
 use Rattle.frame_core.specs.declared.refusal.Refusal.{Refusal}
-use Rattle.frame_core.specs.declared.refusal.Refusal.TheVariants.{DeviceFault, NoMemory}
+use Rattle.frame_core.specs.declared.refusal.Refusal.TheVariants.{Broken, NoMemory}
 use Rattle.disk_core.specs.Life.{HasFailed, Life}
+use Rattle.disk_core.proofs.CallerLemmas.{weaker}
 use Rattle.archive_model.specs.declared.reply.Reply.{Reply}
-use Rattle.archive_model.specs.Checks.{checked, checks}
-use Rattle.archive_model.specs.State.{Recording}
-use Rattle.control_core.specs.declared.callers.OpenReplay.{OpenReplay}
-use Rattle.control_core.specs.declared.decision.Decision.{Decision}
-use Rattle.control_core.specs.declared.decision.Decision.TheVariants.{Accepted, Answered, IfBoundary, Refused}
 use Rattle.control_core.specs.declared.event.Event.{Event}
 use Rattle.control_core.specs.declared.event.Event.TheVariants as events
-use Rattle.control_core.specs.declared.turns.Opening.{Opening}
-use Rattle.control_core.specs.declared.turns.Settling.{Settling}
-use Rattle.control_core.specs.declared.turns.Settling.TheVariants as settling
-use Rattle.control_core.specs.Decisions.{decision_of}
+use Rattle.control_core.specs.Bytes.{IsReadBy, terms_in}
 use Rattle.control_core.specs.Desk.{DeskState}
-use Rattle.control_core.specs.Exact.{Archive, ArchiveEnds, DecisionEnds, Leaves, OpeningEnds, PolledEnds, PollingEnds, SettlingEnds, SweepEnds, asked_frames, asked_opening, recording_at, with_desk, written}
-use Rattle.control_core.specs.Turns.{close_decision, open_decision, poll_decision, settle_decision, sweep_tests}
-use Rattle.control_core.proofs.FaultLemmas.{other_cause}
+use Rattle.control_core.specs.Exact.{Archive, with_desk}
+use Rattle.control_lines.specs.declared.line.Line.{Line}
 use Rattle.engine_core.specs.Calls.{AnswersEvent, Ended, EndsAs, is_cut}
-use Rattle.engine_core.specs.Consistent.{IsCrashConsistent}
+use Rattle.engine_core.specs.Consistent.{IsCrashConsistent, MayStandIn}
 use Rattle.engine_core.specs.Engine.{EngineState, archive_of, content_of}
+use Rattle.engine_core.specs.Recovery.{RecoversTo}
 use Rattle.engine_core.specs.Seen.{seen}
-use Rattle.tool_core.specs.Script.{Works}
 use Rattle.engine_core.specs.declared.engine.Engine.{Engine}
 use Rattle.tool_core.specs.declared.archive.ScriptArchive.{ScriptArchive}
-use Rattle.tool_core.specs.declared.archive.ScriptArchive.TheVariants.{Open}
-use Rattle.tool_core.specs.ScriptLines.{Calls, Standing, WhereOpen, opened, closed, refused}
-use Rattle.tool_core.specs.Tie.{IsStanding, life_of}
-use Rattle.tool_core.proofs.WorksLemmas.{not_failed}
+use Rattle.tool_core.specs.declared.archive.ScriptArchive.TheVariants.{Open, Closed}
+use Rattle.tool_core.specs.Answering.{IsRead, WritesRead}
+use Rattle.tool_core.specs.Answering as answering
+use Rattle.tool_core.specs.Archives.{TermsAre, archive_ways, life_of}
+use Rattle.tool_core.specs.Archives as archives
+use Rattle.tool_core.specs.Merging.{Ends}
+use Rattle.tool_core.specs.ScriptLines.{Calls, LeavesMeanwhile, OrWant, Standing, WhereOpen, WritesBytes, closed, doubtful, opened, refused, unknown}
+use Rattle.tool_core.proofs.StandingLemmas.{IsStanding, recovers_as, standing_left, still}
 
--- ---- doubt
-
-decided_doubt : (a : Archive) (d : Decision) (outcome : Result Reply Refusal) (b : Archive) → DecisionEnds a d outcome b → b.doubt ≡ a.doubt
-decided_doubt a (Refused refusal) outcome b ends = ap (λ (x : Archive). x.doubt) ends.1
-decided_doubt a (Answered reply) outcome b ends = ap (λ (x : Archive). x.doubt) ends.1
-decided_doubt a (Accepted command) outcome b ends = ap (λ (x : Archive). x.doubt) ends.1
-decided_doubt a (IfBoundary id position decided) outcome b ends = absurd ends
-
-left_doubt : (a x : Archive) (result outcome : Result Reply Refusal) (b : Archive) → x.doubt ≡ a.doubt → Leaves a x result outcome b → b.doubt ≡ a.doubt
-left_doubt a x (Ok reply) outcome b same ends = ap (λ (y : Archive). y.doubt) ends.1 ∙ same
-left_doubt a x (Err refusal) outcome b same ends = ap (λ (y : Archive). y.doubt) ends.1
-
-settled_doubt : (a : Archive) (session : ℤ) (decided : Result Settling Refusal) (outcome : Result Reply Refusal) (b : Archive) → SettlingEnds a session decided outcome b → b.doubt ≡ a.doubt
-settled_doubt a session (Err refusal) outcome b ends = ap (λ (x : Archive). x.doubt) ends.1
-settled_doubt a session (Ok (settling.Nothing position)) outcome b ends = ap (λ (x : Archive). x.doubt) ends.1
-settled_doubt a session (Ok (settling.Blocks id w)) outcome b ends = ap (λ (x : Archive). x.doubt) ends.1
-
-opened_doubt : (a : Archive) (decided : Result Opening Refusal) (outcome : Result Reply Refusal) (b : Archive) → OpeningEnds a decided outcome b → b.doubt ≡ a.doubt
-opened_doubt a (Err refusal) outcome b ends = ap (λ (x : Archive). x.doubt) ends.1
-opened_doubt a (Ok o) outcome b ends = ap (λ (x : Archive). x.doubt) ends.1
-
-read_doubt : (a : Archive) (replay : OpenReplay) (most : ℤ) (found : Option Recording) (outcome : Result Reply Refusal) (b : Archive) → PolledEnds a replay most found outcome b → b.doubt ≡ a.doubt
-read_doubt a replay most None outcome b ends = absurd ends
-read_doubt a replay most (Some r) outcome b ends = ap (λ (x : Archive). x.doubt) ends.1
-
-polled_doubt : (a : Archive) (most : ℤ) (decided : Result OpenReplay Refusal) (outcome : Result Reply Refusal) (b : Archive) → PollingEnds a most decided outcome b → b.doubt ≡ a.doubt
-polled_doubt a most (Err refusal) outcome b ends = ap (λ (x : Archive). x.doubt) ends.1
-polled_doubt a most (Ok replay) outcome b ends = read_doubt a replay most (recording_at a replay.recording) outcome b ends
-
-swept_doubt : (a : Archive) (decided : Result (Unit {0}) Refusal) (outcome : Result Reply Refusal) (b : Archive) → SweepEnds a decided outcome b → b.doubt ≡ a.doubt
-swept_doubt a (Err refusal) outcome b ends = ap (λ (x : Archive). x.doubt) ends.1
-swept_doubt a (Ok done) outcome b ends = ap (λ (x : Archive). x.doubt) ends.1.1
-
-ends_doubt : (a : Archive) (event : Event) (outcome : Result Reply Refusal) (b : Archive) → ArchiveEnds a event outcome b → b.doubt ≡ a.doubt
-ends_doubt a (events.Ask request) outcome b ends = decided_doubt a (asked_frames a (decision_of a.desk request)) outcome b ends
-ends_doubt a (events.Write session block) outcome b ends = left_doubt a (written a session block) _ outcome b refl ends.2
-ends_doubt a (events.Settle session) outcome b ends = settled_doubt a session (settle_decision a.desk session) outcome b ends
-ends_doubt a (events.ReplayOpen id position size) outcome b ends = opened_doubt a (asked_opening a id (open_decision a.desk id position size)) outcome b ends
-ends_doubt a (events.ReplayPoll number most) outcome b ends = polled_doubt a most (poll_decision a.desk number most) outcome b ends
-ends_doubt a (events.ReplayClose number) outcome b ends = left_doubt a (with_desk _ a) (close_decision a.desk number) outcome b refl ends
-ends_doubt a events.Sweep outcome b ends = swept_doubt a (checked (sweep_tests a.desk) checks (Ok tt)) outcome b ends
-ends_doubt a (events.Verify id) outcome b ends = left_doubt a a _ outcome b refl ends
-
-calls_doubt : (a : Archive) (event : Event) (outcome : Result Reply Refusal) (b : Archive) → Calls event a outcome b → b.doubt ≡ a.doubt
-calls_doubt a event (Ok reply) b ends = ends_doubt a event (Ok reply) b ends
-calls_doubt a event (Err NoMemory) b ends = elim ends [ inl exact ↦ ends_doubt a event (Err NoMemory) b exact | inr same ↦ ap (λ (x : Archive). x.doubt) same ]
-calls_doubt a event (Err DeviceFault) b ends = elim ends [ inl exact ↦ ends_doubt a event (Err DeviceFault) b exact | inr out ↦ absurd out.0 ]
-calls_doubt a event (Err refusal) b ends = elim ends [ inl exact ↦ ends_doubt a event (Err refusal) b exact | inr out ↦ absurd out ]
-
--- ---- faults
+-- ---- an event of an engine
 
 -- an engine that keeps an archive answers an event of it
 pub answered_at : (old new : EngineState) (a : Archive) (event : Event) (outcome : Result Reply Refusal) → old.desk ≡ a.desk → IsCrashConsistent old.life old.log a → AnswersEvent old new event outcome → (IsTrue (is_cut event) → IsTrue new.life.obeys)
     → Ended old new a (EndsAs old.life new.life event a outcome)
 answered_at old new a event outcome desk was answers cut =
     let same : archive_of old (content_of a) ≡ a = ap (λ (d : DeskState). with_desk d a) desk in
-    subst (λ (b : Archive). Ended old new b (EndsAs old.life new.life event b outcome)) same (answers.ended (content_of a) (subst (λ (b : Archive). IsCrashConsistent old.life old.log b) (sym same) was) cut)
+    subst (λ (b : Archive). Ended old new b (EndsAs old.life new.life event b outcome)) same
+    (answers.ended (content_of a) (subst (λ (b : Archive). IsCrashConsistent old.life old.log b) (sym same) was) cut)
 
--- an archive of which none is in doubt, as an event leaves it
-pub record Stepped (new : EngineState) (a : Archive) (event : Event) (outcome : Result Reply Refusal) : Type 0 where
-  pub after : Archive
-  pub desk : new.desk ≡ after.desk
-  pub consistent : IsCrashConsistent new.life new.log after
-  pub certain : after.doubt ≡ None
-  pub ends : Calls event a outcome after
+module _ {D : Type 0} (life : D → Life) where
+  -- how an archive stands behind a line, how that ends, and what a crash leaves meanwhile
+  pub record Kept (line : Line) (old new : ScriptArchive D) (s : Standing) (LineEnd : Ends Standing) (outcome : Result Reply Refusal) : Type 0 where
+    pub after : Standing
+    pub stands : IsStanding life new after
+    pub ends : LineEnd outcome after
+    pub meanwhile : LeavesMeanwhile line (life_of life old) (life_of life new) s after
 
-pub stepped : (old new : EngineState) (a : Archive) (event : Event) (outcome : Result Reply Refusal) → Works old.life new.life → a.doubt ≡ None → Ended old new a (EndsAs old.life new.life event a outcome) → Stepped new a event outcome
-stepped old new a event outcome works certain ended =
-    let b : Archive = archive_of new ended.after in
-    let ends : Calls event a outcome b = other_cause a event (HasFailed old.life new.life) ⊥ outcome b (not_failed old.life new.life works) (ended.ends.0 (λ reads. works.obeys)) in
-    record { after = b; desk = refl; consistent = ended.consistent; certain = calls_doubt a event outcome b ends ∙ certain; ends = ends }
+  -- the archive has not changed
+  pub kept_same : (line : Line) (old new : ScriptArchive D) (s : Standing) (LineEnd : Ends Standing) (outcome : Result Reply Refusal) → new ≡ old → IsStanding life old s → LineEnd outcome s → Kept line old new s LineEnd outcome
+  kept_same line old new s LineEnd outcome same stands ends =
+      subst (λ (x : ScriptArchive D). Kept line old x s LineEnd outcome) (sym same)
+      (record { after = s; stands = stands; ends = ends; meanwhile = still line (life_of life old) s (standing_left life old s stands) })
 
--- ---- a script's archive
+  -- the same for another end
+  pub kept_as : (line : Line) (old new : ScriptArchive D) (s : Standing) (P Q : Ends Standing) (outcome : Result Reply Refusal) → ((t : Standing) → P outcome t → Q outcome t) → Kept line old new s P outcome → Kept line old new s Q outcome
+  kept_as line old new s P Q outcome follows k = record { after = k.after; stands = k.stands; ends = follows k.after k.ends; meanwhile = k.meanwhile }
 
--- an open archive is called, whatever it is named
-pub called : {D : Type 0} (life : D → Life) (archive : ScriptArchive D) (old new : Engine D) (event : Event) (outcome : Result Reply Refusal) (s : Standing) → archive ≡ Open old → AnswersEvent (seen life old) (seen life new) event outcome
-    → IsStanding life archive s → Works (life_of life archive) (life new.storage.disk) → (t : Standing) × IsStanding life (Open new) t × WhereOpen (Calls event) s outcome t
-called life archive old new event outcome s is answers stands works =
-    by s (subst (λ (x : ScriptArchive _). IsStanding life x s) is stands) (subst (λ (x : ScriptArchive _). Works (life_of life x) (life new.storage.disk)) is works)
-  where
-    by : (s : Standing) → IsStanding life (Open old) s → Works (life old.storage.disk) (life new.storage.disk) → (t : Standing) × IsStanding life (Open new) t × WhereOpen (Calls event) s outcome t
-    by (closed a) stands works = absurd stands
-    by (refused image why) stands works = absurd stands
-    by (opened a) stands works =
-        let done = stepped (seen life old) (seen life new) a event outcome works stands.1 (answered_at (seen life old) (seen life new) a event outcome stands.0.desk stands.0.consistent answers (λ cut. works.obeys)) in
-        (opened done.after, (record { desk = done.desk; consistent = done.consistent }, done.certain), done.ends)
+  open_event : (line : Line) (event : Event) (old new : Engine D) (a : Archive) (outcome : Result Reply Refusal) → IsStanding life (Open old) (opened a) → IsTrue (life new.storage.disk).obeys → AnswersEvent (seen life old) (seen life new) event outcome
+      → Kept line (Open old) (Open new) (opened a) (WhereOpen (Calls (HasFailed (life old.storage.disk) (life new.storage.disk)) event) (opened a)) outcome
+  open_event line event old new a outcome stands obeys answers =
+      let ended = answered_at (seen life old) (seen life new) a event outcome stands.desk stands.consistent answers (λ cut. obeys) in
+      let b : Archive = archive_of (seen life new) ended.after in
+      record {
+        after = opened b;
+        stands = record { desk = refl; consistent = ended.consistent };
+        ends = ended.ends.0 (λ reads. obeys);
+        meanwhile = weaker (life old.storage.disk) (life new.storage.disk) _ (RecoversTo (MayStandIn a b)) ended.any_moment
+            (λ image. recovers_as (MayStandIn a b) _ image (λ x either. elim either [ inl before ↦ inl before | inr after ↦ inr (inl after) ]));
+      }
+
+  -- an event, whatever stands
+  pub event_kept : (line : Line) (event : Event) (old new : ScriptArchive D) (s : Standing) (outcome : Result Reply Refusal) → IsStanding life old s → IsTrue (life_of life new).obeys → archives.Calls life event old outcome new
+      → Kept line old new s (WhereOpen (Calls (HasFailed (life_of life old) (life_of life new)) event) s) outcome
+  event_kept line event (Open old) (Open new) (opened a) outcome stands obeys answered = open_event line event old new a outcome stands obeys answered.answers
+  event_kept line event (Open old) (Open new) unknown outcome stands obeys answered = record { after = unknown; stands = tt; ends = refl; meanwhile = tt }
+  event_kept line event (Open old) (Open new) (closed a) outcome stands obeys answered = absurd stands
+  event_kept line event (Open old) (Open new) (doubtful s u) outcome stands obeys answered = absurd stands
+  event_kept line event (Open old) (Open new) (refused image why) outcome stands obeys answered = absurd stands
+  event_kept line event (Open old) (Closed disk) s outcome stands obeys answered = absurd answered
+  event_kept line event (Closed disk) new (opened a) outcome stands obeys answered = absurd stands
+  event_kept line event (Closed disk) new (closed a) outcome stands obeys answered = kept_same line (Closed disk) new (closed a) _ outcome answered.1 stands (answered.0, refl)
+  event_kept line event (Closed disk) new (doubtful s u) outcome stands obeys answered = kept_same line (Closed disk) new (doubtful s u) _ outcome answered.1 stands (answered.0, refl)
+  event_kept line event (Closed disk) new (refused image why) outcome stands obeys answered = kept_same line (Closed disk) new (refused image why) _ outcome answered.1 stands (answered.0, refl)
+  event_kept line event (Closed disk) new unknown outcome stands obeys answered = kept_same line (Closed disk) new unknown _ outcome answered.1 tt refl
+
+  -- ---- bytes
+
+  -- what was read by the terms of the session's recording is written
+  open_read : (line : Line) (session : ℤ) (bytes : List ℕ) (old : Engine D) (new : ScriptArchive D) (a : Archive) (terms : Result Geometry Refusal) (read : Result Block Refusal) (outcome : Result Reply Refusal)
+      → IsStanding life (Open old) (opened a) → IsTrue (life_of life new).obeys → terms ≡ terms_in a.desk session → IsRead terms bytes read → WritesRead (archive_ways life) session read (Open old) outcome new
+      → Kept line (Open old) new (opened a) (OrWant (opened a) (WhereOpen (WritesBytes (HasFailed (life old.storage.disk) (life_of life new)) session bytes) (opened a))) outcome
+  open_read line session bytes old new a (Err refusal) read outcome stands obeys same is written = by read is written
+    where
+      by : (read : Result Block Refusal) → read ≡ Err refusal → WritesRead (archive_ways life) session read (Open old) outcome new
+          → Kept line (Open old) new (opened a) (OrWant (opened a) (WhereOpen (WritesBytes (HasFailed (life old.storage.disk) (life_of life new)) session bytes) (opened a))) outcome
+      by (Ok block) none written = (let wrong : Ok block ≡ Err refusal = none in absurd cc)
+      by (Err other) none written =
+          kept_same line (Open old) new (opened a) _ outcome written.1 stands
+          (inl (Err other, subst (λ (t : Result Geometry Refusal). IsReadBy t bytes (Err other)) same none, (written.0, refl)))
+  open_read line session bytes old new a (Ok g) (Ok block) outcome stands obeys same is written =
+      kept_as line (Open old) new (opened a) (WhereOpen (Calls (HasFailed (life old.storage.disk) (life_of life new)) (events.Write session block)) (opened a)) _ outcome
+      (λ t. as_read t)
+      (event_kept line (events.Write session block) (Open old) new (opened a) outcome stands obeys written)
+    where
+      as_read : (t : Standing) → WhereOpen (Calls (HasFailed (life old.storage.disk) (life_of life new)) (events.Write session block)) (opened a) outcome t
+          → OrWant (opened a) (WhereOpen (WritesBytes (HasFailed (life old.storage.disk) (life_of life new)) session bytes) (opened a)) outcome t
+      as_read (opened b) ends = inl (Ok block, subst (λ (t : Result Geometry Refusal). IsReadBy t bytes (Ok block)) same is, ends)
+      as_read (closed b) ends = absurd ends
+      as_read (doubtful s u) ends = absurd ends
+      as_read (refused image why) ends = absurd ends
+      as_read unknown ends = absurd ends
+  open_read line session bytes old new a (Ok g) (Err NoMemory) outcome stands obeys same is written = kept_same line (Open old) new (opened a) _ outcome written.1 stands (inr (written.0, refl))
+  open_read line session bytes old new a (Ok g) (Err refusal) outcome stands obeys same is written =
+      kept_same line (Open old) new (opened a) _ outcome written.1 stands
+      (inl (Err refusal, subst (λ (t : Result Geometry Refusal). IsReadBy t bytes (Err refusal)) same is, (written.0, refl)))
+
+  -- no terms are known where none is open
+  closed_read : (session : ℤ) (bytes : List ℕ) (disk : D) (new : ScriptArchive D) (terms : Result Geometry Refusal) (read : Result Block Refusal) (outcome : Result Reply Refusal)
+      → terms ≡ Err Broken → IsRead terms bytes read → WritesRead (archive_ways life) session read (Closed disk) outcome new → (outcome ≡ Err Broken) × (new ≡ Closed disk)
+  closed_read session bytes disk new (Ok g) read outcome same is written = (let wrong : Ok g ≡ Err Broken = same in absurd cc)
+  closed_read session bytes disk new (Err refusal) (Ok block) outcome same is written = (let wrong : Ok block ≡ Err refusal = is in absurd cc)
+  closed_read session bytes disk new (Err refusal) (Err other) outcome same is written =
+      let one : other ≡ refusal = cc in
+      let two : refusal ≡ Broken = cc in
+      (written.0 ∙ ap (λ (r : Refusal). Err r) (one ∙ two), written.1)
+
+  pub closed_bytes : (session : ℤ) (bytes : List ℕ) (disk : D) (new : ScriptArchive D) (outcome : Result Reply Refusal) → answering.WritesBytes (archive_ways life) session bytes (Closed disk) outcome new → (outcome ≡ Err Broken) × (new ≡ Closed disk)
+  closed_bytes session bytes disk new outcome (terms, read, are, is, written) = closed_read session bytes disk new terms read outcome are is written
+
+  pub is_unknown : (x : ScriptArchive D) → IsStanding life x unknown
+  is_unknown (Open e) = tt
+  is_unknown (Closed d) = tt
+
+  -- the bytes of a block, whatever stands
+  pub bytes_kept : (line : Line) (session : ℤ) (bytes : List ℕ) (old new : ScriptArchive D) (s : Standing) (outcome : Result Reply Refusal) → IsStanding life old s → IsTrue (life_of life new).obeys
+      → answering.WritesBytes (archive_ways life) session bytes old outcome new
+      → Kept line old new s (OrWant s (WhereOpen (WritesBytes (HasFailed (life_of life old) (life_of life new)) session bytes) s)) outcome
+  bytes_kept line session bytes (Open old) new (opened a) outcome stands obeys (terms, read, are, is, written) =
+      open_read line session bytes old new a terms read outcome stands obeys (are ∙ ap (λ (d : DeskState). terms_in d session) stands.desk) is written
+  bytes_kept line session bytes (Open old) new unknown outcome stands obeys all = record { after = unknown; stands = is_unknown new; ends = inl refl; meanwhile = tt }
+  bytes_kept line session bytes (Open old) new (closed a) outcome stands obeys all = absurd stands
+  bytes_kept line session bytes (Open old) new (doubtful s u) outcome stands obeys all = absurd stands
+  bytes_kept line session bytes (Open old) new (refused image why) outcome stands obeys all = absurd stands
+  bytes_kept line session bytes (Closed disk) new s outcome stands obeys all = by s stands (closed_bytes session bytes disk new outcome all)
+    where
+      by : (s : Standing) → IsStanding life (Closed disk) s → (outcome ≡ Err Broken) × (new ≡ Closed disk)
+          → Kept line (Closed disk) new s (OrWant s (WhereOpen (WritesBytes (HasFailed (life disk) (life_of life new)) session bytes) s)) outcome
+      by (opened a) stands done = absurd stands
+      by (closed a) stands done = kept_same line (Closed disk) new (closed a) _ outcome done.1 stands (inl (done.0, refl))
+      by (doubtful s u) stands done = kept_same line (Closed disk) new (doubtful s u) _ outcome done.1 stands (inl (done.0, refl))
+      by (refused image why) stands done = kept_same line (Closed disk) new (refused image why) _ outcome done.1 stands (inl (done.0, refl))
+      by unknown stands done = kept_same line (Closed disk) new unknown _ outcome done.1 tt (inl refl)

@@ -1,27 +1,23 @@
 -- A script begins where one ended.
-use Rattle.std.proofs.Common.{◌≡◌, ◌∙◌, refl, inl, inr, sym, ap, subst, ℕ, List}
+use Rattle.std.proofs.Common.{◌≡◌, ◌∙◌, refl, inl, inr, sym, ap, subst, ℕ, pos}
 use Rattle.std.proofs.Math.Path.{fun_ext}
-use Rattle.std.specs.Prelude.{Option, Some, None, IsSome, count_by}
+use Rattle.std.specs.Prelude.{Option, None, count_by}
 use Rattle.disk_core.specs.declared.file_id.FileId.TheVariants.{BankA}
-use Rattle.disk_core.specs.DiskImage.{DiskImage, Files, MayLeave, begun, bytes_of, durable, reads}
+use Rattle.disk_core.specs.DiskImage.{DiskImage, Files, MayLeave, begun, durable, reads}
 use Rattle.disk_core.specs.Life.{Life}
 use Rattle.disk_core.proofs.CallerLemmas.{durable_left}
 use Rattle.archive_model.specs.declared.command.Command.TheVariants.{Restart}
 use Rattle.archive_model.specs.Commands.{after}
-use Rattle.catalogue_log.specs.declared.bank.BankHeader.{BankHeader}
-use Rattle.catalogue_log.specs.declared.entry.Entry.{Entry}
-use Rattle.catalogue_log.specs.Bank.{IsBank}
+use Rattle.archive_model.specs.State.{State, active_count}
 use Rattle.catalogue_log.specs.Catalogue.{IsCatalogue}
 use Rattle.catalogue_log.specs.Fold.{counts}
 use Rattle.control_core.specs.Exact.{Archive, opened_archive}
-use Rattle.engine_core.specs.Recovery.{Recovers}
-use Rattle.tool_core.specs.Script.{GoesOnFrom, LeavesArchive, LeavesStanding}
-use Rattle.tool_core.specs.ScriptLines.{opened}
-
--- a file that holds a bank is there
-bank_is_there : (bytes : Option (List ℕ)) (h : BankHeader) (es : List Entry) → IsBank (bytes_of bytes) h es → IsSome bytes
-bank_is_there None h es bank = let is = bank.holds.is in absurd cc
-bank_is_there (Some bytes) h es bank = refl
+use Rattle.engine_core.specs.Opened.{IsFresh, LeavesEither}
+use Rattle.engine_core.specs.Recovery.{IsEither, Recovers, RecoversTo}
+use Rattle.tool_core.specs.Script.{GoesOnFrom, GoesOnFromEither, LeavesArchive, LeavesOpened, LeavesStanding}
+use Rattle.tool_core.specs.ScriptLines.{doubtful, opened}
+use Rattle.tool_core.proofs.BeginLemmas.{bank_is_there}
+use Rattle.tool_core.proofs.StandingLemmas.{recovers_as}
 
 goes_on : (life : Life) (a : Archive) (left : LeavesArchive life a) → Recovers (reads life.now) a.state → IsCatalogue (reads life.now) left.header left.entries → GoesOnFrom a life
 goes_on life a left was catalogue = inr (
@@ -40,23 +36,66 @@ goes_on life a left was catalogue = inr (
   },
 )
 
-pub on_its_disk : (life : Life) (a : Archive) → LeavesStanding life (opened a) → MayLeave life.now (reads life.now) → GoesOnFrom a life
-on_its_disk life a left may = goes_on life a left (left.recovers (reads life.now) may) (left.catalogue (reads life.now) may)
+-- in which nothing is in doubt
+certain : (life : Life) (a : Archive) → a.doubt ≡ None → LeavesStanding life (opened a) → LeavesArchive life a
+certain life a none leaves = subst (λ (o : Option State). LeavesOpened life a o) none leaves
 
-pub behind_a_crash : (life left : Life) (a : Archive) (image : DiskImage) → LeavesStanding life (opened a) → MayLeave life.now image → left.now ≡ begun image → GoesOnFrom a left
-behind_a_crash life left a image leaves may is =
+pub on_its_disk : (life : Life) (a : Archive) → a.doubt ≡ None → LeavesStanding life (opened a) → MayLeave life.now (reads life.now) → GoesOnFrom a life
+on_its_disk life a none leaves may =
+    let left = certain life a none leaves in
+    goes_on life a left (left.recovers (reads life.now) may) (left.catalogue (reads life.now) may)
+
+-- a disk that is begun from an image leaves it alone
+one_image : (left : Life) (image : DiskImage) → left.now ≡ begun image → (other : DiskImage) → MayLeave left.now other → other ≡ image
+one_image left image is other may_be =
+    let here : MayLeave (begun image) other = subst (λ (files : Files). MayLeave files other) is may_be in
+    fun_ext (λ file. durable_left (image file) (durable (image file)) (other file) refl (here file))
+
+pub behind_a_crash : (life left : Life) (a : Archive) (image : DiskImage) → a.doubt ≡ None → LeavesStanding life (opened a) → MayLeave life.now image → left.now ≡ begun image → GoesOnFrom a left
+behind_a_crash life left a image none stands may is =
+    let leaves = certain life a none stands in
     goes_on left a (record {
-      recovers = λ other may_be. subst (λ (i : DiskImage). Recovers i a.state) (sym (same other may_be)) (leaves.recovers image may);
+      recovers = λ other may_be. subst (λ (i : DiskImage). Recovers i a.state) (sym (one_image left image is other may_be)) (leaves.recovers image may);
       header = leaves.header;
       entries = leaves.entries;
-      catalogue = λ other may_be. subst (λ (i : DiskImage). IsCatalogue i leaves.header leaves.entries) (sym (same other may_be)) (leaves.catalogue image may);
+      catalogue = λ other may_be. subst (λ (i : DiskImage). IsCatalogue i leaves.header leaves.entries) (sym (one_image left image is other may_be)) (leaves.catalogue image may);
       counted = leaves.counted;
       limit = leaves.limit;
     })
     (subst (λ (files : Files). Recovers (reads files) a.state) (sym is) (leaves.recovers image may))
     (subst (λ (files : Files). IsCatalogue (reads files) leaves.header leaves.entries) (sym is) (leaves.catalogue image may))
-  where
-    same : (other : DiskImage) → MayLeave left.now other → other ≡ image
-    same other may_be =
-        let here : MayLeave (begun image) other = subst (λ (files : Files). MayLeave files other) is may_be in
-        fun_ext (λ file. durable_left (image file) (durable (image file)) (other file) refl (here file))
+
+-- ---- one of two states
+
+-- the other of them
+swapped : (life : Life) (s u x : State) → IsEither s u x → LeavesEither life s u → (other : State) × LeavesEither life x other
+swapped life s u x (inl same) leaves = (u, subst (λ (y : State). LeavesEither life y u) (sym same) leaves)
+swapped life s u x (inr same) leaves = (
+  s,
+  subst (λ (y : State). LeavesEither life y s) (sym same)
+      (λ image may. recovers_as (IsEither s u) (IsEither u s) image (λ y either. elim either [ inl one ↦ inr one | inr one ↦ inl one ]) (leaves image may)),
+)
+
+restart_of : (life : Life) (s u : State) → LeavesEither life s u → RecoversTo (IsEither s u) (reads life.now) → GoesOnFromEither s u life
+restart_of life s u leaves to =
+    let is = to.recovers in
+    let a : Archive = opened_archive (after to.state Restart) (count_by counts is.entries) is.header.history_limit in
+    let fresh : IsFresh (reads life.now) (after to.state Restart) a = record { header = is.header; entries = is.entries; catalogue = is.catalogue; is = refl } in
+    let both = swapped life s u to.state to.is leaves in (
+      pos (active_count to.state),
+      a,
+      record { read = to.state; is = to.is; recovers = is; stopped = refl; fresh = fresh },
+      inr (
+        (BankA, bank_is_there (reads life.now BankA) is.header is.entries is.catalogue),
+        record { state = to.state; other = both.0; leaves = both.1; recovers = is; fresh = fresh },
+      ),
+    )
+
+pub in_doubt : (life : Life) (s u : State) → LeavesStanding life (doubtful s u) → MayLeave life.now (reads life.now) → GoesOnFromEither s u life
+in_doubt life s u leaves may = restart_of life s u leaves (leaves (reads life.now) may)
+
+pub in_doubt_crashed : (life left : Life) (s u : State) (image : DiskImage) → LeavesStanding life (doubtful s u) → MayLeave life.now image → left.now ≡ begun image → GoesOnFromEither s u left
+in_doubt_crashed life left s u image leaves may is =
+    restart_of left s u
+    (λ other may_be. subst (λ (i : DiskImage). RecoversTo (IsEither s u) i) (sym (one_image left image is other may_be)) (leaves image may))
+    (subst (λ (files : Files). RecoversTo (IsEither s u) (reads files)) (sym is) (leaves image may))

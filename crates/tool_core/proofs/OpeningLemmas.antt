@@ -1,13 +1,11 @@
--- Archives that are begun, closed and opened again.
-use Rattle.std.proofs.Common.{◌≡◌, ◌≢◌, ◌<◌, ◌⊎◌, ◌∙◌, false, ap, refl, inl, inr, sym, subst, ℕ, ℤ, pos, List, IsTrue, arith}
-use Rattle.std.specs.Prelude.{Option, None, is_some, Result, Ok, Err, IfErr, IfOk, IsSome, count_by}
+-- Archives that are closed and opened again.
+use Rattle.std.proofs.Common.{◌≡◌, ◌⊎◌, ◌∙◌, ap, refl, inl, inr, sym, subst, ℕ, ℤ, pos, List, IsTrue, arith}
+use Rattle.std.specs.Prelude.{Option, Some, None, Result, Ok, Err, count_by}
 use Rattle.frame_core.specs.declared.refusal.Refusal.{Refusal}
-use Rattle.disk_core.specs.declared.file_id.FileId.{FileId}
-use Rattle.disk_core.specs.declared.file_id.FileId.TheVariants.{BankA}
-use Rattle.disk_core.specs.DiskImage.{DiskImage, Files, MayLeave, bytes_of, reads}
-use Rattle.frame_core.specs.declared.refusal.Refusal.TheVariants.{BadParameter, Damaged, DeviceFault, NewerVersion, NoMemory, NotCatalogue}
-use Rattle.disk_core.specs.Life.{HasFailed, IsQuiet, Life}
-use Rattle.disk_core.proofs.CallerLemmas.{goes_on_part, goes_quiet, now_leaves, started}
+use Rattle.frame_core.specs.declared.refusal.Refusal.TheVariants.{DeviceFault, NoMemory}
+use Rattle.disk_core.specs.DiskImage.{DiskImage, Files, MayLeave, reads}
+use Rattle.disk_core.specs.Life.{HasFailed, IsQuiet, LeavesOnly, Life}
+use Rattle.disk_core.proofs.CallerLemmas.{now_leaves, started, weaker}
 use Rattle.archive_model.specs.declared.command.Command.TheVariants.{Restart}
 use Rattle.archive_model.specs.declared.reply.Reply.{Reply}
 use Rattle.archive_model.specs.declared.reply.Reply.TheVariants.{Reopened}
@@ -15,31 +13,32 @@ use Rattle.archive_model.specs.Commands.{after}
 use Rattle.archive_model.specs.State.{State, active_count}
 use Rattle.catalogue_log.specs.declared.bank.BankHeader.{BankHeader}
 use Rattle.catalogue_log.specs.declared.entry.Entry.{Entry}
-use Rattle.catalogue_log.specs.Catalogue.{IsCatalogue, RefusesBank, RefusesCatalogue}
+use Rattle.catalogue_log.specs.Catalogue.{IsCatalogue}
 use Rattle.catalogue_log.specs.Fold.{counts}
-use Rattle.catalogue_log.proofs.AppendLemmas.{rest_left}
-use Rattle.catalogue_log.proofs.OneLemmas.{bank_is_newer, bank_is_none, damaged_is_newer, damaged_is_none, not_damaged, one_bank, one_damage}
-use Rattle.control_core.specs.Desk.{DeskState}
+use Rattle.catalogue_log.proofs.OneLemmas.{one_bank}
 use Rattle.control_core.specs.Exact.{Archive, opened_archive}
-use Rattle.engine_core.specs.Consistent.{IsCrashConsistent}
-use Rattle.engine_core.specs.Opened.{IsDeskOf, IsFresh, IsNotOpened, IsOpened, LeavesEither}
-use Rattle.engine_core.specs.Engine.{EngineState, GoesOn, IsTied, new_archive}
-use Rattle.engine_core.specs.Seen.{KeepsArchive, seen}
-use Rattle.engine_core.specs.Opening.{IsMadeIn, ReadsAsBefore, RefusesNew, RefusesOpening}
-use Rattle.engine_core.specs.Recovery.{Recovers}
-use Rattle.engine_core.proofs.RecoveryLemmas.{one_state, sound_recovers}
+use Rattle.control_lines.specs.declared.line.Line.TheVariants as lines
 use Rattle.engine_core.specs.declared.engine.Engine.{Engine}
+use Rattle.engine_core.specs.Consistent.{IsCrashConsistent}
+use Rattle.engine_core.specs.Engine.{EngineState}
+use Rattle.engine_core.specs.Opened.{IsFresh, IsNear, IsNotOpened, IsOpened, LeavesEither}
+use Rattle.engine_core.specs.Opening.{ReadsAsBefore}
+use Rattle.engine_core.specs.Recovery.{IsEither, Recovers, RecoversTo}
+use Rattle.engine_core.specs.Seen.{seen}
+use Rattle.engine_core.proofs.RecoveryLemmas.{one_state}
 use Rattle.tool_core.specs.declared.archive.ScriptArchive.{ScriptArchive}
 use Rattle.tool_core.specs.declared.archive.ScriptArchive.TheVariants.{Open, Closed}
-use Rattle.tool_core.specs.Script.{Begins, IsRefused, IsRefusedBy, LeavesArchive, LeavesStanding, Opens, Restarts, Works}
-use Rattle.tool_core.specs.ScriptLines.{Reopens, ReopensAs, Standing, closed, opened, refused, reopened}
-use Rattle.tool_core.specs.Tie.{IsStanding, closed_by, life_of}
-use Rattle.tool_core.proofs.WorksLemmas.{not_failed, works_then}
+use Rattle.tool_core.specs.Archives.{HasOpened, HasRefused, Opens, life_of}
+use Rattle.tool_core.specs.Script.{IsRefused, IsRefusedBy, LeavesArchive, LeavesOpened, LeavesStanding, Restarts}
+use Rattle.tool_core.specs.ScriptLines.{LeavesMeanwhile, MayStandAt, Reopens, ReopensAs, ReopensEither, ReopensOpened, Standing, StaysInDoubt, closed, doubtful, opened, refused, reopened, unknown}
+use Rattle.tool_core.proofs.RefusedLemmas.{no_catalogue, refused_once, refused_still}
+use Rattle.tool_core.proofs.StandingLemmas.{IsStanding, either_stands, recovers_as, standing_left}
+use Rattle.tool_core.proofs.CallLemmas.{Kept, is_unknown}
 
 -- ---- an archive at which nobody calls yet
 
 -- its image's catalogue says which it is
-fresh_is : (image : DiskImage) (s : State) (a : Archive) (h : BankHeader) (es : List Entry) → IsFresh image s a → IsCatalogue image h es → a ≡ opened_archive s (count_by counts es) h.history_limit
+pub fresh_is : (image : DiskImage) (s : State) (a : Archive) (h : BankHeader) (es : List Entry) → IsFresh image s a → IsCatalogue image h es → a ≡ opened_archive s (count_by counts es) h.history_limit
 fresh_is image s a h es fresh catalogue =
     let one = one_bank _ fresh.header h fresh.entries es fresh.catalogue catalogue in
     fresh.is ∙ ap (λ (ks : List Entry). opened_archive s (count_by counts ks) fresh.header.history_limit) one.1 ∙ ap (λ (k : BankHeader). opened_archive s (count_by counts es) k.history_limit) one.0
@@ -90,23 +89,7 @@ reads_as_before life = record { same = λ file. refl; any_moment = started life 
 
 -- ---- closing, and opening again
 
--- what an open archive leaves
-pub kept : (e : EngineState) (a : Archive) → IsTied e.log e.desk → e.desk ≡ a.desk → IsCrashConsistent e.life e.log a → a.doubt ≡ None → LeavesArchive e.life a
-kept e a tied desk was certain =
-    let sound = was.sound certain in
-    let works : e.desk.is_broken ≡ false = ap (λ (d : DeskState). d.is_broken) desk ∙ was.archive.broken ∙ ap is_some certain in
-    let counted : a.desk.counted ≡ count_by counts sound.entries = ap (λ (d : DeskState). d.counted) (sym desk) ∙ sym (tied.counted works) ∙ sound.rests.is_log.counted in
-    let limit : a.desk.limit ≡ e.log.header.history_limit = ap (λ (d : DeskState). d.limit) (sym desk) ∙ sym (tied.limit works) in
-    record {
-      recovers = λ image left. sound_recovers e.life.now e.log a.state image sound left;
-      header = e.log.header;
-      entries = sound.entries;
-      catalogue = λ image left. rest_left e.life.now e.log sound.entries image sound.rests left;
-      counted = counted;
-      limit = limit;
-    }
-
-leaves_one : (life : Life) (a : Archive) → LeavesArchive life a → LeavesEither life a.state a.state
+pub leaves_one : (life : Life) (a : Archive) → LeavesArchive life a → LeavesEither life a.state a.state
 leaves_one life a was image left = record { state = a.state; is = inl refl; recovers = was.recovers image left }
 
 -- the state that was read is the archive's
@@ -123,7 +106,7 @@ opened_again old new count a was may o =
     (at_fresh new (reads old.now) (after o.read Restart) (reopened a) o.archive o.desk o.consistent o.fresh whole, o.stopped ∙ ap (λ (x : State). pos (active_count x)) same)
 
 -- where it was refused for want of memory the disk keeps it
-pub stays_closed : (old new : Life) (a : Archive) → LeavesArchive old a → ReadsAsBefore old new → LeavesArchive new a
+stays_closed : (old new : Life) (a : Archive) → LeavesArchive old a → ReadsAsBefore old new → LeavesArchive new a
 stays_closed old new a was before = record {
   recovers = λ image left. was.recovers image (now_leaves old new (MayLeave old.now) before.any_moment image left);
   header = was.header;
@@ -133,243 +116,232 @@ stays_closed old new a was before = record {
   limit = was.limit;
 }
 
--- ---- a refused catalogue
+-- ---- at any moment of an opening
 
--- it is the same by what the bank reads as
-refused_as : (old new : Life) (why : Refusal) → reads new.now BankA ≡ reads old.now BankA → IsRefusedBy old why → IsRefusedBy new why
-refused_as old new NoMemory same is = absurd is
-refused_as old new DeviceFault same is = absurd is
-refused_as old new (Damaged recording at) same is = subst (λ (bank : Option (List ℕ)). RefusesBank (bytes_of bank) (Damaged recording at)) (sym same) is
-refused_as old new NotCatalogue same is = subst (λ (bank : Option (List ℕ)). RefusesBank (bytes_of bank) NotCatalogue) (sym same) is
-refused_as old new NewerVersion same is = subst (λ (bank : Option (List ℕ)). RefusesBank (bytes_of bank) NewerVersion) (sym same) is
-refused_as old new why same is = absurd is
+-- what is near one of two states stood before it, or is a restart of that
+near_stood : (old new : Life) (s u : State) (Stood After : State → Type 0) → ((x : State) → IsEither s u x → Stood x) → LeavesOnly old new (RecoversTo (IsNear s u))
+    → LeavesOnly old new (RecoversTo (λ x. Stood x ⊎ (After x ⊎ ((y : State) × Stood y × (x ≡ after y Restart)))))
+near_stood old new s u Stood After stood any = weaker old new _ (RecoversTo (IsNear s u)) any (λ image. recovers_as (IsNear s u) _ image (λ x near. elim near [
+  | inl either ↦ inl (stood x either)
+  | inr restart ↦ inr (inr (restart.0, stood restart.0 restart.1, restart.2))
+]))
 
--- where each file reads as before
-refused_still : (old new : Life) (image : DiskImage) (why : Refusal) → ((file : FileId) → reads new.now file ≡ reads old.now file) → IsRefused old image why → IsRefused new image why
-refused_still old new image why same is = (refused_as old new why (same BankA) is.0, λ file. same file ∙ is.1 file)
+one_either : (s x : State) → IsEither s s x → x ≡ s
+one_either s x (inl same) = same
+one_either s x (inr same) = same
 
--- there is no catalogue then
-no_catalogue : (life : Life) (why : Refusal) (h : BankHeader) (es : List Entry) → IsRefusedBy life why → IsCatalogue (reads life.now) h es → ⊥
-no_catalogue life NoMemory h es is catalogue = is
-no_catalogue life DeviceFault h es is catalogue = is
-no_catalogue life (Damaged recording at) h es is catalogue = not_damaged _ h es at catalogue is.1
-no_catalogue life NotCatalogue h es is catalogue = bank_is_none _ h es is catalogue
-no_catalogue life NewerVersion h es is catalogue = bank_is_newer _ h es is catalogue
-no_catalogue life why h es is catalogue = is
+-- ---- what a refusal leaves
 
--- a bank is refused by one refusal, but for want of memory and a fault
-abbrev OneOf : Refusal → Refusal → Type 0
-OneOf why refusal = (refusal ≡ why) ⊎ ((refusal ≡ NoMemory) ⊎ (refusal ≡ DeviceFault))
+either_more : (life : Life) (s u : State) → LeavesEither life s s → LeavesEither life s u
+either_more life s u leaves image may = recovers_as (IsEither s s) (IsEither s u) image (λ x either. inl (one_either s x either)) (leaves image may)
 
-as_damaged : (life : Life) (why : Refusal) (recording at : ℤ) → IsRefusedBy life why → RefusesCatalogue (reads life.now) (Damaged recording at) → OneOf why (Damaged recording at)
-as_damaged life NoMemory recording at is refuses = absurd is
-as_damaged life DeviceFault recording at is refuses = absurd is
-as_damaged life (Damaged other from) recording at is refuses =
-    inl (ap (λ (n : ℤ). Damaged n at) (refuses.0 ∙ sym is.0) ∙ ap (λ (n : ℤ). Damaged other n) (one_damage _ at from refuses.1 is.1))
-as_damaged life NotCatalogue recording at is refuses = absurd (damaged_is_none _ at is refuses.1)
-as_damaged life NewerVersion recording at is refuses = absurd (damaged_is_newer _ at is refuses.1)
-as_damaged life why recording at is refuses = absurd is
-
-as_none : (life : Life) (why : Refusal) → IsRefusedBy life why → RefusesCatalogue (reads life.now) NotCatalogue → OneOf why NotCatalogue
-as_none life NoMemory is refuses = absurd is
-as_none life DeviceFault is refuses = absurd is
-as_none life (Damaged recording at) is refuses = absurd (damaged_is_none _ at refuses is.1)
-as_none life NotCatalogue is refuses = inl refl
-as_none life NewerVersion is refuses = absurd (refuses.0 is)
-as_none life why is refuses = absurd is
-
-as_newer : (life : Life) (why : Refusal) → IsRefusedBy life why → RefusesCatalogue (reads life.now) NewerVersion → OneOf why NewerVersion
-as_newer life NoMemory is refuses = absurd is
-as_newer life DeviceFault is refuses = absurd is
-as_newer life (Damaged recording at) is refuses = absurd (damaged_is_newer _ at refuses is.1)
-as_newer life NotCatalogue is refuses = absurd (is.0 refuses)
-as_newer life NewerVersion is refuses = inl refl
-as_newer life why is refuses = absurd is
-
-refused_once : (life : Life) (why refusal : Refusal) → IsRefusedBy life why → RefusesCatalogue (reads life.now) refusal → OneOf why refusal
-refused_once life why NoMemory is refuses = inr (inl refl)
-refused_once life why DeviceFault is refuses = inr (inr refl)
-refused_once life why (Damaged recording at) is refuses = as_damaged life why recording at is refuses
-refused_once life why NotCatalogue is refuses = as_none life why is refuses
-refused_once life why NewerVersion is refuses = as_newer life why is refuses
-refused_once life why refusal is refuses = absurd refuses
-
--- ---- an opening
-
--- what `Engine::open` answers for a disk
-pub record Opened {D : Type 0} (life : D → Life) (old : Life) (engine : Engine D) : Type 0 where
-  pub opened_as : (s u : State) → LeavesEither old s u → IsTrue (life engine.storage.disk).obeys → IsOpened old (seen life engine) engine.restarted s u
-  pub desk : IsTrue (life engine.storage.disk).obeys → IsDeskOf (reads old.now) engine.desk.state engine.restarted
-
-pub record Refused {D : Type 0} (life : D → Life) (old : Life) (refusal : Refusal) (disk : D) : Type 0 where
-  pub whole : (s u : State) → LeavesEither old s u → IsTrue (life disk).obeys → IsNotOpened old (life disk) s u × ((refusal ≡ DeviceFault) ⊎ (refusal ≡ NoMemory))
-  pub refuses : RefusesOpening old (life disk) refusal
-
--- no call failed: each file reads as before
-unfailed : {D : Type 0} (life : D → Life) (old : Life) (refusal : Refusal) (disk : D) → Refused life old refusal disk → Works old (life disk) → ReadsAsBefore old (life disk)
-unfailed life old refusal disk answer works = elim answer.refuses.kept [ inl fault ↦ absurd (not_failed old (life disk) works (answer.refuses.cause fault)) | inr before ↦ before ]
-
--- ---- a script's archive
-
--- opened for what the disk has
-pub opened_is : {D : Type 0} (life : D → Life) (old : Life) (engine : Engine D) → Opened life old engine → (first : Standing) → Opens old first → Works old (life engine.storage.disk) → IsStanding life (Open engine) first
-opened_is life old engine answer (opened a) restarts works =
-    let at = begun old (seen life engine) engine.restarted a restarts (answer.opened_as restarts.state restarts.other restarts.leaves works.obeys) in
-    (record { desk = at.desk; consistent = at.consistent }, at.certain)
-opened_is life old engine answer (closed a) opens works = absurd opens
-opened_is life old engine answer (refused image why) opens works = let desk = answer.desk works.obeys in absurd (no_catalogue old why desk.header desk.entries opens.0 desk.catalogue)
-
--- where it was refused by anything but want of memory, the disk's catalogue is refused
-abbrev Begun : {D : Type 0} → (D → Life) → Life → ScriptArchive D → Type 0
-Begun life old archive = (first : Standing) → Opens old first → Works old (life_of life archive) → IsStanding life archive first
-
-still_refused : {D : Type 0} (life : D → Life) (old : Life) (refusal : Refusal) (disk : D) → Refused life old refusal disk → refusal ≢ NoMemory → Begun life old (Closed disk)
-still_refused life old refusal disk answer other (opened a) restarts works =
-    elim (answer.whole restarts.state restarts.other restarts.leaves works.obeys).1 [ inl fault ↦ absurd (not_failed old (life disk) works (answer.refuses.cause fault)) | inr memory ↦ absurd (other memory) ]
-still_refused life old refusal disk answer other (closed a) opens works = absurd opens
-still_refused life old refusal disk answer other (refused image why) opens works = refused_still old (life disk) image why (unfailed life old refusal disk answer works).same opens
-
-pub not_closed_then : {D : Type 0} (life : D → Life) (old : Life) (refusal : Refusal) (disk : D) (result : Result (ScriptArchive D) D) → result ≡ closed_by refusal disk → Refused life old refusal disk → IfOk result (Begun life old)
-not_closed_then life old refusal disk result is answer = subst (λ (r : Result (ScriptArchive _) _). IfOk r (Begun life old)) (sym is) (by refusal refl)
-  where
-    by : (r : Refusal) → refusal ≡ r → IfOk (closed_by r disk) (Begun life old)
-    by NoMemory same = tt
-    by r same = still_refused life old refusal disk answer (λ memory. let wrong : r ≡ NoMemory = sym same ∙ memory in absurd cc)
-
--- for want of memory the disk goes back as it was
-pub closed_before : {D : Type 0} (life : D → Life) (old : Life) (refusal : Refusal) (disk : D) (result : Result (ScriptArchive D) D) → result ≡ closed_by refusal disk
-    → (refusal ≡ DeviceFault) ⊎ ReadsAsBefore old (life disk) → IfErr result (λ back. ReadsAsBefore old (life back))
-closed_before life old NoMemory disk result is same = subst (λ (r : Result (ScriptArchive _) _). IfErr r (λ back. ReadsAsBefore old (life back))) (sym is) (by same)
-  where
-    by : (NoMemory ≡ DeviceFault) ⊎ ReadsAsBefore old (life disk) → ReadsAsBefore old (life disk)
-    by (inl fault) = absurd cc
-    by (inr reads) = reads
-closed_before life old refusal disk result is same = subst (λ (r : Result (ScriptArchive _) _). IfErr r (λ back. ReadsAsBefore old (life back))) (sym is) tt
-
--- ---- closing a script's archive, and opening it again
-
--- what the disk of a script's archive leaves
-pub standing_left : {D : Type 0} (life : D → Life) (archive : ScriptArchive D) (s : Standing) → IsStanding life archive s → LeavesStanding (life_of life archive) s
-standing_left life (Open engine) (opened a) stands = kept (seen life engine) a engine.tied stands.0.desk stands.0.consistent stands.1
-standing_left life (Open engine) (closed a) stands = absurd stands
-standing_left life (Open engine) (refused image why) stands = absurd stands
-standing_left life (Closed disk) (opened a) stands = absurd stands
-standing_left life (Closed disk) (closed a) stands = stands
-standing_left life (Closed disk) (refused image why) stands = stands
-
--- it is open again
-open_as : {D : Type 0} (life : D → Life) (old : Life) (engine : Engine D) (a : Archive) → LeavesArchive old a → MayLeave old.now (reads old.now) → Opened life old engine → Works old (life engine.storage.disk)
-    → (t : Standing) × IsStanding life (Open engine) t × ReopensAs a (Ok (Reopened engine.restarted)) t
-open_as life old engine a was may answer works =
-    let done = opened_again old (seen life engine) engine.restarted a was may (answer.opened_as a.state a.state (leaves_one old a was) works.obeys) in
-    (opened (reopened a), (record { desk = done.0.desk; consistent = done.0.consistent }, done.0.certain), (ap (λ (n : ℤ). Reopened n) done.1, refl))
-
-open_again : {D : Type 0} (life : D → Life) (old : Life) (engine : Engine D) (s : Standing) → LeavesStanding old s → MayLeave old.now (reads old.now) → Opened life old engine → Works old (life engine.storage.disk) → (t : Standing) × IsStanding life (Open engine) t × Reopens s (Ok (Reopened engine.restarted)) t
-open_again life old engine (opened a) was may answer works = open_as life old engine a was may answer works
-open_again life old engine (closed a) was may answer works = open_as life old engine a was may answer works
-open_again life old engine (refused image why) was may answer works = let desk = answer.desk works.obeys in absurd (no_catalogue old why desk.header desk.entries was.0 desk.catalogue)
-
--- there was no memory for it
-closed_as : {D : Type 0} (life : D → Life) (old : Life) (refusal : Refusal) (disk : D) (a : Archive) → LeavesArchive old a → Refused life old refusal disk → Works old (life disk) → (t : Standing) × IsStanding life (Closed disk) t × ReopensAs a (Err refusal) t
-closed_as life old refusal disk a was answer works = elim (answer.whole a.state a.state (leaves_one old a was) works.obeys).1 [
-  | inl fault ↦ absurd (not_failed old (life disk) works (answer.refuses.cause fault))
-  | inr memory ↦ (closed a, stays_closed old (life disk) a was (unfailed life old refusal disk answer works), subst (λ (r : Refusal). ReopensAs a (Err r) (closed a)) (sym memory) refl)
+-- a device fault leaves what is in doubt
+pub fault_leaves : (old new : Life) (s u : State) → IsNotOpened old new s u → (x : State) × (y : State) × LeavesEither new x y × StaysInDoubt s u (doubtful x y)
+fault_leaves old new s u not = elim not.now [
+  | inl both ↦ (s, u, both, inl (refl, refl))
+  | inr one ↦ (one.0, after one.0 Restart, one.2, inr (one.1, refl))
 ]
 
--- or it is refused again
-refused_again : {D : Type 0} (life : D → Life) (old : Life) (refusal : Refusal) (disk : D) (s : Standing) → LeavesStanding old s → Refused life old refusal disk → Works old (life disk) → (t : Standing) × IsStanding life (Closed disk) t × Reopens s (Err refusal) t
-refused_again life old refusal disk (opened a) was answer works = closed_as life old refusal disk a was answer works
-refused_again life old refusal disk (closed a) was answer works = closed_as life old refusal disk a was answer works
-refused_again life old refusal disk (refused image why) was answer works =
-    let stays : IsStanding life (Closed disk) (refused image why) = refused_still old (life disk) image why (unfailed life old refusal disk answer works).same was in
-    elim (refused_once old why refusal was.0 (answer.refuses.catalogue works.obeys)) [
-      | inl same ↦ (refused image why, stays, (inl (ap (λ (r : Refusal). Err r) same), refl))
-      | inr (inl memory) ↦ (refused image why, stays, (inr (ap (λ (r : Refusal). Err r) memory), refl))
-      | inr (inr fault) ↦ absurd (not_failed old (life disk) works (answer.refuses.cause fault))
-    ]
+certain_fault : (old new : Life) (s : State) → IsNotOpened old new s s → LeavesEither new s (after s Restart)
+certain_fault old new s not = elim not.now [
+  | inl both ↦ either_more new s (after s Restart) both
+  | inr one ↦ subst (λ (x : State). LeavesEither new x (after x Restart)) (one_either s one.0 one.1) one.2
+]
 
--- the same of the disk that was handed on
-pub reopened_again : {D : Type 0} (life : D → Life) (archive : ScriptArchive D) (old : D) (engine : Engine D) → ((disk : D) → MayLeave (life disk).now (reads (life disk).now)) → life old ≡ life_of life archive → Opened life (life old) engine
-    → (reply : Reply) → reply ≡ Reopened engine.restarted → (s : Standing) → IsStanding life archive s → Works (life_of life archive) (life engine.storage.disk)
-    → (t : Standing) × IsStanding life (Open engine) t × Reopens s (Ok reply) t
-reopened_again life archive old engine may same answer reply is s stands works =
-    subst (λ (r : Reply). (t : Standing) × IsStanding life (Open engine) t × Reopens s (Ok r) t) (sym is)
-    (open_again life (life old) engine s (subst (λ (l : Life). LeavesStanding l s) (sym same) (standing_left life archive s stands)) (may old) answer (subst (λ (l : Life). Works l (life engine.storage.disk)) (sym same) works))
+pub either_before : (old new : Life) (s u : State) → ReadsAsBefore old new → LeavesEither old s u → LeavesEither new s u
+either_before old new s u before leaves image may = leaves image (now_leaves old new (MayLeave old.now) before.any_moment image may)
 
-pub reopened_not : {D : Type 0} (life : D → Life) (archive : ScriptArchive D) (old : D) (refusal : Refusal) (disk : D) → life old ≡ life_of life archive → Refused life (life old) refusal disk
-    → (s : Standing) → IsStanding life archive s → Works (life_of life archive) (life disk) → (t : Standing) × IsStanding life (Closed disk) t × Reopens s (Err refusal) t
-reopened_not life archive old refusal disk same answer s stands works =
-    refused_again life (life old) refusal disk s (subst (λ (l : Life). LeavesStanding l s) (sym same) (standing_left life archive s stands)) answer (subst (λ (l : Life). Works l (life disk)) (sym same) works)
+-- an answer is another one
+abbrev Is : Result Reply Refusal → Result Reply Refusal → Type 0
+Is outcome answer = outcome ≡ answer
 
--- ---- beginning
+-- ---- an archive that is closed, by what its disk leaves
 
--- one file at least is not absent
-some_file : {x : Option (List ℕ)} → x ≡ None → IsSome x → ⊥
-some_file is some = let wrong : IsSome {T = List ℕ} None = subst IsSome is some in absurd cc
+module _ {D : Type 0} (life : D → Life) (stays : (disk : D) → MayLeave (life disk).now (reads (life disk).now)) where
+  archive_stays : (archive : ScriptArchive D) → MayLeave (life_of life archive).now (reads (life_of life archive).now)
+  archive_stays (Open engine) = stays engine.storage.disk
+  archive_stays (Closed disk) = stays disk
 
--- no file was there, and an archive was made
-pub made : {D : Type 0} (life : D → Life) (old : Life) (engine : Engine D) → IsMadeIn old (life engine.storage.disk) 1048576
-    → KeepsArchive life engine (new_archive 1048576) → (first : Standing) → Begins old first → Works old (life engine.storage.disk) → IsStanding life (Open engine) first
-made life old engine is consistent first (inl blank) works = subst (λ (s : Standing). IsStanding life (Open engine) s) (sym blank.1) (consistent, refl)
-made life old engine is consistent first (inr files) works = absurd (some_file (is.empty works.obeys files.0.0) files.0.1)
+  -- refused by anything but a fault, it reads as before
+  before_of : (old : Life) (refusal : Refusal) (disk : D) → HasRefused life old refusal disk → refusal ≡ NoMemory → ReadsAsBefore old (life disk)
+  before_of old refusal disk answer memory = elim answer.refuses.kept [
+    | inl fault ↦ (let wrong : NoMemory ≡ DeviceFault = sym memory ∙ fault in absurd cc)
+    | inr before ↦ before
+  ]
 
--- a file is there, and the disk is as it was
-quiet_opens : (old new : Life) (first : Standing) → IsQuiet old new → Opens old first → Opens new first
-quiet_opens old new (opened a) quiet opens = quiet_restarts old new a quiet opens
-quiet_opens old new (closed a) quiet opens = absurd opens
-quiet_opens old new (refused image why) quiet opens = refused_still old new image why (λ file. ap (λ (files : Files). reads files file) quiet.now) opens
+  -- of a state that is certain
+  certain_opened : (old : ScriptArchive D) (engine : Engine D) (a : Archive) (reply : Reply) → LeavesArchive (life_of life old) a → reply ≡ Reopened engine.restarted → HasOpened life (life_of life old) engine → IsTrue (life engine.storage.disk).obeys
+      → IsStanding life (Open engine) (opened (reopened a)) × ReopensAs (HasFailed (life_of life old) (life engine.storage.disk)) a (Ok reply) (opened (reopened a))
+      × LeavesOnly (life_of life old) (life engine.storage.disk) (RecoversTo (IsNear a.state a.state))
+  certain_opened old engine a reply leaves is answer obeys =
+      let o = answer.opened_as a.state a.state (leaves_one (life_of life old) a leaves) obeys in
+      let done = opened_again (life_of life old) (seen life engine) engine.restarted a leaves (archive_stays old) o in
+      (record { desk = done.0.desk; consistent = done.0.consistent }, (is ∙ ap (λ (n : ℤ). Reopened n) done.1, refl), o.any_moment)
 
-not_blank : (old new : Life) (first : Standing) → RefusesNew old new 1048576 BadParameter → IsTrue new.obeys → Begins old first → Opens new first
-not_blank old new first no_archive obeys (inl blank) = absurd (by no_archive.1)
-  where
-    by : (1048576 < 1) ⊎ ((16777216 < 1048576) ⊎ (IsTrue new.obeys → (file : FileId) × IsSome (reads old.now file))) → ⊥
-    by (inl few) = omega (arith, few)
-    by (inr (inl many)) = omega (arith, many)
-    by (inr (inr there)) = some_file (blank.0 (there obeys).0) (there obeys).1
-not_blank old new first no_archive obeys (inr files) = quiet_opens old new first no_archive.0 files.1
+  -- how it ends, where it is refused
+  record CertainRefused (old : Life) (disk : D) (a : Archive) (refusal : Refusal) : Type 0 where
+    pub after : Standing
+    pub stands : IsStanding life (Closed disk) after
+    pub ends : ReopensAs (HasFailed old (life disk)) a (Err refusal) after
+    pub any_moment : LeavesOnly old (life disk) (RecoversTo (IsNear a.state a.state))
 
-quiet_before : (old new : Life) → IsQuiet old new → ReadsAsBefore old new
-quiet_before old new quiet = record {
-  same = λ file. ap (λ (files : Files). reads files file) quiet.now;
-  any_moment = goes_quiet old old new (MayLeave old.now) (started old (MayLeave old.now) (λ image left. left)) quiet;
-  obeyed = quiet.obeyed;
-  faults = quiet.faults;
-}
+  certain_refused : (old : Life) (disk : D) (a : Archive) (refusal : Refusal) → LeavesArchive old a → HasRefused life old refusal disk → IsTrue (life disk).obeys → CertainRefused old disk a refusal
+  certain_refused old disk a refusal leaves answer obeys =
+      let whole = answer.whole a.state a.state (leaves_one old a leaves) obeys in
+      let not = whole.0 in
+      elim whole.1 [
+        | inl fault ↦ record {
+          after = doubtful a.state (after a.state Restart);
+          stands = certain_fault old (life disk) a.state not;
+          ends = subst (λ (r : Refusal). ReopensAs (HasFailed old (life disk)) a (Err r) (doubtful a.state (after a.state Restart))) (sym fault) (answer.refuses.cause fault, refl);
+          any_moment = not.any_moment;
+        }
+        | inr memory ↦ record {
+          after = closed a;
+          stands = stays_closed old (life disk) a leaves (before_of old refusal disk answer memory);
+          ends = subst (λ (r : Refusal). ReopensAs (HasFailed old (life disk)) a (Err r) (closed a)) (sym memory) refl;
+          any_moment = not.any_moment;
+        }
+      ]
 
-before_then : (old mid new : Life) → IsQuiet old mid → ReadsAsBefore mid new → ReadsAsBefore old new
-before_then old mid new quiet before = record {
-  same = λ file. before.same file ∙ ap (λ (files : Files). reads files file) quiet.now;
-  any_moment = goes_on_part old mid new (MayLeave old.now) (MayLeave mid.now) (quiet_before old mid quiet).any_moment before.any_moment (λ image left. subst (λ (files : Files). MayLeave files image) quiet.now left);
-  obeyed = λ obeys. quiet.obeyed (before.obeyed obeys);
-  faults = let first = quiet.faults in let more = before.faults in omega (arith, first, more);
-}
+  -- of one of two states
+  record EitherOpened (old : Life) (engine : Engine D) (s u : State) (reply : Reply) : Type 0 where
+    pub archive : Archive
+    pub stands : IsStanding life (Open engine) (opened archive)
+    pub ends : ReopensEither old (HasFailed old (life engine.storage.disk)) s u (Ok reply) (opened archive)
+    pub any_moment : LeavesOnly old (life engine.storage.disk) (RecoversTo (IsNear s u))
 
-pub before_with_files : {D : Type 0} (life : D → Life) (old mid : Life) (result : Result (ScriptArchive D) D) → RefusesNew old mid 1048576 BadParameter → IfErr result (λ back. ReadsAsBefore mid (life back)) → IfErr result (λ back. ReadsAsBefore old (life back))
-before_with_files life old mid (Ok archive) no_archive before = tt
-before_with_files life old mid (Err back) no_archive before = before_then old mid (life back) no_archive.0 before
+  either_opened : (old : Life) (engine : Engine D) (s u : State) (reply : Reply) → LeavesEither old s u → reply ≡ Reopened engine.restarted → HasOpened life old engine → IsTrue (life engine.storage.disk).obeys → EitherOpened old engine s u reply
+  either_opened old engine s u reply leaves is answer obeys =
+      let o = answer.opened_as s u leaves obeys in
+      record {
+        archive = o.archive;
+        stands = record { desk = o.desk; consistent = o.consistent };
+        ends = subst (λ (r : Reply). ReopensEither old (HasFailed old (life engine.storage.disk)) s u (Ok r) (opened o.archive)) (sym is)
+            (record { read = o.read; is = o.is; recovers = o.recovers; stopped = o.stopped; fresh = o.fresh });
+        any_moment = o.any_moment;
+      }
 
-pub begun_with_files : {D : Type 0} (life : D → Life) (old mid : Life) (result : Result (ScriptArchive D) D) → RefusesNew old mid 1048576 BadParameter
-    → IfOk result (λ archive. GoesOn mid (life_of life archive))
-    → IfOk result (λ archive. (first : Standing) → Opens mid first → Works mid (life_of life archive) → IsStanding life archive first)
-    → IfOk result (λ archive. (first : Standing) → Begins old first → Works old (life_of life archive) → IsStanding life archive first)
-begun_with_files life old mid (Err back) no_archive goes_on begins = tt
-begun_with_files life old mid (Ok archive) no_archive goes_on begins =
-    λ first from works. begins first (not_blank old mid first no_archive (goes_on.obeyed works.obeys) from) (works_then old mid (life_of life archive) works no_archive.0.faults goes_on)
+  record EitherRefused (old : Life) (disk : D) (s u : State) (refusal : Refusal) : Type 0 where
+    pub after : Standing
+    pub stands : IsStanding life (Closed disk) after
+    pub ends : ReopensEither old (HasFailed old (life disk)) s u (Err refusal) after
+    pub any_moment : LeavesOnly old (life disk) (RecoversTo (IsNear s u))
 
-pub unmade_then : {D : Type 0} (life : D → Life) (old : Life) (refusal : Refusal) (disk : D) (result : Result (ScriptArchive D) D) → result ≡ closed_by refusal disk → RefusesNew old (life disk) 1048576 refusal → refusal ≢ BadParameter
-    → IfOk result (λ archive. (first : Standing) → Begins old first → Works old (life_of life archive) → IsStanding life archive first)
-unmade_then life old refusal disk result is no_archive other =
-    subst (λ (r : Result (ScriptArchive _) _). IfOk r (λ archive. (first : Standing) → Begins old first → Works old (life_of life archive) → IsStanding life archive first)) (sym is) (by refusal no_archive other)
-  where
-    by : (r : Refusal) → RefusesNew old (life disk) 1048576 r → r ≢ BadParameter → IfOk (closed_by r disk) (λ archive. (first : Standing) → Begins old first → Works old (life_of life archive) → IsStanding life archive first)
-    by DeviceFault no_archive other = λ first from works. absurd (not_failed old (life disk) works no_archive.0)
-    by NoMemory no_archive other = tt
-    by BadParameter no_archive other = absurd (other refl)
-    by r no_archive other = absurd no_archive
+  either_refused : (old : Life) (disk : D) (s u : State) (refusal : Refusal) → LeavesEither old s u → HasRefused life old refusal disk → IsTrue (life disk).obeys → EitherRefused old disk s u refusal
+  either_refused old disk s u refusal leaves answer obeys =
+      let whole = answer.whole s u leaves obeys in
+      let not = whole.0 in
+      elim whole.1 [
+        | inl fault ↦ (let left = fault_leaves old (life disk) s u not in record {
+          after = doubtful left.0 left.1;
+          stands = left.2;
+          ends = subst (λ (r : Refusal). ReopensEither old (HasFailed old (life disk)) s u (Err r) (doubtful left.0 left.1)) (sym fault) (answer.refuses.cause fault, left.3);
+          any_moment = not.any_moment;
+        })
+        | inr memory ↦ record {
+          after = doubtful s u;
+          stands = either_before old (life disk) s u (before_of old refusal disk answer memory) leaves;
+          ends = subst (λ (r : Refusal). ReopensEither old (HasFailed old (life disk)) s u (Err r) (doubtful s u)) (sym memory) refl;
+          any_moment = not.any_moment;
+        }
+      ]
 
-pub unmade_before : {D : Type 0} (life : D → Life) (old : Life) (refusal : Refusal) (disk : D) (result : Result (ScriptArchive D) D) → result ≡ closed_by refusal disk → RefusesNew old (life disk) 1048576 refusal → IfErr result (λ back. ReadsAsBefore old (life back))
-unmade_before life old refusal disk result is no_archive = subst (λ (r : Result (ScriptArchive _) _). IfErr r (λ back. ReadsAsBefore old (life back))) (sym is) (by refusal no_archive)
-  where
-    by : (r : Refusal) → RefusesNew old (life disk) 1048576 r → IfErr (closed_by r disk) (λ back. ReadsAsBefore old (life back))
-    by NoMemory no_archive = quiet_before old (life disk) no_archive
-    by r no_archive = tt
+  -- ---- reopening, whatever stands
+
+  abbrev Again : ScriptArchive D → ScriptArchive D → Standing → Result Reply Refusal → Type 0
+  Again old new s outcome = Kept life lines.Reopen old new s (Reopens (life_of life old) (HasFailed (life_of life old) (life_of life new)) s) outcome
+
+  -- an archive in which nothing is in doubt
+  certain_again : (old new : ScriptArchive D) (s : Standing) (a : Archive) (outcome : Result Reply Refusal) → LeavesArchive (life_of life old) a → ((x : State) → IsEither a.state a.state x → MayStandAt s x)
+      → ((t : Standing) → LeavesOnly (life_of life old) (life_of life new) (RecoversTo (λ x. MayStandAt s x ⊎ (MayStandAt t x ⊎ ((y : State) × MayStandAt s y × (x ≡ after y Restart))))) → LeavesMeanwhile lines.Reopen (life_of life old) (life_of life new) s t)
+      → ((t : Standing) → ReopensAs (HasFailed (life_of life old) (life_of life new)) a outcome t → Reopens (life_of life old) (HasFailed (life_of life old) (life_of life new)) s outcome t)
+      → IsTrue (life_of life new).obeys → Opens life (life_of life old) outcome new → Again old new s outcome
+  certain_again old (Open engine) s a (Ok reply) leaves stood meanwhile so obeys opens =
+      let done = certain_opened old engine a reply leaves opens.0 opens.1 obeys in
+      record {
+        after = opened (reopened a);
+        stands = done.0;
+        ends = so (opened (reopened a)) done.1;
+        meanwhile = meanwhile (opened (reopened a)) (near_stood (life_of life old) (life engine.storage.disk) a.state a.state (MayStandAt s) (MayStandAt (opened (reopened a))) stood done.2);
+      }
+  certain_again old (Closed disk) s a (Ok reply) leaves stood meanwhile so obeys opens = absurd opens
+  certain_again old (Open engine) s a (Err refusal) leaves stood meanwhile so obeys opens = absurd opens
+  certain_again old (Closed disk) s a (Err refusal) leaves stood meanwhile so obeys opens =
+      let done = certain_refused (life_of life old) disk a refusal leaves opens obeys in
+      record {
+        after = done.after;
+        stands = done.stands;
+        ends = so done.after done.ends;
+        meanwhile = meanwhile done.after (near_stood (life_of life old) (life disk) a.state a.state (MayStandAt s) (MayStandAt done.after) stood done.any_moment);
+      }
+
+  -- one of two states
+  either_again : (old new : ScriptArchive D) (before : Standing) (s u : State) (outcome : Result Reply Refusal) → LeavesEither (life_of life old) s u → ((x : State) → IsEither s u x → MayStandAt before x)
+      → ((t : Standing) → LeavesOnly (life_of life old) (life_of life new) (RecoversTo (λ x. MayStandAt before x ⊎ (MayStandAt t x ⊎ ((y : State) × MayStandAt before y × (x ≡ after y Restart))))) → LeavesMeanwhile lines.Reopen (life_of life old) (life_of life new) before t)
+      → ((t : Standing) → ReopensEither (life_of life old) (HasFailed (life_of life old) (life_of life new)) s u outcome t → Reopens (life_of life old) (HasFailed (life_of life old) (life_of life new)) before outcome t)
+      → IsTrue (life_of life new).obeys → Opens life (life_of life old) outcome new → Again old new before outcome
+  either_again old (Open engine) before s u (Ok reply) leaves stood meanwhile so obeys opens =
+      let done = either_opened (life_of life old) engine s u reply leaves opens.0 opens.1 obeys in
+      record {
+        after = opened done.archive;
+        stands = done.stands;
+        ends = so (opened done.archive) done.ends;
+        meanwhile = meanwhile (opened done.archive) (near_stood (life_of life old) (life engine.storage.disk) s u (MayStandAt before) (MayStandAt (opened done.archive)) stood done.any_moment);
+      }
+  either_again old (Closed disk) before s u (Ok reply) leaves stood meanwhile so obeys opens = absurd opens
+  either_again old (Open engine) before s u (Err refusal) leaves stood meanwhile so obeys opens = absurd opens
+  either_again old (Closed disk) before s u (Err refusal) leaves stood meanwhile so obeys opens =
+      let done = either_refused (life_of life old) disk s u refusal leaves opens obeys in
+      record {
+        after = done.after;
+        stands = done.stands;
+        ends = so done.after done.ends;
+        meanwhile = meanwhile done.after (near_stood (life_of life old) (life disk) s u (MayStandAt before) (MayStandAt done.after) stood done.any_moment);
+      }
+
+  -- a refused catalogue
+  refused_again : (old new : ScriptArchive D) (image : DiskImage) (why : Refusal) (outcome : Result Reply Refusal) → IsRefused (life_of life old) image why → IsTrue (life_of life new).obeys → Opens life (life_of life old) outcome new
+      → Again old new (refused image why) outcome
+  refused_again old (Open engine) image why (Ok reply) is obeys opens = let desk = opens.1.desk obeys in absurd (no_catalogue (life_of life old) why desk.header desk.entries is.0 desk.catalogue)
+  refused_again old (Closed disk) image why (Ok reply) is obeys opens = absurd opens
+  refused_again old (Open engine) image why (Err refusal) is obeys opens = absurd opens
+  refused_again old (Closed disk) image why (Err refusal) is obeys opens =
+      elim (refused_once (life_of life old) why refusal is.0 (opens.refuses.catalogue obeys)) [
+        | inl same ↦ stays_refused (λ fault. not_fault (life_of life old) why is.0 (sym same ∙ fault)) (inl (ap (λ (r : Refusal). Err r) same))
+        | inr (inl memory) ↦ stays_refused (λ fault. let wrong : NoMemory ≡ DeviceFault = sym memory ∙ fault in absurd cc) (inr (ap (λ (r : Refusal). Err r) memory))
+        | inr (inr fault) ↦ record { after = unknown; stands = tt; ends = inr (ap (λ (r : Refusal). Err r) fault, opens.refuses.cause fault, refl); meanwhile = inl refl }
+      ]
+    where
+      not_fault : (life : Life) (why : Refusal) → IsRefusedBy life why → why ≡ DeviceFault → ⊥
+      not_fault life why is same = subst (IsRefusedBy life) same is
+
+      stays_refused : (refusal ≡ DeviceFault → ⊥) → Is (Err refusal) (Err why) ⊎ Is (Err refusal) (Err NoMemory) → Again old (Closed disk) (refused image why) (Err refusal)
+      stays_refused other answer =
+          let before : ReadsAsBefore (life_of life old) (life disk) = elim opens.refuses.kept [ inl fault ↦ absurd (other fault) | inr before ↦ before ] in
+          record {
+            after = refused image why;
+            stands = refused_still (life_of life old) (life disk) image why before.same is;
+            ends = inl (answer, refl);
+            meanwhile = inr before.any_moment;
+          }
+
+  opened_again_as : (old new : ScriptArchive D) (a : Archive) (outcome : Result Reply Refusal) (o : Option State) → a.doubt ≡ o → LeavesOpened (life_of life old) a o → IsTrue (life_of life new).obeys → Opens life (life_of life old) outcome new
+      → Again old new (opened a) outcome
+  opened_again_as old new a outcome None certain leaves obeys opens =
+      certain_again old new (opened a) a outcome leaves (λ x either. inl (one_either a.state x either)) (λ t only. only)
+      (λ t ends. subst (λ (o : Option State). ReopensOpened (life_of life old) (HasFailed (life_of life old) (life_of life new)) a o outcome t) (sym certain) ends) obeys opens
+  opened_again_as old new a outcome (Some u) doubt leaves obeys opens =
+      either_again old new (opened a) a.state u outcome leaves (λ x either. either_stands a u x doubt either) (λ t only. only)
+      (λ t ends. subst (λ (o : Option State). ReopensOpened (life_of life old) (HasFailed (life_of life old) (life_of life new)) a o outcome t) (sym doubt) ends) obeys opens
+
+  pub reopen_kept : (old new : ScriptArchive D) (s : Standing) (outcome : Result Reply Refusal) → IsStanding life old s → IsTrue (life_of life new).obeys → Opens life (life_of life old) outcome new
+      → Kept life lines.Reopen old new s (Reopens (life_of life old) (HasFailed (life_of life old) (life_of life new)) s) outcome
+  reopen_kept old new s outcome stands obeys opens = by s (standing_left life old s stands)
+    where
+      by : (s : Standing) → LeavesStanding (life_of life old) s → Again old new s outcome
+      by (opened a) leaves = opened_again_as old new a outcome a.doubt refl leaves obeys opens
+      by (closed a) leaves = certain_again old new (closed a) a outcome leaves (λ x either. one_either a.state x either) (λ t only. only) (λ t ends. ends) obeys opens
+      by (doubtful s u) leaves = either_again old new (doubtful s u) s u outcome leaves (λ x either. either) (λ t only. only) (λ t ends. ends) obeys opens
+      by (refused image why) is = refused_again old new image why outcome is obeys opens
+      by unknown leaves = record { after = unknown; stands = is_unknown life new; ends = refl; meanwhile = tt }

@@ -1,5 +1,5 @@
 -- Recordings verified one after another.
-use Rattle.std.proofs.Common.{◌≡◌, ◌∙◌, ◌≤◌, ◌+◌, ◌<◌, ◌++◌, refl, sym, ap, ap₂, subst, ℕ, ℤ, Bool, true, false, true≢false, cond, IsTrue, List, [], ◌∷◌, length, take, get_or, Option, arith}
+use Rattle.std.proofs.Common.{◌≡◌, ◌∙◌, ◌≤◌, ◌+◌, ◌<◌, ◌++◌, refl, sym, ap, ap₂, subst, ℕ, ℤ, Bool, true, false, true≢false, cond, List, [], ◌∷◌, length, take, get_or, Option, arith}
 use Rattle.std.proofs.lemmas.List.{append-nil, length-append, length-take-le, take_all, take_more}
 use Rattle.std.proofs.lemmas.List.Concat.{flat_map-append}
 use Rattle.std.proofs.lemmas.List.Folds.{list_all-append}
@@ -9,10 +9,8 @@ use Rattle.std.specs.Io.KnownBytes.{Appends}
 use Rattle.std.specs.List.{AllZip, list_all}
 use Rattle.std.specs.Prelude.{Result, Ok, Err, is_ok, ◌&&◌, if◌then◌else◌, pos}
 use Rattle.frame_core.specs.declared.refusal.Refusal.{Refusal}
-use Rattle.frame_core.specs.declared.refusal.Refusal.TheVariants.{DeviceFault}
 use Rattle.disk_core.specs.Life.{HasFailed, Life}
 use Rattle.archive_model.specs.declared.reply.Reply.{Reply}
-use Rattle.control_core.specs.declared.event.Event.{Event}
 use Rattle.control_core.specs.declared.event.Event.TheVariants.{Verify}
 use Rattle.control_core.specs.Exact.{Archive, CallEnds}
 use Rattle.control_core.proofs.FaultLemmas.{other_cause}
@@ -26,8 +24,8 @@ use Rattle.tool_core.specs.declared.fault.EarlyEnd.{EarlyEnd}
 use Rattle.tool_core.specs.declared.fault.EarlyEnd.TheVariants as ends
 use Rattle.tool_core.specs.declared.reports.Verdict.{Verdict}
 use Rattle.tool_core.specs.declared.reports.Verdict.TheVariants.{Whole, Refused}
-use Rattle.tool_core.specs.Reports.{AnswersEach, HasReported, HasReportedFirst, HasReportedOne, IsEngineOf, IsWrittenBefore, ids_in, life_in, outcomes_text}
-use Rattle.tool_core.specs.Script.{FailsToAnswer, outcome_text}
+use Rattle.tool_core.specs.Reports.{AnswersEach, HasReported, HasReportedFirst, HasReportedOne, IsWrittenBefore, ids_in, life_in, outcomes_text}
+use Rattle.tool_core.specs.Answering.{FailsToAnswer, outcome_text}
 use Rattle.tool_core.proofs.CallLemmas.{answered_at}
 
 and-true : (b : Bool) → (b && true) ≡ b

@@ -2,13 +2,13 @@
 pub mod InputLines
 pub mod Transcript
 pub mod Merging
+pub mod Answering
+pub mod Archives
 pub mod ScriptLines
 pub mod Script
 pub mod Reports
 pub mod FrameLines
 -- How a line is put together from parts.
 pub mod Parts
--- What values in memory and a disk are to an archive.
-pub mod Tie
 -- How what stands next in a file is read.
 pub mod Stored

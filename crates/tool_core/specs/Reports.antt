@@ -16,7 +16,7 @@ use Rattle.tool_core.specs.declared.fault.EarlyEnd.{EarlyEnd}
 use Rattle.tool_core.specs.declared.fault.EarlyEnd.TheVariants as ends
 use Rattle.tool_core.specs.declared.reports.Verdict.{Verdict}
 use Rattle.tool_core.specs.declared.reports.Verdict.TheVariants.{Whole, Refused}
-use Rattle.tool_core.specs.Script.{FailsToAnswer, outcome_text}
+use Rattle.tool_core.specs.Answering.{FailsToAnswer, outcome_text}
 
 -- what is written of answers, one behind another
 abbrev pub outcomes_text : List (Result Reply Refusal) → List ℕ

@@ -1,20 +1,25 @@
--- What each line of a script is answered, and how the script stands after it. docs/CONTROL.md, "Lines".
-use Rattle.std.specs.Prelude.{◌≡◌, ◌⊎◌, ℤ, pos, Bool, true, List, ℕ, Option, None, Result, Ok, Err}
+-- What each line of a script is answered exactly, and how the script stands after it, where its disk obeys the crash model.
+-- docs/CONTROL.md, "Lines"; docs/STORAGE.md, "Recovery".
+use Rattle.std.specs.Prelude.{◌≡◌, ◌⊎◌, ℕ, ℤ, pos, Bool, true, List, Option, Some, None, Result, Ok, Err}
 use Rattle.frame_core.specs.declared.refusal.Refusal.{Refusal}
-use Rattle.frame_core.specs.declared.refusal.Refusal.TheVariants.{BadLine, Broken, NoMemory}
-use Rattle.disk_core.specs.DiskImage.{DiskImage}
+use Rattle.frame_core.specs.declared.refusal.Refusal.TheVariants.{BadLine, Broken, DeviceFault, NoMemory}
+use Rattle.disk_core.specs.DiskImage.{DiskImage, MayLeave, reads}
+use Rattle.disk_core.specs.Life.{HasFailed, LeavesOnly, Life}
 use Rattle.archive_model.specs.declared.command.Command.TheVariants.{Restart}
 use Rattle.archive_model.specs.declared.reply.Reply.{Reply}
 use Rattle.archive_model.specs.declared.reply.Reply.TheVariants.{Bye, Reopened}
 use Rattle.archive_model.specs.Commands.{after}
-use Rattle.archive_model.specs.State.{active_count}
+use Rattle.archive_model.specs.State.{State, active_count}
 use Rattle.merge_core.specs.Merge.{Merging}
 use Rattle.control_core.specs.declared.event.Event.{Event}
 use Rattle.control_core.specs.declared.event.Event.TheVariants as events
 use Rattle.control_core.specs.Bytes.{BytesEnd}
 use Rattle.control_core.specs.Exact.{Archive, ArchiveEnd, CallEnds, Is, opened_archive}
+use Rattle.control_core.specs.Runs.{MayStand}
 use Rattle.control_lines.specs.declared.line.Line.{Line}
 use Rattle.control_lines.specs.declared.line.Line.TheVariants as lines
+use Rattle.engine_core.specs.Opened.{IsFresh}
+use Rattle.engine_core.specs.Recovery.{IsEither, Recovers, RecoversTo}
 use Rattle.tool_core.specs.Merging.{MergeEnds, Ends}
 
 -- so, or memory was refused, and nothing has changed
@@ -23,72 +28,109 @@ OrWant old Made outcome new = Made outcome new ⊎ ((outcome ≡ Err NoMemory) �
 
 -- ---- the archive of a script
 
--- an archive that is open, one that could not be opened again, as it was last, or none: what the disk reads as, and why its
--- catalogue is refused
+-- How the archive stands. It is open; or it could not be opened again for want of memory, and is as it was last; or since a
+-- device fault, and then the disk recovers to one of two states; or there is none: what the disk reads as, and why its
+-- catalogue is refused. Nothing is known behind a call that failed while an archive was made, or a refused catalogue was read.
 pub data Standing : Type 0 where
   opened : Archive → Standing
   closed : Archive → Standing
+  doubtful : State → State → Standing
   refused : DiskImage → Refusal → Standing
+  unknown : Standing
 
 -- a call of the archive where it is open; else it is Broken
 abbrev pub WhereOpen : (Archive → ArchiveEnd) → Standing → Ends Standing
 WhereOpen Made (opened a) outcome (opened b) = Made a outcome b
-WhereOpen Made (opened a) outcome (closed b) = ⊥
-WhereOpen Made (opened a) outcome (refused image why) = ⊥
-WhereOpen Made (closed a) outcome new = (outcome ≡ Err Broken) × (new ≡ closed a)
-WhereOpen Made (refused image why) outcome new = (outcome ≡ Err Broken) × (new ≡ refused image why)
+WhereOpen Made (opened a) outcome _ = ⊥
+WhereOpen Made unknown outcome new = new ≡ unknown
+WhereOpen Made standing outcome new = (outcome ≡ Err Broken) × (new ≡ standing)
 
--- a call, where no device fails
-abbrev pub Calls : Event → Archive → ArchiveEnd
-Calls event a = CallEnds a event ⊥
+-- a call; it is answered by a device fault only where a call of the disk has failed
+abbrev pub Calls : Type 0 → Event → Archive → ArchiveEnd
+Calls faulted event a = CallEnds a event faulted
 
 -- a block's bytes are read by the terms of the session's recording, and then it is written
-abbrev pub WritesBytes : ℤ → List ℕ → Archive → ArchiveEnd
-WritesBytes session bytes a = BytesEnd a session bytes (λ block. Calls (events.Write session block) a)
+abbrev pub WritesBytes : Type 0 → ℤ → List ℕ → Archive → ArchiveEnd
+WritesBytes faulted session bytes a = BytesEnd a session bytes (λ block. Calls faulted (events.Write session block) a)
 
 -- what was written is settled; a refusal is the answer
-abbrev pub ThenSettles : ℤ → Result Reply Refusal → Archive → ArchiveEnd
-ThenSettles session (Ok reply) a = Calls (events.Settle session) a
-ThenSettles session (Err refusal) a = Is (Err refusal) a
+abbrev pub ThenSettles : Type 0 → ℤ → Result Reply Refusal → Archive → ArchiveEnd
+ThenSettles faulted session (Ok reply) a = Calls faulted (events.Settle session) a
+ThenSettles faulted session (Err refusal) a = Is (Err refusal) a
 
 -- A block is written and then settled: the first refusal. Where settling is refused it stays written.
-abbrev pub Records : ℤ → List ℕ → Archive → ArchiveEnd
-Records session bytes a outcome b = (first : Result Reply Refusal) × (mid : Archive) × WritesBytes session bytes a first mid × ThenSettles session first mid outcome b
+abbrev pub Records : Type 0 → ℤ → List ℕ → Archive → ArchiveEnd
+Records faulted session bytes a outcome b =
+    (first : Result Reply Refusal) × (mid : Archive) × OrWant a (WritesBytes faulted session bytes a) first mid × ThenSettles faulted session first mid outcome b
+
+-- ---- reopening
 
 -- the archive once it is opened again: each active recording has stopped, and nobody calls yet
 abbrev pub reopened : Archive → Archive
 reopened a = opened_archive (after a.state Restart) a.desk.counted a.desk.limit
 
--- it is closed and opened again; where there is no memory for that it stays closed
-abbrev pub ReopensAs : Archive → Ends Standing
-ReopensAs a (Ok reply) new = (reply ≡ Reopened (pos (active_count a.state))) × (new ≡ opened (reopened a))
-ReopensAs a (Err NoMemory) new = new ≡ closed a
-ReopensAs a (Err refusal) new = ⊥
+-- It is closed and opened again. Where there is no memory for that it stays closed; a device fault leaves the state or its
+-- restart.
+abbrev pub ReopensAs : Type 0 → Archive → Ends Standing
+ReopensAs faulted a (Ok reply) new = (reply ≡ Reopened (pos (active_count a.state))) × (new ≡ opened (reopened a))
+ReopensAs faulted a (Err NoMemory) new = new ≡ closed a
+ReopensAs faulted a (Err DeviceFault) new = faulted × (new ≡ doubtful a.state (after a.state Restart))
+ReopensAs faulted a (Err refusal) new = ⊥
 
--- what reopening does; where there is no archive it is refused again
-abbrev pub Reopens : Standing → Ends Standing
-Reopens (opened a) outcome new = ReopensAs a outcome new
-Reopens (closed a) outcome new = ReopensAs a outcome new
-Reopens (refused image why) outcome new = ((outcome ≡ Err why) ⊎ (outcome ≡ Err NoMemory)) × (new ≡ refused image why)
+-- the restart of the one of two states that the disk reads as, with the history that its catalogue has
+pub record IsRestart (life : Life) (s u : State) (restarted : ℤ) (b : Archive) : Type 0 where
+  pub read : State
+  pub is : IsEither s u read
+  pub recovers : Recovers (reads life.now) read
+  pub stopped : restarted ≡ pos (active_count read)
+  pub fresh : IsFresh (reads life.now) (after read Restart) b
+
+-- a device fault leaves both states, or one of them and its restart
+abbrev pub StaysInDoubt : State → State → Standing → Type 0
+StaysInDoubt s u (doubtful x y) = ((x ≡ s) × (y ≡ u)) ⊎ (IsEither s u x × (y ≡ after x Restart))
+StaysInDoubt s u _ = ⊥
+
+-- the archive of one of two states is opened again
+abbrev pub ReopensEither : Life → Type 0 → State → State → Ends Standing
+ReopensEither life faulted s u (Ok (Reopened restarted)) (opened b) = IsRestart life s u restarted b
+ReopensEither life faulted s u (Ok reply) new = ⊥
+ReopensEither life faulted s u (Err NoMemory) new = new ≡ doubtful s u
+ReopensEither life faulted s u (Err DeviceFault) new = faulted × StaysInDoubt s u new
+ReopensEither life faulted s u (Err refusal) new = ⊥
+
+-- an archive, of which this state is in doubt
+abbrev pub ReopensOpened : Life → Type 0 → Archive → Option State → Ends Standing
+ReopensOpened life faulted a None = ReopensAs faulted a
+ReopensOpened life faulted a (Some u) = ReopensEither life faulted a.state u
+
+-- What reopening does, on a disk with this life. Where there is no archive it is refused again.
+abbrev pub Reopens : Life → Type 0 → Standing → Ends Standing
+Reopens life faulted (opened a) outcome new = ReopensOpened life faulted a a.doubt outcome new
+Reopens life faulted (closed a) outcome new = ReopensAs faulted a outcome new
+Reopens life faulted (doubtful s u) outcome new = ReopensEither life faulted s u outcome new
+Reopens life faulted (refused image why) outcome new =
+    (((outcome ≡ Err why) ⊎ (outcome ≡ Err NoMemory)) × (new ≡ refused image why)) ⊎ ((outcome ≡ Err DeviceFault) × faulted × (new ≡ unknown))
+Reopens life faulted unknown outcome new = new ≡ unknown
 
 -- ---- lines
 
--- the archive, and the merge that was begun last
+-- the archive, the merge that was begun last, and what befell the disk
 pub record Scene : Type 0 where
   pub archive : Standing
   pub merge : Option Merging
+  pub life : Life
 
--- a script begins without a merge
-abbrev pub begun_with : Standing → Scene
-begun_with first = record { archive = first; merge = None }
+-- a call of the disk has failed between two scenes
+abbrev pub Faulted : Scene → Scene → Type 0
+Faulted s t = HasFailed s.life t.life
 
 -- the line is the archive's, and the merge stays
 abbrev pub OfArchive : Scene → Ends Standing → Ends Scene
 OfArchive s Made outcome new = Made outcome new.archive × (new.merge ≡ s.merge)
 
--- the line is the merge's, and the archive stays
+-- the line is the merge's, and the archive and its disk stay
 abbrev pub OfMerge : Scene → Ends (Option Merging) → Ends Scene
-OfMerge s Made outcome new = Made outcome new.merge × (new.archive ≡ s.archive)
+OfMerge s Made outcome new = Made outcome new.merge × (new.archive ≡ s.archive) × (new.life ≡ s.life)
 
 -- an answer, and nothing has changed
 abbrev pub Stays : Scene → Result Reply Refusal → Ends Scene
@@ -96,18 +138,40 @@ Stays s answer outcome new = (outcome ≡ answer) × (new ≡ s)
 
 -- What a line is answered. The bytes of a block are read as one, which may want memory.
 abbrev pub LineEnds : Scene → Line → Ends Scene
-LineEnds s (lines.Event event) = OfArchive s (WhereOpen (Calls event) s.archive)
-LineEnds s (lines.Write session bytes) = OrWant s (OfArchive s (WhereOpen (WritesBytes session bytes) s.archive))
-LineEnds s (lines.Block session bytes) = OrWant s (OfArchive s (WhereOpen (Records session bytes) s.archive))
-LineEnds s lines.Reopen = OfArchive s (Reopens s.archive)
-LineEnds s (lines.Merge line) = OfMerge s (MergeEnds s.merge line)
-LineEnds s lines.Quit = Stays s (Ok Bye)
-LineEnds s lines.Compact = Stays s (Err BadLine)
+LineEnds s (lines.Event event) outcome t = OfArchive s (WhereOpen (Calls (Faulted s t) event) s.archive) outcome t
+LineEnds s (lines.Write session bytes) outcome t = OfArchive s (OrWant s.archive (WhereOpen (WritesBytes (Faulted s t) session bytes) s.archive)) outcome t
+LineEnds s (lines.Block session bytes) outcome t = OfArchive s (WhereOpen (Records (Faulted s t) session bytes) s.archive) outcome t
+LineEnds s lines.Reopen outcome t = OfArchive s (Reopens s.life (Faulted s t) s.archive) outcome t
+LineEnds s (lines.Merge line) outcome t = OfMerge s (MergeEnds s.merge line) outcome t
+LineEnds s lines.Quit outcome t = Stays s (Ok Bye) outcome t
+LineEnds s lines.Compact outcome t = Stays s (Err BadLine) outcome t
+
+-- ---- at every moment
+
+-- the state of the archive, or the one in doubt; none where there is no archive
+abbrev pub MayStandAt : Standing → State → Type 0
+MayStandAt (opened a) x = MayStand a x
+MayStandAt (closed a) x = x ≡ a.state
+MayStandAt (doubtful s u) x = IsEither s u x
+MayStandAt (refused image why) x = ⊥
+MayStandAt unknown x = ⊥
+
+-- a reopening stops what is active
+abbrev pub MayRestart : Line → Standing → State → Type 0
+MayRestart lines.Reopen standing x = (y : State) × MayStandAt standing y × (x ≡ after y Restart)
+MayRestart line standing x = ⊥
+
+-- A crash at any moment of a line, between these lives of the disk, leaves a state before it or after it, or in a reopening the
+-- restart of one before it; where the catalogue is refused, what it might have left before.
+abbrev pub LeavesMeanwhile : Line → Life → Life → Standing → Standing → Type 0
+LeavesMeanwhile line old new (refused image why) after = (after ≡ unknown) ⊎ LeavesOnly old new (MayLeave old.now)
+LeavesMeanwhile line old new unknown after = Unit {0}
+LeavesMeanwhile line old new before after = LeavesOnly old new (RecoversTo (λ x. MayStandAt before x ⊎ (MayStandAt after x ⊎ MayRestart line before x)))
 
 -- a line that was read, or bytes that are none
 abbrev pub ReadLineEnds : Scene → Result Line Refusal → Ends Scene
-ReadLineEnds s (Ok line) = LineEnds s line
-ReadLineEnds s (Err refusal) = Stays s (Err refusal)
+ReadLineEnds s (Ok line) outcome t = LineEnds s line outcome t × LeavesMeanwhile line s.life t.life s.archive t.archive
+ReadLineEnds s (Err refusal) outcome t = Stays s (Err refusal) outcome t
 
 -- how it ends; or, where its reading takes memory, want of memory before anything has changed
 abbrev pub Answered : Bool → Scene → Result Line Refusal → Ends Scene

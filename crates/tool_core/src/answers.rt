@@ -4,7 +4,7 @@ ghost use Rattle.std.specs.Prelude.{◌≡◌, IfErr, OnOk};
 ghost use Rattle.std.specs.Io.KnownBytes.{Appends};
 ghost use Rattle.control_lines.specs.ReplyText.{reply_text};
 ghost use Rattle.control_lines.specs.RefusalText.{refusal_text};
-ghost use Rattle.tool_core.specs.Script.{FailsToAnswer, outcome_text};
+ghost use Rattle.tool_core.specs.Answering.{FailsToAnswer, outcome_text};
 
 use crate::fault::EarlyEnd;
 use archive_model::Reply;

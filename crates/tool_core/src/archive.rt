@@ -1,18 +1,16 @@
 //! The archive that a script works on. docs/CONTROL.md, "Lines".
 
-ghost use Rattle.std.specs.Prelude.{◌≡◌, ◌≤◌, IfErr, IfOk};
+ghost use Rattle.std.specs.Prelude.{◌≡◌, IfErr, IfOk};
 ghost use Rattle.archive_model.specs.declared.reply.Reply.TheVariants.{Reopened};
 ghost use Rattle.engine_core.specs.Opening.{ReadsAsBefore};
-ghost use Rattle.tool_core.specs.Script.{Begins, Opens, Works};
-ghost use Rattle.tool_core.specs.ScriptLines.{Calls, OrWant, Records, Reopens, Standing, WhereOpen, WritesBytes};
-ghost use Rattle.engine_core.specs.Engine.{GoesOn};
-ghost use Rattle.tool_core.specs.Tie.{IsStanding, ReadsBlock, closed_by, life_of};
+ghost use Rattle.tool_core.specs.Archives.{BeginsWith, OpensOrRefuses, archive_ways, closed_by, life_of};
 
+use crate::answerer::Answerer;
 use archive_model::Reply;
 use control_core::{Event, read_terms};
 use disk_core::Disk;
 use engine_core::{Engine, OpenRefusal};
-use frame_core::{Block, Refusal, block_of};
+use frame_core::{Geometry, Refusal};
 use std::alloc::Global;
 
 /// Entries that the history of a new archive may have.
@@ -32,9 +30,7 @@ impl<D: Disk> ScriptArchive<D> {
     /// is opened. Where it is refused none is open. Want of memory hands the disk back, and has changed nothing that is
     /// read. Costs what `Engine::create` or `Engine::open` costs.
     pub fn of_disk(alloc: Global, disk: D) -> Result<ScriptArchive<D>, D>
-        ensures begun { IfOk result (λ archive. (first : Standing) → Begins (D.life disk) first →
-            Works (D.life disk) (life_of D.life archive) → IsStanding D.life archive first) }
-        ensures faults { IfOk result (λ archive. (D.life disk).faults ≤ (life_of D.life archive).faults) }
+        ensures begun { IfOk result (BeginsWith D.life (D.life disk)) }
         ensures unopened { IfErr result (λ back. ReadsAsBefore (D.life disk) (D.life back)) }
     {
         match Engine::create(alloc, disk, HISTORY) {
@@ -58,63 +54,29 @@ impl<D: Disk> ScriptArchive<D> {
             ScriptArchive::Closed(disk) => disk,
         }
     }
+}
 
-    /// Answers a call: `Broken` where no archive is open, else as `Engine::step`.
-    pub fn call(&mut self, alloc: Global, event: &Event) -> Result<Reply, Refusal>
-        ensures goes_on { GoesOn (life_of D.life self.old) (life_of D.life self.new) }
-        ensures called { (s : Standing) → IsStanding D.life self.old s → Works (life_of D.life self.old) (life_of D.life self.new) →
-            (t : Standing) × IsStanding D.life self.new t × WhereOpen (Calls event.now) s result t }
-    {
+/// Each call is answered as `Engine::step` answers it. Where none is open, calls are `Broken`; `compact` is `BadLine` until
+/// something answers it.
+impl<D: Disk> Answerer for ScriptArchive<D> {
+    ghost ways = { archive_ways D.life };
+
+    fn terms(&self, session: &i64) -> Result<Geometry, Refusal> {
+        match self {
+            ScriptArchive::Open(engine) => read_terms(engine.desk(), session),
+            ScriptArchive::Closed(_) => Err(Refusal::Broken),
+        }
+    }
+
+    fn call(&mut self, alloc: Global, event: &Event) -> Result<Reply, Refusal> {
         match self {
             ScriptArchive::Open(engine) => engine.step(alloc, event),
             ScriptArchive::Closed(_) => Err(Refusal::Broken),
         }
     }
 
-    /// Writes the bytes of a block, read by the terms of the recording that a session writes.
-    pub fn write(&mut self, alloc: Global, session: &i64, bytes: &[u8]) -> Result<Reply, Refusal>
-        ensures goes_on { GoesOn (life_of D.life self.old) (life_of D.life self.new) }
-        ensures written { (s : Standing) → IsStanding D.life self.old s → Works (life_of D.life self.old) (life_of D.life self.new) →
-            (t : Standing) × IsStanding D.life self.new t × OrWant s (WhereOpen (WritesBytes session.now bytes.now) s) result t }
-    {
-        let block = self.read(alloc, session, bytes)?;
-        let event = Event::Write {
-            session: *session,
-            block,
-        };
-        self.call(alloc, &event)
-    }
-
-    /// The block of bytes that are read by the terms of the recording that a session writes.
-    fn read(&self, alloc: Global, session: &i64, bytes: &[u8]) -> Result<Block, Refusal>
-        ensures { (s : Standing) → IsStanding D.life self.now s → ReadsBlock s session.now bytes.now result }
-    {
-        match self {
-            ScriptArchive::Open(engine) => block_of(
-                alloc,
-                &read_terms(engine.desk(), session)?,
-                bytes,
-            ),
-            ScriptArchive::Closed(_) => Err(Refusal::Broken),
-        }
-    }
-
-    /// Writes the bytes of a block, and settles it. Where settling is refused it stays written.
-    pub fn record(&mut self, alloc: Global, session: &i64, bytes: &[u8]) -> Result<Reply, Refusal>
-        ensures goes_on { GoesOn (life_of D.life self.old) (life_of D.life self.new) }
-        ensures recorded { (s : Standing) → IsStanding D.life self.old s → Works (life_of D.life self.old) (life_of D.life self.new) →
-            (t : Standing) × IsStanding D.life self.new t × OrWant s (WhereOpen (Records session.now bytes.now) s) result t }
-    {
-        self.write(alloc, session, bytes)?;
-        self.call(alloc, &Event::Settle { session: *session })
-    }
-
     /// Closes the archive and opens it again: how many recordings that stopped. Where it is refused none is open.
-    pub fn reopen(self, alloc: Global) -> (ScriptArchive<D>, Result<Reply, Refusal>)
-        ensures goes_on { GoesOn (life_of D.life self) (life_of D.life result.0) }
-        ensures reopened { (s : Standing) → IsStanding D.life self s → Works (life_of D.life self) (life_of D.life result.0) →
-            (t : Standing) × IsStanding D.life result.0 t × Reopens s result.1 t }
-    {
+    fn reopen(self, alloc: Global) -> (ScriptArchive<D>, Result<Reply, Refusal>) {
         match Engine::open(alloc, self.into_disk()) {
             Ok(engine) => {
                 let reply = reply_of(&engine);
@@ -123,13 +85,15 @@ impl<D: Disk> ScriptArchive<D> {
             Err(OpenRefusal { refusal, disk }) => (ScriptArchive::Closed(disk), Err(refusal)),
         }
     }
+
+    fn compact(self, _alloc: Global) -> (ScriptArchive<D>, Result<Reply, Refusal>) {
+        (self, Err(Refusal::BadLine))
+    }
 }
 
 /// The archive of a disk with files, opened; none where that is refused. The disk again for want of memory.
 fn opened<D: Disk>(alloc: Global, disk: D) -> Result<ScriptArchive<D>, D>
-    ensures begun { IfOk result (λ archive. (first : Standing) → Opens (D.life disk) first →
-        Works (D.life disk) (life_of D.life archive) → IsStanding D.life archive first) }
-    ensures goes_on { IfOk result (λ archive. GoesOn (D.life disk) (life_of D.life archive)) }
+    ensures begun { IfOk result (OpensOrRefuses D.life (D.life disk)) }
     ensures unopened { IfErr result (λ back. ReadsAsBefore (D.life disk) (D.life back)) }
 {
     match Engine::open(alloc, disk) {

@@ -2,7 +2,7 @@
 
 ghost use Rattle.std.specs.Prelude.{◌≡◌};
 ghost use Rattle.tool_core.specs.declared.fault.EarlyEnd.TheVariants.{Memory};
-ghost use Rattle.tool_core.specs.Script.{disk_of, end_of};
+ghost use Rattle.tool_core.specs.Archives.{disk_of, end_of};
 
 use std::alloc::AllocError;
 

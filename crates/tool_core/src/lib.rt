@@ -2,6 +2,7 @@
 //! of a file of frames, and disks whose reads are watched.
 #![tactic(auto)]
 
+mod answerer;
 mod answers;
 mod archive;
 mod fault;
@@ -15,6 +16,7 @@ mod script;
 mod state;
 mod stored;
 
+pub use answerer::Answerer;
 pub use answers::{write_outcome, write_refusal, write_reply};
 pub use archive::ScriptArchive;
 pub use fault::{EarlyEnd, ScriptFault};
@@ -23,5 +25,5 @@ pub use lines::{LineBuffer, MAX_READS, read_line};
 pub use merging::answer_merge;
 pub use progress::{Progress, Viewer, Watched};
 pub use reports::{Verdict, list_recordings, verify_recordings};
-pub use script::run_script;
+pub use script::{answer_lines, run_script};
 pub use state::ScriptState;

@@ -6,7 +6,7 @@ ghost use Rattle.archive_model.specs.declared.reply.Reply.TheVariants.{Recording
 ghost use Rattle.archive_model.specs.Register.{id_of};
 ghost use Rattle.control_core.specs.Decisions.{listed};
 ghost use Rattle.control_lines.specs.ReplyText.{reply_text};
-ghost use Rattle.tool_core.specs.Script.{FailsToAnswer};
+ghost use Rattle.tool_core.specs.Answering.{FailsToAnswer};
 ghost use Rattle.tool_core.specs.Reports.{AnswersEach, HasReported, HasReportedFirst, HasReportedOne};
 
 use crate::answers::{write_outcome, write_reply};

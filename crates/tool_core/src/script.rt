@@ -1,15 +1,16 @@
 //! A script of control lines, from a reader to a writer. docs/CONTROL.md, "Scripts".
 
-ghost use Rattle.std.specs.Prelude.{◌≡◌, ◌⊎◌, ◌↔◌, ◌<◌, Contains, IfErr, IfOk, IsTrue, MatchBool, OnOk, bytes_eq, codes};
-ghost use Rattle.std.specs.Io.KnownBytes.{Appends, IsAtEnd, Keeps};
+ghost use Rattle.std.specs.Prelude.{◌≡◌, ◌⊎◌, ◌↔◌, ◌<◌, Contains, IfErr, IfOk, IsTrue, MatchBool, OnOk};
+ghost use Rattle.std.specs.Io.KnownBytes.{IsAtEnd, Keeps};
 ghost use Rattle.std.specs.Io.Buffered.{reader_remaining};
 ghost use Rattle.tool_core.specs.InputLines.{ReadsLine};
-ghost use Rattle.tool_core.specs.Transcript.{Writes};
-ghost use Rattle.tool_core.specs.ScriptLines.{Answered, Scene, Standing, begun_with};
-ghost use Rattle.tool_core.specs.Script.{Begins, EndsEarly, FailsToAnswer, IsTranscript, IsUnopened, LeavesScene, Replied, Works, asked, asked_copies, disk_of, end_of, ended_by, outcome_text, quits};
-ghost use Rattle.engine_core.specs.Engine.{GoesOn};
-ghost use Rattle.tool_core.specs.Tie.{IsScene, life_of};
+ghost use Rattle.tool_core.specs.Transcript.{AnswersAll, AnswersSome, Writes};
+ghost use Rattle.tool_core.specs.Answering.{AnswersFirstLines, AnswersLines, EndsEarly, IsAnswer, Replies, RepliesTo, asked, asked_copies, ended_by, quits};
+ghost use Rattle.tool_core.specs.Archives.{IsScript, IsScriptOfFirst, IsUnopened, disk_of, end_of};
+ghost use Rattle.tool_core.specs.ScriptLines.{Standing};
+ghost use Rattle.tool_core.specs.Script.{Begins, IsTranscript, IsTranscriptOfFirst};
 
+use crate::answerer::Answerer;
 use crate::answers::write_outcome;
 use crate::archive::ScriptArchive;
 use crate::fault::{EarlyEnd, ScriptFault};
@@ -37,14 +38,12 @@ fn is_quit(line: &LineBuffer) -> bool
 }
 
 /// What a line is answered, and how the script stands then. A line that is too long is `BadLine`.
-fn outcome_of<D: Disk>(
+fn outcome_of<A: Answerer>(
     alloc: Global,
-    state: ScriptState<D>,
+    state: ScriptState<A>,
     line: &LineBuffer,
-) -> (ScriptState<D>, Result<Reply, Refusal>)
-    ensures goes_on { GoesOn (life_of D.life state.archive) (life_of D.life result.0.archive) }
-    ensures answered { (s : Scene) → IsScene D.life state s → Works (life_of D.life state.archive) (life_of D.life result.0.archive) →
-        (t : Scene) × IsScene D.life result.0 t × Answered (asked_copies line.now) s (asked line.now) result.1 t }
+) -> (ScriptState<A>, Result<Reply, Refusal>)
+    ensures { IsAnswer A.ways (asked_copies line.now) state (asked line.now) result.1 result.0 }
 {
     let Some(bytes) = line.bytes() else {
         return (state, Err(Refusal::BadLine));
@@ -56,16 +55,13 @@ fn outcome_of<D: Disk>(
 }
 
 /// Answers a line.
-fn answer_line<W: Write, D: Disk>(
+fn answer_line<W: Write, A: Answerer>(
     alloc: Global,
-    state: ScriptState<D>,
+    state: ScriptState<A>,
     line: &LineBuffer,
     writer: &mut W,
-) -> (ScriptState<D>, Result<(), EarlyEnd>)
-    ensures goes_on { GoesOn (life_of D.life state.archive) (life_of D.life result.0.archive) }
-    ensures replied { (s : Scene) → IsScene D.life state s → Works (life_of D.life state.archive) (life_of D.life result.0.archive) →
-        (t : Scene) × IsScene D.life result.0 t
-        × Replied (W.contents writer.old) (W.contents writer.new) line.now s t result.1 }
+) -> (ScriptState<A>, Result<(), EarlyEnd>)
+    ensures { RepliesTo A.ways (W.contents writer.old) (W.contents writer.new) line.now state result.0 result.1 }
 {
     let (state, outcome) = outcome_of(alloc, state, line);
     (state, write_outcome(alloc, &outcome, writer))
@@ -100,21 +96,17 @@ fn next_line<R: Read, W: Write>(
 }
 
 /// Answers line after line, up to the one that quits or the end of the input.
-fn run_lines<R: Read + Drop, W: Write, D: Disk>(
+fn run_lines<R: Read + Drop, W: Write, A: Answerer>(
     alloc: Global,
-    state: ScriptState<D>,
+    state: ScriptState<A>,
     reader: &mut BufReader<R>,
     writer: &mut W,
-) -> (ScriptState<D>, Result<(), EarlyEnd>)
-    ensures goes_on { GoesOn (life_of D.life state.archive) (life_of D.life result.0.archive) }
-    ensures whole { OnOk result.1 ((first : Standing) → IsScene D.life state (begun_with first) →
-        Works (life_of D.life state.archive) (life_of D.life result.0.archive) →
-        Writes (reader_remaining R.remaining reader.old) (W.contents writer.old) (W.contents writer.new)
-        (IsTranscript first (IsScene D.life result.0))) }
-    ensures early { IfErr result.1 (λ end. (first : Standing) → IsScene D.life state (begun_with first) →
-        Works (life_of D.life state.archive) (life_of D.life result.0.archive) →
-        EndsEarly end first (IsScene D.life result.0) (reader_remaining R.remaining reader.old)
-        (W.contents writer.old) (W.contents writer.new)) }
+) -> (ScriptState<A>, Result<(), EarlyEnd>)
+    ensures whole { OnOk result.1 (Writes (reader_remaining R.remaining reader.old)
+        (W.contents writer.old) (W.contents writer.new)
+        (AnswersAll state (λ s. s ≡ result.0) quits (Replies A.ways))) }
+    ensures early { IfErr result.1 (λ end. EndsEarly end (AnswersSome state (λ s. s ≡ result.0) quits (Replies A.ways))
+        (reader_remaining R.remaining reader.old) (W.contents writer.old) (W.contents writer.new)) }
 {
     let mut state = state;
     let mut line = LineBuffer::new(alloc);
@@ -137,45 +129,34 @@ fn run_lines<R: Read + Drop, W: Write, D: Disk>(
     }
 }
 
-/// Answers the control lines of a reader on a writer, up to the line `quit` or the end of the input, over the archive of a
-/// disk: docs/CONTROL.md, "Scripts". Where no file is there it is made, with a history of 1,048,576 entries; else it is
-/// opened, and where that is refused every line is `Broken` but those that need no archive, until `reopen` opens it. The
-/// disk comes back.
+/// Answers the control lines of a reader on a writer, up to the line `quit` or the end of the input, as the answerer
+/// answers their calls: docs/CONTROL.md, "Scripts". A line to a merge, `quit`, and what is no line make no call; `block`
+/// makes two at most. The answerer comes back.
 ///
 /// Each line is answered before the next one is waited for. What the writer had stays before what it gains. `Read`
-/// where the reader fails, or was looked at 9,223,372,036,854,775,807 times; `Memory` where a reply's text or the opening
-/// finds no memory; `Write` where the writer fails. What was answered before stays written.
-pub fn run_script<R: Read + Drop, W: Write, D: Disk>(
+/// where the reader fails, or was looked at 9,223,372,036,854,775,807 times; `Memory` where a reply's text or the reader's
+/// buffer finds no memory; `Write` where the writer fails. What was answered before stays written.
+pub fn answer_lines<R: Read + Drop, W: Write, A: Answerer>(
     alloc: Global,
     reader: R,
     writer: &mut W,
-    disk: D,
-) -> Result<D, ScriptFault<D>>
-    ensures whole { IfOk result (λ back. (first : Standing) → Begins (D.life disk) first → Works (D.life disk) (D.life back) →
-        Writes (R.remaining reader) (W.contents writer.old) (W.contents writer.new)
-        (IsTranscript first (LeavesScene (D.life back)))) }
-    ensures early { IfErr result (λ fault. (first : Standing) → Begins (D.life disk) first → Works (D.life disk) (D.life (disk_of fault)) →
-        EndsEarly (end_of fault) first (LeavesScene (D.life (disk_of fault))) (R.remaining reader)
-        (W.contents writer.old) (W.contents writer.new)
-        ⊎ IsUnopened (D.life disk) (D.life (disk_of fault)) (W.contents writer.old) (W.contents writer.new) (end_of fault)) }
+    archive: A,
+) -> (A, Result<(), EarlyEnd>)
+    ensures whole { OnOk result.1 (Writes (R.remaining reader) (W.contents writer.old) (W.contents writer.new)
+        (AnswersLines A.ways archive result.0)) }
+    ensures early { IfErr result.1 (λ end. EndsEarly end (AnswersFirstLines A.ways archive result.0)
+        (R.remaining reader) (W.contents writer.old) (W.contents writer.new)) }
 {
     let Ok(mut reader) = BufReader::with_capacity(alloc, READ_AHEAD, reader) else {
-        return Err(ScriptFault::Memory(disk));
-    };
-    let archive = match ScriptArchive::of_disk(alloc, disk) {
-        Ok(archive) => archive,
-        Err(disk) => return Err(ScriptFault::Memory(disk)),
+        return (archive, Err(EarlyEnd::Memory));
     };
     let state = ScriptState {
         archive,
         merge: None,
     };
     let (state, outcome) = run_lines(alloc, state, &mut reader, writer);
-    let disk = state.archive.into_disk();
-    match after_flush(outcome, writer.flush().is_ok()) {
-        Ok(()) => Ok(disk),
-        Err(end) => Err(ScriptFault::new(end, disk)),
-    }
+    let is_flushed = writer.flush().is_ok();
+    (state.archive, after_flush(outcome, is_flushed))
 }
 
 /// How a script ended, once what it wrote was handed on or could not be.
@@ -185,5 +166,45 @@ fn after_flush(outcome: Result<(), EarlyEnd>, is_flushed: bool) -> Result<(), Ea
     match outcome {
         Ok(()) if !is_flushed => Err(EarlyEnd::Write),
         outcome => outcome,
+    }
+}
+
+/// Answers the control lines of a reader on a writer as `answer_lines`, over the archive of a disk. Where no file is there
+/// it is made, with a history of 1,048,576 entries; else it is opened, and where that is refused every line is `Broken` but
+/// those that need no archive, until `reopen` opens it. The disk comes back. docs/CONTROL.md, "Scripts".
+///
+/// The faults of `answer_lines`; `Memory` also where the opening finds no memory.
+pub fn run_script<R: Read + Drop, W: Write, D: Disk>(
+    alloc: Global,
+    reader: R,
+    writer: &mut W,
+    disk: D,
+) -> Result<D, ScriptFault<D>>
+    // Whatever the disk holds and does: each line is answered as `Engine::step` and `Engine::open` say.
+    ensures whole { IfOk result (λ back. Writes (R.remaining reader) (W.contents writer.old) (W.contents writer.new)
+        (IsScript D.life (D.life disk) (D.life back))) }
+    ensures early { IfErr result (λ fault. EndsEarly (end_of fault)
+        (IsScriptOfFirst D.life (D.life disk) (D.life (disk_of fault)))
+        (R.remaining reader) (W.contents writer.old) (W.contents writer.new)
+        ⊎ IsUnopened (D.life disk) (D.life (disk_of fault)) (W.contents writer.old) (W.contents writer.new) (end_of fault)) }
+    // Where the disk obeys the crash model: the exact answers, and what a crash leaves at every moment.
+    ensures kept { IfOk result (λ back. (first : Standing) → Begins (D.life disk) first → IsTrue (D.life back).obeys →
+        Writes (R.remaining reader) (W.contents writer.old) (W.contents writer.new)
+        (IsTranscript first (D.life disk) (D.life back))) }
+    ensures kept_early { IfErr result (λ fault. (first : Standing) → Begins (D.life disk) first →
+        IsTrue (D.life (disk_of fault)).obeys → EndsEarly (end_of fault)
+        (IsTranscriptOfFirst first (D.life disk) (D.life (disk_of fault)))
+        (R.remaining reader) (W.contents writer.old) (W.contents writer.new)
+        ⊎ IsUnopened (D.life disk) (D.life (disk_of fault)) (W.contents writer.old) (W.contents writer.new) (end_of fault)) }
+{
+    let archive = match ScriptArchive::of_disk(alloc, disk) {
+        Ok(archive) => archive,
+        Err(disk) => return Err(ScriptFault::Memory(disk)),
+    };
+    let (archive, outcome) = answer_lines(alloc, reader, writer, archive);
+    let disk = archive.into_disk();
+    match outcome {
+        Ok(()) => Ok(disk),
+        Err(end) => Err(ScriptFault::new(end, disk)),
     }
 }

@@ -1,34 +1,26 @@
-//! What the lines of a script are answered by: an archive, and a merge of a replay and the live stream.
+//! What the lines of a script are answered by: an answerer, and a merge of a replay and the live stream.
 
-ghost use Rattle.std.specs.Prelude.{◌≡◌, Ok};
-ghost use Rattle.tool_core.specs.Script.{Works};
-ghost use Rattle.tool_core.specs.ScriptLines.{LineEnds, Scene};
-ghost use Rattle.engine_core.specs.Engine.{GoesOn};
-ghost use Rattle.tool_core.specs.Tie.{IsScene, life_of};
+ghost use Rattle.tool_core.specs.Answering.{LineIs};
 
-use crate::archive::ScriptArchive;
+use crate::answerer::{Answerer, record_bytes, write_bytes};
 use crate::merging::answer_merge;
 use archive_model::Reply;
 use control_lines::Line;
-use disk_core::Disk;
 use frame_core::Refusal;
 use merge_core::Merge;
 use std::alloc::Global;
 
-/// An archive, and the merge that was begun last.
+/// Who answers calls, and the merge that was begun last.
 #[derive(Drop)]
-pub struct ScriptState<D> {
-    pub archive: ScriptArchive<D>,
+pub struct ScriptState<A> {
+    pub archive: A,
     pub merge: Option<Merge>,
 }
 
-impl<D: Disk> ScriptState<D> {
-    /// Answers a line that was read, and hands back how the script stands then. `compact` is `BadLine` until something
-    /// answers it. Costs what the line asks for.
-    pub fn answer(self, alloc: Global, line: &Line) -> (ScriptState<D>, Result<Reply, Refusal>)
-        ensures goes_on { GoesOn (life_of D.life self.archive) (life_of D.life result.0.archive) }
-        ensures answered { (s : Scene) → IsScene D.life self s → Works (life_of D.life self.archive) (life_of D.life result.0.archive) →
-            (t : Scene) × IsScene D.life result.0 t × LineEnds s line.now result.1 t }
+impl<A: Answerer> ScriptState<A> {
+    /// Answers a line that was read, and hands back how the script stands then. Costs what the line asks for.
+    pub fn answer(self, alloc: Global, line: &Line) -> (ScriptState<A>, Result<Reply, Refusal>)
+        ensures { LineIs A.ways self line.now result.1 result.0 }
     {
         let ScriptState {
             mut archive,
@@ -39,12 +31,19 @@ impl<D: Disk> ScriptState<D> {
                 let (archive, outcome) = archive.reopen(alloc);
                 return (ScriptState { archive, merge }, outcome);
             }
+            Line::Compact => {
+                let (archive, outcome) = archive.compact(alloc);
+                return (ScriptState { archive, merge }, outcome);
+            }
             Line::Event(event) => archive.call(alloc, event),
-            Line::Write { session, bytes } => archive.write(alloc, session, bytes.as_slice()),
-            Line::Block { session, bytes } => archive.record(alloc, session, bytes.as_slice()),
+            Line::Write { session, bytes } => {
+                write_bytes(alloc, &mut archive, session, bytes.as_slice())
+            }
+            Line::Block { session, bytes } => {
+                record_bytes(alloc, &mut archive, session, bytes.as_slice())
+            }
             Line::Merge(line) => answer_merge(alloc, &mut merge, line),
             Line::Quit => Ok(Reply::Bye),
-            Line::Compact => Err(Refusal::BadLine),
         };
         (ScriptState { archive, merge }, outcome)
     }

@@ -95,7 +95,7 @@ fn a_block_that_is_not_settled_stays_written(rt: HostRuntime) -> Result<(), Fail
         "start 1001 7 42 65536 1408 131072 0 1000 c; start 1001 7 42 65536 1408 131072 0 1000 d; block 0 HELLO_AT_0; \
         block 1 HELLO_AT_0; block 1 HELLO_AT_0; block 1 HELLO_AT_64; positions 1; settle 1; reopen; positions 0; \
         positions 1",
-        "started 0 0; started 1 1; settled 64; error 11 HistoryFull; error 13 BadBlock; error 14 NeedSettle; \
+        "started 0 0; started 1 1; settled 64; error 11 HistoryFull; error 13 BadBlock; error 11 HistoryFull; \
         positions 0 0 -1; error 11 HistoryFull; reopened 2; positions 0 64 64; positions 0 0 0",
     )?;
     Ok(())

@@ -219,6 +219,18 @@ fn unsettled_block_lost_at_a_stop(rt: HostRuntime) -> Result<(), Fail> {
 }
 
 #[test]
+fn blocks_settled_together(rt: HostRuntime) -> Result<(), Fail> {
+    check(
+        rt.alloc(),
+        "start 1001 7 42 65536 1408 131072 0 1000 c; write 0 PAD_OF_TERM; write 0 HELLO_IN_NEXT_TERM; positions 0; \
+        settle 0; positions 0; verify 0; reopen; start 1001 7 42 65536 1408 131072 0 1000 d; write 0 HELLO_AT_0; \
+        write 0 HELLO_AT_64; reopen; positions 1",
+        "started 0 0; written 65536; written 65600; positions 0 0 -1; settled 65600; positions 0 65600 -1; verified 2; \
+        reopened 1; started 1 0; written 64; written 128; reopened 1; positions 0 0 0",
+    )
+}
+
+#[test]
 fn settle_before_the_next_segment(rt: HostRuntime) -> Result<(), Fail> {
     check(
         rt.alloc(),

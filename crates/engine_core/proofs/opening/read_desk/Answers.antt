@@ -1,5 +1,5 @@
-use Rattle.std.proofs.Common.{rules, ◌≡◌, ◌∙◌, ◌<◌, ◌^◌, ap, subst, sym, ℕ}
-use Rattle.std.specs.Prelude.{Err, IfSome, Some}
+use Rattle.std.proofs.Common.{rules, ◌≡◌, ◌∙◌, ap, subst, sym}
+use Rattle.std.specs.Prelude.{Err}
 use Rattle.disk_core.specs.DiskImage.{reads}
 use Rattle.archive_model.specs.State.{register_of}
 use Rattle.archive_model.specs.Register.{no_recordings}
@@ -20,8 +20,8 @@ returns-in_err-log-clause-whole g c =
 pub returns-clause-sound : goal.returns-clause-sound
 returns-clause-sound g c obeys x recovers =
     let log = c.in_ok-log.log in
-    let counted = c.in_ok-counted.counted in
-    let is : counted ≡ log.counted = subst (λ o. IfSome o (λ n. n ≡ log.counted)) {y = Some counted} c.in_ok-counted.ensures.ok_part c.counted_by.ensures.some in
+    let is : c.counted-counted.result ≡ log.counted = c.counted-counted.ensures in
+    let counted = c.counted-counted.result in
     let made : c.in_ok-register.register.state ≡ after_entries no_recordings c.in_ok-log.entries.items = search rules in
     let found = c.in_ok-log.ensures.sound obeys x recovers in
     (found.0, c.opened-desk.ensures ∙ same_desk c.in_ok-register.register.state (register_of x) counted log.counted c.limit-limit.result log.header.history_limit (made ∙ found.1) is c.limit-limit.ensures)
@@ -30,8 +30,8 @@ pub returns-clause-log : goal.returns-clause-log
 returns-clause-log g c obeys =
     let log = c.in_ok-log.log in
     let entries = c.in_ok-log.entries.items in
-    let counted = c.in_ok-counted.counted in
-    let is : counted ≡ log.counted = subst (λ o. IfSome o (λ n. n ≡ log.counted)) {y = Some counted} c.in_ok-counted.ensures.ok_part c.counted_by.ensures.some in
+    let is : c.counted-counted.result ≡ log.counted = c.counted-counted.ensures in
+    let counted = c.counted-counted.result in
     let made : c.in_ok-register.register.state ≡ after_entries no_recordings entries = search rules in (
       entries,
       c.in_ok-log.ensures.log obeys,
@@ -46,12 +46,10 @@ opened-desk-requires g c =
 pub returns-clause-tied : goal.returns-clause-tied
 returns-clause-tied g c =
     let log = c.in_ok-log.log in
-    let counted = c.in_ok-counted.counted in
+    let counted = c.counted-counted.result in
     let register = c.in_ok-register.register.state in
     let limit = c.limit-limit.result in
-    let is : counted ≡ log.counted = subst (λ o. IfSome o (λ n. n ≡ log.counted)) {y = Some counted} c.in_ok-counted.ensures.ok_part c.counted_by.ensures.some in
-    let few : counted < 2 ^ 32 = search rules in (
+    let is : counted ≡ log.counted = c.counted-counted.ensures in (
       subst (IsTied log) (sym c.opened-desk.ensures) (record { works = λ works. c.in_ok-log.ensures.works; counted = λ works. sym is; limit = λ works. sym c.limit-limit.ensures }),
       ap (λ (d : DeskState). d.is_broken) c.opened-desk.ensures,
-      subst (λ (n : ℕ). n < 2 ^ 32) is few,
     )

@@ -1,7 +1,8 @@
 use Rattle.std.proofs.Common.{rules, arith}
 use Rattle.disk_core.specs.DiskImage.{reads}
 use Rattle.frame_core.specs.Header.{without_payload}
-use Rattle.segment_store.proofs.WindowLemmas.{header_some, header_ends, shown_header, window_has}
+use Rattle.segment_store.proofs.ShownLemmas.{header_some, shown_header}
+use Rattle.segment_store.proofs.WindowLemmas.{header_ends, window_has}
 use Rattle.segment_store.proofs.boundary.frame_end.Goals as goal
 
 pub returns-in-Some-clause-later : goal.returns-in-Some-clause-later

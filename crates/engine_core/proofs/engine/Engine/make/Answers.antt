@@ -10,7 +10,7 @@ use Rattle.control_core.specs.Exact.{archive_after}
 use Rattle.engine_core.specs.Engine.{EngineState, IsTied}
 use Rattle.engine_core.specs.Making.{after_failure}
 use Rattle.engine_core.proofs.CommitCallLemmas.{exact_commit, tied_refused}
-use Rattle.engine_core.proofs.MakeLemmas.{IsEntryFor, commits_done, commits_refused, made_tied, unmade}
+use Rattle.engine_core.proofs.MakeLemmas.{IsEntryFor, commits_done, commits_refused, has_room, made_tied, unmade}
 use Rattle.engine_core.proofs.engine.Engine.make.Goals as goal
 
 pub returns-in_err-entry-clause-made : goal.returns-in_err-entry-clause-made
@@ -22,6 +22,15 @@ pub returns-in_err-reserve-clause-made : goal.returns-in_err-reserve-clause-made
 returns-in_err-reserve-clause-made g c =
     let is : c.from_residual-in_err-reserve.result ≡ Err c.in_err-reserve.field-0.0 = search rules in
     unmade _ _ _ _ _ c.from_residual-in_err-reserve.result refl refl c.in_err-reserve.ensures.state (is ∙ ap Err c.in_err-reserve.ensures.err)
+
+pub commit-requires-clause-works : goal.commit-requires-clause-works
+commit-requires-clause-works g c = c.args.self.now.tied.works c.requires.works
+
+pub commit-requires-clause-room : goal.commit-requires-clause-room
+commit-requires-clause-room g c =
+    let d = c.args.self.now.desk.state in
+    let entry : IsEntryFor d c.args.command c.in_ok-entry.entry = record { is = λ s next. (let known : s.next ≡ c.next_recording.result = next ∙ sym c.next_recording.ensures in c.in_ok-entry.ensures.ok s (search (rules, known))) } in
+    has_room c.args.self.now.storage.log d c.args.command c.in_ok-entry.entry c.args.self.now.tied c.requires.works c.requires.allowed entry
 
 pub invariant_of-self-in-Ok : goal.invariant_of-self-in-Ok
 invariant_of-self-in-Ok g c =
@@ -51,7 +60,7 @@ returns-in-Err-clause-made g c =
     rw same (
     commits_refused _ _ c.args.command c.in_ok-entry.entry c.args.self.now.tied c.requires.works c.requires.allowed c.requires.requested entry went.changes c.in-Err.refusal
     (c.failed.ensures.state ∙ ap (λ (s : DeskState). after_failure c.in-Err.refusal s) c.in_ok-reserve.ensures.state)
-    went.adds went.moves
+    went.quiet went.adds went.moves
     )
 
 pub returns-in-Err-clause-quiet : goal.returns-in-Err-clause-quiet

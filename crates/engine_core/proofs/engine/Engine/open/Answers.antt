@@ -39,7 +39,7 @@ returns-in-Ok-clause-desk g c =
     let known = c.in-Ok.ensures in
     ok_from c.start.result _ _ _ (λ engine went obeys.
     let read = known.log (went.changes.obeyed obeys) in
-    desk_read (reads (g.D.Disk.life c.args.disk).now) log read.0 c.in-Ok.desk.state engine.desk.state engine.restarted read.1 known.tied.2 read.2 (went.desk (after_entries no_recordings read.0) log.counted log.header.history_limit read.2) went.stopped)
+    desk_read (reads (g.D.Disk.life c.args.disk).now) log read.0 c.in-Ok.desk.state engine.desk.state engine.restarted read.1 read.2 (went.desk (after_entries no_recordings read.0) log.counted log.header.history_limit read.2) went.stopped)
     c.start.ensures
 
 pub returns-in-Ok-clause-goes_on : goal.returns-in-Ok-clause-goes_on

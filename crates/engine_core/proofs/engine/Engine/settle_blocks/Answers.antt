@@ -6,7 +6,7 @@ use Rattle.catalogue_log.specs.declared.entry.Entry.TheVariants as entries
 use Rattle.engine_core.specs.Engine.{EngineState, IsTied}
 use Rattle.engine_core.specs.Seen.{seen}
 use Rattle.engine_core.proofs.CommitCallLemmas.{tied_refused}
-use Rattle.engine_core.proofs.SettleCallLemmas.{SettlesTo, asked, settled_layout, settled_start, settled_there, settled_tied, settles, settling_done, settling_failed}
+use Rattle.engine_core.proofs.SettleCallLemmas.{SettlesTo, asked, settled_layout, settled_start, settled_there, settled_tied, settles, settling_done, settling_failed, settling_room, settling_works}
 use Rattle.engine_core.proofs.engine.Engine.settle_blocks.Goals as goal
 
 pub settle-requires-clause-layout : goal.settle-requires-clause-layout
@@ -21,6 +21,13 @@ settle-requires-clause-recorded g c =
     subst (λ (p : ℤ). IsFromStart c.layout_of-layout.result p) same
     (subst (λ (l : Layout). IsFromStart l c.args.written.now.first) (sym c.layout_of-layout.ensures)
     (settled_start c.args.self.now.desk.state c.args.session.now c.args.recording.now c.args.written.now c.in-Some.known.now c.in-Some.ensures.keeps c.requires.decided c.in-Some.ensures.found))
+
+pub settle-requires-clause-works : goal.settle-requires-clause-works
+settle-requires-clause-works g c = settling_works c.args.self.now.storage.log c.args.self.now.desk.state c.args.session.now c.args.recording.now c.args.written.now c.args.self.now.tied c.requires.decided
+
+pub settle-requires-clause-room : goal.settle-requires-clause-room
+settle-requires-clause-room g c = settling_room c.args.self.now.storage.log c.args.self.now.desk.state c.args.session.now c.args.recording.now c.args.written.now
+    (entries.Settle (to_z w64 (of_z w64 c.args.recording.now)) (to_z w64 (of_z w64 c.args.written.now.last))) c.args.self.now.tied c.requires.decided
 
 pub returns-in_default-clause-settled : goal.returns-in_default-clause-settled
 returns-in_default-clause-settled g c =
@@ -86,4 +93,4 @@ returns-clause-settled g c =
     let same_last : w.last ≡ last = search rules in
     let same_id : id ≡ number = search rules in
     let asks = asked old.desk n id w layout first last number c.in-Some.known.now c.requires.decided c.in-Some.ensures.found c.layout_of-layout.ensures same_first same_last same_id in
-    settling_failed old new n id w layout first (entries.Settle number last) c.args.self.now.tied asks c.in-Err.ensures.keeps c.in-Err.refusal c.failed.result c.failed.ensures.same c.in-Err.ensures.adds c.failed.ensures.state c.in-Err.ensures.moves
+    settling_failed old new n id w layout first (entries.Settle number last) c.args.self.now.tied asks c.in-Err.ensures.keeps c.in-Err.refusal c.failed.result c.failed.ensures.same c.in-Err.ensures.adds c.in-Err.ensures.quiet c.failed.ensures.state c.in-Err.ensures.moves

@@ -36,7 +36,7 @@ returns-in_err-removed g c =
         stays = c.sweep.ensures.stays;
         spares = c.sweep.ensures.kept;
         desk = refl;
-      }) c.in_err-removed.ensures.refused (λ fault. c.in_err-removed.ensures.cause (ap Err fault));
+      }) c.in_err-removed.ensures.refused (λ memory. c.in_err-removed.ensures.unchanged (ap Err memory)) c.sweep.ensures.log (λ fault. c.in_err-removed.ensures.cause (ap Err fault));
       restarted = refl;
     }
 

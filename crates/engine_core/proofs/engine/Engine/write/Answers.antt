@@ -3,7 +3,7 @@ use Rattle.std.specs.Prelude.{IsSomeAnd}
 use Rattle.archive_model.specs.Register.{registration_in}
 use Rattle.control_core.specs.declared.callers.Written.{Written}
 use Rattle.control_core.specs.declared.event.Event.TheVariants as events
-use Rattle.control_core.specs.Changes.{after_write}
+use Rattle.control_core.specs.Changes.{after_write, with_block}
 use Rattle.control_core.specs.Orderly.{LiesBehind}
 use Rattle.control_core.specs.Turns.{session_in, write_decision}
 use Rattle.engine_core.specs.Calls.{AnswersEvent}
@@ -47,7 +47,7 @@ note_written-requires-clause-behind g c =
     let to = to_z w64 (of_z w64 c.in-Some.target.end) in
     let same_at : c.args.block.now.position ≡ at = search rules in
     let same_to : c.in-Some.target.end ≡ to = search rules in
-    subst (λ (w : Written). IsSomeAnd (session_in d c.args.session.now) (λ s. IsSomeAnd (registration_in d.register s.recording) (LiesBehind w))) (sym (span_same c.args.block.now c.in-Some.target.end at to same_at same_to))
+    subst (λ (w : Written). IsSomeAnd (session_in d c.args.session.now) (λ s. IsSomeAnd (registration_in d.register s.recording) (LiesBehind (with_block w s.written)))) (sym (span_same c.args.block.now c.in-Some.target.end at to same_at same_to))
     (lies_behind d c.args.session.now c.args.block.now c.in-Some.target.layout c.in-Some.target.end c.in-Some.ensures.target c.in_ok-reply.reply decided)
 
 pub returns-in-Ok : goal.returns-in-Ok
@@ -62,7 +62,7 @@ returns-in-Ok g c =
     let same_to : c.in-Some.target.end ≡ to = search rules in
     let noted = c.note_written.ensures ∙ ap (λ w. after_write c.args.session.now w old.desk) (span_same c.args.block.now c.in-Some.target.end at to same_at same_to) in
     record {
-      answers = write_done old c.args.session.now c.args.block.now c.in-Some.target.layout c.in-Some.target.end c.in-Some.ensures.target new c.in_ok-reply.reply decided (Ok tt) c.in-Ok.ensures.changes c.in-Ok.ensures.moves refl noted
+      answers = write_done old c.args.session.now c.args.block.now c.in-Some.target.layout c.in-Some.target.end c.in-Some.ensures.target new c.in_ok-reply.reply decided (Ok tt) c.in-Ok.ensures.changes c.in-Ok.ensures.moves c.in-Ok.ensures.stays refl noted
           c.in-Ok.ensures.written;
       restarted = refl;
     }
@@ -75,7 +75,7 @@ returns-in-Err g c =
     let decided : Ok c.in_ok-reply.reply ≡ write_decision old.desk c.args.session.now (span_to c.args.block.now c.in-Some.target.end) true = search rules in
     let fault = c.in-Err.ensures.refusal in
     record {
-      answers = write_fails old c.args.session.now c.args.block.now c.in-Some.target.layout c.in-Some.target.end c.in-Some.ensures.target new c.in_ok-reply.reply decided (Err c.in-Err.refusal) c.in-Err.ensures.changes c.in-Err.ensures.moves
+      answers = write_fails old c.args.session.now c.args.block.now c.in-Some.target.layout c.in-Some.target.end c.in-Some.ensures.target new c.in_ok-reply.reply decided (Err c.in-Err.refusal) c.in-Err.ensures.changes c.in-Err.ensures.moves c.in-Err.ensures.stays
           c.failed.result (c.failed.ensures.same ∙ fault) c.in-Err.ensures.cause (c.failed.ensures.state ∙ ap (λ refusal. after_failure refusal old.desk) fault);
       restarted = refl;
     }

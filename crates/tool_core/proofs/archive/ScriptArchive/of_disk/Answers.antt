@@ -3,15 +3,8 @@ use Rattle.std.proofs.Common.{◌≡◌, rules, subst}
 use Rattle.frame_core.specs.declared.refusal.Refusal.{Refusal}
 use Rattle.frame_core.specs.declared.refusal.Refusal.TheVariants.{BadParameter}
 use Rattle.engine_core.specs.Opening.{RefusesNew}
-use Rattle.tool_core.proofs.OpeningLemmas.{before_with_files, begun_with_files}
+use Rattle.tool_core.proofs.BeginLemmas.{before_with_files}
 use Rattle.tool_core.proofs.archive.ScriptArchive.of_disk.Goals as goal
-
-pub returns-then-eq-clause-begun : goal.returns-then-eq-clause-begun
-returns-then-eq-clause-begun g c =
-    let old = g.D.Disk.life c.args.disk in
-    let mid = g.D.Disk.life c.in-Err.field-0.disk in
-    let there : c.in-Err.field-0.refusal ≡ BadParameter = search rules in
-    begun_with_files g.D.Disk.life old mid c.opened.result (subst (λ (r : Refusal). RefusesNew old mid 1048576 r) there c.in-Err.ensures.refused) c.opened.ensures.goes_on c.opened.ensures.begun
 
 pub returns-then-eq-clause-unopened : goal.returns-then-eq-clause-unopened
 returns-then-eq-clause-unopened g c =

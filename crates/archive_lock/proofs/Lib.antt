@@ -1,0 +1,5 @@
+mod UnkeptLemmas
+mod RunLemmas
+mod HistoryLemmas
+mod SpanLemmas
+mod HeldLemmas

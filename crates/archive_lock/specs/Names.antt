@@ -1,0 +1,13 @@
+-- The name of no archive.
+use Rattle.std.specs.Prelude.{false, [], None}
+use Rattle.disk_core.specs.DiskImage.{begun}
+use Rattle.control_core.specs.Desk.{new_desk}
+use Rattle.engine_core.specs.Engine.{EngineState}
+
+-- an archive without files
+abbrev pub no_engine : EngineState
+no_engine = record {
+  life = record { obeys = false; past = []; now = begun (λ file. None); faults = 0 };
+  log = record { header = record { history_limit = 0; epoch = 0 }; gate = 0; counted = 0; is_broken = false; room = 0 };
+  desk = new_desk 0;
+}

@@ -1,0 +1,14 @@
+//! An archive that threads share: one lock, and one history of their calls.
+#![tactic(auto)]
+
+mod held;
+mod history;
+pub mod laws;
+mod naming;
+mod records;
+mod shared;
+
+pub use held::{Closed, Held, MissingHeld};
+pub use history::{Call, Made};
+pub use naming::Naming;
+pub use shared::{LockRefusal, MissingPass, SharedArchive};

@@ -1,5 +1,0 @@
-use Rattle.archive_model.proofs.KeptLemmas.{has_layout}
-use Rattle.archive_model.proofs.recording.Recording.registration.Goals as goal
-
-pub returns-clause-layout : goal.returns-clause-layout
-returns-clause-layout c = has_layout _ c.self.invariant.kept

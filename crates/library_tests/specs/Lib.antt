@@ -1,0 +1,2 @@
+-- the disk of src/sparse.rt
+pub mod Sparse

@@ -1,0 +1,222 @@
+-- The first opening of a script's disk.
+use Rattle.std.proofs.Common.{◌≡◌, ◌≢◌, ◌⊎◌, ◌∙◌, ap, refl, inl, inr, sym, subst, ℕ, List, IsTrue, arith}
+use Rattle.std.specs.Prelude.{Option, Some, None, IfErr, IfOk, IsSome, Result, Ok, Err}
+use Rattle.frame_core.specs.declared.refusal.Refusal.{Refusal}
+use Rattle.frame_core.specs.declared.refusal.Refusal.TheVariants.{BadParameter, DeviceFault, NoMemory}
+use Rattle.disk_core.specs.declared.file_id.FileId.{FileId}
+use Rattle.disk_core.specs.declared.file_id.FileId.TheVariants.{BankA}
+use Rattle.disk_core.specs.DiskImage.{DiskImage, Files, MayLeave, bytes_of, reads}
+use Rattle.disk_core.specs.Life.{HasFailed, IsQuiet, LeavesOnly, Life}
+use Rattle.disk_core.proofs.CallerLemmas.{goes_on_part, goes_quiet, started}
+use Rattle.archive_model.specs.State.{State}
+use Rattle.catalogue_log.specs.declared.bank.BankHeader.{BankHeader}
+use Rattle.catalogue_log.specs.declared.entry.Entry.{Entry}
+use Rattle.catalogue_log.specs.Bank.{IsBank}
+use Rattle.engine_core.specs.declared.engine.Engine.{Engine}
+use Rattle.engine_core.specs.Opened.{IsNear, LeavesEither}
+use Rattle.engine_core.specs.Opening.{ReadsAsBefore, RefusesNew}
+use Rattle.engine_core.specs.Recovery.{IsEither, RecoversTo}
+use Rattle.engine_core.specs.Seen.{seen}
+use Rattle.tool_core.specs.declared.archive.ScriptArchive.{ScriptArchive}
+use Rattle.tool_core.specs.declared.archive.ScriptArchive.TheVariants.{Open, Closed}
+use Rattle.tool_core.specs.Archives.{BeginsByOpening, BeginsWith, HasMade, HasOpened, HasRefused, OpensOrRefuses, closed_by, life_of}
+use Rattle.tool_core.specs.Script.{Begins, HasNotBegun, IsBlank, IsRefused, IsRefusedBy, Opens}
+use Rattle.tool_core.specs.ScriptLines.{Standing, closed, doubtful, opened, refused, unknown}
+use Rattle.tool_core.proofs.StandingLemmas.{IsStanding, recovers_as}
+use Rattle.tool_core.proofs.OpeningLemmas.{begun, fault_leaves, quiet_restarts}
+use Rattle.tool_core.proofs.RefusedLemmas.{no_catalogue, refused_once, refused_still}
+
+-- ---- no file
+
+-- a file that holds a bank is there
+pub bank_is_there : (bytes : Option (List ℕ)) (h : BankHeader) (es : List Entry) → IsBank (bytes_of bytes) h es → IsSome bytes
+bank_is_there None h es bank = let is = bank.holds.is in absurd cc
+bank_is_there (Some bytes) h es bank = refl
+
+-- one file at least is not absent
+some_file : {x : Option (List ℕ)} → x ≡ None → IsSome x → ⊥
+some_file is some = let wrong : IsSome {T = List ℕ} None = subst IsSome is some in absurd cc
+
+-- nothing is recovered from no files
+nothing_left : (life : Life) (s u : State) → MayLeave life.now (reads life.now) → ((file : FileId) → reads life.now file ≡ None) → LeavesEither life s u → ⊥
+nothing_left life s u may none leaves =
+    let to = leaves (reads life.now) may in
+    let recovers = to.recovers in
+    some_file (none BankA) (bank_is_there (reads life.now BankA) recovers.header recovers.entries recovers.catalogue)
+
+-- ---- a disk that is as it was
+
+quiet_opens : (old new : Life) (first : Standing) → IsQuiet old new → Opens old first → Opens new first
+quiet_opens old new (opened a) quiet opens = quiet_restarts old new a quiet opens
+quiet_opens old new (closed a) quiet opens = absurd opens
+quiet_opens old new (doubtful s u) quiet opens = absurd opens
+quiet_opens old new (refused image why) quiet opens = refused_still old new image why (λ file. ap (λ (files : Files). reads files file) quiet.now) opens
+quiet_opens old new unknown quiet opens = absurd opens
+
+quiet_leaves : (old new : Life) (s u : State) → IsQuiet old new → LeavesEither old s u → LeavesEither new s u
+quiet_leaves old new s u quiet leaves image may = leaves image (subst (λ (files : Files). MayLeave files image) quiet.now may)
+
+quiet_moments : (old new : Life) (s u : State) → IsQuiet old new → LeavesEither old s u → LeavesOnly old new (RecoversTo (IsNear s u))
+quiet_moments old new s u quiet leaves = goes_quiet old old new (RecoversTo (IsNear s u)) (started old (RecoversTo (IsNear s u)) (λ image may. recovers_as (IsEither s u) (IsNear s u) image (λ x either. inl either) (leaves image may))) quiet
+
+moments_behind : (old mid new : Life) (s u : State) → IsQuiet old mid → LeavesEither old s u → LeavesOnly mid new (RecoversTo (IsNear s u)) → LeavesOnly old new (RecoversTo (IsNear s u))
+moments_behind old mid new s u quiet leaves later = goes_on_part old mid new (RecoversTo (IsNear s u)) (RecoversTo (IsNear s u)) (quiet_moments old mid s u quiet leaves) later (λ image near. near)
+
+-- where files are there no archive is made
+no_new : (old new : Life) → RefusesNew old new 1048576 BadParameter → IsTrue new.obeys → IsBlank old → ⊥
+no_new old new (quiet, inl few) obeys blank = omega (arith, few)
+no_new old new (quiet, inr (inl many)) obeys blank = omega (arith, many)
+no_new old new (quiet, inr (inr there)) obeys blank = some_file (blank (there obeys).0) (there obeys).1
+
+-- ---- what it begins with
+
+module _ {D : Type 0} (life : D → Life) where
+  -- how an archive stands behind the opening of a disk
+  pub record Starts (old : Life) (archive : ScriptArchive D) (first : Standing) : Type 0 where
+    pub begun : Standing
+    pub stands : IsStanding life archive begun
+    pub is : (begun ≡ first) ⊎ (HasFailed old (life_of life archive) × HasNotBegun old first begun)
+    pub any_moment : (s u : State) → LeavesEither old s u → LeavesOnly old (life_of life archive) (RecoversTo (IsNear s u))
+
+  made : (old : Life) (engine : Engine D) (first : Standing) → MayLeave old.now (reads old.now) → HasMade life old engine → IsTrue (life engine.storage.disk).obeys → Begins old first → Starts old (Open engine) first
+  made old engine first may is obeys (inl blank) = record {
+    begun = first;
+    stands = subst (λ (s : Standing). IsStanding life (Open engine) s) (sym blank.1) is.keeps;
+    is = inl refl;
+    any_moment = λ s u leaves. absurd (nothing_left old s u may blank.0 leaves);
+  }
+  made old engine first may is obeys (inr files) = let made = is.made in absurd (some_file (made.empty obeys files.0.0) files.0.1)
+
+  -- a call failed while it was made
+  unmade : (old : Life) (disk : D) (first : Standing) → MayLeave old.now (reads old.now) → RefusesNew old (life disk) 1048576 DeviceFault → IsTrue (life disk).obeys → Begins old first → Starts old (Closed disk) first
+  unmade old disk first may no_archive obeys (inl blank) = record {
+    begun = unknown;
+    stands = tt;
+    is = inr (no_archive.0, subst (λ (s : Standing). HasNotBegun old s unknown) (sym blank.1) blank.0);
+    any_moment = λ s u leaves. absurd (nothing_left old s u may blank.0 leaves);
+  }
+  unmade old disk first may (failed, inr absent) obeys (inr files) = absurd (some_file (absent obeys files.0.0) files.0.1)
+  unmade old disk first may (failed, inl quiet) obeys (inr files) = by first files.1
+    where
+      any : (s u : State) → LeavesEither old s u → LeavesOnly old (life disk) (RecoversTo (IsNear s u))
+      any s u leaves = quiet_moments old (life disk) s u quiet leaves
+
+      by : (first : Standing) → Opens old first → Starts old (Closed disk) first
+      by (opened a) restarts = record {
+        begun = doubtful restarts.state restarts.other;
+        stands = quiet_leaves old (life disk) restarts.state restarts.other quiet restarts.leaves;
+        is = inr (failed, (restarts.state, restarts.other, restarts.leaves, inl (refl, refl)));
+        any_moment = any;
+      }
+      by (closed a) opens = absurd opens
+      by (doubtful s u) opens = absurd opens
+      by (refused image why) opens = record {
+        begun = refused image why;
+        stands = quiet_opens old (life disk) (refused image why) quiet opens;
+        is = inl refl;
+        any_moment = any;
+      }
+      by unknown opens = absurd opens
+
+  -- ---- files that were there
+
+  opened_files : (old mid : Life) (engine : Engine D) (first : Standing) → IsQuiet old mid → HasOpened life mid engine → IsTrue (life engine.storage.disk).obeys → Opens old first → Starts old (Open engine) first
+  opened_files old mid engine first quiet answer obeys opens = by first (quiet_opens old mid first quiet opens)
+    where
+      any : (s u : State) → LeavesEither old s u → LeavesOnly old (life engine.storage.disk) (RecoversTo (IsNear s u))
+      any s u leaves = let o = answer.opened_as s u (quiet_leaves old mid s u quiet leaves) obeys in moments_behind old mid (life engine.storage.disk) s u quiet leaves o.any_moment
+
+      by : (first : Standing) → Opens mid first → Starts old (Open engine) first
+      by (opened a) restarts =
+          let at = begun mid (seen life engine) engine.restarted a restarts (answer.opened_as restarts.state restarts.other restarts.leaves obeys) in
+          record { begun = opened a; stands = record { desk = at.desk; consistent = at.consistent }; is = inl refl; any_moment = any }
+      by (closed a) opens = absurd opens
+      by (doubtful s u) opens = absurd opens
+      by (refused image why) opens = let desk = answer.desk obeys in absurd (no_catalogue mid why desk.header desk.entries opens.0 desk.catalogue)
+      by unknown opens = absurd opens
+
+  refused_files : (old mid : Life) (disk : D) (refusal : Refusal) (first : Standing) → IsQuiet old mid → refusal ≢ NoMemory → HasRefused life mid refusal disk → IsTrue (life disk).obeys → Opens old first → Starts old (Closed disk) first
+  refused_files old mid disk refusal first quiet other answer obeys opens = by first opens (quiet_opens old mid first quiet opens)
+    where
+      any : (s u : State) → LeavesEither old s u → LeavesOnly old (life disk) (RecoversTo (IsNear s u))
+      any s u leaves = let whole = answer.whole s u (quiet_leaves old mid s u quiet leaves) obeys in moments_behind old mid (life disk) s u quiet leaves whole.0.any_moment
+
+      failed : refusal ≡ DeviceFault → HasFailed old (life disk)
+      failed fault = let up = quiet.faults in let more = answer.refuses.cause fault in omega (arith, up, more)
+
+      still_refused : (image : DiskImage) (why : Refusal) → IsRefused mid image why → (refusal ≡ DeviceFault → ⊥) → Starts old (Closed disk) (refused image why)
+      still_refused image why is no_fault =
+          let before : ReadsAsBefore mid (life disk) = elim answer.refuses.kept [ inl fault ↦ absurd (no_fault fault) | inr before ↦ before ] in
+          record { begun = refused image why; stands = refused_still mid (life disk) image why before.same is; is = inl refl; any_moment = any }
+
+      by : (first : Standing) → Opens old first → Opens mid first → Starts old (Closed disk) first
+      by (opened a) was restarts =
+          let whole = answer.whole restarts.state restarts.other restarts.leaves obeys in
+          elim whole.1 [
+            | inl fault ↦ (let left = fault_leaves mid (life disk) restarts.state restarts.other whole.0 in record {
+              begun = doubtful left.0 left.1;
+              stands = left.2;
+              is = inr (failed fault, (restarts.state, restarts.other, (λ image may. restarts.leaves image (subst (λ (files : Files). MayLeave files image) (sym quiet.now) may)), left.3));
+              any_moment = any;
+            })
+            | inr memory ↦ absurd (other memory)
+          ]
+      by (closed a) was opens = absurd opens
+      by (doubtful s u) was opens = absurd opens
+      by (refused image why) was is =
+          elim (refused_once mid why refusal is.0 (answer.refuses.catalogue obeys)) [
+            | inl same ↦ still_refused image why is (λ fault. not_fault why is.0 (sym same ∙ fault))
+            | inr (inl memory) ↦ absurd (other memory)
+            | inr (inr fault) ↦ record { begun = unknown; stands = tt; is = inr (failed fault, tt); any_moment = any }
+          ]
+        where
+          not_fault : (why : Refusal) → IsRefusedBy mid why → why ≡ DeviceFault → ⊥
+          not_fault why is same = subst (IsRefusedBy mid) same is
+      by unknown was opens = absurd opens
+
+  by_opening : (old : Life) (archive : ScriptArchive D) (first : Standing) → BeginsByOpening life old archive → IsTrue (life_of life archive).obeys → Begins old first → Starts old archive first
+  by_opening old (Open engine) first b obeys begins = by b.opens begins
+    where
+      by : HasOpened life b.mid engine → Begins old first → Starts old (Open engine) first
+      by answer (inl blank) = absurd (no_new old b.mid b.files (answer.goes_on.obeyed obeys) blank.0)
+      by answer (inr files) = opened_files old b.mid engine first b.files.0 answer obeys files.1
+  by_opening old (Closed disk) first b obeys begins = by b.opens begins
+    where
+      by : OpensOrRefuses life b.mid (Closed disk) → Begins old first → Starts old (Closed disk) first
+      by (refusal, other, answer) (inl blank) = absurd (no_new old b.mid b.files (answer.goes_on.obeyed obeys) blank.0)
+      by (refusal, other, answer) (inr files) = refused_files old b.mid disk refusal first b.files.0 other answer obeys files.1
+
+  pub starts : (old : Life) (archive : ScriptArchive D) (first : Standing) → MayLeave old.now (reads old.now) → BeginsWith life old archive → IsTrue (life_of life archive).obeys → Begins old first → Starts old archive first
+  starts old (Open engine) first may (inl is) obeys begins = made old engine first may is obeys begins
+  starts old (Open engine) first may (inr opening) obeys begins = by_opening old (Open engine) first opening obeys begins
+  starts old (Closed disk) first may (inl no_archive) obeys begins = unmade old disk first may no_archive obeys begins
+  starts old (Closed disk) first may (inr opening) obeys begins = by_opening old (Closed disk) first opening obeys begins
+
+-- where it is refused by anything but want of memory none is open
+pub closed_then : {D : Type 0} (life : D → Life) (old : Life) (refusal : Refusal) (disk : D) (result : Result (ScriptArchive D) D) → result ≡ closed_by refusal disk → HasRefused life old refusal disk → IfOk result (OpensOrRefuses life old)
+closed_then life old refusal disk result is answer = subst (λ (r : Result (ScriptArchive _) _). IfOk r (OpensOrRefuses life old)) (sym is) (by refusal answer)
+  where
+    by : (r : Refusal) → HasRefused life old r disk → IfOk (closed_by r disk) (OpensOrRefuses life old)
+    by NoMemory answer = tt
+    by r answer = (r, (λ same. let wrong : r ≡ NoMemory = same in absurd cc), answer)
+
+-- for want of memory the disk goes back as it was
+quiet_before : (old new : Life) → IsQuiet old new → ReadsAsBefore old new
+quiet_before old new quiet = record {
+  same = λ file. ap (λ (files : Files). reads files file) quiet.now;
+  any_moment = goes_quiet old old new (MayLeave old.now) (started old (MayLeave old.now) (λ image left. left)) quiet;
+  obeyed = quiet.obeyed;
+  faults = quiet.faults;
+}
+
+before_then : (old mid new : Life) → IsQuiet old mid → ReadsAsBefore mid new → ReadsAsBefore old new
+before_then old mid new quiet before = record {
+  same = λ file. before.same file ∙ ap (λ (files : Files). reads files file) quiet.now;
+  any_moment = goes_on_part old mid new (MayLeave old.now) (MayLeave mid.now) (quiet_before old mid quiet).any_moment before.any_moment (λ image left. subst (λ (files : Files). MayLeave files image) quiet.now left);
+  obeyed = λ obeys. quiet.obeyed (before.obeyed obeys);
+  faults = let first = quiet.faults in let more = before.faults in omega (arith, first, more);
+}
+
+pub before_with_files : {D : Type 0} (life : D → Life) (old mid : Life) (result : Result (ScriptArchive D) D) → RefusesNew old mid 1048576 BadParameter → IfErr result (λ back. ReadsAsBefore mid (life back)) → IfErr result (λ back. ReadsAsBefore old (life back))
+before_with_files life old mid (Ok archive) no_archive before = tt
+before_with_files life old mid (Err back) no_archive before = before_then old mid (life back) no_archive.0 before

@@ -1,0 +1,140 @@
+-- How a script's archive answers, whatever its disk holds and does: each call as `Engine::step` says, each opening as `Engine::open`
+-- says, and what a script does from its opening to its last line. docs/CONTROL.md, "Scripts".
+use Rattle.std.specs.Prelude.{◌≡◌, ◌≢◌, ◌⊎◌, ◌≤◌, ℕ, ℤ, IsTrue, List, Option, Result, Ok, Err}
+use Rattle.std.specs.Io.KnownBytes.{Keeps}
+use Rattle.frame_core.specs.declared.geometry.Geometry.{Geometry}
+use Rattle.frame_core.specs.declared.refusal.Refusal.{Refusal}
+use Rattle.frame_core.specs.declared.refusal.Refusal.TheVariants.{BadLine, BadParameter, Broken, DeviceFault, NoMemory}
+use Rattle.disk_core.specs.DiskImage.{reads}
+use Rattle.disk_core.specs.Life.{Life}
+use Rattle.archive_model.specs.declared.reply.Reply.TheVariants.{Reopened}
+use Rattle.archive_model.specs.State.{State}
+use Rattle.control_core.specs.declared.event.Event.{Event}
+use Rattle.control_core.specs.Bytes.{terms_in}
+use Rattle.engine_core.specs.declared.engine.Engine.{Engine}
+use Rattle.engine_core.specs.Engine.{GoesOn, new_archive}
+use Rattle.engine_core.specs.Opened.{IsDeskOf, IsNotOpened, IsOpened, LeavesEither}
+use Rattle.engine_core.specs.Opening.{IsMadeIn, ReadsAsBefore, RefusesNew, RefusesOpening}
+use Rattle.engine_core.specs.Seen.{HasAnswered, KeepsArchive, seen}
+use Rattle.tool_core.specs.declared.archive.ScriptArchive.{ScriptArchive}
+use Rattle.tool_core.specs.declared.archive.ScriptArchive.TheVariants.{Open, Closed}
+use Rattle.tool_core.specs.declared.fault.EarlyEnd.{EarlyEnd}
+use Rattle.tool_core.specs.declared.fault.EarlyEnd.TheVariants as ends
+use Rattle.tool_core.specs.declared.fault.ScriptFault.{ScriptFault}
+use Rattle.tool_core.specs.declared.fault.ScriptFault.TheVariants as faults
+use Rattle.tool_core.specs.Answering.{AnswersFirstLines, AnswersLines, Ways}
+use Rattle.tool_core.specs.Merging.{Ends}
+
+module _ {D : Type 0} (life : D → Life) where
+  -- the disk of an archive
+  abbrev pub life_of : ScriptArchive D → Life
+  life_of (Open engine) = life engine.storage.disk
+  life_of (Closed disk) = life disk
+
+  -- ---- openings
+
+  -- what `Engine::open` says of a disk that it opens
+  pub record HasOpened (old : Life) (engine : Engine D) : Type 0 where
+    pub opened_as : (s u : State) → LeavesEither old s u → IsTrue (life engine.storage.disk).obeys → IsOpened old (seen life engine) engine.restarted s u
+    pub desk : IsTrue (life engine.storage.disk).obeys → IsDeskOf (reads old.now) engine.desk.state engine.restarted
+    pub goes_on : GoesOn old (life engine.storage.disk)
+
+  -- what it says of one that it refuses
+  pub record HasRefused (old : Life) (refusal : Refusal) (disk : D) : Type 0 where
+    pub whole : (s u : State) → LeavesEither old s u → IsTrue (life disk).obeys → IsNotOpened old (life disk) s u × ((refusal ≡ DeviceFault) ⊎ (refusal ≡ NoMemory))
+    pub refuses : RefusesOpening old (life disk) refusal
+    pub goes_on : GoesOn old (life disk)
+
+  -- the disk with this life is opened, or refused, and then none is open
+  abbrev pub Opens : Life → Ends (ScriptArchive D)
+  Opens old (Ok reply) (Open engine) = (reply ≡ Reopened engine.restarted) × HasOpened old engine
+  Opens old (Err refusal) (Closed disk) = HasRefused old refusal disk
+  Opens old (Ok reply) (Closed disk) = ⊥
+  Opens old (Err refusal) (Open engine) = ⊥
+
+  -- ---- calls
+
+  -- the terms that the engine's desk knows; none is known where none is open
+  abbrev pub TermsAre : ScriptArchive D → ℤ → Result Geometry Refusal → Type 0
+  TermsAre (Open engine) session terms = terms ≡ terms_in engine.desk.state session
+  TermsAre (Closed disk) session terms = terms ≡ Err Broken
+
+  -- an event is answered as `Engine::step` says; where none is open it is Broken
+  abbrev pub Calls : Event → ScriptArchive D → Ends (ScriptArchive D)
+  Calls event (Open old) outcome (Open new) = HasAnswered life old new event outcome
+  Calls event (Open old) outcome (Closed disk) = ⊥
+  Calls event (Closed disk) outcome new = (outcome ≡ Err Broken) × (new ≡ Closed disk)
+
+  -- nothing writes a history anew yet
+  abbrev pub Compacts : ScriptArchive D → Ends (ScriptArchive D)
+  Compacts old outcome new = (outcome ≡ Err BadLine) × (new ≡ old)
+
+  abbrev pub archive_ways : Ways (ScriptArchive D)
+  archive_ways = record {
+    terms = TermsAre;
+    call = Calls;
+    reopen = λ old. Opens (life_of old);
+    compact = Compacts;
+  }
+
+  -- ---- scripts
+
+  -- an archive was made where no file was
+  pub record HasMade (old : Life) (engine : Engine D) : Type 0 where
+    pub made : IsMadeIn old (life engine.storage.disk) 1048576
+    pub keeps : KeepsArchive life engine (new_archive 1048576)
+    pub faults : old.faults ≤ (life engine.storage.disk).faults
+
+  -- a disk is opened, or refused by anything but want of memory
+  abbrev pub OpensOrRefuses : Life → ScriptArchive D → Type 0
+  OpensOrRefuses old (Open engine) = HasOpened old engine
+  OpensOrRefuses old (Closed disk) = (refusal : Refusal) × (refusal ≢ NoMemory) × HasRefused old refusal disk
+
+  -- so a disk with files begins, as the refused making of an archive left it
+  pub record BeginsByOpening (old : Life) (archive : ScriptArchive D) : Type 0 where
+    pub mid : Life
+    pub files : RefusesNew old mid 1048576 BadParameter
+    pub opens : OpensOrRefuses mid archive
+
+  -- what a script begins with: an archive that was made, none because a call failed while it was made, or what is opened
+  abbrev pub BeginsWith : Life → ScriptArchive D → Type 0
+  BeginsWith old (Open engine) = HasMade old engine ⊎ BeginsByOpening old (Open engine)
+  BeginsWith old (Closed disk) = RefusesNew old (life disk) 1048576 DeviceFault ⊎ BeginsByOpening old (Closed disk)
+
+  -- The text answers all lines, from what was opened of the disk on, and that is what the disk came to.
+  pub record IsScript (old new : Life) (lines : List (List ℕ)) (text : List ℕ) : Type 0 where
+    pub first : ScriptArchive D
+    pub begins : BeginsWith old first
+    pub last : ScriptArchive D
+    pub answers : AnswersLines archive_ways first last lines text
+    pub left : new ≡ life_of last
+
+  -- the same of the first of these lines, or of one more, of whose answer nothing was written
+  pub record IsScriptOfFirst (old new : Life) (lines : List (List ℕ)) (text : List ℕ) : Type 0 where
+    pub first : ScriptArchive D
+    pub begins : BeginsWith old first
+    pub last : ScriptArchive D
+    pub answers : AnswersFirstLines archive_ways first last lines text
+    pub left : new ≡ life_of last
+
+-- none is open by a refusal, or the disk goes back for want of memory
+abbrev pub closed_by : {D : Type 0} → Refusal → D → Result (ScriptArchive D) D
+closed_by NoMemory disk = Err disk
+closed_by refusal disk = Ok (Closed disk)
+
+-- the archive was not opened, for want of memory: nothing is written, and the disk reads and leaves what it did before
+pub record IsUnopened (old new : Life) (contents written : Option (List ℕ)) (end : EarlyEnd) : Type 0 where
+  pub memory : end ≡ ends.Memory
+  pub kept : Keeps contents written
+  pub before : ReadsAsBefore old new
+
+-- why a script ended, and its disk
+abbrev pub end_of : {D : Type 0} → ScriptFault D → EarlyEnd
+end_of (faults.Read disk) = ends.Read
+end_of (faults.Write disk) = ends.Write
+end_of (faults.Memory disk) = ends.Memory
+
+abbrev pub disk_of : {D : Type 0} → ScriptFault D → D
+disk_of (faults.Read disk) = disk
+disk_of (faults.Write disk) = disk
+disk_of (faults.Memory disk) = disk
