@@ -1,4 +1,4 @@
-mod UnkeptLemmas
+mod AheadLemmas
 mod RunLemmas
 mod HistoryLemmas
 mod SpanLemmas

@@ -1,7 +1,7 @@
 //! Scenarios of docs/SCENARIOS.md, by calls under a lock.
 
 ghost use Rattle.std.specs.Prelude.{◌≡◌, []};
-ghost use Rattle.archive_lock.specs.Held.{state_of, view_of};
+ghost use Rattle.archive_lock.specs.Held.{engine_seen, view_of};
 
 use crate::calls::{event_in, made, told};
 use archive_lock::{Call, Made, MissingPass, Naming, SharedArchive};
@@ -76,7 +76,7 @@ fn three_calls<D: Disk + Drop + Send, A: Naming + Send + Sync, R: Threads + Wait
 ) -> Result<(), Fail>
     requires named { opened.table ≡ A.table }
     requires stores { opened.keeps ≡ A.keeps }
-    requires opens { state_of D.life (view_of engine []) ≡ A.opening }
+    requires opens { engine_seen D.life (view_of engine []) ≡ A.opening }
 {
     let Ok((archive, mut passes)) = SharedArchive::<D, A>::new(alloc, opened, engine, 2) else {
         return Err(Fail::from("made"));
@@ -192,7 +192,7 @@ fn play<D: Disk + Drop + Send, A: Naming, R: Wait + Abort>(
 ) -> Result<(), Fail>
     requires named { opened.table ≡ A.table }
     requires stores { opened.keeps ≡ A.keeps }
-    requires opens { state_of D.life (view_of engine []) ≡ A.opening }
+    requires opens { engine_seen D.life (view_of engine []) ≡ A.opening }
 {
     let Ok((archive, mut passes)) = SharedArchive::<D, A>::new(alloc, opened, engine, 1) else {
         return Err(Fail::from("made"));
