@@ -9,17 +9,17 @@ use std::alloc::Global;
 use std::process::Abort;
 use std::test::Fail;
 
-/// A disk in memory whose syncs are counted.
+/// A disk whose syncs are counted.
 #[derive(Drop)]
-struct Synced {
-    disk: MemoryDisk,
+struct Synced<D> {
+    disk: D,
     syncs: u64,
 }
 
-impl Disk for Synced {
-    ghost life = { λ synced. MemoryDisk.life synced.disk };
+impl<D: Disk> Disk for Synced<D> {
+    ghost life = { λ synced. D.life synced.disk };
 
-    ghost reads_may_stay = { λ synced. MemoryDisk.reads_may_stay synced.disk };
+    ghost reads_may_stay = { λ synced. D.reads_may_stay synced.disk };
 
     fn len(&mut self, file: FileId) -> Result<u64, Fault> {
         self.disk.len(file)
