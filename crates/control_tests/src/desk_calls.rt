@@ -61,7 +61,11 @@ fn called(desk: &Desk, kind: u8, number: i64, other: i64) -> u8 {
                 last: other.saturating_add(64),
             };
             let found = desk.session(&number);
-            number_of(&decide_write(desk, &number, &found, &block, true))
+            let known = match &found {
+                Some(found) => desk.recording(&found.session.recording),
+                None => None,
+            };
+            number_of(&decide_write(desk, &number, &found, &block, known))
         }
     }
 }
@@ -134,23 +138,32 @@ fn note(desk: &mut Desk, last: i64) -> Result<(), Refusal> {
     if known.recorded != 0 || last < 0 || last > 131_072 {
         return Err(Refusal::BadPosition);
     }
+    let None = found.session.written else {
+        return Err(Refusal::NeedSettle);
+    };
     desk.note_written(&0, found.index, &Written { first: 0, last });
     Ok(())
 }
 
-fn with_a_block(alloc: Global) -> Result<Desk, Refusal> {
+fn with_blocks(alloc: Global, last: i64) -> Result<Desk, Refusal> {
     let mut desk = recording(alloc, 1, 1)?;
-    note(&mut desk, 64)?;
+    note(&mut desk, last)?;
     Ok(desk)
 }
 
-// The kind of `called` and a position: a block up to 64 is written, and the history is full.
-const WRITTEN: [(u8, i64, u8); 3] = [(6, 0, 13), (6, 64, 14), (0, 0, 11)];
+// Where the written blocks end, the kind of `called`, a position: the history is full. A segment has 131,072 bytes.
+const WRITTEN: [(i64, u8, i64, u8); 5] = [
+    (64, 6, 0, 13),
+    (64, 6, 64, 0),
+    (131_072, 6, 64, 13),
+    (131_072, 6, 131_072, 14),
+    (64, 0, 0, 11),
+];
 
 #[test]
-fn a_written_block_is_settled_before_the_next(rt: HostRuntime) -> Result<(), Fail> {
-    let desk = with_a_block(rt.alloc())?;
-    for (kind, position, refusal) in WRITTEN {
+fn written_blocks_are_settled_before_the_next_segment(rt: HostRuntime) -> Result<(), Fail> {
+    for (last, kind, position, refusal) in WRITTEN {
+        let desk = with_blocks(rt.alloc(), last)?;
         assert!(rt; called(&desk, kind, 0, position) == refusal);
     }
     Ok(())
