@@ -4,6 +4,7 @@ use Rattle.std.proofs.lemmas.List.{drop-drop}
 use Rattle.frame_core.specs.declared.frame.FrameKind.TheVariants.{Heartbeat}
 use Rattle.frame_core.specs.declared.frame.Frame.{Frame}
 use Rattle.frame_core.specs.Front.{IsFront}
+use Rattle.frame_core.specs.Block.{AreEncodable}
 use Rattle.frame_core.specs.Datagram.{Leads, HasNoFront, BeginsWithHeartbeat, IsLoneHeartbeat, IsDatagram, IsBadAt}
 use Rattle.frame_core.proofs.FrontLemmas.{front_uses, one_front}
 
@@ -123,3 +124,12 @@ not_bad bytes fs n (inl here) bad =
 not_bad bytes fs n (inr alone) bad =
     let run = one_run bytes [] bad.before 0 n refl bad.leads (stops_at_heartbeat bytes 0 alone.0 alone.1 alone.2 alone.3) (stops_at_bad bytes n bad.bad) in
     elim bad.bad [ inl none ↦ none alone.0 alone.1 (subst (λ (k : ℕ). IsFront (drop k bytes) alone.0 alone.1) run.1 alone.2) | inr late ↦ omega (arith, run.1, late.0) ]
+
+-- the frames of a datagram have an encoding
+leading_encodable : (bytes : List ℕ) (fs : List Frame) (end : ℕ) → Leads bytes fs end → AreEncodable fs
+leading_encodable bytes [] end leads = tt
+leading_encodable bytes (f ∷ fs) end leads = (leads.2.encodable, leading_encodable (drop leads.0 bytes) fs leads.1 leads.4)
+
+pub datagram_encodable : (bytes : List ℕ) (fs : List Frame) → IsDatagram bytes fs → AreEncodable fs
+datagram_encodable bytes fs (inl whole) = leading_encodable bytes fs _ whole.1
+datagram_encodable bytes fs (inr alone) = subst AreEncodable (sym alone.4) (alone.2.encodable, tt)

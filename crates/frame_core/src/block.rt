@@ -9,7 +9,7 @@ ghost use Rattle.frame_core.specs.Position.{HasPosition};
 ghost use Rattle.frame_core.specs.declared.refusal.Refusal.TheVariants.{NoMemory};
 
 use crate::datagram::frames_of_datagram;
-use crate::frame::{Frame, FrameKind, FrameRef};
+use crate::frame::{AsFrame, Frame, FrameKind, FrameRef};
 use crate::geometry::Geometry;
 use crate::items::Items;
 use crate::limits::MAX_BLOCK_LENGTH;
@@ -62,7 +62,11 @@ pub fn block_end(geometry: &Geometry, publication: &Publication, block: &Block) 
         (IsBlock geometry.now publication.now block.now → ⊥)
         (λ end. IsBlock geometry.now publication.now block.now × (end ≡ end_position block.now)) }
 {
-    let Some(span) = span_of(geometry, publication, block.frames.as_slice()) else {
+    let frames = block.frames.as_slice();
+    if !are_encodable(frames) {
+        return None;
+    }
+    let Some(span) = span_of(geometry, publication, frames) else {
         return None;
     };
     if span.position != block.position {
@@ -72,8 +76,9 @@ pub fn block_end(geometry: &Geometry, publication: &Publication, block: &Block) 
 }
 
 /// The block that the bytes are, decoded as a datagram. BadFrame, with the offset in bytes, where they are no
-/// datagram; else BadBlock where its frames are no block: docs/PROTOCOL.md, "Blocks". NoMemory where the frames can't
-/// be kept. Costs the bytes' length.
+/// datagram; else BadBlock where its frames are no block: docs/PROTOCOL.md, "Blocks". Payloads are copied once, of a
+/// block alone; NoMemory where the frames can't be kept. Costs the bytes' length.
+#[tactic(auto, using(crate::proofs::DatagramLemmas::datagram_encodable))]
 pub fn block_of(alloc: Global, geometry: &Geometry, bytes: &[u8]) -> Result<Block, Refusal>
     ensures ok { IfOk result
         (λ block. IsDatagram bytes.now block.frames
@@ -81,10 +86,10 @@ pub fn block_of(alloc: Global, geometry: &Geometry, bytes: &[u8]) -> Result<Bloc
     ensures err { IfErr result (IsBlockRefusal geometry.now bytes.now) }
 {
     let lent = frames_of_datagram(alloc, bytes)?;
-    let frames = owned(alloc, lent.as_slice())?;
-    let Some(position) = position_of(geometry, frames.as_slice()) else {
+    let Some(position) = position_of(geometry, lent.as_slice()) else {
         return Err(Refusal::BadBlock);
     };
+    let frames = owned(alloc, lent.as_slice())?;
     Ok(Block { position, frames })
 }
 
@@ -100,25 +105,26 @@ fn owned(alloc: Global, lent: &[FrameRef<'_>]) -> Result<Items<Frame>, Refusal>
     Ok(frames)
 }
 
-/// The position at which frames of one publication are a block.
-fn position_of(geometry: &Geometry, frames: &[Frame]) -> Option<i64>
+/// The position at which the frames of a datagram are a block.
+fn position_of(geometry: &Geometry, lent: &[FrameRef<'_>]) -> Option<i64>
+    requires { AreEncodable (map frame_of lent.now) }
     ensures { MatchOption result
-        ((p : ℤ) → AreBlock geometry.now frames.now p → ⊥)
-        (AreBlock geometry.now frames.now) }
+        ((p : ℤ) → AreBlock geometry.now (map frame_of lent.now) p → ⊥)
+        (AreBlock geometry.now (map frame_of lent.now)) }
 {
-    let [first, ..] = frames else {
+    let [first, ..] = lent else {
         return None;
     };
     let publication = publication_behind(first);
-    let Some(span) = span_of(geometry, &publication, frames) else {
+    let Some(span) = span_of(geometry, &publication, lent) else {
         return None;
     };
     Some(span.position)
 }
 
 /// The publication that a frame is of.
-fn publication_behind(frame: &Frame) -> Publication
-    ensures { result ≡ publication_of frame.now }
+fn publication_behind(frame: &FrameRef<'_>) -> Publication
+    ensures { result ≡ publication_of (frame_of frame.now) }
 {
     Publication {
         session_id: frame.session_id,
@@ -126,12 +132,13 @@ fn publication_behind(frame: &Frame) -> Publication
     }
 }
 
-/// From where to where frames are a block of the publication.
-fn span_of(geometry: &Geometry, publication: &Publication, frames: &[Frame]) -> Option<Span>
+/// From where to where frames that have an encoding are a block of the publication.
+fn span_of<F: AsFrame>(geometry: &Geometry, publication: &Publication, frames: &[F]) -> Option<Span>
+    requires { AreEncodable (map F.frame frames.now) }
     ensures span { MatchOption result
-        ((p : ℤ) → AreBlockOf geometry.now publication.now frames.now p → ⊥)
-        (λ span. AreBlockOf geometry.now publication.now frames.now span.position
-        × (span.size ≡ covered frames.now)) }
+        ((p : ℤ) → AreBlockOf geometry.now publication.now (map F.frame frames.now) p → ⊥)
+        (λ span. AreBlockOf geometry.now publication.now (map F.frame frames.now) span.position
+        × (span.size ≡ covered (map F.frame frames.now))) }
     ensures low { IfSome result (λ span. pos 0 ≤ℤ span.position) }
     ensures high { IfSome result (λ span. span.position <ℤ pos (2 ^ 62)) }
     ensures small { IfSome result (λ span. span.size < 2 ^ 33) }
@@ -139,14 +146,11 @@ fn span_of(geometry: &Geometry, publication: &Publication, frames: &[Frame]) -> 
     let [first, rest @ ..] = frames else {
         return None;
     };
-    let Some(position) = start_of(geometry, first) else {
+    let Some(position) = start_of(geometry, &first.lent()) else {
         return None;
     };
-    if !are_encodable(frames) {
-        return None;
-    }
-    let ids = block_ids(geometry, publication, first);
-    if let Some(size) = pad_size(geometry, &ids, first, rest) {
+    let ids = ids_of(geometry, publication, &first.lent());
+    if let Some(size) = pad_size(geometry, &ids, &first.lent(), rest) {
         return Some(Span { position, size });
     }
     if let Some(size) = messages_size(geometry, &ids, first, rest, frames) {
@@ -156,10 +160,10 @@ fn span_of(geometry: &Geometry, publication: &Publication, frames: &[Frame]) -> 
 }
 
 /// Where a frame begins.
-fn start_of(geometry: &Geometry, frame: &Frame) -> Option<i64>
+fn start_of(geometry: &Geometry, frame: &FrameRef<'_>) -> Option<i64>
     ensures value { MatchOption result
-        ((p : ℤ) → HasPosition geometry.now frame.now.term_id frame.now.term_offset p → ⊥)
-        (HasPosition geometry.now frame.now.term_id frame.now.term_offset) }
+        ((p : ℤ) → HasPosition geometry.now (frame_of frame.now).term_id (frame_of frame.now).term_offset p → ⊥)
+        (HasPosition geometry.now (frame_of frame.now).term_id (frame_of frame.now).term_offset) }
     ensures small { IfSome result (λ p. (pos 0 ≤ℤ p) × (p <ℤ pos (2 ^ 62))) }
 {
     position(geometry, frame.term_id, frame.term_offset)
@@ -168,6 +172,13 @@ fn start_of(geometry: &Geometry, frame: &Frame) -> Option<i64>
 /// What the frames of the publication's blocks have in common that begin with a frame. Takes no memory.
 pub fn block_ids(geometry: &Geometry, publication: &Publication, first: &Frame) -> BlockIds
     ensures { result ≡ block_ids geometry.now publication.now first.now }
+{
+    ids_of(geometry, publication, &first.as_ref())
+}
+
+/// As [`block_ids`], of a lent frame.
+fn ids_of(geometry: &Geometry, publication: &Publication, first: &FrameRef<'_>) -> BlockIds
+    ensures { result ≡ block_ids geometry.now publication.now (frame_of first.now) }
 {
     BlockIds {
         term_id: first.term_id,
@@ -190,10 +201,11 @@ pub fn are_encodable(frames: &[Frame]) -> bool
 }
 
 /// How many bytes one pad covers that lies inside its term.
-fn pad_size(geometry: &Geometry, ids: &BlockIds, first: &Frame, rest: &[Frame]) -> Option<u64>
+fn pad_size<F: AsFrame>(geometry: &Geometry, ids: &BlockIds, first: &FrameRef<'_>, rest: &[F]) -> Option<u64>
     ensures size { MatchOption result
-        (IsPadBlock geometry.now ids.now first.now rest.now → ⊥)
-        (λ size. IsPadBlock geometry.now ids.now first.now rest.now × (size ≡ aligned_length first.now)) }
+        (IsPadBlock geometry.now ids.now (frame_of first.now) (map F.frame rest.now) → ⊥)
+        (λ size. IsPadBlock geometry.now ids.now (frame_of first.now) (map F.frame rest.now)
+        × (size ≡ aligned_length (frame_of first.now))) }
     ensures small { IfSome result (λ size. size < 2 ^ 33) }
 {
     match rest {
@@ -215,19 +227,15 @@ fn pad_size(geometry: &Geometry, ids: &BlockIds, first: &Frame, rest: &[Frame]) 
 }
 
 /// How many bytes messages cover that follow one another inside their term, the first frame and the rest.
-fn messages_size(
-    geometry: &Geometry,
-    ids: &BlockIds,
-    first: &Frame,
-    rest: &[Frame],
-    frames: &[Frame],
-) -> Option<u64>
+fn messages_size<F: AsFrame>(geometry: &Geometry, ids: &BlockIds, first: &F, rest: &[F], frames: &[F]) -> Option<u64>
     requires { frames.now ≡ first.now ∷ rest.now }
     ensures size { MatchOption result
-        (IsMessageBlock geometry.now ids.now first.now rest.now → ⊥)
-        (λ size. IsMessageBlock geometry.now ids.now first.now rest.now × (size ≡ covered frames.now)) }
+        (IsMessageBlock geometry.now ids.now (F.frame first.now) (map F.frame rest.now) → ⊥)
+        (λ size. IsMessageBlock geometry.now ids.now (F.frame first.now) (map F.frame rest.now)
+        × (size ≡ covered (map F.frame frames.now))) }
     ensures small { IfSome result (λ size. size < 2 ^ 33) }
 {
+    let first = first.lent();
     if first.term_offset < 0 {
         return None;
     }
@@ -245,15 +253,17 @@ fn messages_size(
 }
 
 /// How many bytes messages with the ids cover that follow one another from an offset.
-fn run_size(ids: &BlockIds, start: u32, frames: &[Frame]) -> Option<u64>
+fn run_size<F: AsFrame>(ids: &BlockIds, start: u32, frames: &[F]) -> Option<u64>
     ensures end { MatchOption result
-        (run_end ids.now start frames.now ≡ None)
-        (λ size. (run_end ids.now start frames.now ≡ Some (start + size)) × (size ≡ covered frames.now)) }
+        (run_end ids.now start (map F.frame frames.now) ≡ None)
+        (λ size. (run_end ids.now start (map F.frame frames.now) ≡ Some (start + size))
+        × (size ≡ covered (map F.frame frames.now))) }
     ensures small { IfSome result (λ size. size < 2 ^ 34) }
 {
     let mut offset = u64::from(start);
     for frame in frames {
-        if !is_next(ids, offset, frame) {
+        let frame = frame.lent();
+        if !follows(ids, offset, &frame) {
             return None;
         }
         offset += frame.aligned_length();
@@ -263,10 +273,18 @@ fn run_size(ids: &BlockIds, start: u32, frames: &[Frame]) -> Option<u64>
 
 /// Whether a frame is a message with the ids that begins at the offset, in bytes of its term, and no longer than the
 /// MTU: docs/PROTOCOL.md, "Blocks". Takes no memory.
-#[tactic(auto, unfolding(crate::specs::Block::is_part))]
 pub fn is_next(ids: &BlockIds, offset: u64, frame: &Frame) -> bool
     ensures starts { IsTrue result → offset < 2 ^ 31 }
     ensures part { result ≡ is_part ids.now offset frame.now }
+{
+    follows(ids, offset, &frame.as_ref())
+}
+
+/// As [`is_next`], of a lent frame.
+#[tactic(auto, unfolding(crate::specs::Block::is_part))]
+fn follows(ids: &BlockIds, offset: u64, frame: &FrameRef<'_>) -> bool
+    ensures starts { IsTrue result → offset < 2 ^ 31 }
+    ensures part { result ≡ is_part ids.now offset (frame_of frame.now) }
 {
     matches!(frame.kind, FrameKind::Message)
         && frame.term_offset >= 0
@@ -277,8 +295,8 @@ pub fn is_next(ids: &BlockIds, offset: u64, frame: &Frame) -> bool
 
 /// Whether a frame is of the term, session and stream.
 #[tactic(auto, unfolding(crate::specs::Block::has_ids))]
-fn is_of(ids: &BlockIds, frame: &Frame) -> bool
-    ensures { result ≡ has_ids ids.now frame.now }
+fn is_of(ids: &BlockIds, frame: &FrameRef<'_>) -> bool
+    ensures { result ≡ has_ids ids.now (frame_of frame.now) }
 {
     frame.term_id == ids.term_id
         && frame.session_id == ids.session_id

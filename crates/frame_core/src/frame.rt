@@ -2,7 +2,7 @@
 
 ghost use Rattle.std.specs.Prelude.{◌≡◌, ◌<◌, ◌^◌, length, unsigned_abs, IfOk, IfErr};
 ghost use Rattle.std.specs.Bool.{MatchBool};
-ghost use Rattle.frame_core.specs.FrameEncoding.{IsAligned, aligned};
+ghost use Rattle.frame_core.specs.FrameEncoding.{IsAligned, aligned, frame_of};
 ghost use Rattle.frame_core.specs.declared.refusal.Refusal.TheVariants.{NoMemory};
 
 use crate::fields::{put_i32, put_i64, put_u16};
@@ -82,8 +82,36 @@ pub struct FrameRef<'a> {
     pub payload: &'a [u8],
 }
 
+/// A frame, owned or lent.
+pub trait AsFrame {
+    ghost use Rattle.frame_core.specs.declared.frame.Frame.{Frame};
+
+    /// The frame that it is.
+    ghost frame: { Self → Frame };
+
+    /// The frame as lent. Takes no memory.
+    fn lent(&self) -> FrameRef<'_>
+        ensures { frame_of result ≡ frame self.now };
+}
+
+impl AsFrame for Frame {
+    ghost frame = { λ f. f };
+
+    fn lent(&self) -> FrameRef<'_> {
+        self.as_ref()
+    }
+}
+
+impl AsFrame for FrameRef<'_> {
+    ghost frame = { frame_of };
+
+    fn lent(&self) -> FrameRef<'_> {
+        *self
+    }
+}
+
 impl FrameRef<'_> {
-    ghost use Rattle.frame_core.specs.FrameEncoding.{aligned_length, frame_of, HasLength};
+    ghost use Rattle.frame_core.specs.FrameEncoding.{aligned_length, HasLength};
 
     /// As [`Frame::aligned_length`].
     pub fn aligned_length(&self) -> u64
@@ -135,7 +163,7 @@ fn aligned_size(length: &i32) -> u64
 }
 
 impl Frame {
-    ghost use Rattle.frame_core.specs.FrameEncoding.{frame_of, header_of, encoded, aligned_length, IsEncodable};
+    ghost use Rattle.frame_core.specs.FrameEncoding.{header_of, encoded, aligned_length, IsEncodable};
 
     /// The frame as lent. Takes no memory.
     pub fn as_ref(&self) -> FrameRef<'_>

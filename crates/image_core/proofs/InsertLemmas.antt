@@ -14,15 +14,6 @@ use Rattle.image_core.specs.Received.{Received, fate, received, received_all}
 use Rattle.image_core.specs.Insert.{counted, tally, uncounted}
 use Rattle.image_core.specs.Kept.{undone}
 
--- each frame of a datagram has an encoding
-leading_encodable : (bytes : List ℕ) (fs : List Frame) (end : ℕ) → Leads bytes fs end → AreEncodable fs
-leading_encodable bytes [] end leads = tt
-leading_encodable bytes (f ∷ fs) end leads = (leads.2.encodable, leading_encodable (drop leads.0 bytes) fs leads.1 leads.4)
-
-pub datagram_encodable : (bytes : List ℕ) (fs : List Frame) → IsDatagram bytes fs → AreEncodable fs
-datagram_encodable bytes fs (inl whole) = leading_encodable bytes fs _ whole.1
-datagram_encodable bytes fs (inr alone) = subst AreEncodable (sym alone.4) (alone.2.encodable, tt)
-
 -- some frames were taken in, and the rest is left
 pub record GoesOn (start : Received) (high : ℕ) (frames : List FrameRef) (index : ℕ) (inserted : Inserted) (noted : List ℕ) (now : Received) (rest : List FrameRef) : Type 0 where
   pub counts : tally inserted now (map frame_of rest) ≡ tally (uncounted false) start (map frame_of frames)

@@ -2,7 +2,7 @@ use Rattle.std.proofs.Common.{inr}
 use Rattle.std.specs.Prelude.{map}
 use Rattle.frame_core.specs.FrameEncoding.{frame_of}
 use Rattle.image_core.proofs.ReceivedLemmas.{all_stand}
-use Rattle.image_core.proofs.InsertLemmas.{datagram_encodable}
+use Rattle.frame_core.proofs.DatagramLemmas.{datagram_encodable}
 use Rattle.image_core.proofs.image.Image.insert.Goals as goal
 
 pub insert_all-requires : goal.insert_all-requires
