@@ -88,20 +88,20 @@ keep_all p at (f ∷ fs) from =
 
 -- a frame inside its term that begins before a multiple of the term length ends at or before it
 ends_before : (t s o at k size : ℕ) → at ≡ s * t + o → o + size ≤ t → at < k * t → at + size ≤ k * t
-ends_before t s o at k size place inside before = by (nat_lt s k) refl
+ends_before t s o at k size sum inside before = by (nat_lt s k) refl
   where
     by : (b : Bool) → nat_lt s k ≡ b → at + size ≤ k * t
     by true e = let next : s + 1 ≤ k = grind (arith, nat_tests) in let more = mul-le-mul_right t next in let one : (s + 1) * t ≡ s * t + t = omega arith in omega arith
     by false e = let low : k ≤ s = grind (arith, nat_tests) in let less = mul-le-mul_right t low in absurd (omega arith)
 
 term_ends : (g : Geometry) (term offset : ℤ) (t at k size : ℕ) → g.term_length ≡ pos t → HasPosition g term offset (pos at) → (offset +ℤ pos size) ≤ℤ g.term_length → at < k * t → at + size ≤ k * t
-term_ends g term offset t at k size is has inside before = by (terms_since g term) offset has.since has.low has.place inside
+term_ends g term offset t at k size is has inside before = by (terms_since g term) offset has.since has.low has.sum inside
   where
     by : (since offset : ℤ) → pos 0 ≤ℤ since → pos 0 ≤ℤ offset → pos at ≡ since *ℤ g.term_length +ℤ offset → (offset +ℤ pos size) ≤ℤ g.term_length → at + size ≤ k * t
-    by (negsuc s) o low positive place within = absurd (omega (arith, ints))
-    by (pos s) (negsuc o) low positive place within = absurd (omega (arith, ints))
-    by (pos s) (pos o) low positive place within =
-        let placed_at : pos at ≡ pos (s * t + o) = rw is at place in
+    by (negsuc s) o low positive sum within = absurd (omega (arith, ints))
+    by (pos s) (negsuc o) low positive sum within = absurd (omega (arith, ints))
+    by (pos s) (pos o) low positive sum within =
+        let placed_at : pos at ≡ pos (s * t + o) = rw is at sum in
         let within_term : pos (o + size) ≤ℤ pos t = rw is at within in ends_before t s o at k size (omega (arith, ints)) (omega (arith, ints)) before
 
 -- a purge at a term's beginning leaves the frames from there on

@@ -77,16 +77,16 @@ some_length f is encodable =
 
 run_contiguous : (g : Geometry) (p : BlockIds) (offset : ℕ) (position : ℤ) (fs : List Frame) (end : ℕ) → pos 0 ≤ℤ terms_since g p.term_id
     → position ≡ terms_since g p.term_id *ℤ g.term_length +ℤ pos offset → AreEncodable fs → run_end p offset fs ≡ Some end → pos end ≤ℤ g.term_length → AreContiguous g position fs
-run_contiguous g p offset position [] end since place encodable ends inside = tt
-run_contiguous g p offset position (f ∷ fs) end since place encodable ends inside =
+run_contiguous g p offset position [] end since sum encodable ends inside = tt
+run_contiguous g p offset position (f ∷ fs) end since sum encodable ends inside =
     let rest = run_rest (is_part p offset f) (run_end p (offset + aligned_length f) fs) end ends in
     let part = is_part_of p offset f rest.0 in
     let some = some_length f part.kind encodable.0 in
     let grows = run_grows p (offset + aligned_length f) fs end rest.1 in
     let begins = part.offset_is in
-    let place' : position ≡ terms_since g p.term_id *ℤ g.term_length +ℤ f.term_offset = rw begins place in
+    let sum' : position ≡ terms_since g p.term_id *ℤ g.term_length +ℤ f.term_offset = rw begins sum in
     let next : position +ℤ pos (aligned_length f) ≡ terms_since g p.term_id *ℤ g.term_length +ℤ pos (offset + aligned_length f) = omega (arith, ints) in (
-      rw part.term_is (record { since = since; low = omega (arith, ints); high = omega (arith, ints); place = place' }),
+      rw part.term_is (record { since = since; low = omega (arith, ints); high = omega (arith, ints); sum = sum' }),
       omega (arith, ints),
       run_contiguous g p (offset + aligned_length f) _ fs end since next encodable.1 rest.1 inside,
     )
@@ -96,8 +96,8 @@ block_contiguous : (g : Geometry) (publication : Publication) (fs : List Frame) 
 block_contiguous g publication [] position none = tt
 block_contiguous g publication (f ∷ fs) position (at, encodable, inl pad) = (at, pad.inside, rw pad.alone tt)
 block_contiguous g publication (f ∷ fs) position (at, encodable, inr run) =
-    let place : position ≡ terms_since g f.term_id *ℤ g.term_length +ℤ pos run.offset = rw (← run.begins) at.place in
-    run_contiguous g (block_ids g publication f) run.offset position (f ∷ fs) run.end at.since place encodable run.ends run.inside
+    let sum : position ≡ terms_since g f.term_id *ℤ g.term_length +ℤ pos run.offset = rw (← run.begins) at.sum in
+    run_contiguous g (block_ids g publication f) run.offset position (f ∷ fs) run.end at.since sum encodable run.ends run.inside
 
 -- so do those of blocks
 pub blocks_contiguous : (g : Geometry) (publication : Publication) (position : ℤ) (blocks : List Block) → AreBlocksFrom g publication position blocks → AreContiguous g position (frames_of blocks)

@@ -15,20 +15,20 @@ use Rattle.archive_model.specs.declared.registration.Change.TheVariants.{Settle,
 use Rattle.archive_model.specs.Keyed.{find, change, without, Each, Rise}
 use Rattle.archive_model.specs.Register.{HasLayout, changed_by, id_of, is_active, restarted}
 use Rattle.archive_model.specs.Registered.{KeepsRegister}
-use Rattle.archive_model.specs.Numbered.{IsPlaceOf, IsNone}
+use Rattle.archive_model.specs.Numbered.{IsIndexOf, IsNone}
 
 module _ {X : Type 0} (number : X → ℤ) where
-  place_first : (n : ℤ) (x : X) (xs : List X) → int_eq n (number x) ≡ true → IsPlaceOf number n (x ∷ xs) 0
-  place_first n x xs is =
+  first_index : (n : ℤ) (x : X) (xs : List X) → int_eq n (number x) ≡ true → IsIndexOf number n (x ∷ xs) 0
+  first_index n x xs is =
       record { value = x; within = omega arith; at = refl; found = rw is refl; changed = λ f. rw is refl }
 
-  place_later : (n : ℤ) (x : X) (xs : List X) (i : ℕ) → int_eq n (number x) ≡ false → IsPlaceOf number n xs i → IsPlaceOf number n (x ∷ xs) (suc i)
-  place_later n x xs i other place = record {
-    value = place.value;
-    within = let inside = place.within in omega arith;
-    at = place.at;
-    found = rw other place.found;
-    changed = λ f. rw other (ap (λ ys. x ∷ ys) (place.changed f));
+  later_index : (n : ℤ) (x : X) (xs : List X) (i : ℕ) → int_eq n (number x) ≡ false → IsIndexOf number n xs i → IsIndexOf number n (x ∷ xs) (suc i)
+  later_index n x xs i other index = record {
+    value = index.value;
+    within = let inside = index.within in omega arith;
+    at = index.at;
+    found = rw other index.found;
+    changed = λ f. rw other (ap (λ ys. x ∷ ys) (index.changed f));
   }
 
   none_later : (n : ℤ) (x : X) (xs : List X) → int_eq n (number x) ≡ false → IsNone number n xs → IsNone number n (x ∷ xs)
@@ -37,28 +37,28 @@ module _ {X : Type 0} (number : X → ℤ) where
     changed = λ f. rw other (ap (λ ys. x ∷ ys) (none.changed f));
   }
 
-  abbrev pub IsPlacedBy : ℤ → List X → ℕ → Type 0
-  IsPlacedBy n xs i = (i < length xs → IsPlaceOf number n xs i) × (length xs ≤ i → IsNone number n xs)
+  abbrev pub IsIndexBy : ℤ → List X → ℕ → Type 0
+  IsIndexBy n xs i = (i < length xs → IsIndexOf number n xs i) × (length xs ≤ i → IsNone number n xs)
 
-  placed_by : (n : ℤ) (xs : List X) → IsPlacedBy n xs (position_or_len (int_eq n) (map number xs))
-  placed_by n [] = (λ within. absurd (omega arith), λ past. record { found = refl; changed = λ f. refl })
-  placed_by n (x ∷ xs) = by (int_eq n (number x)) refl (placed_by n xs)
+  index_by : (n : ℤ) (xs : List X) → IsIndexBy n xs (position_or_len (int_eq n) (map number xs))
+  index_by n [] = (λ within. absurd (omega arith), λ past. record { found = refl; changed = λ f. refl })
+  index_by n (x ∷ xs) = by (int_eq n (number x)) refl (index_by n xs)
     where
-      by : (b : Bool) → int_eq n (number x) ≡ b → IsPlacedBy n xs (position_or_len (int_eq n) (map number xs)) → IsPlacedBy n (x ∷ xs) (cond (not b) (1 + position_or_len (int_eq n) (map number xs)) 0)
-      by true is rest = (λ within. place_first n x xs is, λ past. absurd (omega arith))
+      by : (b : Bool) → int_eq n (number x) ≡ b → IsIndexBy n xs (position_or_len (int_eq n) (map number xs)) → IsIndexBy n (x ∷ xs) (cond (not b) (1 + position_or_len (int_eq n) (map number xs)) 0)
+      by true is rest = (λ within. first_index n x xs is, λ past. absurd (omega arith))
       by false is rest = (
-        λ within. subst (IsPlaceOf number n (x ∷ xs)) (omega arith) (place_later n x xs _ is (rest.0 (omega arith))),
+        λ within. subst (IsIndexOf number n (x ∷ xs)) (omega arith) (later_index n x xs _ is (rest.0 (omega arith))),
         λ past. none_later n x xs is (rest.1 (omega arith)),
       )
 
-  chosen : (n : ℤ) (xs : List X) (i size : ℕ) (b : Bool) → size ≡ length xs → nat_lt i size ≡ b → IsPlacedBy n xs i → MatchOption (cond b (Some i) None) (IsNone number n xs) (IsPlaceOf number n xs)
-  chosen n xs i size true is lt placed = placed.0 (grind (arith, nat_tests))
-  chosen n xs i size false is lt placed = placed.1 (grind (arith, nat_tests))
+  chosen : (n : ℤ) (xs : List X) (i size : ℕ) (b : Bool) → size ≡ length xs → nat_lt i size ≡ b → IsIndexBy n xs i → MatchOption (cond b (Some i) None) (IsNone number n xs) (IsIndexOf number n xs)
+  chosen n xs i size true is lt by_number = by_number.0 (grind (arith, nat_tests))
+  chosen n xs i size false is lt by_number = by_number.1 (grind (arith, nat_tests))
 
   -- the index of a number, where the numbers are these
-  pub index_of_number : (n : ℤ) (ns : List ℤ) (xs : List X) → ns ≡ map number xs → MatchOption (position (int_eq n) ns) (IsNone number n xs) (IsPlaceOf number n xs)
+  pub index_of_number : (n : ℤ) (ns : List ℤ) (xs : List X) → ns ≡ map number xs → MatchOption (position (int_eq n) ns) (IsNone number n xs) (IsIndexOf number n xs)
   index_of_number n ns xs is =
-      rw is (chosen n xs (position_or_len (int_eq n) (map number xs)) (length (map number xs)) _ (length-map xs number) refl (placed_by n xs))
+      rw is (chosen n xs (position_or_len (int_eq n) (map number xs)) (length (map number xs)) _ (length-map xs number) refl (index_by n xs))
 
   -- values that rise, and each of which has a property
 
@@ -209,16 +209,16 @@ pub keeps_changed : (es : List (ℤ × Registration)) (next : ℤ) (i : ℕ) (c 
 keeps_changed es next i c r new keeps gets is = keeps_set es next i r new keeps gets (ap id_of is ∙ id_kept c r) (λ laid. rw is (layout_kept c r laid))
 
 -- to write at the index of an id is to change the recording of the id
-pub written_is_changed : (id : ℤ) (es : List (ℤ × Registration)) (i : ℕ) (f : Registration → Registration) (r new : Registration) → IsPlaceOf id_of id (values_of es) i → slice_get (values_of es) i ≡ Some r → new ≡ f r
+pub written_is_changed : (id : ℤ) (es : List (ℤ × Registration)) (i : ℕ) (f : Registration → Registration) (r new : Registration) → IsIndexOf id_of id (values_of es) i → slice_get (values_of es) i ≡ Some r → new ≡ f r
     → values_of (set_value_at es i new) ≡ change id_of id f (values_of es)
-written_is_changed id es i f r new place gets is =
-    let same : Some place.value ≡ Some r = sym place.at ∙ gets in
-    let made : new ≡ f place.value = cc in
-    values_set es i new ∙ ap (slice_set (values_of es) i) made ∙ sym (place.changed f)
+written_is_changed id es i f r new index gets is =
+    let same : Some index.value ≡ Some r = sym index.at ∙ gets in
+    let made : new ≡ f index.value = cc in
+    values_set es i new ∙ ap (slice_set (values_of es) i) made ∙ sym (index.changed f)
 
-pub removed_there : (id next : ℤ) (es : List (ℤ × Registration)) (i : ℕ) → KeepsRegister es next → IsPlaceOf id_of id (values_of es) i → values_of (remove es i) ≡ without id_of id (values_of es)
-removed_there id next es i keeps place =
-    map-remove (λ e. e.1) es i ∙ sym (without_at id_of (pos 0) next id (values_of es) i place.value keeps.rising place.at (found_number id_of id (values_of es) place.value place.found))
+pub removed_there : (id next : ℤ) (es : List (ℤ × Registration)) (i : ℕ) → KeepsRegister es next → IsIndexOf id_of id (values_of es) i → values_of (remove es i) ≡ without id_of id (values_of es)
+removed_there id next es i keeps index =
+    map-remove (λ e. e.1) es i ∙ sym (without_at id_of (pos 0) next id (values_of es) i index.value keeps.rising index.at (found_number id_of id (values_of es) index.value index.found))
 
 pub keeps_removed : (es : List (ℤ × Registration)) (next : ℤ) (i : ℕ) → KeepsRegister es next → KeepsRegister (remove es i) next
 keeps_removed es next i keeps =

@@ -137,19 +137,19 @@ times_le a t less =
 pub ends_in_stream : (g : Geometry) (term offset position : ℤ) (size : ℕ) → HasPosition g term offset position → (offset +ℤ pos size) ≤ℤ g.term_length → (position +ℤ pos size) ≤ℤ pos (2 ^ 31 * unsigned_abs g.term_length)
 ends_in_stream g term offset position size at ends = by (terms_since g term) g.term_length offset refl refl refl
   where
-    by : (since length place : ℤ) → terms_since g term ≡ since → g.term_length ≡ length → offset ≡ place → (position +ℤ pos size) ≤ℤ pos (2 ^ 31 * unsigned_abs g.term_length)
+    by : (since length other : ℤ) → terms_since g term ≡ since → g.term_length ≡ length → offset ≡ other → (position +ℤ pos size) ≤ℤ pos (2 ^ 31 * unsigned_abs g.term_length)
     by (pos a) (pos t) (pos o) since_is length_is offset_is =
         let fits : FitsSigned w32 (terms_since g term) = SFits-int_wrap w32 (term -ℤ g.initial_term_id) in
         let less : suc a ≤ 2 ^ 31 = omega (arith, ints, fits, since_is) in
         let most : a * t + t ≤ 2 ^ 31 * t = times_le a t less in
-        let place : position ≡ pos a *ℤ pos t +ℤ pos o =
-        at.place ∙ ap (λ (x : ℤ). x *ℤ g.term_length +ℤ offset) since_is ∙ ap (λ (x : ℤ). pos a *ℤ x +ℤ offset) length_is ∙ ap (λ (x : ℤ). pos a *ℤ pos t +ℤ x) offset_is in
-        let end : position +ℤ pos size ≡ pos (a * t + o + size) = omega (arith, ints, place) in
+        let sum : position ≡ pos a *ℤ pos t +ℤ pos o =
+        at.sum ∙ ap (λ (x : ℤ). x *ℤ g.term_length +ℤ offset) since_is ∙ ap (λ (x : ℤ). pos a *ℤ x +ℤ offset) length_is ∙ ap (λ (x : ℤ). pos a *ℤ pos t +ℤ x) offset_is in
+        let end : position +ℤ pos size ≡ pos (a * t + o + size) = omega (arith, ints, sum) in
         let within : a * t + o + size ≤ a * t + t = omega (arith, ints, ends, length_is, offset_is) in
         let top : unsigned_abs g.term_length ≡ t = ap unsigned_abs length_is in
         subst (λ (n : ℕ). (position +ℤ pos size) ≤ℤ pos (2 ^ 31 * n)) (sym top) (omega (arith, ints, end, within, most))
-    by (negsuc a) length place since_is length_is offset_is = absurd (omega (arith, ints, at.since, since_is))
-    by (pos a) (negsuc t) place since_is length_is offset_is = absurd (omega (arith, ints, at.high, at.low, length_is))
+    by (negsuc a) length other since_is length_is offset_is = absurd (omega (arith, ints, at.since, since_is))
+    by (pos a) (negsuc t) other since_is length_is offset_is = absurd (omega (arith, ints, at.high, at.low, length_is))
     by (pos a) (pos t) (negsuc o) since_is length_is offset_is = absurd (omega (arith, ints, at.low, offset_is))
 
 pub frames_in_stream : (g : Geometry) (position : ℤ) (fs : List Frame) → AreContiguous g position fs → position ≤ℤ pos (2 ^ 31 * unsigned_abs g.term_length)

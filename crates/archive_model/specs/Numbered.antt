@@ -3,13 +3,13 @@ use Rattle.std.specs.Prelude.{◌≡◌, ◌<◌, ℕ, ℤ, List, length, Some, 
 use Rattle.archive_model.specs.Keyed.{find, change}
 
 module _ {X : Type 0} (number : X → ℤ) where
-  -- the value of the number stands at the place
-  pub record IsPlaceOf (n : ℤ) (xs : List X) (place : ℕ) : Type 0 where
+  -- the value of the number stands at the index
+  pub record IsIndexOf (n : ℤ) (xs : List X) (index : ℕ) : Type 0 where
     pub value : X
-    pub within : place < length xs
-    pub at : slice_get xs place ≡ Some value
+    pub within : index < length xs
+    pub at : slice_get xs index ≡ Some value
     pub found : find number n xs ≡ Some value
-    pub changed : (f : X → X) → change number n f xs ≡ slice_set xs place (f value)
+    pub changed : (f : X → X) → change number n f xs ≡ slice_set xs index (f value)
 
   -- no value has the number
   pub record IsNone (n : ℤ) (xs : List X) : Type 0 where

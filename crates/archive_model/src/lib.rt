@@ -15,7 +15,7 @@ mod stream;
 pub use channel::Channel;
 pub use command::{Command, ExtendFields, StartFields};
 pub use descriptor::Descriptor;
-pub use numbered::{Numbered, place_of};
+pub use numbered::{Numbered, index_of};
 pub use range::may_begin_at;
 pub use register::Register;
 pub use registration::{Change, Registration};

@@ -2,7 +2,7 @@
 
 ghost use Rattle.std.specs.Prelude.{◌≡◌, ℤ, MatchOption};
 ghost use Rattle.std.specs.Ordering.{int_eq};
-ghost use Rattle.archive_model.specs.Numbered.{IsPlaceOf, IsNone};
+ghost use Rattle.archive_model.specs.Numbered.{IsIndexOf, IsNone};
 
 /// A value that has a number.
 pub trait Numbered {
@@ -15,13 +15,13 @@ pub trait Numbered {
 }
 
 /// Where the first value of a number stands. Costs the list's length.
-pub fn place_of<T: Numbered>(values: &[T], number: &i64) -> Option<usize>
+pub fn index_of<T: Numbered>(values: &[T], number: &i64) -> Option<usize>
     ensures { MatchOption result (IsNone T.number_of number.now values.now)
-        (IsPlaceOf T.number_of number.now values.now) }
+        (IsIndexOf T.number_of number.now values.now) }
 {
-    for (place, value) in values.iter().enumerate() {
+    for (index, value) in values.iter().enumerate() {
         if value.has_number(number) {
-            return Some(place);
+            return Some(index);
         }
     }
     None

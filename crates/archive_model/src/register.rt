@@ -4,7 +4,7 @@ ghost use Rattle.std.specs.Prelude.{◌≡◌, ◌<◌, ◌<ℤ◌, ◌≤ℤ◌
 ghost use Rattle.std.specs.Option.{option_copied};
 ghost use Rattle.frame_core.specs.declared.refusal.Refusal.TheVariants.{NoMemory};
 ghost use Rattle.archive_model.specs.Keyed.{Rise};
-ghost use Rattle.archive_model.specs.Numbered.{IsNone, IsPlaceOf};
+ghost use Rattle.archive_model.specs.Numbered.{IsNone, IsIndexOf};
 ghost use Rattle.archive_model.specs.Register.{HasLayout, active_count, all_stopped, changed, id_of, is_active, may_begin, may_record, no_recordings, registration_in, with_one, with_out};
 
 use crate::registration::{Change, Registration};
@@ -72,7 +72,7 @@ impl Register {
     /// At which index the recording of an id stands.
     fn index_of(&self, id: &i64) -> Option<usize>
         ensures { MatchOption result (IsNone id_of id.now self.now.state.recordings)
-            (IsPlaceOf id_of id.now self.now.state.recordings) }
+            (IsIndexOf id_of id.now self.now.state.recordings) }
     {
         self.map.get_index_of(id)
     }

@@ -158,13 +158,13 @@ from_zero (negsuc n) low = absurd (omega (arith, ints))
 -- a frame that begins at a position is not among those in front of it, but at it or behind it
 purge_parts : (p q start : ℤ) (front left : List Frame) → start +ℤ pos (covered front) ≡ p → p ≤ℤ q → list_any (λ f. int_eq q f.position) (placed start (front ++ left)) ≡ true
     → (q ≡ p) ⊎ (list_any (λ f. int_eq q f.position) (placed p left) ≡ true)
-purge_parts p q start front left place from begins =
+purge_parts p q start front left sum from begins =
     let test : PolledFrame → Bool = λ f. int_eq q f.position in
-    let parts : placed start (front ++ left) ≡ placed start front ++ placed p left = placed-append start front left ∙ ap (λ (z : ℤ). placed start front ++ placed z left) place in
+    let parts : placed start (front ++ left) ≡ placed start front ++ placed p left = placed-append start front left ∙ ap (λ (z : ℤ). placed start front ++ placed z left) sum in
     by (any_either test (placed start front) (placed p left) (ap (list_any test) (sym parts) ∙ begins))
   where
     by : (list_any (λ f. int_eq q f.position) (placed start front) ≡ true) ⊎ (list_any (λ f. int_eq q f.position) (placed p left) ≡ true) → (q ≡ p) ⊎ (list_any (λ f. int_eq q f.position) (placed p left) ≡ true)
-    by (inl early) = let low = begins_low q start front early in inl (omega (arith, ints, low, place, from))
+    by (inl early) = let low = begins_low q start front early in inl (omega (arith, ints, low, sum, from))
     by (inr late) = inr late
 
 -- a frame that begins there stays
@@ -176,9 +176,9 @@ begun_purged r p q at start ends from begins =
     let whole : r.frames ≡ split.0 ++ left = split.1 ∙ ap (λ (fs : List Frame). split.0 ++ fs) stays in
     let sums : covered r.frames ≡ covered split.0 + covered left = ap covered whole ∙ covered-append split.0 left in
     let last : p +ℤ pos (covered left) ≡ r.descriptor.start_position +ℤ pos (covered r.frames) = ends in
-    let place : r.descriptor.start_position +ℤ pos (covered split.0) ≡ p = omega (arith, ints, sums, last) in
+    let sum : r.descriptor.start_position +ℤ pos (covered split.0) ≡ p = omega (arith, ints, sums, last) in
     let any : list_any (λ f. int_eq q f.position) (placed r.descriptor.start_position (split.0 ++ left)) ≡ true = ap (λ (fs : List Frame). list_any (λ f. int_eq q f.position) (placed r.descriptor.start_position fs)) (sym whole) ∙ begins in
-    by (purge_parts p q r.descriptor.start_position split.0 left place from any)
+    by (purge_parts p q r.descriptor.start_position split.0 left sum from any)
   where
     by : (q ≡ p) ⊎ (list_any (λ f. int_eq q f.position) (placed p (purged p r).frames) ≡ true) → IsOneOf q (purged p r)
     by (inl first) = inl first
@@ -192,8 +192,8 @@ boundary_purged r p q kept base from is = boundary_of q (purged p r) (by (one_of
         let low = kept.start in
         let at = from_zero r.descriptor.start_position low in
         let before : pos at.0 <ℤ p = subst (λ (z : ℤ). pos (unsigned_abs z) <ℤ p) at.1 (base_behind p (registration_of r) base) in
-        let place = at.1 in
-        absurd (omega (arith, ints, before, start, place, from))
+        let sum = at.1 in
+        absurd (omega (arith, ints, before, start, sum, from))
     by (inr (inl recorded)) = inr (inl (recorded ∙ sym (purged_ends r p kept base)))
     by (inr (inr begins)) = let at = from_zero r.descriptor.start_position kept.start in begun_purged r p q at.0 at.1 (purged_ends r p kept base) from begins
 

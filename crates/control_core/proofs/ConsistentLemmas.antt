@@ -165,8 +165,8 @@ opened_at_boundary a id position size o agreed e =
     let next = begins_at position found in
     let behind = checked tests (block_checks ++ last_checks) (Ok (opening_of d id position size)) in
     let front = asked_front a id tests first_checks (opened_at found behind next) o e in
-    let place = asked_at a id next found behind o front.1 in
-    let made = held tests (block_checks ++ last_checks) (opening_of d id position size) o place.1 in
+    let asked = asked_at a id next found behind o front.1 in
+    let made = held tests (block_checks ++ last_checks) (opening_of d id position size) o asked.1 in
     let known : found ≡ option_map registration_of (recording_at a id) = ap (λ (g : RegisterState). registration_in g id) agreed ∙ found_registration id a.state.recordings in
     let in_range : Bool = int_le (negsuc 0) position && int_le (negsuc 0) size in
     let inside : Bool = is_of found (is_boundary_by true next) in
@@ -174,7 +174,7 @@ opened_at_boundary a id position size o agreed e =
     let there : (is_some found ≡ true) × ((inside && true) ≡ true) = both range.1 in
     let boundary : IsAtBoundary a.state (record { number = d.callers.next_replay; recording = id; next = next; bound = (opening_of d id position size).bound }) =
     at_found a.state id next (opening_of d id position size).bound d.callers.next_replay (recording_at a id) refl
-    (subst (IsEndOr (begins_in (recording_at a id) next) next) known place.0) (subst (λ (x : Option Registration). is_some x ≡ true) known there.0) in
+    (subst (IsEndOr (begins_in (recording_at a id) next) next) known asked.0) (subst (λ (x : Option Registration). is_some x ≡ true) known there.0) in
     subst (λ (x : Opening). IsAtBoundary a.state (record { number = d.callers.next_replay; recording = x.recording; next = x.next; bound = x.bound })) made.1 boundary
 
 opened : (a : Archive) (id position size : ℤ) (o : Opening) → IsConsistent a → asked_opening a id (open_decision a.desk id position size) ≡ Ok o → StaysConsistent a (with_desk (after_open o.recording o.next o.bound a.desk) a)

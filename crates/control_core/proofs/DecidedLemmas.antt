@@ -129,12 +129,12 @@ accepts_truncate a id position agrees ends pass =
     let found = registration_in d.register id in
     let begins = begins_in (recording_at a id) position in
     let stopped : Bool = is_of found (λ r. not (is_active r)) in
-    let place : Bool = is_of found (is_boundary_by true position) in
+    let on_boundary : Bool = is_of found (is_boundary_by true position) in
     let unread : Bool = not (is_replayed d id) in
-    let whole : (not d.is_broken ≡ true) × ((is_some found && (stopped && (place && (unread && (has_room d && true))))) ≡ true) = both pass in
-    let there : (is_some found ≡ true) × ((stopped && (place && (unread && (has_room d && true)))) ≡ true) = both whole.1 in
-    let off : (stopped ≡ true) × ((place && (unread && (has_room d && true))) ≡ true) = both there.1 in
-    let at : (place ≡ true) × ((unread && (has_room d && true)) ≡ true) = both off.1 in
+    let whole : (not d.is_broken ≡ true) × ((is_some found && (stopped && (on_boundary && (unread && (has_room d && true))))) ≡ true) = both pass in
+    let there : (is_some found ≡ true) × ((stopped && (on_boundary && (unread && (has_room d && true)))) ≡ true) = both whole.1 in
+    let off : (stopped ≡ true) × ((on_boundary && (unread && (has_room d && true))) ≡ true) = both there.1 in
+    let at : (on_boundary ≡ true) × ((unread && (has_room d && true)) ≡ true) = both off.1 in
     let last : (unread ≡ true) × ((has_room d && true) ≡ true) = both at.1 in
     let cut = boundary found begins position ends at.0 in
     (begins, refl, subst (WithRegister (λ g. model.truncate_tests (registration_in g id) (has_room d) begins position)) agrees (and_true there.0 (and_true off.0 (and_true cut last.1))))
@@ -195,10 +195,10 @@ truncation a id position c agrees e =
     let behind = checked tests (block_checks ++ last_checks) (Ok made) in
     let found = registration_in a.desk.register id in
     let first = in_front a tests first_checks (if_boundary found id position behind) c e in
-    let place = at_boundary a found id position behind c first.1 in
-    let second = passing tests (block_checks ++ last_checks) made c place.1 in
+    let asked = at_boundary a found id position behind c first.1 in
+    let second = passing tests (block_checks ++ last_checks) made c asked.1 in
     let allowed = passes_on tests first_checks (block_checks ++ last_checks) first.0 second.0 in
-    subst (IsDecided a) second.1 (record { accepted = accepts_truncate a id position agrees place.0 allowed; allowed = allowed; written = tt }, refl)
+    subst (IsDecided a) second.1 (record { accepted = accepts_truncate a id position agrees asked.0 allowed; allowed = allowed; written = tt }, refl)
 
 pub decided_accepted : (a : Archive) (request : Request) (c : Command) → Agrees a.desk a.state → asked_frames a (decision_of a.desk request) ≡ decisions.Accepted c → IsDecided a c
 decided_accepted a (requests.Start f) c agrees e = by_tests a (commands.Start f) c (λ pass. (record { accepted = accepts_start a f agrees pass; allowed = pass; written = tt }, refl)) e

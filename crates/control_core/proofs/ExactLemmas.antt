@@ -33,7 +33,7 @@ use Rattle.control_core.specs.Desk.{DeskState}
 use Rattle.control_core.specs.Changes.{after_close, after_open, after_poll, after_write, recorded_of, settled, settled_by, settled_position}
 use Rattle.control_core.specs.Decisions.{decision_of}
 use Rattle.control_core.specs.Turns.{begins_at, close_tests, continues, is_done_at, open_tests, opened_at, opening_decided, opening_of, poll_tests, replay_in, replay_of, session_in, settle_tests, settling_by, settling_of, sweep_tests, verify_tests, write_tests}
-use Rattle.control_core.specs.Machine.{AtPlace, Breaks, Decided, Either, Ended, Faults, Gives, Outcome, Passing, Refuses, Step, UnlessBoundary, Unread, recording_of}
+use Rattle.control_core.specs.Machine.{AtPosition, Breaks, Decided, Either, Ended, Faults, Gives, Outcome, Passing, Refuses, Step, UnlessBoundary, Unread, recording_of}
 use Rattle.control_core.specs.Exact.{Archive, ArchiveEnds, DecisionEnds, Is, Leaves, OpeningEnds, PolledEnds, PollingEnds, SettlingEnds, SweepEnds, WriteEnds, asked_frames, asked_of, asked_opening, frames_end, frames_of_one, from_position, goes_on, plain, plain_poll, recording_at, settled_archive, span_of, told_of, with_desk, written, is_poll}
 use Rattle.control_core.specs.Consistent.{AreAtBoundaries, IsAtBoundary, IsConsistent}
 use Rattle.control_core.proofs.PollLemmas.{le_true, poll_moves}
@@ -101,13 +101,13 @@ writes_not : (a : Archive) (session : ℤ) (block : Block) (o : Result Reply Ref
 writes_not a session block o b h = by (not a.desk.is_broken) (is_some (session_in a.desk session)) (continues a.desk (session_in a.desk session) (span_of block))
     (Passing a.desk (write_tests a.desk session (span_of block) true) last_checks (Either (Ended (plain (Ok (replies.Written (span_of block).last))) (after_write session (span_of block) a.desk)) (Breaks a.desk))) h
   where
-    by : (works found place : Bool) (ends : Outcome → DeskState → Type 0)
+    by : (works found goes_on : Bool) (ends : Outcome → DeskState → Type 0)
         → Leaves a (written a session block) (cond works (cond found (Err BadBlock) (Err StaleSession)) (Err Broken)) o b
-        → MatchBool works (MatchBool found (MatchBool place (Either (Refuses a.desk BadBlock) ends (plain o) b.desk) (Refuses a.desk BadBlock (plain o) b.desk)) (Refuses a.desk StaleSession (plain o) b.desk)) (Refuses a.desk Broken (plain o) b.desk)
+        → MatchBool works (MatchBool found (MatchBool goes_on (Either (Refuses a.desk BadBlock) ends (plain o) b.desk) (Refuses a.desk BadBlock (plain o) b.desk)) (Refuses a.desk StaleSession (plain o) b.desk)) (Refuses a.desk Broken (plain o) b.desk)
     by true true true ends h = inl (told_so _ a o b h)
     by true true false ends h = told_so _ a o b h
-    by true false place ends h = told_so _ a o b h
-    by false found place ends h = told_so _ a o b h
+    by true false goes_on ends h = told_so _ a o b h
+    by false found goes_on ends h = told_so _ a o b h
 
 exact_write : (a : Archive) (session : ℤ) (block : Block) (o : Result Reply Refusal) (b : Archive) → WriteEnds a session block o b → Step a.desk (asked_of (events.Write session block)) (plain o) b.desk
 exact_write a session block o b (true, says, h) = writes_fit a session block o b h
@@ -144,15 +144,15 @@ opens_behind a id position size o b h =
     passing a (OpeningEnds a) (λ r o b h. h) (open_tests a.desk id position size true) (block_checks ++ last_checks) (Ok (opening_of a.desk id position size)) opened_so o b
     (λ done. told_so _ (with_desk (after_open id (begins_at position (registration_in a.desk.register id)) (bound_of (begins_at position (registration_in a.desk.register id)) size) a.desk) a) o b done) h
 
--- what the frames say at a place
-at_place : (a : Archive) (id next : ℤ) (found : Option Registration) (behind : Result Opening Refusal) (ends : Outcome → DeskState → Type 0) (o : Result Reply Refusal) (b : Archive)
-    → (OpeningEnds a behind o b → ends (plain o) b.desk) → OpeningEnds a (asked_opening a id (opened_at found behind next)) o b → AtPlace a.desk found next ends (plain o) b.desk
-at_place a id next None behind ends o b done h = by (begins_in (recording_at a id) next) h
+-- what the frames say at a position
+at_position : (a : Archive) (id next : ℤ) (found : Option Registration) (behind : Result Opening Refusal) (ends : Outcome → DeskState → Type 0) (o : Result Reply Refusal) (b : Archive)
+    → (OpeningEnds a behind o b → ends (plain o) b.desk) → OpeningEnds a (asked_opening a id (opened_at found behind next)) o b → AtPosition a.desk found next ends (plain o) b.desk
+at_position a id next None behind ends o b done h = by (begins_in (recording_at a id) next) h
   where
     by : (t : Bool) → OpeningEnds a (cond t behind (Err BadPosition)) o b → UnlessBoundary a.desk ends (plain o) b.desk
     by true h = inr (inr (done h))
     by false h = inl (told_so _ a o b h)
-at_place a id next (Some r) behind ends o b done h = by (is_end next r) (begins_in (recording_at a id) next) h
+at_position a id next (Some r) behind ends o b done h = by (is_end next r) (begins_in (recording_at a id) next) h
   where
     by : (t u : Bool) → OpeningEnds a (asked_opening a id (cond t (opening.Decided behind) (opening.IfBoundary next behind))) o b → MatchBool t (ends (plain o) b.desk) (UnlessBoundary a.desk ends (plain o) b.desk)
     by true u h = done h
@@ -170,8 +170,8 @@ exact_open a id position size o b h =
     let F : Result OpeningDecision Refusal → Result Reply Refusal → Archive → Type 0 = λ x. OpeningEnds a (asked_opening a id (opening_decided x)) in
     let next = begins_at position found in
     let opened_so : Outcome → DeskState → Type 0 = Passing a.desk tests (block_checks ++ last_checks) (Ended (Ok (told.Reply (replies.ReplayOpened a.desk.callers.next_replay))) (after_open id next (bound_of next size) a.desk)) in
-    passing a F (λ r o b h. h) tests first_checks (Ok (opened_at found behind next)) (AtPlace a.desk found next opened_so) o b
-    (at_place a id next found behind opened_so o b (opens_behind a id position size o b)) h
+    passing a F (λ r o b h. h) tests first_checks (Ok (opened_at found behind next)) (AtPosition a.desk found next opened_so) o b
+    (at_position a id next found behind opened_so o b (opens_behind a id position size o b)) h
 
 -- ---- the others
 

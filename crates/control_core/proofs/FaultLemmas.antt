@@ -24,7 +24,7 @@ use Rattle.control_core.specs.Desk.{DeskState}
 use Rattle.control_core.specs.Changes.{after_open, after_write, broken_desk, settled, settled_position}
 use Rattle.control_core.specs.Decisions.{command_in, decision_of}
 use Rattle.control_core.specs.Turns.{begins_at, open_tests, opened_at, opening_decided, opening_of, poll_tests, replay_in, session_in, settle_tests, sweep_tests, verify_tests, write_tests}
-use Rattle.control_core.specs.Machine.{AtPlace, Breaks, Decided, Either, Ended, Ends, Faults, Gives, Outcome, Passing, Refuses, Step, Stepped, UnlessBoundary, Unread, recording_of}
+use Rattle.control_core.specs.Machine.{AtPosition, Breaks, Decided, Either, Ended, Ends, Faults, Gives, Outcome, Passing, Refuses, Step, Stepped, UnlessBoundary, Unread, recording_of}
 use Rattle.control_core.specs.Exact.{Archive, CallEnds, LeftByFault, Makes, asked_of, opens_by_frames, reads_files, span_of, told_of, waits_for_frames, writes_files, is_poll}
 use Rattle.control_core.specs.Consistent.{AreAtBoundaries, IsConsistent}
 use Rattle.control_core.proofs.ExactLemmas.{exact_is_allowed}
@@ -57,9 +57,9 @@ decided_unread d (Answered reply) new waits same = absurd (true≢false (sym wai
 decided_unread d (Accepted command) new waits same = absurd (true≢false (sym waits))
 
 -- where a position is asked of frames
-place_unread : (d : DeskState) (found : Option Registration) (position : ℤ) (behind : Result Opening Refusal) (ends : Ends) (new : DeskState) → opens_by_frames (opened_at found behind position) ≡ true → new ≡ d → AtPlace d found position ends (Err DeviceFault) new
-place_unread d None position behind ends new by_frames same = inr (inl (inl (refl, same)))
-place_unread d (Some r) position behind ends new by_frames same = by (is_end position r) by_frames
+position_unread : (d : DeskState) (found : Option Registration) (position : ℤ) (behind : Result Opening Refusal) (ends : Ends) (new : DeskState) → opens_by_frames (opened_at found behind position) ≡ true → new ≡ d → AtPosition d found position ends (Err DeviceFault) new
+position_unread d None position behind ends new by_frames same = inr (inl (inl (refl, same)))
+position_unread d (Some r) position behind ends new by_frames same = by (is_end position r) by_frames
   where
     by : (b : Bool) → opens_by_frames (cond b (opening.Decided behind) (opening.IfBoundary position behind)) ≡ true → MatchBool b (ends (Err DeviceFault) new) (UnlessBoundary d ends (Err DeviceFault) new)
     by true frames = absurd (true≢false (sym frames))
@@ -98,7 +98,7 @@ left_read a (events.ReplayOpen id position size) new reads same =
     let tests = open_tests d id position size true in
     let behind = checked tests (block_checks ++ last_checks) (Ok (opening_of d id position size)) in
     let opened : Ends = Passing d tests (block_checks ++ last_checks) (Ended (Ok (told.Reply (replies.ReplayOpened d.callers.next_replay))) (after_open id next (bound_of next size) d)) in
-    opening_unread d tests first_checks (opened_at found behind next) (AtPlace d found next opened) (Err DeviceFault) new reads (λ by_frames. place_unread d found next behind opened new by_frames same)
+    opening_unread d tests first_checks (opened_at found behind next) (AtPosition d found next opened) (Err DeviceFault) new reads (λ by_frames. position_unread d found next behind opened new by_frames same)
 left_read a (events.ReplayPoll number most) new reads same =
     let found = replay_in a.desk number in
     let ends : Ends = Either (Unread a.desk) (Gives a.desk found (recording_of a.desk found)) in

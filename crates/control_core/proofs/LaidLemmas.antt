@@ -29,15 +29,15 @@ lt_true : (a b : ℤ) → int_lt a b ≡ true → a <ℤ b
 lt_true a b is = search rules
 
 -- a start position is a multiple of 32 in the stream
-start_place : (z term : ℤ) → is_start_position z term ≡ true → (n : ℕ) × (z ≡ pos (32 * n)) × (32 * n ≤ 2 ^ 31 * unsigned_abs term)
+start_units : (z term : ℤ) → is_start_position z term ≡ true → (n : ℕ) × (z ≡ pos (32 * n)) × (32 * n ≤ 2 ^ 31 * unsigned_abs term)
 unfolding is_start_position
-start_place (pos p) term is =
+start_units (pos p) term is =
     let parts : ((p % 32 == 0) ≡ true) × (nat_lt p (2 ^ 31 * unsigned_abs term) ≡ true) = both is in
     let whole : p % 32 ≡ 0 = grind (arith, nat_tests) in
     let less : p < 2 ^ 31 * unsigned_abs term = grind (arith, nat_tests) in
     let same : p ≡ 32 * (p / 32) = omega (arith, whole) in
     (p / 32, ap pos same, omega (arith, same, less))
-start_place (negsuc p) term is = absurd (true≢false (sym is))
+start_units (negsuc p) term is = absurd (true≢false (sym is))
 
 -- what a new recording's range says
 record HasRange (f : StartFields) : Type 0 where
@@ -61,14 +61,14 @@ has_range f range =
 pub laid_begun : (id : ℤ) (f : StartFields) → is_in_range f ≡ true → IsLaid (registered id f)
 laid_begun id f range =
     let has = has_range f range in
-    let place = start_place f.start_position f.term_length has.start in
+    let units = start_units f.start_position f.term_length has.start in
     record {
       laid_out = record {
-        layout = record { term = has.term; segment = has.segment; no_less = has.no_less; start = place.0; start_is = place.1; in_terms = place.2 };
+        layout = record { term = has.term; segment = has.segment; no_less = has.no_less; start = units.0; start_is = units.1; in_terms = units.2 };
         mtu = has.mtu;
       };
       from_start = omega (arith, ints);
-      in_stream = omega (arith, ints, place.1, place.2);
+      in_stream = omega (arith, ints, units.1, units.2);
     }
 
 pub laid_stopped : (timestamp : ℤ) (r : Registration) → IsLaid r → IsLaid (changed_by (changes.Stop timestamp) r)
@@ -127,11 +127,11 @@ laid_purged position r laid base =
     let whole = base_is_term (unsigned_abs r.descriptor.start_position) later.at (unsigned_abs r.descriptor.term_length) (unsigned_abs r.descriptor.segment_length) t.0 s.0
     (ap unsigned_abs t.3) (ap unsigned_abs s.3) (exponent_le t.0 s.0 powers) later.behind later.base in
     let multiple : later.at ≡ 32 * (whole.0 * 2 ^ (t.0 - 5)) = of_terms later.at whole.0 (unsigned_abs r.descriptor.term_length) t.0 t.1 (ap unsigned_abs t.3) whole.1 in
-    let place : position ≡ pos (32 * (whole.0 * 2 ^ (t.0 - 5))) = later.is ∙ ap pos multiple in
-    let inside : pos (32 * (whole.0 * 2 ^ (t.0 - 5))) ≤ℤ stream_end r = omega (arith, ints, place, later.before, laid.in_stream) in
+    let units : position ≡ pos (32 * (whole.0 * 2 ^ (t.0 - 5))) = later.is ∙ ap pos multiple in
+    let inside : pos (32 * (whole.0 * 2 ^ (t.0 - 5))) ≤ℤ stream_end r = omega (arith, ints, units, later.before, laid.in_stream) in
     record {
       laid_out = record {
-        layout = record { term = layout.term; segment = layout.segment; no_less = layout.no_less; start = whole.0 * 2 ^ (t.0 - 5); start_is = place; in_terms = omega (arith, ints, inside) };
+        layout = record { term = layout.term; segment = layout.segment; no_less = layout.no_less; start = whole.0 * 2 ^ (t.0 - 5); start_is = units; in_terms = omega (arith, ints, inside) };
         mtu = laid.laid_out.mtu;
       };
       from_start = later.before;

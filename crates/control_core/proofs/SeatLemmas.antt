@@ -3,7 +3,7 @@ use Rattle.std.proofs.Common.{◌≡◌, ◌+ℤ◌, ◌≤ℤ◌, ◌<◌, ℕ,
 use Rattle.std.proofs.lemmas.Option.{slice_get-get_or}
 use Rattle.std.proofs.lemmas.Int.{ints}
 use Rattle.archive_model.specs.Keyed.{change, without, Rise}
-use Rattle.archive_model.specs.Numbered.{IsPlaceOf}
+use Rattle.archive_model.specs.Numbered.{IsIndexOf}
 use Rattle.archive_model.proofs.RegisterLemmas.{without_at, found_number}
 
 module _ {X : Type 0} (number : X → ℤ) where
@@ -20,17 +20,17 @@ module _ {X : Type 0} (number : X → ℤ) where
       by true rest = (rising.0, rest)
       by false rest = rise_lower (number x +ℤ pos 1) low next (filter test xs) (omega (arith, ints, rising.0)) rest
 
-  -- to write the changed value at the place of a number is to change the value of the number
-  pub set_is_change : (n : ℤ) (xs : List X) (place : ℕ) (f : X → X) (x new : X) → IsPlaceOf number n xs place → x ≡ get_or xs place x → new ≡ f x → slice_set xs place new ≡ change number n f xs
-  set_is_change n xs place f x new placed gets is =
-      let there : slice_get xs place ≡ Some x = slice_get-get_or xs place x placed.within ∙ ap Some (sym gets) in
+  -- to write the changed value at the index of a number is to change the value of the number
+  pub set_is_change : (n : ℤ) (xs : List X) (index : ℕ) (f : X → X) (x new : X) → IsIndexOf number n xs index → x ≡ get_or xs index x → new ≡ f x → slice_set xs index new ≡ change number n f xs
+  set_is_change n xs index f x new placed gets is =
+      let there : slice_get xs index ≡ Some x = slice_get-get_or xs index x placed.within ∙ ap Some (sym gets) in
       let same : Some x ≡ Some placed.value = sym there ∙ placed.at in
       let made : new ≡ f placed.value = cc in
-      ap (slice_set xs place) made ∙ sym (placed.changed f)
+      ap (slice_set xs index) made ∙ sym (placed.changed f)
 
-  -- to remove at the place of a number is to be without the value of the number
-  pub remove_is_without : (next n : ℤ) (xs : List X) (place : ℕ) → Rise number (pos 0) xs next → IsPlaceOf number n xs place → remove xs place ≡ without number n xs
-  remove_is_without next n xs place rising placed = sym (without_at number (pos 0) next n xs place placed.value rising placed.at (found_number number n xs placed.value placed.found))
+  -- to remove at the index of a number is to be without the value of the number
+  pub remove_is_without : (next n : ℤ) (xs : List X) (index : ℕ) → Rise number (pos 0) xs next → IsIndexOf number n xs index → remove xs index ≡ without number n xs
+  remove_is_without next n xs index rising placed = sym (without_at number (pos 0) next n xs index placed.value rising placed.at (found_number number n xs placed.value placed.found))
 
 -- the value at an index, by whatever default
 pub get_or_same : {X : Type 0} (xs : List X) (i : ℕ) (d x : X) → i < length xs → x ≡ get_or xs i d → x ≡ get_or xs i x

@@ -24,7 +24,7 @@ use Rattle.control_core.specs.declared.turns.OpeningDecision.TheVariants as open
 use Rattle.control_core.specs.Changes.{after_close, after_open, after_write, desk_after, reply_after, settled, settled_position}
 use Rattle.control_core.specs.Desk.{DeskState}
 use Rattle.control_core.specs.Turns.{begins_at, close_tests, open_decision, open_tests, opened_at, opening_decided, opening_of, poll_decision, poll_tests, replay_in, replay_of, session_in, settle_tests, sweep_tests, verify_tests, write_tests}
-use Rattle.control_core.specs.Machine.{AtPlace, Breaks, Decided, Does, Either, Ended, Ends, Gives, Outcome, Passing, Refuses, Step, Stepped, UnlessBoundary, Unread, recording_of}
+use Rattle.control_core.specs.Machine.{AtPosition, Breaks, Decided, Does, Either, Ended, Ends, Gives, Outcome, Passing, Refuses, Step, Stepped, UnlessBoundary, Unread, recording_of}
 use Rattle.control_core.specs.ByDecision.{OpensAs, OpensBy, PollsBy, SweepsBy, VerifiesBy}
 
 -- what an answer that is checked ends with, one check after another
@@ -68,9 +68,9 @@ unless_then d A B o new to (inl bad) = inl bad
 unless_then d A B o new to (inr (inl unread)) = inr (inl unread)
 unless_then d A B o new to (inr (inr ends)) = inr (inr (to ends))
 
-at_place : (d : DeskState) (found : Option Registration) (position : ℤ) (behind : Result Opening Refusal) (ends : Ends) (o : Outcome) (new : DeskState) → (OpensAs d behind o new → ends o new) → OpensBy d (opened_at found behind position) o new → AtPlace d found position ends o new
-at_place d None position behind ends o new to h = unless_then d (OpensAs d behind) ends o new to h
-at_place d (Some r) position behind ends o new to h = by (is_end position r) h
+at_position : (d : DeskState) (found : Option Registration) (position : ℤ) (behind : Result Opening Refusal) (ends : Ends) (o : Outcome) (new : DeskState) → (OpensAs d behind o new → ends o new) → OpensBy d (opened_at found behind position) o new → AtPosition d found position ends o new
+at_position d None position behind ends o new to h = unless_then d (OpensAs d behind) ends o new to h
+at_position d (Some r) position behind ends o new to h = by (is_end position r) h
   where
     by : (b : Bool) → OpensBy d (cond b (opening.Decided behind) (opening.IfBoundary position behind)) o new → MatchBool b (ends o new) (UnlessBoundary d ends o new)
     by true h = to h
@@ -83,8 +83,8 @@ open_step d id position size o new h =
     let tests = open_tests d id position size true in
     let behind = checked tests (block_checks ++ last_checks) (Ok (opening_of d id position size)) in
     let opened : Ends = Passing d tests (block_checks ++ last_checks) (Ended (Ok (told.Reply (replies.ReplayOpened d.callers.next_replay))) (after_open id next (bound_of next size) d)) in
-    by_checks d (λ x. OpensBy d (opening_decided x)) (refused_by d) tests first_checks (Ok (opened_at found behind next)) (AtPlace d found next opened) o new
-    (λ all at. at_place d found next behind opened o new (λ opens. by_checks d (OpensAs d) (λ r o new h. h) tests (block_checks ++ last_checks) (Ok (opening_of d id position size)) (Ended (Ok (told.Reply (replies.ReplayOpened d.callers.next_replay))) (after_open id next (bound_of next size) d)) o new (λ rest done. done) opens) at) h
+    by_checks d (λ x. OpensBy d (opening_decided x)) (refused_by d) tests first_checks (Ok (opened_at found behind next)) (AtPosition d found next opened) o new
+    (λ all at. at_position d found next behind opened o new (λ opens. by_checks d (OpensAs d) (λ r o new h. h) tests (block_checks ++ last_checks) (Ok (opening_of d id position size)) (Ended (Ok (told.Reply (replies.ReplayOpened d.callers.next_replay))) (after_open id next (bound_of next size) d)) o new (λ rest done. done) opens) at) h
 
 -- ---- what is refused by anything but a device fault leaves the desk
 
@@ -132,9 +132,9 @@ decided_stays d (decisions.Answered reply) = told_stays d d (told.Reply reply)
 decided_stays d (decisions.Accepted c) = done_stays d (desk_after d c) (told.Reply (reply_after d c))
 decided_stays d (decisions.IfBoundary id position decided) = boundary_stays d (Does d decided) (does_stay d decided)
 
-place_stays : (d : DeskState) (found : Option Registration) (position : ℤ) (ends : Ends) → Stays d ends → Stays d (AtPlace d found position ends)
-place_stays d None position ends stays = record { is = (boundary_stays d ends stays).is }
-place_stays d (Some r) position ends stays = record { is = by (is_end position r) }
+position_stays : (d : DeskState) (found : Option Registration) (position : ℤ) (ends : Ends) → Stays d ends → Stays d (AtPosition d found position ends)
+position_stays d None position ends stays = record { is = (boundary_stays d ends stays).is }
+position_stays d (Some r) position ends stays = record { is = by (is_end position r) }
   where
     by : (b : Bool) (refusal : Refusal) (new : DeskState) → refusal ≢ DeviceFault → MatchBool b (ends (Err refusal) new) (UnlessBoundary d ends (Err refusal) new) → new ≡ d
     by true refusal new other h = stays.is refusal new other h
@@ -165,7 +165,7 @@ step_stays d (calls.ReplayOpen id position size) =
     let next = begins_at position found in
     let tests = open_tests d id position size true in
     let opened = told_stays d (after_open id next (bound_of next size) d) (told.Reply (replies.ReplayOpened d.callers.next_replay)) in
-    passing_stays d tests first_checks _ (place_stays d found next _ (passing_stays d tests (block_checks ++ last_checks) _ opened))
+    passing_stays d tests first_checks _ (position_stays d found next _ (passing_stays d tests (block_checks ++ last_checks) _ opened))
 step_stays d (calls.ReplayPoll number most) =
     let found = replay_in d number in
     passing_stays d (poll_tests d number most) checks _ (either_stays d (Unread d) (Gives d found (recording_of d found)) (unread_stays d) (gives_stay d found (recording_of d found)))

@@ -75,8 +75,8 @@ write_allowed a session block fits reply consistent says e =
     let soon : Bool = not (is_waiting a.desk found) in
     let whole : (not a.desk.is_broken ≡ true) × ((is_some found && (placed_well && (soon && true))) ≡ true) = both is.0 in
     let there : (is_some found ≡ true) × ((placed_well && (soon && true)) ≡ true) = both whole.1 in
-    let place : (placed_well ≡ true) × ((soon && true) ≡ true) = both there.1 in
-    let parts : (fits ≡ true) × (continues a.desk found (span_of block) ≡ true) = both place.0 in
+    let goes_on : (placed_well ≡ true) × ((soon && true) ≡ true) = both there.1 in
+    let parts : (fits ≡ true) × (continues a.desk found (span_of block) ≡ true) = both goes_on.0 in
     let of : IsBlockOf a found block = subst (λ (t : Bool). MatchBool t (IsBlockOf a found block) (IsBlockOf a found block → ⊥)) parts.0 says in
     may_write a session block found consistent refl parts.1 of
 
@@ -99,10 +99,10 @@ none_beside session bs all n ss s found none = other_blocks session bs all n (by
 
 -- blocks that go on from a position, and one that begins where they end
 blocks_more : (g : Geometry) (publication : Publication) (at : ℤ) (bs : List Block) (block : Block) → IsBlock g publication block → block.position ≡ at +ℤ pos (covered (frames_of bs)) → AreBlocksFrom g publication at bs → AreBlocksFrom g publication at (bs ++ block ∷ [])
-blocks_more g publication at [] block is place all = (is, (let same = place in omega (arith, ints, same)), tt)
-blocks_more g publication at (b ∷ bs) block is place (first, here, rest) =
+blocks_more g publication at [] block is sum all = (is, (let same = sum in omega (arith, ints, same)), tt)
+blocks_more g publication at (b ∷ bs) block is sum (first, here, rest) =
     let parts = covered-append b.frames (frames_of bs) in
-    (first, here, blocks_more g publication (end_position b) bs block is (omega (arith, ints, place, here, parts)) rest)
+    (first, here, blocks_more g publication (end_position b) bs block is (omega (arith, ints, sum, here, parts)) rest)
 
 -- where what a session wrote ends
 pub written_end : (a : Archive) (s : RecorderSession) (r : Recording) (o : Option Written) → recording_at a s.recording ≡ Some r → HasBlocks a s o → written_to o (recorded_position r) ≡ recorded_position r +ℤ pos (covered (frames_of (a.blocks s.number)))

@@ -92,16 +92,16 @@ Settles old session =
     Passing old (settle_tests old session) checks (Either (Ended (Ok (told.Reply (replies.Settled (settled_position old found)))) (settled found old)) (Breaks old))
 
 -- the start and the recorded position need no frames
-abbrev pub AtPlace : DeskState → Option Registration → ℤ → Ends → Ends
-AtPlace old None position ends outcome new = UnlessBoundary old ends outcome new
-AtPlace old (Some r) position ends outcome new = MatchBool (is_end position r) (ends outcome new) (UnlessBoundary old ends outcome new)
+abbrev pub AtPosition : DeskState → Option Registration → ℤ → Ends → Ends
+AtPosition old None position ends outcome new = UnlessBoundary old ends outcome new
+AtPosition old (Some r) position ends outcome new = MatchBool (is_end position r) (ends outcome new) (UnlessBoundary old ends outcome new)
 
 abbrev pub Opens : DeskState → ℤ → ℤ → ℤ → Ends
 Opens old id position size =
     let found = registration_in old.register id in
     let next = begins_at position found in
     let tests = open_tests old id position size true in
-    Passing old tests first_checks (AtPlace old found next
+    Passing old tests first_checks (AtPosition old found next
     (Passing old tests (block_checks ++ last_checks) (Ended (Ok (told.Reply (replies.ReplayOpened old.callers.next_replay))) (after_open id next (bound_of next size) old))))
 
 -- The frames of a poll begin at the next position and end at or below the recorded one. There are some exactly where

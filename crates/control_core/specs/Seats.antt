@@ -3,7 +3,7 @@ use Rattle.std.specs.Prelude.{◌≡◌, ◌≢◌, ◌≤◌, ◌<◌, ℕ, ℤ
 use Rattle.archive_model.specs.declared.command.Command.{Command}
 use Rattle.archive_model.specs.declared.command.Command.TheVariants.{Start, Append, Stop, Extend, Truncate, PurgeSegments, PurgeRecording, Restart}
 use Rattle.archive_model.specs.Keyed.{Each, Rise, find}
-use Rattle.archive_model.specs.Numbered.{IsPlaceOf}
+use Rattle.archive_model.specs.Numbered.{IsIndexOf}
 use Rattle.archive_model.specs.Register.{RegisterState, id_of, is_active, registration_in}
 use Rattle.archive_model.specs.Checks.{is_of}
 use Rattle.control_core.specs.declared.callers.RecorderSession.{RecorderSession}
@@ -28,12 +28,12 @@ pub record ReplaysView : Type 0 where
 -- the session of a number, where it stands
 pub record IsFoundSession (number : ℤ) (ss : List RecorderSession) (f : FoundSession) : Type 0 where
   pub session : find session_number number ss ≡ Some f.session
-  pub stands : IsPlaceOf session_number number ss f.index
+  pub stands : IsIndexOf session_number number ss f.index
 
 -- the replay of a number, where it stands
 pub record IsFoundReplay (number : ℤ) (rs : List OpenReplay) (f : FoundReplay) : Type 0 where
   pub replay : find replay_number number rs ≡ Some f.replay
-  pub stands : IsPlaceOf replay_number number rs f.index
+  pub stands : IsIndexOf replay_number number rs f.index
 
 -- the recording that a session writes is there and active
 abbrev pub IsWriting : RegisterState → RecorderSession → Type 0

@@ -67,12 +67,12 @@ record Splits (text word rest : List ℕ) : Type 0 where
 splits : (word rest : List ℕ) → HasNoBlank word → Splits (word ++ 32 ∷ rest) word rest
 splits word rest h =
     let text = word ++ 32 ∷ rest in
-    let place = position_or_len-word word rest h in
+    let index = position_or_len-word word rest h in
     let long : length text ≡ length word + suc (length rest) = length-append word (32 ∷ rest) in
     let inside : length word < length text = omega arith in record {
-      found = rw place (search (rules, tests));
-      front = rw place (take-append_seam word (32 ∷ rest));
-      back = rw place (drop-append-add word (32 ∷ rest) 1);
+      found = rw index (search (rules, tests));
+      front = rw index (take-append_seam word (32 ∷ rest));
+      back = rw index (drop-append-add word (32 ∷ rest) 1);
     }
 
 -- what stands behind a word: nothing, or a blank and the rest

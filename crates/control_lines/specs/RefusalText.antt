@@ -31,11 +31,11 @@ name_of (BadFrame offset) = codes "BadFrame"
 name_of BadLine = codes "BadLine"
 
 -- what stands behind the name: where it is damaged, or where no frame is
-abbrev pub place_of : Refusal → List ℕ
-place_of (Damaged recording position) = codes " " ++ (signed_decimal recording ++ (codes " " ++ signed_decimal position))
-place_of (BadFrame offset) = codes " " ++ decimal offset
-place_of refusal = []
+abbrev pub details_of : Refusal → List ℕ
+details_of (Damaged recording position) = codes " " ++ (signed_decimal recording ++ (codes " " ++ signed_decimal position))
+details_of (BadFrame offset) = codes " " ++ decimal offset
+details_of refusal = []
 
 -- its line, with the line's end
 unfoldable pub refusal_text : Refusal → List ℕ
-refusal_text refusal = codes "error " ++ decimal (number_of refusal) ++ codes " " ++ name_of refusal ++ place_of refusal ++ codes "\n"
+refusal_text refusal = codes "error " ++ decimal (number_of refusal) ++ codes " " ++ name_of refusal ++ details_of refusal ++ codes "\n"

@@ -1,7 +1,7 @@
 //! Refusals as text. docs/CONTROL.md, "Refusals".
 
 ghost use Rattle.std.specs.Prelude.{◌≡◌, ◌++◌, ◌+◌, ◌≤◌, [], length, codes};
-ghost use Rattle.control_lines.specs.RefusalText.{name_of, place_of, refusal_text};
+ghost use Rattle.control_lines.specs.RefusalText.{name_of, details_of, refusal_text};
 
 use frame_core::Refusal;
 use std::marker::Model;
@@ -83,9 +83,9 @@ fn name(refusal: &Refusal) -> &'static str
     }
 }
 
-fn put_place(line: &mut RefusalLine, refusal: &Refusal)
+fn put_details(line: &mut RefusalLine, refusal: &Refusal)
     requires { length line.old ≤ 37 }
-    ensures text { line.new ≡ line.old ++ place_of refusal.now }
+    ensures text { line.new ≡ line.old ++ details_of refusal.now }
     ensures short { length line.new ≤ 79 }
 {
     match refusal {
@@ -116,7 +116,7 @@ pub fn print_refusal(refusal: &Refusal) -> RefusalLine
     line.put(itoa::Buffer::new().format(refusal.number()));
     line.put(" ");
     line.put(name(refusal));
-    put_place(&mut line, refusal);
+    put_details(&mut line, refusal);
     line.put("\n");
     line
 }

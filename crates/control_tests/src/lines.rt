@@ -21,7 +21,7 @@ fn has_terms(fields: &StartFields) -> bool {
     fields.initial_term_id == 42 && fields.term_length == 65_536 && fields.mtu == 1_408
 }
 
-fn has_place(fields: &StartFields) -> bool {
+fn has_numbers(fields: &StartFields) -> bool {
     fields.segment_length == 131_072 && fields.start_position == 0 && fields.timestamp == 1_000
 }
 
@@ -29,7 +29,7 @@ fn has_place(fields: &StartFields) -> bool {
 fn a_line_that_starts_a_recording(rt: HostRuntime) -> Result<(), Fail> {
     let fields = start_fields(rt.alloc())?;
     assert!(rt; fields.stream_id == 1_001 && fields.session_id == 7);
-    assert!(rt; has_terms(&fields) && has_place(&fields));
+    assert!(rt; has_terms(&fields) && has_numbers(&fields));
     assert!(rt; fields.channel.as_str() == "aeron:udp?endpoint=localhost:40123");
     Ok(())
 }

@@ -1,7 +1,7 @@
 //! A recorder session writes a block. docs/CONTROL.md, "Recorder sessions"; docs/STORAGE.md, "Segments".
 
 ghost use Rattle.std.specs.Prelude.{◌≡◌, IfSome, MatchOption, None, Some};
-ghost use Rattle.archive_model.specs.Numbered.{IsPlaceOf};
+ghost use Rattle.archive_model.specs.Numbered.{IsIndexOf};
 ghost use Rattle.archive_model.specs.Register.{registration_in};
 ghost use Rattle.control_core.specs.declared.event.Event.TheVariants as events;
 ghost use Rattle.control_core.specs.Callers.{session_number};
@@ -72,7 +72,7 @@ fn target_of<'a>(
     requires { MatchOption found.now (session_in desk.now.state session.now ≡ None)
         (IsFoundSession session.now desk.now.state.callers.sessions) }
     ensures stands { IfSome result (λ target.
-        IsPlaceOf session_number session.now desk.now.state.callers.sessions target.index) }
+        IsIndexOf session_number session.now desk.now.state.callers.sessions target.index) }
     ensures known { IfSome result (λ target. IfSome found.now (λ found.
         registration_in desk.now.state.register found.session.recording ≡ Some target.known.now)) }
     ensures target { MatchOption result (HasNoTarget desk.now.state session.now block.now)

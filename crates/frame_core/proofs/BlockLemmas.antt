@@ -49,4 +49,4 @@ block_of_first g publication frames rest f position is its block =
 -- frames are a block at one position
 pub one_start : (g : Geometry) (fs : List Frame) (p q : ℤ) → AreBlock g fs p → AreBlock g fs q → p ≡ q
 one_start g [] p q here there = absurd here
-one_start g (f ∷ fs) p q here there = here.0.place ∙ sym there.0.place
+one_start g (f ∷ fs) p q here there = here.0.sum ∙ sym there.0.sum

@@ -52,18 +52,18 @@ lone_heartbeat bytes rest fs gs end f used leads start is front kind list =
     let here : rest ≡ bytes = is ∙ ap (λ (n : ℕ). drop n bytes) start in
     inr (f, used, subst (λ (bs : List ℕ). IsFront bs f used) here front, kind, list ∙ ap (λ (hs : List Frame). hs ++ f ∷ []) none)
 
--- no frame but a heartbeat stands at a place
+-- no frame but a heartbeat stands at an offset
 record Stops (bytes : List ℕ) (end : ℕ) : Type 0 where
   none : (f : Frame) (used : ℕ) → IsFront (drop end bytes) f used → f.kind ≢ Heartbeat → ⊥
 
--- the place seen from behind the first frame
+-- the offset seen from behind the first frame
 stops_behind : (bytes : List ℕ) (first rest end : ℕ) → end ≡ first + rest → Stops bytes end → Stops (drop first bytes) rest
 stops_behind bytes first rest end is stops = record {
   none = λ f used front kind.
       stops.none f used (subst (λ (bs : List ℕ). IsFront bs f used) (drop-drop rest first bytes ∙ ap (λ (k : ℕ). drop k bytes) (sym is)) front) kind;
 }
 
--- frames that lead to a place where they stop are the only ones
+-- frames that lead to an offset where they stop are the only ones
 one_run : (bytes : List ℕ) (fs gs : List Frame) (m n : ℕ) → Leads bytes fs m → Leads bytes gs n → Stops bytes m → Stops bytes n → (fs ≡ gs) × (m ≡ n)
 one_run bytes [] [] m n here there stops others = (refl, here ∙ sym there)
 one_run bytes [] (g ∷ gs) m n here there stops others =

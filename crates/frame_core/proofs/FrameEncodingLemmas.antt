@@ -34,7 +34,7 @@ aligned_decided (negsuc n) b low is = absurd (omega (arith, ints))
 aligned_decided (pos n) true low is = (n / 32, ap pos (no_rest n is))
 aligned_decided (pos n) false low is = λ aligned. has_rest n aligned.0 is aligned.1
 
--- a byte of a number, by its place
+-- a byte of a number, by its index
 byte_is : (j x : ℕ) → byte_at j x ≡ x / 256 ^ j % 256
 byte_is zero x = ap (λ (y : ℕ). y % 256) (sym (div-one x))
 byte_is (suc j) x = refl
@@ -50,31 +50,31 @@ low_bytes_are (suc n) i j x bytes small room is =
     let rest = low_bytes_are n (suc i) (suc j) x bytes small (omega arith) above in
     rw (first, rest, drop-cons bytes i 0 (omega arith)) refl
 
--- behind a place they are bytes too
-pub AreBytes-drop : (bytes : List ℕ) (place : ℕ) → AreBytes bytes → AreBytes (drop place bytes)
-AreBytes-drop bytes place small k = subst (λ (b : ℕ). b < 256) (sym (get_or-drop place bytes k 0)) (small (place + k))
+-- behind an offset they are bytes too
+pub AreBytes-drop : (bytes : List ℕ) (offset : ℕ) → AreBytes bytes → AreBytes (drop offset bytes)
+AreBytes-drop bytes offset small k = subst (λ (b : ℕ). b < 256) (sym (get_or-drop offset bytes k 0)) (small (offset + k))
 
--- the bytes of the number at a place are the bytes there
-number_bytes_are : (n x place : ℕ) (bytes : List ℕ) → AreBytes bytes → place + n ≤ length bytes → x ≡ little_number n (drop place bytes)
-    → little_bytes n x ≡ take n (drop place bytes)
-number_bytes_are n x place bytes small room is =
-    low_bytes_are n 0 0 x (drop place bytes) (AreBytes-drop bytes place small) (omega (arith, length-drop place bytes)) (div-one x ∙ is)
+-- the bytes of the number at an offset are the bytes there
+number_bytes_are : (n x offset : ℕ) (bytes : List ℕ) → AreBytes bytes → offset + n ≤ length bytes → x ≡ little_number n (drop offset bytes)
+    → little_bytes n x ≡ take n (drop offset bytes)
+number_bytes_are n x offset bytes small room is =
+    low_bytes_are n 0 0 x (drop offset bytes) (AreBytes-drop bytes offset small) (omega (arith, length-drop offset bytes)) (div-one x ∙ is)
 
 -- a number of n bytes is small
-number_fits : (n place : ℕ) (bytes : List ℕ) → AreBytes bytes → little_number n (drop place bytes) < 256 ^ n
-number_fits n place bytes small = little_from-lt 0 n (drop place bytes) (AreBytes-drop bytes place small)
+number_fits : (n offset : ℕ) (bytes : List ℕ) → AreBytes bytes → little_number n (drop offset bytes) < 256 ^ n
+number_fits n offset bytes small = little_from-lt 0 n (drop offset bytes) (AreBytes-drop bytes offset small)
 
-pub u16_bytes-u16_at : (bytes : List ℕ) (place : ℕ) → AreBytes bytes → place + 2 ≤ length bytes → little_bytes 2 (u16_at bytes place) ≡ take 2 (drop place bytes)
+pub u16_bytes-u16_at : (bytes : List ℕ) (offset : ℕ) → AreBytes bytes → offset + 2 ≤ length bytes → little_bytes 2 (u16_at bytes offset) ≡ take 2 (drop offset bytes)
 unfolding u16_at
-u16_bytes-u16_at bytes place small room = number_bytes_are 2 _ place bytes small room refl
+u16_bytes-u16_at bytes offset small room = number_bytes_are 2 _ offset bytes small room refl
 
-pub i32_bytes-i32_at : (bytes : List ℕ) (place : ℕ) → AreBytes bytes → place + 4 ≤ length bytes → i32_bytes (i32_at bytes place) ≡ take 4 (drop place bytes)
+pub i32_bytes-i32_at : (bytes : List ℕ) (offset : ℕ) → AreBytes bytes → offset + 4 ≤ length bytes → i32_bytes (i32_at bytes offset) ≡ take 4 (drop offset bytes)
 unfolding i32_at
-i32_bytes-i32_at bytes place small room = number_bytes_are 4 _ place bytes small room (of_z-to_z w32 _ (number_fits 4 place bytes small))
+i32_bytes-i32_at bytes offset small room = number_bytes_are 4 _ offset bytes small room (of_z-to_z w32 _ (number_fits 4 offset bytes small))
 
-pub i64_bytes-i64_at : (bytes : List ℕ) (place : ℕ) → AreBytes bytes → place + 8 ≤ length bytes → i64_bytes (i64_at bytes place) ≡ take 8 (drop place bytes)
+pub i64_bytes-i64_at : (bytes : List ℕ) (offset : ℕ) → AreBytes bytes → offset + 8 ≤ length bytes → i64_bytes (i64_at bytes offset) ≡ take 8 (drop offset bytes)
 unfolding i64_at
-i64_bytes-i64_at bytes place small room = number_bytes_are 8 _ place bytes small room (of_z-to_z w64 _ (number_fits 8 place bytes small))
+i64_bytes-i64_at bytes offset small room = number_bytes_are 8 _ offset bytes small room (of_z-to_z w64 _ (number_fits 8 offset bytes small))
 
 -- what was read fits
 signed_fits32 : (n : ℕ) → n < 256 ^ 4 → FitsSigned w32 (cast_signed w32 n)
@@ -83,13 +83,13 @@ signed_fits32 n small = omega (arith, ints)
 signed_fits64 : (n : ℕ) → n < 256 ^ 8 → FitsSigned w64 (cast_signed w64 n)
 signed_fits64 n small = omega (arith, ints)
 
-pub FitsSigned-i32_at : (bytes : List ℕ) (place : ℕ) → AreBytes bytes → FitsSigned w32 (i32_at bytes place)
+pub FitsSigned-i32_at : (bytes : List ℕ) (offset : ℕ) → AreBytes bytes → FitsSigned w32 (i32_at bytes offset)
 unfolding i32_at
-FitsSigned-i32_at bytes place small = signed_fits32 _ (number_fits 4 place bytes small)
+FitsSigned-i32_at bytes offset small = signed_fits32 _ (number_fits 4 offset bytes small)
 
-pub FitsSigned-i64_at : (bytes : List ℕ) (place : ℕ) → AreBytes bytes → FitsSigned w64 (i64_at bytes place)
+pub FitsSigned-i64_at : (bytes : List ℕ) (offset : ℕ) → AreBytes bytes → FitsSigned w64 (i64_at bytes offset)
 unfolding i64_at
-FitsSigned-i64_at bytes place small = signed_fits64 _ (number_fits 8 place bytes small)
+FitsSigned-i64_at bytes offset small = signed_fits64 _ (number_fits 8 offset bytes small)
 
 -- a signed number is read back
 pub i32_back : (z : ℤ) (rest : List ℕ) → FitsSigned w32 z → cast_signed w32 (little_number 4 (i32_bytes z ++ rest)) ≡ z
@@ -104,7 +104,7 @@ type_fits Pad = omega arith
 type_fits Message = omega arith
 type_fits Heartbeat = omega arith
 
--- the header's fields stand at their places
+-- the header's fields stand at their offsets
 pub IsHeader-header_of : (f : Frame) (rest : List ℕ) → Fits f → IsHeader (header_of f ++ rest) f
 unfolding header_of u16_at i32_at i64_at
 IsHeader-header_of f rest fits = record {
@@ -121,12 +121,12 @@ IsHeader-header_of f rest fits = record {
 }
 
 -- a part behind the first bytes
-pub part : (bytes front xs : List ℕ) (place n : ℕ) → front ≡ take place bytes → xs ≡ take n (drop place bytes) → front ++ xs ≡ take (place + n) bytes
-part bytes front xs place n front_is is = rw (front_is, is) (sym (take-add place n bytes))
+pub part : (bytes front xs : List ℕ) (offset n : ℕ) → front ≡ take offset bytes → xs ≡ take n (drop offset bytes) → front ++ xs ≡ take (offset + n) bytes
+part bytes front xs offset n front_is is = rw (front_is, is) (sym (take-add offset n bytes))
 
 -- two bytes, one by one
-pub two_bytes : (bytes : List ℕ) (place : ℕ) → place + 2 ≤ length bytes → slice_index bytes place ∷ slice_index bytes (suc place) ∷ [] ≡ take 2 (drop place bytes)
-two_bytes bytes place room = rw (drop-cons bytes place 0 (omega arith), drop-cons bytes (suc place) 0 (omega arith)) refl
+pub two_bytes : (bytes : List ℕ) (offset : ℕ) → offset + 2 ≤ length bytes → slice_index bytes offset ∷ slice_index bytes (suc offset) ∷ [] ≡ take 2 (drop offset bytes)
+two_bytes bytes offset room = rw (drop-cons bytes offset 0 (omega arith), drop-cons bytes (suc offset) 0 (omega arith)) refl
 
 -- the version and the flags
 version_flags : (bytes : List ℕ) (f : Frame) → IsHeader bytes f → 0 ∷ f.flags ∷ [] ≡ take 2 (drop 4 bytes)

@@ -8,7 +8,7 @@ use Rattle.frame_core.specs.FrameEncoding.{u16_at, i32_at, i32_bytes}
 use Rattle.frame_core.specs.Nak.{HasRange, IsNak, NakFits, encoded_nak}
 use Rattle.frame_core.proofs.FrameEncodingLemmas.{AreBytes, i32_back, i32_bytes-i32_at, u16_bytes-u16_at, part, two_bytes}
 
--- an encoding has each field at its place
+-- an encoding has each field at its offset
 pub IsNak-encoded_nak : (n : Nak) (rest : List ℕ) → NakFits n → HasRange n → IsNak (encoded_nak n ++ rest) n
 unfolding encoded_nak u16_at i32_at
 IsNak-encoded_nak n rest fits range = record {

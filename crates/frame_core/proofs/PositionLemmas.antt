@@ -9,7 +9,7 @@ use Rattle.frame_core.specs.Position.{HasPosition, position_of, terms_since}
 
 -- a term and an offset have one position
 pub one_position : (g : Geometry) (term offset p q : ℤ) → HasPosition g term offset p → HasPosition g term offset q → p ≡ q
-one_position g term offset p q here there = here.place ∙ sym there.place
+one_position g term offset p q here there = here.sum ∙ sym there.sum
 
 -- a term id is the first one and how many terms it is behind that, with the wrap
 term_is : (g : Geometry) (term : ℤ) → FitsSigned w32 term → int_wrap w32 (terms_since g term +ℤ g.initial_term_id) ≡ term
@@ -34,19 +34,19 @@ split_once (pos m) (pos n) (pos a) (negsuc b) size m_low n_low a_low b_low a_hig
 split_once (pos m) (pos n) (pos a) (pos b) (negsuc size) m_low n_low a_low b_low a_high b_high same = absurd (omega (arith, ints, a_high))
 
 -- a position has one term and one offset
-pub one_term : (g : Geometry) (term other offset place p : ℤ) → FitsSigned w32 term → FitsSigned w32 other → HasPosition g term offset p → HasPosition g other place p
-    → (term ≡ other) × (offset ≡ place)
-one_term g term other offset place p fits other_fits here there =
-    let split = split_once (terms_since g term) (terms_since g other) offset place g.term_length here.since there.since here.low there.low here.high there.high
-    (sym here.place ∙ there.place) in
+pub one_term : (g : Geometry) (term other offset other_offset p : ℤ) → FitsSigned w32 term → FitsSigned w32 other → HasPosition g term offset p → HasPosition g other other_offset p
+    → (term ≡ other) × (offset ≡ other_offset)
+one_term g term other offset other_offset p fits other_fits here there =
+    let split = split_once (terms_since g term) (terms_since g other) offset other_offset g.term_length here.since there.since here.low there.low here.high there.high
+    (sym here.sum ∙ there.sum) in
     (sym (term_is g term fits) ∙ ap (λ (n : ℤ). int_wrap w32 (n +ℤ g.initial_term_id)) split.0 ∙ term_is g other other_fits, split.1)
 
 -- what the function reckons with, over whole numbers alone
-record IsPlace (terms offset size : ℤ) (n : ℕ) : Type 0 where
+record IsSum (terms offset size : ℤ) (n : ℕ) : Type 0 where
   since : pos 0 ≤ℤ terms
   low : pos 0 ≤ℤ offset
   high : offset <ℤ size
-  place : pos n ≡ terms *ℤ size +ℤ offset
+  sum : pos n ≡ terms *ℤ size +ℤ offset
 
 summed : (terms offset size : ℤ) → pos 0 ≤ℤ terms → pos 0 ≤ℤ offset → offset <ℤ size
     → pos (unsigned_abs terms * unsigned_abs size + unsigned_abs offset) ≡ terms *ℤ size +ℤ offset
@@ -57,7 +57,7 @@ summed (pos t) (pos o) (negsuc s) since low high = absurd (omega (arith, ints, h
 
 found_by : (terms offset size : ℤ) (n : ℕ) (a b c : Bool) → int_lt terms (pos 0) ≡ a → int_lt offset (pos 0) ≡ b → int_lt offset size ≡ c
     → (if a then None else (if b then None else (if c then Some (unsigned_abs terms * unsigned_abs size + unsigned_abs offset) else None))) ≡ Some n
-    → IsPlace terms offset size n
+    → IsSum terms offset size n
 found_by terms offset size n true b c since low high found = absurd (search (rules, found))
 found_by terms offset size n false true c since low high found = absurd (search (rules, found))
 found_by terms offset size n false false false since low high found = absurd (search (rules, found))
@@ -66,14 +66,14 @@ found_by terms offset size n false false true since low high found =
     let above : pos 0 ≤ℤ offset = search (rules, low) in
     let below : offset <ℤ size = search (rules, high) in
     let is : unsigned_abs terms * unsigned_abs size + unsigned_abs offset ≡ n = search (rules, found) in
-    record { since = from; low = above; high = below; place = ap pos (sym is) ∙ summed terms offset size from above below }
+    record { since = from; low = above; high = below; sum = ap pos (sym is) ∙ summed terms offset size from above below }
 
 -- a position that the function gives
 pub given : (g : Geometry) (term offset : ℤ) (n : ℕ) → position_of g term offset ≡ Some n → HasPosition g term offset (pos n)
 unfolding position_of
 given g term offset n found =
-    let is : IsPlace (terms_since g term) offset g.term_length n = found_by (terms_since g term) offset g.term_length n _ _ _ refl refl refl found in
-    record { since = is.since; low = is.low; high = is.high; place = is.place }
+    let is : IsSum (terms_since g term) offset g.term_length n = found_by (terms_since g term) offset g.term_length n _ _ _ refl refl refl found in
+    record { since = is.since; low = is.low; high = is.high; sum = is.sum }
 
 -- each position is given
 pub is_given : (g : Geometry) (term offset p : ℤ) → HasPosition g term offset p → (n : ℕ) × (position_of g term offset ≡ Some n) × (p ≡ pos n)
@@ -84,7 +84,7 @@ is_given g term offset p here =
     let high : int_lt offset g.term_length ≡ true = search (rules, here.high) in (
       unsigned_abs (terms_since g term) * unsigned_abs g.term_length + unsigned_abs offset,
       rw (since, low, high) refl,
-      here.place ∙ sym (summed (terms_since g term) offset g.term_length here.since here.low here.high),
+      here.sum ∙ sym (summed (terms_since g term) offset g.term_length here.since here.low here.high),
     )
 
 -- none is given where there is none

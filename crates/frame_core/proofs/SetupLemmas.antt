@@ -10,11 +10,11 @@ use Rattle.frame_core.proofs.PositionLemmas.{one_position}
 use Rattle.frame_core.specs.Setup.{HasJoinPosition, IsSetup, IsUsable, geometry_of}
 
 -- a setup frame of lengths in the limits is decided by its position
-pub joins_where_placed : (s : Setup) (found : Option ℤ) → is_term_length s.term_length ≡ true → is_mtu s.mtu ≡ true → IsAligned s.term_offset
+pub joins_where_it_may : (s : Setup) (found : Option ℤ) → is_term_length s.term_length ≡ true → is_mtu s.mtu ≡ true → IsAligned s.term_offset
     → MatchOption found ((p : ℤ) → HasPosition (geometry_of s) s.active_term_id s.term_offset p → ⊥) (HasPosition (geometry_of s) s.active_term_id s.term_offset)
     → MatchOption found (IsUsable s → ⊥) (HasJoinPosition s)
-joins_where_placed s None size unit offset placed = λ usable. placed usable.0 usable.1.place
-joins_where_placed s (Some p) size unit offset placed = record { term_length = size; mtu = unit; offset = offset; place = placed }
+joins_where_it_may s None size unit offset joined = λ usable. joined usable.0 usable.1.joins
+joins_where_it_may s (Some p) size unit offset joined = record { term_length = size; mtu = unit; offset = offset; joins = joined }
 
 -- the setup frame in front of the bytes is the one that is read
 pub setup_is_read : (bytes : List ℕ) (s : Setup) → IsSetup bytes s → s ≡ read_setup bytes
@@ -36,4 +36,4 @@ one_setup bytes s t here there = setup_is_read bytes s here ∙ sym (setup_is_re
 
 -- a setup frame has one join position
 pub one_join : (s : Setup) (p q : ℤ) → HasJoinPosition s p → HasJoinPosition s q → p ≡ q
-one_join s p q here there = one_position (geometry_of s) s.active_term_id s.term_offset p q here.place there.place
+one_join s p q here there = one_position (geometry_of s) s.active_term_id s.term_offset p q here.joins there.joins

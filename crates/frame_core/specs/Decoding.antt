@@ -7,14 +7,14 @@ use Rattle.frame_core.specs.declared.nak.Nak.{Nak}
 use Rattle.frame_core.specs.declared.setup.Setup.{Setup}
 use Rattle.frame_core.specs.FrameEncoding.{u16_at, i32_at, i64_at, aligned}
 
--- a header of these bytes is of a frame of the kind, whose encoding ends at a place and which uses that many bytes
+-- a header of these bytes is of a frame of the kind, whose encoding ends at an offset and which uses that many bytes
 abbrev pub IsBody : List ℕ → FrameKind → ℕ → ℕ → Type 0
 IsBody bytes Pad end used = (u16_at bytes 6 ≡ 0) × (pos 32 ≤ℤ i32_at bytes 0) × (end ≡ 32) × (used ≡ length bytes)
 IsBody bytes Message end used =
     (u16_at bytes 6 ≡ 1) × (i32_at bytes 0 ≡ pos end) × (32 ≤ end) × (end ≤ length bytes) × (used ≡ min (aligned end) (length bytes))
 IsBody bytes Heartbeat end used = (u16_at bytes 6 ≡ 1) × (i32_at bytes 0 ≡ pos 0) × (end ≡ 32) × (used ≡ 32)
 
--- the frame of a kind whose encoding stands in the bytes up to a place
+-- the frame of a kind whose encoding stands in the bytes up to an offset
 abbrev pub read_frame : List ℕ → FrameKind → ℕ → Frame
 read_frame bytes kind end = record {
   kind = kind;

@@ -89,15 +89,15 @@ stored_as Heartbeat f = []
 abbrev pub stored : Frame → List ℕ
 stored f = stored_as f.kind f
 
--- the number that stands at a place of some bytes, the lowest byte first
+-- the number that stands at an offset in some bytes, the lowest byte first
 unfoldable pub u16_at : List ℕ → ℕ → ℕ
-u16_at bytes place = little_number 2 (drop place bytes)
+u16_at bytes offset = little_number 2 (drop offset bytes)
 
 unfoldable pub i32_at : List ℕ → ℕ → ℤ
-i32_at bytes place = cast_signed w32 (little_number 4 (drop place bytes))
+i32_at bytes offset = cast_signed w32 (little_number 4 (drop offset bytes))
 
 unfoldable pub i64_at : List ℕ → ℕ → ℤ
-i64_at bytes place = cast_signed w64 (little_number 8 (drop place bytes))
+i64_at bytes offset = cast_signed w64 (little_number 8 (drop offset bytes))
 
 -- the bytes begin with the frame's header, field by field
 pub record IsHeader (bytes : List ℕ) (f : Frame) : Type 0 where

@@ -13,7 +13,7 @@ pub record HasPosition (g : Geometry) (term_id offset position : ℤ) : Type 0 w
   pub since : pos 0 ≤ℤ terms_since g term_id
   pub low : pos 0 ≤ℤ offset
   pub high : offset <ℤ g.term_length
-  pub place : position ≡ terms_since g term_id *ℤ g.term_length +ℤ offset
+  pub sum : position ≡ terms_since g term_id *ℤ g.term_length +ℤ offset
 
 -- the position of an offset in a term, where it has one
 unfoldable pub position_of : Geometry → ℤ → ℤ → Option ℕ

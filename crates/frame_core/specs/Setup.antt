@@ -15,7 +15,7 @@ pub record HasJoinPosition (s : Setup) (position : ℤ) : Type 0 where
   pub term_length : is_term_length s.term_length ≡ true
   pub mtu : is_mtu s.mtu ≡ true
   pub offset : IsAligned s.term_offset
-  pub place : HasPosition (geometry_of s) s.active_term_id s.term_offset position
+  pub joins : HasPosition (geometry_of s) s.active_term_id s.term_offset position
 
 -- a setup frame that may be used
 abbrev pub IsUsable : Setup → Type 0

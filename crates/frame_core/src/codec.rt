@@ -193,7 +193,7 @@ fn aligned_size(size: usize) -> usize
     (size + 31) / FRAME_ALIGNMENT * FRAME_ALIGNMENT
 }
 
-/// The frame of a kind whose encoding stands in the bytes up to a place.
+/// The frame of a kind whose encoding stands in the bytes up to an offset.
 fn frame_at(bytes: &[u8], kind: FrameKind, end: usize) -> FrameRef<'_>
     requires header { 32 ≤ end }
     requires whole { end ≤ length bytes.now }

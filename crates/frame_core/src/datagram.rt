@@ -11,7 +11,7 @@ use std::alloc::Global;
 
 /// The frames of a datagram, in order. BadFrame, with the offset in bytes of the first bad frame: where no frame
 /// stands in front of what is left, or a heartbeat does behind another frame; an empty datagram is bad at 0. Behind a
-/// heartbeat at 0 and behind a pad nothing is looked at. NoMemory where the list can't grow. Costs a step for each
+/// heartbeat at 0 and behind a pad nothing is read. NoMemory where the list can't grow. Costs a step for each
 /// frame.
 pub fn frames_of_datagram(alloc: Global, bytes: &[u8]) -> Result<Vec<FrameRef<'_>>, Refusal>
     ensures { MatchResult result

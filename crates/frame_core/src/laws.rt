@@ -35,7 +35,7 @@ pub fn an_encoding_is_read_as_its_frame()
         → IsFront (stored f ++ rest) f (aligned_length f) }
 {}
 
-/// An encoding begins with a header that has each field at its place in the standard's table, and those fields
+/// An encoding begins with a header that has each field at its offset in the standard's table, and those fields
 /// determine the header's 32 bytes. Aeron Transport Protocol Specification, "Data Frame".
 pub fn an_encoding_begins_with_its_header()
     ensures fields { (f : Frame) (rest : List ℕ) → IsEncodable f → IsHeader (encoded f ++ rest) f }
@@ -64,10 +64,10 @@ pub fn a_position_is_what_its_function_gives()
 pub fn positions_and_terms_are_inverse()
     ensures position { (g : Geometry) (term offset p q : ℤ)
         → HasPosition g term offset p → HasPosition g term offset q → p ≡ q }
-    ensures term { (g : Geometry) (term other offset place p : ℤ)
+    ensures term { (g : Geometry) (term other offset other_offset p : ℤ)
         → FitsSigned w32 term → FitsSigned w32 other
-        → HasPosition g term offset p → HasPosition g other place p
-        → (term ≡ other) × (offset ≡ place) }
+        → HasPosition g term offset p → HasPosition g other other_offset p
+        → (term ≡ other) × (offset ≡ other_offset) }
 {}
 
 /// Frames are a block at one position at most.

@@ -45,7 +45,7 @@ impl Nak {
         out
     }
 
-    /// The NAK frame in front of the bytes; its flags and what follows its 28 bytes are not looked at. Where none
+    /// The NAK frame in front of the bytes; its flags and what follows its 28 bytes are not read. Where none
     /// stands there, BadFrame with offset 0: fewer than 28 bytes, another version, type or frame length, an offset
     /// below 0, or a range length below 1. Takes no memory.
     pub fn decode(bytes: &[u8]) -> Result<Nak, Refusal>
@@ -86,7 +86,7 @@ fn nak_of(bytes: &[u8]) -> Option<Nak>
     Some(nak)
 }
 
-/// The fields of a NAK frame, at their places.
+/// The fields of a NAK frame, at their offsets.
 fn nak_at(bytes: &[u8]) -> Nak
     requires { 28 ≤ length bytes.now }
     ensures { result ≡ read_nak bytes.now }

@@ -16,7 +16,7 @@ pub fn position(geometry: &Geometry, term_id: i32, offset: i32) -> Option<i64>
         (HasPosition geometry.now term_id offset) }
     ensures small { IfSome result (λ p. (pos 0 ≤ℤ p) × (p <ℤ pos (2 ^ 62))) }
 {
-    match place(geometry, &term_id, &offset) {
+    match position_of(geometry, &term_id, &offset) {
         Some(position) => Some(position as i64),
         None => None,
     }
@@ -68,7 +68,7 @@ impl Frame {
         ensures small { IfSome result (λ p. p < 2 ^ 62) }
         ensures room { IfSome result (HasRoom geometry.now self.now.term_offset) }
     {
-        place(geometry, &self.term_id, &self.term_offset)
+        position_of(geometry, &self.term_id, &self.term_offset)
     }
 }
 
@@ -79,13 +79,13 @@ impl FrameRef<'_> {
         ensures small { IfSome result (λ p. p < 2 ^ 62) }
         ensures room { IfSome result (HasRoom geometry.now self.now.term_offset) }
     {
-        place(geometry, &self.term_id, &self.term_offset)
+        position_of(geometry, &self.term_id, &self.term_offset)
     }
 }
 
 /// The position of an offset in a term.
 #[tactic(auto, unfolding(crate::specs::Position::position_of))]
-fn place(geometry: &Geometry, term_id: &i32, offset: &i32) -> Option<u64>
+fn position_of(geometry: &Geometry, term_id: &i32, offset: &i32) -> Option<u64>
     ensures value { result ≡ position_of geometry.now term_id.now offset.now }
     ensures small { IfSome result (λ p. p < 2 ^ 62) }
     ensures room { IfSome result (HasRoom geometry.now offset.now) }

@@ -32,11 +32,11 @@ pub enum Refusal {
     HistoryFull,
     /// No open recorder session has this number.
     StaleSession,
-    /// The frames are no block of this recording at this place.
+    /// The frames are no block of this recording at this position.
     BadBlock,
     /// Written blocks have to be settled first.
     NeedSettle,
-    /// What a file holds at this place is not what was recorded there. The recording is -1 where the file is the
+    /// What a file holds at this position is not what was recorded there. The recording is -1 where the file is the
     /// catalogue's, and the position then is an offset in bytes.
     Damaged {
         /// The recording's id, or -1 for the catalogue.

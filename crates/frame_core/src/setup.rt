@@ -41,7 +41,7 @@ pub struct Setup {
 }
 
 impl Setup {
-    /// The setup frame in front of the bytes; what follows its 40 bytes is not looked at. Where none stands there that
+    /// The setup frame in front of the bytes; what follows its 40 bytes is not read. Where none stands there that
     /// may be used, BadFrame with offset 0: fewer than 40 bytes, another version, type or length, a term length or an
     /// MTU outside docs/CONTROL.md, "Limits", a term offset that is no multiple of 32, or an active term and an offset
     /// with no position. Takes no memory.
@@ -109,7 +109,7 @@ fn setup_of(bytes: &[u8]) -> Option<Setup>
     }
 }
 
-/// The fields of a setup frame, at their places.
+/// The fields of a setup frame, at their offsets.
 fn setup_at(bytes: &[u8]) -> Setup
     requires { 40 ≤ length bytes.now }
     ensures { result ≡ read_setup bytes.now }

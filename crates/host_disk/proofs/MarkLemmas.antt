@@ -8,9 +8,9 @@ use Rattle.host_disk.specs.declared.open_files.OpenFiles.{OpenFiles}
 use Rattle.host_disk.specs.Events.{Event, touched, wrote, write_failed, cut, cut_failed, gone, flushed, flush_failed}
 use Rattle.host_disk.specs.OpenFiles.{held, file_at, IsMarked, KeepsMarks, KeepsOtherMarks, HoldsUnsynced}
 
--- the file of a place, told by what stands there after a mark was set
-pub file_of_place : (old new : OpenFiles) (place : ℕ) (file : FileId) → held new ≡ held old → slice_get (held new) place ≡ Some file → file_at old place ≡ file
-file_of_place old new place file same there = get_or_from_slice_get (held old) place file BankA (subst (λ (files : List FileId). slice_get files place ≡ Some file) same there)
+-- the file of an index, told by what stands there after a mark was set
+pub file_of_index : (old new : OpenFiles) (index : ℕ) (file : FileId) → held new ≡ held old → slice_get (held new) index ≡ Some file → file_at old index ≡ file
+file_of_index old new index file same there = get_or_from_slice_get (held old) index file BankA (subst (λ (files : List FileId). slice_get files index ≡ Some file) same there)
 
 pub holds_kept : (old new : OpenFiles) (notes : List Event) → KeepsMarks old new → HoldsUnsynced old notes → HoldsUnsynced new notes
 holds_kept old new notes keeps holds file unmarked = holds file (λ marked. unmarked (keeps file marked))

@@ -1,15 +1,15 @@
--- Places of open files.
+-- Indexes of open files.
 use Rattle.std.proofs.Common.{◌≡◌, ◌≢◌, ℕ, zero, suc, ◌+◌, ◌-◌, ◌<◌, ◌≤◌, List, [], ◌∷◌, ◌++◌, Some, map, length, get_or, slice_get, slice_set, remove, option_map, Contains, ◌⊎◌, inl, inr, sym, ap, ◌∙◌, subst, refl, arith, length-append}
 use Rattle.std.proofs.lemmas.List.{length-map, get_or_push, length-set, get_or-set_same, get_or-set_other}
 use Rattle.std.proofs.lemmas.Bool.{cases_eq, cases_lt}
 use Rattle.std.proofs.lemmas.Option.{slice_get-map, slice_get_read, slice_get-get_or, slice_get_within, get_or_from_slice_get}
 use Rattle.std.proofs.lemmas.List.Edits.{length-remove, get_or-remove_below, get_or-remove_above}
 
--- no place below this one has the value
+-- no index below this one has the value
 abbrev pub IsNoneBelow : {X : Type 0} → List X → X → ℕ → Type 0
 IsNoneBelow values value count = (k : ℕ) → k < count → slice_get values k ≢ Some value
 
--- each place below this one has the value
+-- each index below this one has the value
 abbrev pub IsAllBelow : {X : Type 0} → List X → X → ℕ → Type 0
 IsAllBelow values value count = (k : ℕ) → k < count → slice_get values k ≡ Some value
 
@@ -26,7 +26,7 @@ module _ {X : Type 0} where
     | inr not ↦ all k (omega arith)
   ]
 
-  -- a value that is in no place is not in the list
+  -- a value that is at no index is not in the list
   pub none_in : (values : List X) (value : X) (count : ℕ) → IsNoneBelow values value count → length values ≤ count → Contains values value → ⊥
   none_in values value count none all contains = none contains.0 (omega (arith, contains.1)) (slice_get_read values (length values) contains.0 value refl contains.1 (sym contains.2))
 
@@ -34,7 +34,7 @@ module _ {X : Type 0} where
   pub all_in : (values : List X) (value : X) (count k : ℕ) (other : X) → IsAllBelow values value count → k < count → get_or values k other ≡ value
   all_in values value count k other all below = get_or_from_slice_get values k value other (all k below)
 
-  -- a value that is not the one in a place stays where that one is removed
+  -- a value that is not the one at an index stays where that one is removed
   pub stays_removed : (values : List X) (i : ℕ) (value : X) → i < length values → get_or values i value ≢ value → Contains values value → Contains (remove values i) value
   stays_removed values i value within other contains = elim (cases_lt contains.0 i) [
     | inl below ↦ (contains.0, omega (arith, length-remove values i within, contains.1), get_or-remove_below values i value contains.0 below within ∙ contains.2)
@@ -49,41 +49,41 @@ module _ {X : Type 0} where
         )
   ]
 
--- what was set in a place stands there
-pub set_place : {X : Type 0} (values : List X) (i : ℕ) (value : X) → i < length values → slice_get (slice_set values i value) i ≡ Some value
-set_place [] i value inside = absurd (omega arith)
-set_place (one ∷ rest) zero value inside = refl
-set_place (one ∷ rest) (suc i) value inside = set_place rest i value (omega arith)
+-- what was set at an index stands there
+pub set_shows : {X : Type 0} (values : List X) (i : ℕ) (value : X) → i < length values → slice_get (slice_set values i value) i ≡ Some value
+set_shows [] i value inside = absurd (omega arith)
+set_shows (one ∷ rest) zero value inside = refl
+set_shows (one ∷ rest) (suc i) value inside = set_shows rest i value (omega arith)
 
--- what a place shows of its item
-pub place_of_map : {X Y : Type 0} (f : X → Y) (items : List X) (i : ℕ) (item : X) → i < length items → item ≡ get_or items i item → slice_get (map f items) i ≡ Some (f item)
-place_of_map f items i item within is = slice_get-map f items i ∙ ap (option_map f) (slice_get_read items (length items) i item refl within is)
+-- what an index shows of its item
+pub shown_of_map : {X Y : Type 0} (f : X → Y) (items : List X) (i : ℕ) (item : X) → i < length items → item ≡ get_or items i item → slice_get (map f items) i ≡ Some (f item)
+shown_of_map f items i item within is = slice_get-map f items i ∙ ap (option_map f) (slice_get_read items (length items) i item refl within is)
 
--- a place that shows something is within, and so its item shows it
-pub place_shows : {X Y : Type 0} (f : X → Y) (items : List X) (i : ℕ) (other : X) (value : Y) → slice_get (map f items) i ≡ Some value → (i < length items) × (f (get_or items i other) ≡ value)
-place_shows f items i other value shows =
+-- an index that shows something is within, and so its item shows it
+pub index_shows : {X Y : Type 0} (f : X → Y) (items : List X) (i : ℕ) (other : X) (value : Y) → slice_get (map f items) i ≡ Some value → (i < length items) × (f (get_or items i other) ≡ value)
+index_shows f items i other value shows =
     let within : i < length items = omega (arith, slice_get_within (map f items) i value shows, length-map items f) in (
       within,
       (let shown : slice_get (map f items) i ≡ Some (f (get_or items i other)) = slice_get-map f items i ∙ ap (option_map f) (slice_get-get_or items i other within) in cc),
     )
 
--- what the last place shows, after a push
+-- what the last index shows, after a push
 pub last_of_map : {X Y : Type 0} (f : X → Y) (items pushed : List X) (item : X) (n : ℕ) → pushed ≡ items ++ item ∷ [] → n ≡ length pushed → slice_get (map f pushed) (n - 1) ≡ Some (f item)
 last_of_map f items pushed item n is long =
     let one_more : length pushed ≡ length items + 1 = ap length is ∙ length-append items (item ∷ []) in
     let there : item ≡ get_or pushed (n - 1) item = sym (get_or_push items item item (n - 1) (omega (arith, one_more, long))) ∙ ap (λ (l : List _). get_or l (n - 1) item) (sym is) in
-    place_of_map f pushed (n - 1) item (omega (arith, one_more, long)) there
+    shown_of_map f pushed (n - 1) item (omega (arith, one_more, long)) there
 
 -- an item of a list in which one was replaced stays, or the new one stands where it was
-pub stays_or_replaced : {X : Type 0} (items : List X) (place : ℕ) (new item : X) → place < length items → Contains items item
-    → ((item ≡ get_or items place item) × Contains (slice_set items place new) new) ⊎ Contains (slice_set items place new) item
-stays_or_replaced items place new item within there = elim (cases_eq there.0 place) [
-  | inl is ↦ inl (subst (λ (n : ℕ). item ≡ get_or items n item) is (sym there.2), (place, omega (arith, length-set items place new), get_or-set_same items place new new within))
-  | inr not ↦ inr (there.0, omega (arith, there.1, length-set items place new), get_or-set_other items place there.0 new item not ∙ there.2)
+pub stays_or_replaced : {X : Type 0} (items : List X) (index : ℕ) (new item : X) → index < length items → Contains items item
+    → ((item ≡ get_or items index item) × Contains (slice_set items index new) new) ⊎ Contains (slice_set items index new) item
+stays_or_replaced items index new item within there = elim (cases_eq there.0 index) [
+  | inl is ↦ inl (subst (λ (n : ℕ). item ≡ get_or items n item) is (sym there.2), (index, omega (arith, length-set items index new), get_or-set_same items index new new within))
+  | inr not ↦ inr (there.0, omega (arith, there.1, length-set items index new), get_or-set_other items index there.0 new item not ∙ there.2)
 ]
 
-pub new_item : {X : Type 0} (items : List X) (place : ℕ) (new : X) → place < length items → Contains (slice_set items place new) new
-new_item items place new within = (place, omega (arith, within, length-set items place new), get_or-set_same items place new new within)
+pub new_item : {X : Type 0} (items : List X) (index : ℕ) (new : X) → index < length items → Contains (slice_set items index new) new
+new_item items index new within = (index, omega (arith, within, length-set items index new), get_or-set_same items index new new within)
 
 pub same_item : {X : Type 0} (items : List X) (i : ℕ) (a b : X) → i < length items → get_or items i a ≡ get_or items i b
 same_item items i a b within = let both : Some (get_or items i a) ≡ Some (get_or items i b) = sym (slice_get-get_or items i a within) ∙ slice_get-get_or items i b within in cc

@@ -3,8 +3,8 @@ use Rattle.std.specs.Prelude.{◌≡◌, ℕ, List, ◌++◌, string_bytes, Some
 use Rattle.disk_core.specs.declared.file_id.FileId.{FileId}
 use Rattle.disk_core.specs.FileNames.{name_of}
 use Rattle.host_disk.specs.declared.host_folder.HostFolder.{HostFolder}
-use Rattle.host_disk.specs.declared.host_folder.Place.{Place}
-use Rattle.host_disk.specs.declared.host_folder.Place.TheVariants.{At, Nowhere}
+use Rattle.host_disk.specs.declared.host_folder.Lookup.{Lookup}
+use Rattle.host_disk.specs.declared.host_folder.Lookup.TheVariants.{At, Nowhere}
 use Rattle.host_disk.specs.Events.{Event}
 use Rattle.host_disk.specs.declared.open_files.OpenFiles.{OpenFiles}
 use Rattle.host_disk.specs.Names.{path_of}
@@ -23,14 +23,14 @@ events_of folder = calls_of (notes_of folder)
 abbrev pub open_files_of : HostFolder → OpenFiles
 open_files_of folder = folder.open_files
 
--- the file is held open in this place
+-- the file is held open at this index
 abbrev pub IsHeldAt : HostFolder → FileId → ℕ → Type 0
-IsHeldAt folder file place = slice_get (held folder.open_files) place ≡ Some file
+IsHeldAt folder file index = slice_get (held folder.open_files) index ≡ Some file
 
 -- the file was found there, or nowhere
-abbrev pub IsPlaceOf : HostFolder → FileId → Place → Type 0
-IsPlaceOf folder file (At place) = IsHeldAt folder file place
-IsPlaceOf folder file (Nowhere absent) = absent.file ≡ file
+abbrev pub IsLookupOf : HostFolder → FileId → Lookup → Type 0
+IsLookupOf folder file (At index) = IsHeldAt folder file index
+IsLookupOf folder file (Nowhere absent) = absent.file ≡ file
 
 -- the path is the one of this file: the folder's, and the file's name
 abbrev pub IsPathOf : HostFolder → FileId → Type 0

@@ -9,7 +9,7 @@ pub mod HostDisk
 -- what only private functions say, representation, and the proof of a law
 pub mod Noted
 pub mod EventCodes
-pub mod Places
+pub mod Lookups
 pub mod NotesOf
 pub mod Names
 pub mod Unsynced

@@ -11,15 +11,15 @@ use Rattle.host_disk.specs.Unsynced.{HasUnsynced}
 abbrev pub entries_of : OpenFiles → List OpenFile
 entries_of files = files.entries.items
 
--- the file of each place
+-- the file of each index
 abbrev pub held : OpenFiles → List FileId
 held files = map (λ (entry : OpenFile). entry.file) (entries_of files)
 
--- the file of a place
+-- the file of an index
 abbrev pub file_at : OpenFiles → ℕ → FileId
-file_at files place = get_or (held files) place BankA
+file_at files index = get_or (held files) index BankA
 
--- whether the file of each place was written or cut since it was last synced
+-- whether the file of each index was written or cut since it was last synced
 abbrev pub unsynced : OpenFiles → List Bool
 unsynced files = map (λ (entry : OpenFile). entry.is_unsynced) (entries_of files)
 

@@ -38,13 +38,13 @@ pub struct HostFolder {
 
 // Where a file was found: among the open ones, or nowhere.
 #[derive(Drop)]
-enum Place {
+enum Lookup {
     At(usize),
     Nowhere(Absent),
 }
 
 impl HostFolder {
-    ghost use Rattle.host_disk.specs.HostFolder.{notes_of, open_files_of, events_of, IsHeldAt, IsPlaceOf, IsPathOf};
+    ghost use Rattle.host_disk.specs.HostFolder.{notes_of, open_files_of, events_of, IsHeldAt, IsLookupOf, IsPathOf};
 
     /// Opens a folder and locks it, whatever files it holds, and whatever calls that fail will leave. Nothing is made or changed.
     pub fn open(rt: HostRuntime, alloc: Global, path: Path<'_>) -> Result<HostFolder, OpenFault>
@@ -88,27 +88,27 @@ impl HostFolder {
     }
 
     /// Where a file is, which is opened if it is there.
-    fn find(&mut self, file: FileId) -> io::Result<Place>
+    fn find(&mut self, file: FileId) -> io::Result<Lookup>
         ensures same { notes_of self.new ≡ notes_of self.old }
-        ensures place { IfOk result (IsPlaceOf self.new file) }
+        ensures found { IfOk result (IsLookupOf self.new file) }
     {
-        if let Some(place) = self.open_files.place_of(file) {
-            return Ok(Place::At(place));
+        if let Some(index) = self.open_files.index_of(file) {
+            return Ok(Lookup::At(index));
         }
         self.name(file)?;
         match open_file(&self.rt, &self.names, file, self.path.as_str())? {
-            Found::There(opened) => Ok(Place::At(self.hold(opened)?)),
-            Found::Missing(absent) => Ok(Place::Nowhere(absent)),
+            Found::There(opened) => Ok(Lookup::At(self.hold(opened)?)),
+            Found::Missing(absent) => Ok(Lookup::Nowhere(absent)),
         }
     }
 
-    /// The place of a file, which is made where it is absent and there is room for it.
+    /// The index of a file, which is made where it is absent and there is room for it.
     fn find_or_make(&mut self, file: FileId) -> io::Result<usize>
         ensures same { notes_of self.new ≡ notes_of self.old }
-        ensures place { IfOk result (λ place. IsHeldAt self.new file place) }
+        ensures index { IfOk result (λ index. IsHeldAt self.new file index) }
     {
-        if let Place::At(place) = self.find(file)? {
-            return Ok(place);
+        if let Lookup::At(index) = self.find(file)? {
+            return Ok(index);
         }
         // Without room it would be made, and then be a fault.
         if !self.open_files.make_room() {
@@ -122,11 +122,11 @@ impl HostFolder {
     /// Holds an opened file. An error where as many are held as may be, all of them unsynced.
     fn hold(&mut self, opened: OpenFile) -> io::Result<usize>
         ensures same { notes_of self.new ≡ notes_of self.old }
-        ensures place { IfOk result (λ place. IsHeldAt self.new opened.file place) }
+        ensures index { IfOk result (λ index. IsHeldAt self.new opened.file index) }
         ensures full { OnErr result (IsFull (open_files_of self.old)) }
     {
         match self.open_files.hold(opened) {
-            Some(place) => Ok(place),
+            Some(index) => Ok(index),
             None => Err(io::ErrorKind::ResourceBusy.into()),
         }
     }
@@ -156,8 +156,8 @@ impl Folder for HostFolder {
 
     fn len(&mut self, file: FileId) -> Result<u64, Fault> {
         match self.find(file) {
-            Ok(Place::At(place)) => self.open_files.at(place).len(&mut self.notes),
-            Ok(Place::Nowhere(absent)) => Ok(absent.len(&mut self.notes)),
+            Ok(Lookup::At(index)) => self.open_files.at(index).len(&mut self.notes),
+            Ok(Lookup::Nowhere(absent)) => Ok(absent.len(&mut self.notes)),
             Err(error) => Err(self.notes.fail(FailedCall::Measure(file), error)),
         }
     }
@@ -165,31 +165,31 @@ impl Folder for HostFolder {
     fn read_some(&mut self, file: FileId, at: u64, into: &mut [u8]) -> Result<usize, Fault> {
         self.notes.ask(into);
         match self.find(file) {
-            Ok(Place::At(place)) => self.open_files.at(place).read(&mut self.notes, at, into),
-            Ok(Place::Nowhere(absent)) => Ok(absent.read(&mut self.notes, at, into)),
+            Ok(Lookup::At(index)) => self.open_files.at(index).read(&mut self.notes, at, into),
+            Ok(Lookup::Nowhere(absent)) => Ok(absent.read(&mut self.notes, at, into)),
             Err(error) => Err(self.notes.fail(FailedCall::Read(file, at), error)),
         }
     }
 
     fn write(&mut self, file: FileId, at: u64, bytes: &[u8]) -> Result<(), Fault> {
-        let place = match self.find_or_make(file) {
-            Ok(place) => place,
+        let index = match self.find_or_make(file) {
+            Ok(index) => index,
             Err(error) => {
                 let call = FailedCall::Write(file, at, bytes.len());
                 return Err(self.notes.fail(call, error));
             }
         };
-        self.open_files.mark(place, true);
-        self.open_files.at(place).write(&mut self.notes, at, bytes)
+        self.open_files.mark(index, true);
+        self.open_files.at(index).write(&mut self.notes, at, bytes)
     }
 
     fn cut(&mut self, file: FileId, len: u64) -> Result<(), Fault> {
         match self.find(file) {
-            Ok(Place::At(place)) => {
-                self.open_files.mark(place, true);
-                self.open_files.at(place).cut(&mut self.notes, len)
+            Ok(Lookup::At(index)) => {
+                self.open_files.mark(index, true);
+                self.open_files.at(index).cut(&mut self.notes, len)
             }
-            Ok(Place::Nowhere(absent)) => {
+            Ok(Lookup::Nowhere(absent)) => {
                 absent.cut(&mut self.notes, len);
                 Ok(())
             }
@@ -203,17 +203,17 @@ impl Folder for HostFolder {
 
     fn sync(&mut self, file: FileId) -> Result<(), Fault> {
         match self.find(file) {
-            Ok(Place::At(place)) => {
+            Ok(Lookup::At(index)) => {
                 let answer = self
                     .open_files
-                    .at(place)
+                    .at(index)
                     .sync(&mut self.notes, &mut self.names);
                 if answer.is_ok() {
-                    self.open_files.mark(place, false);
+                    self.open_files.mark(index, false);
                 }
                 answer
             }
-            Ok(Place::Nowhere(absent)) => absent.sync(&mut self.notes, &mut self.names),
+            Ok(Lookup::Nowhere(absent)) => absent.sync(&mut self.notes, &mut self.names),
             Err(error) => Err(self.notes.fail(FailedCall::Sync(file), error)),
         }
     }

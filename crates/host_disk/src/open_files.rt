@@ -9,7 +9,7 @@ use std::alloc::{AllocError, Global};
 /// How many files are held open at once: more than an archive writes between two syncs.
 const OPEN_FILES: usize = 128;
 
-/// The files that are held open, each in its place.
+/// The files that are held open, each at its index.
 #[derive(Drop)]
 pub(crate) struct OpenFiles {
     entries: Vec<OpenFile>,
@@ -29,9 +29,9 @@ impl OpenFiles {
         Ok(OpenFiles { entries })
     }
 
-    /// The place of a file, if it is held open.
-    pub(crate) fn place_of(&self, file: FileId) -> Option<usize>
-        ensures found { IfSome result (λ place. slice_get (held self.now) place ≡ Some file) }
+    /// The index of a file, if it is held open.
+    pub(crate) fn index_of(&self, file: FileId) -> Option<usize>
+        ensures found { IfSome result (λ index. slice_get (held self.now) index ≡ Some file) }
         ensures none { IfNone result (¬ Contains (held self.now) file) }
     {
         for i in 0..self.entries.len() {
@@ -45,7 +45,7 @@ impl OpenFiles {
     /// Holds an opened file, and closes another where so many are held. None exactly where each of those is
     /// unsynced.
     pub(crate) fn hold(&mut self, opened: OpenFile) -> Option<usize>
-        ensures held { IfSome result (λ place. slice_get (held self.new) place ≡ Some opened.file) }
+        ensures held { IfSome result (λ index. slice_get (held self.new) index ≡ Some opened.file) }
         ensures none { IsNone result ↔ IsFull self.old }
         ensures marks { KeepsMarks self.old self.new }
     {
@@ -67,35 +67,35 @@ impl OpenFiles {
         if self.entries.len() < OPEN_FILES {
             return true;
         }
-        match self.synced_place() {
-            Some(place) => {
-                self.entries.remove(place);
+        match self.synced_index() {
+            Some(index) => {
+                self.entries.remove(index);
                 true
             }
             None => false,
         }
     }
 
-    /// The file in a place.
-    pub(crate) fn at(&self, place: usize) -> &OpenFile
-        requires { place < length (entries_of self.now) }
-        ensures file { slice_get (held self.now) place ≡ Some result.now.file }
-        ensures flag { slice_get (unsynced self.now) place ≡ Some result.now.is_unsynced }
+    /// The file at an index.
+    pub(crate) fn at(&self, index: usize) -> &OpenFile
+        requires { index < length (entries_of self.now) }
+        ensures file { slice_get (held self.now) index ≡ Some result.now.file }
+        ensures flag { slice_get (unsynced self.now) index ≡ Some result.now.is_unsynced }
     {
-        &self.entries[place]
+        &self.entries[index]
     }
 
-    /// Says of the file in a place whether it was written or cut since it was last synced.
-    pub(crate) fn mark(&mut self, place: usize, is_unsynced: bool)
-        requires { place < length (entries_of self.old) }
+    /// Says of the file at an index whether it was written or cut since it was last synced.
+    pub(crate) fn mark(&mut self, index: usize, is_unsynced: bool)
+        requires { index < length (entries_of self.old) }
         ensures same_files { held self.new ≡ held self.old }
-        ensures marked { unsynced self.new ≡ slice_set (unsynced self.old) place is_unsynced }
-        ensures flag { slice_get (unsynced self.new) place ≡ Some is_unsynced }
-        ensures marks { KeepsOtherMarks (file_at self.old place) self.old self.new }
+        ensures marked { unsynced self.new ≡ slice_set (unsynced self.old) index is_unsynced }
+        ensures flag { slice_get (unsynced self.new) index ≡ Some is_unsynced }
+        ensures marks { KeepsOtherMarks (file_at self.old index) self.old self.new }
         ensures mark { IsTrue is_unsynced →
-            KeepsMarks self.old self.new × IsMarked self.new (file_at self.old place) }
+            KeepsMarks self.old self.new × IsMarked self.new (file_at self.old index) }
     {
-        self.entries[place].is_unsynced = is_unsynced;
+        self.entries[index].is_unsynced = is_unsynced;
     }
 
     /// Closes a file, if it is held open. The others stay open.
@@ -103,14 +103,14 @@ impl OpenFiles {
         ensures gone { ¬ Contains (held self.new) file }
         ensures marks { KeepsOtherMarks file self.old self.new }
     {
-        while let Some(place) = self.place_of(file) {
-            self.entries.remove(place);
+        while let Some(index) = self.index_of(file) {
+            self.entries.remove(index);
         }
     }
 
-    /// The first place whose file may be closed.
-    fn synced_place(&self) -> Option<usize>
-        ensures found { IfSome result (λ place. slice_get (unsynced self.now) place ≡ Some false) }
+    /// The first index whose file may be closed.
+    fn synced_index(&self) -> Option<usize>
+        ensures found { IfSome result (λ index. slice_get (unsynced self.now) index ≡ Some false) }
         ensures none { IfNone result (All IsTrue (unsynced self.now)) }
     {
         for i in 0..self.entries.len() {

@@ -10,7 +10,7 @@ ghost use Rattle.std.specs.List.Sorted.{IsStrictlySortedBy};
 ghost use Rattle.disk_core.specs.FileNames.{file_cmp, name_of};
 ghost use Rattle.host_disk.specs.Names.{path_of};
 ghost use Rattle.host_disk.specs.NotesOf.{noted};
-ghost use Rattle.host_disk.specs.Places.{IsFoundOf};
+ghost use Rattle.host_disk.specs.Lookups.{IsFoundOf};
 ghost use Rattle.host_disk.specs.Events.{Given, opened, locked, measured, measure_failed, asked, gave, read_failed, touched, wrote, write_failed, cut, cut_failed, gone, remove_failed, flushed, flush_failed, listed};
 ghost use Rattle.host_disk.specs.Faults.{after_list_fault};
 

@@ -61,7 +61,7 @@ pad_longest g publication position f (x ∷ xs) pad = λ block.
 
 -- where two frames of one term lie
 apart : (g : Geometry) (term_id first second : ℤ) (p q o e : ℕ) → HasPosition g term_id first (pos p) → HasPosition g term_id second (pos q) → first ≡ pos o → second ≡ pos e → q + o ≡ p + e
-apart g term_id first second p q o e here there begins ends = omega (arith, ints, here.place, there.place)
+apart g term_id first second p q o e here there begins ends = omega (arith, ints, here.sum, there.sum)
 
 -- messages of a block that were taken as far as they went: with the frame behind them they are none
 pub message_longest : (g : Geometry) (publication : Publication) (from limit at e : ℕ) (f : Frame) (fs : List Frame) (after : List (ℕ × Frame)) → f.kind ≡ Message

@@ -24,12 +24,12 @@ joined_terms s p joins = let is = terms_of s.term_length joins.term_length in re
 
 -- a term and an offset lie below the end of the last term
 below : (terms offset size p : ℤ) → pos 0 ≤ℤ terms → terms <ℤ pos 2147483648 → pos 0 ≤ℤ offset → offset <ℤ size → p ≡ terms *ℤ size +ℤ offset → unsigned_abs p < 2 ^ 31 * unsigned_abs size
-below (pos t) (pos o) (pos w) p since few low high place =
+below (pos t) (pos o) (pos w) p since few low high sum =
     let less = mul-add-lt t w o 2147483648 (omega (arith, ints)) (omega (arith, ints)) in
-    rw place (omega (arith, less))
-below (negsuc t) offset size p since few low high place = absurd (omega (arith, ints, since))
-below (pos t) (negsuc o) size p since few low high place = absurd (omega (arith, ints, low))
-below (pos t) (pos o) (negsuc w) p since few low high place = absurd (omega (arith, ints, high))
+    rw sum (omega (arith, less))
+below (negsuc t) offset size p since few low high sum = absurd (omega (arith, ints, since))
+below (pos t) (negsuc o) size p since few low high sum = absurd (omega (arith, ints, low))
+below (pos t) (pos o) (negsuc w) p since few low high sum = absurd (omega (arith, ints, high))
 
 -- a join position is a whole number inside the stream
 pub record IsInside (s : Setup) (p : ℤ) : Type 0 where
@@ -39,7 +39,7 @@ pub record IsInside (s : Setup) (p : ℤ) : Type 0 where
 pub joined : (s : Setup) (p : ℤ) → HasJoinPosition s p → pos 0 ≤ℤ p → IsInside s p
 joined s p joins low =
     let fits : FitsSigned w32 (terms_since (geometry_of s) s.active_term_id) = search (rules, wraps) in
-    let place = joins.place in
-    let less = below (terms_since (geometry_of s) s.active_term_id) s.term_offset s.term_length p place.since (omega (arith, ints)) place.low place.high place.place in
+    let sum = joins.joins in
+    let less = below (terms_since (geometry_of s) s.active_term_id) s.term_offset s.term_length p sum.since (omega (arith, ints)) sum.low sum.high sum.sum in
     let is : pos (unsigned_abs p) ≡ p = omega (arith, ints, low) in
     record { below = omega (arith, less); joins = rw is joins }

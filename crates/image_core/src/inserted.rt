@@ -13,7 +13,7 @@ pub struct Inserted {
     pub dropped: usize,
     /// Whether it was a heartbeat of the image's session and stream that has a position.
     pub heartbeat: bool,
-    /// Whether its type is neither that of data nor that of pads, so that nothing was looked at.
+    /// Whether its type is neither that of data nor that of pads, so that nothing was read.
     pub foreign: bool,
 }
 

@@ -20,14 +20,14 @@ blocks_on g publication at end i b bs within is ends blocks =
 -- and back again
 pub blocks_back : (g : Geometry) (publication : Publication) (at end : ℤ) (i : ℕ) (b : Block) (bs : List Block) → i < length bs → b ≡ get_or bs i b → end ≡ end_position b
     → IsBlock g publication b → b.position ≡ at → AreBlocksFrom g publication end (drop (i + 1) bs) → AreBlocksFrom g publication at (drop i bs)
-blocks_back g publication at end i b bs within is ends block place blocks =
+blocks_back g publication at end i b bs within is ends block sum blocks =
     let rest : AreBlocksFrom g publication (end_position b) (drop (i + 1) bs) = subst (λ (z : ℤ). AreBlocksFrom g publication z (drop (i + 1) bs)) ends blocks in
-    subst (AreBlocksFrom g publication at) (sym (rest_at bs i b within is)) (block, place, rest)
+    subst (AreBlocksFrom g publication at) (sym (rest_at bs i b within is)) (block, sum, rest)
 
 -- where they end stays
 pub blocks_sum : (at end total : ℤ) (i : ℕ) (b : Block) (bs : List Block) → i < length bs → b ≡ get_or bs i b → end ≡ end_position b → b.position ≡ at
     → at +ℤ pos (covered (frames_of (drop i bs))) ≡ total → end +ℤ pos (covered (frames_of (drop (i + 1) bs))) ≡ total
-blocks_sum at end total i b bs within is ends place whole =
+blocks_sum at end total i b bs within is ends sum whole =
     let here : at +ℤ pos (covered (frames_of (b ∷ drop (i + 1) bs))) ≡ total = subst (λ (xs : List Block). at +ℤ pos (covered (frames_of xs)) ≡ total) (rest_at bs i b within is) whole in
     let parts = covered-append b.frames (frames_of (drop (i + 1) bs)) in
     omega (arith, ints)

@@ -19,7 +19,7 @@ use Rattle.archive_model.specs.Acceptance.{BookState, Continue}
 use Rattle.archive_model.specs.Accepting.{Answers, has_room}
 use Rattle.archive_model.specs.Checks.{append_tests, checked, checks}
 use Rattle.archive_model.specs.Keyed.{find, change, Rise}
-use Rattle.archive_model.specs.Numbered.{IsPlaceOf}
+use Rattle.archive_model.specs.Numbered.{IsIndexOf}
 use Rattle.plain_book.specs.Kept.{Joins}
 use Rattle.archive_model.proofs.RegisterLemmas.{rise_push, rise_set}
 use Rattle.archive_model.proofs.StateLemmas.{found_registration}
@@ -74,27 +74,27 @@ pub read_at : (rs : List Recording) (index : ℕ) (r : Recording) → index < le
 read_at rs index r within is = slice_get_read rs (length rs) index r refl within is
 
 -- which recording stands at a index
-stands : (id : ℤ) (rs : List Recording) (index : ℕ) (r : Recording) (at : IsPlaceOf id_of id rs index) → r ≡ get_or rs index r → at.value ≡ r
+stands : (id : ℤ) (rs : List Recording) (index : ℕ) (r : Recording) (at : IsIndexOf id_of id rs index) → r ≡ get_or rs index r → at.value ≡ r
 stands id rs index r at is = let same : Some at.value ≡ Some r = sym at.at ∙ read_at rs index r at.within is in cc
 
 -- blocks join a recording that was read at its index
-pub joins_at : (b : BookState) (id : ℤ) (blocks : List Block) (index : ℕ) (end : ℤ) (r : Recording) → IsPlaceOf id_of id b.state.recordings index → r ≡ get_or b.state.recordings index r
+pub joins_at : (b : BookState) (id : ℤ) (blocks : List Block) (index : ℕ) (end : ℤ) (r : Recording) → IsIndexOf id_of id b.state.recordings index → r ≡ get_or b.state.recordings index r
     → IsTrue (is_active r) → Continue r blocks → b.counted < b.limit → end ≡ recorded_position r +ℤ pos (covered (frames_of blocks)) → Joins b id blocks index end
 joins_at b id blocks index end r at is active next room ends =
     let same : at.value ≡ r = stands id b.state.recordings index r at is in
     record { at = at; active = rw same active; next = rw same next; room = room; end_is = rw same ends }
 
 -- a recording at its index
-pub found_at : (id : ℤ) (rs : List Recording) (index : ℕ) (r : Recording) → IsPlaceOf id_of id rs index → r ≡ get_or rs index r → find id_of id rs ≡ Some r
+pub found_at : (id : ℤ) (rs : List Recording) (index : ℕ) (r : Recording) → IsIndexOf id_of id rs index → r ≡ get_or rs index r → find id_of id rs ≡ Some r
 found_at id rs index r at is = at.found ∙ ap Some (stands id rs index r at is)
 
 -- the same of a book whose recordings are these
-pub found_in : (id : ℤ) (b : BookState) (rs shown : List Recording) (index : ℕ) (r : Recording) → IsPlaceOf id_of id shown index → shown ≡ rs → rs ≡ b.state.recordings → r ≡ get_or rs index r
+pub found_in : (id : ℤ) (b : BookState) (rs shown : List Recording) (index : ℕ) (r : Recording) → IsIndexOf id_of id shown index → shown ≡ rs → rs ≡ b.state.recordings → r ≡ get_or rs index r
     → find id_of id b.state.recordings ≡ Some r
 found_in id b rs shown index r at same in_book is =
-    ap (find id_of id) (sym in_book) ∙ found_at id rs index r (subst (λ (xs : List Recording). IsPlaceOf id_of id xs index) same at) is
+    ap (find id_of id) (sym in_book) ∙ found_at id rs index r (subst (λ (xs : List Recording). IsIndexOf id_of id xs index) same at) is
 
 -- to change the recording at its index is to change it under its id
-pub changed_at : (id : ℤ) (rs : List Recording) (index : ℕ) (r new : Recording) (f : Recording → Recording) → IsPlaceOf id_of id rs index → r ≡ get_or rs index r → new ≡ f r
+pub changed_at : (id : ℤ) (rs : List Recording) (index : ℕ) (r new : Recording) (f : Recording → Recording) → IsIndexOf id_of id rs index → r ≡ get_or rs index r → new ≡ f r
     → slice_set rs index new ≡ change id_of id f rs
 changed_at id rs index r new f at is made = ap (slice_set rs index) made ∙ ap (λ (x : Recording). slice_set rs index (f x)) (sym (stands id rs index r at is)) ∙ sym (at.changed f)

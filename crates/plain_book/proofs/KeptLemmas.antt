@@ -56,8 +56,8 @@ pub keeps_appended : (r new : Recording) (recorded end : ℤ) (blocks : List Blo
     → new ≡ appended blocks r → Keeps new end
 keeps_appended r new recorded end blocks keeps next active ends is =
     let parts = covered-append r.frames (frames_of blocks) in
-    let place : end ≡ r.descriptor.start_position +ℤ pos (covered (r.frames ++ frames_of blocks)) = omega (arith, ints) in
-    rw is (record { recorded_is = place; kept = kept_appended r blocks keeps.kept next active })
+    let sum : end ≡ r.descriptor.start_position +ℤ pos (covered (r.frames ++ frames_of blocks)) = omega (arith, ints) in
+    rw is (record { recorded_is = sum; kept = kept_appended r blocks keeps.kept next active })
 
 abbrev pub recording_of : Registration → List Frame → Recording
 recording_of g fs = record { descriptor = g.descriptor; frames = fs }

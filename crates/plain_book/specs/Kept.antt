@@ -8,7 +8,7 @@ use Rattle.archive_model.specs.declared.registration.Change.TheVariants.{Settle,
 use Rattle.archive_model.specs.Keyed.{Rise}
 use Rattle.archive_model.specs.Register.{changed_by, is_later_base}
 use Rattle.archive_model.specs.State.{Recording, id_of, is_active, recorded_position, registration_of}
-use Rattle.archive_model.specs.Numbered.{IsPlaceOf}
+use Rattle.archive_model.specs.Numbered.{IsIndexOf}
 use Rattle.archive_model.specs.Replay.{begins_frame, frames_in, placed}
 use Rattle.archive_model.specs.Commands.{ends_by, frames_of}
 use Rattle.archive_model.specs.Acceptance.{BookState, Continue}
@@ -50,7 +50,7 @@ Allows r (PurgeSegments position) = IsTrue (is_later_base position (registration
 
 -- an accepted append: its blocks join the recording of the id, which stands at the index, and end at the position
 pub record Joins (b : BookState) (id : ℤ) (blocks : List Block) (index : ℕ) (end : ℤ) : Type 0 where
-  pub at : IsPlaceOf id_of id b.state.recordings index
+  pub at : IsIndexOf id_of id b.state.recordings index
   pub active : IsTrue (is_active at.value)
   pub next : Continue at.value blocks
   pub room : b.counted < b.limit

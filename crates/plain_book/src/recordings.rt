@@ -7,7 +7,7 @@ ghost use Rattle.plain_book.specs.Kept.{Allows, Rising, made_of};
 ghost use Rattle.archive_model.specs.State.{id_of};
 
 use crate::recording::Recording;
-use archive_model::{Change, place_of};
+use archive_model::{Change, index_of};
 
 /// Changes the recording of an id, if there is one. Does not allocate.
 pub(crate) fn change_one(recordings: &mut Vec<Recording>, id: &i64, change: &Change)
@@ -15,7 +15,7 @@ pub(crate) fn change_one(recordings: &mut Vec<Recording>, id: &i64, change: &Cha
     ensures { recordings.new.items
         ≡ changed_at id_of id.now (made_of change.now) recordings.old.items }
 {
-    let Some(index) = place_of(recordings.as_slice(), id) else {
+    let Some(index) = index_of(recordings.as_slice(), id) else {
         return;
     };
     let recording = &mut recordings[index];
@@ -27,7 +27,7 @@ pub(crate) fn remove_one(recordings: &mut Vec<Recording>, id: &i64)
     requires { Rising recordings.old.items }
     ensures { recordings.new.items ≡ without id_of id.now recordings.old.items }
 {
-    let Some(index) = place_of(recordings.as_slice(), id) else {
+    let Some(index) = index_of(recordings.as_slice(), id) else {
         return;
     };
     let _ = recordings.remove(index);

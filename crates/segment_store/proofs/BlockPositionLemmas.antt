@@ -47,7 +47,7 @@ nat_parts (pos a) w (negsuc b) p since low high is = absurd (omega (arith, ints,
 pub position_in_term : (g : Geometry) (term offset p : ℤ) → HasPosition g term offset p
     → (unsigned_abs p % unsigned_abs g.term_length ≡ unsigned_abs offset) × (unsigned_abs offset < unsigned_abs g.term_length)
 position_in_term g term offset p has =
-    let parts = nat_parts (terms_since g term) g.term_length offset p has.since has.low has.high has.place in
+    let parts = nat_parts (terms_since g term) g.term_length offset p has.since has.low has.high has.sum in
     let w : ℕ = unsigned_abs g.term_length in
     (ap (λ (n : ℕ). n % w) parts.0 ∙ mod-mul-add (unsigned_abs (terms_since g term)) w (unsigned_abs offset) parts.1, parts.1)
 

@@ -22,7 +22,7 @@ use Rattle.segment_store.specs.DamagedFrame.{IsDamaged, RefusesFrame, ShowsFrame
 use Rattle.segment_store.specs.Reading.{RefusesPayload, TellsPayload, encoded_size, size_of}
 use Rattle.segment_store.proofs.ReadLemmas.{belongs_header, belongs_stored, front_holds, shown_begins}
 
--- what a window has from a place on
+-- what a window has from an offset on
 pub record HasFrom (file : List ℕ) (offset : ℕ) (bytes : List ℕ) : Type 0 where
   pub size : ℕ
   pub are : bytes ≡ take size (drop offset file)

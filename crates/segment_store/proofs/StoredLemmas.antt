@@ -80,20 +80,20 @@ first_true : (x y : Bool) → (x && y) ≡ true → x ≡ true
 first_true true y is = refl
 first_true false y is = is
 
-part_is_message : (place : BlockIds) (offset : ℕ) (f : Frame) → is_part place offset f ≡ true → f.kind ≡ Message
+part_is_message : (ids : BlockIds) (offset : ℕ) (f : Frame) → is_part ids offset f ≡ true → f.kind ≡ Message
 unfolding is_part
-part_is_message place offset f part = message_kind f.kind (first_true _ _ (first_true _ _ (first_true _ _ part)))
+part_is_message ids offset f part = message_kind f.kind (first_true _ _ (first_true _ _ (first_true _ _ part)))
 
-by_part : (place : BlockIds) (offset end : ℕ) (f : Frame) (fs : List Frame) (b : Bool) → is_part place offset f ≡ b
-    → (run_end place (offset + aligned_length f) fs ≡ Some end → (end ≡ offset + aligned_length f + covered fs) × AreMessages fs)
-    → (if b then run_end place (offset + aligned_length f) fs else None) ≡ Some end → (end ≡ offset + covered (f ∷ fs)) × AreMessages (f ∷ fs)
-by_part place offset end f fs true part rest goes =
+by_part : (ids : BlockIds) (offset end : ℕ) (f : Frame) (fs : List Frame) (b : Bool) → is_part ids offset f ≡ b
+    → (run_end ids (offset + aligned_length f) fs ≡ Some end → (end ≡ offset + aligned_length f + covered fs) × AreMessages fs)
+    → (if b then run_end ids (offset + aligned_length f) fs else None) ≡ Some end → (end ≡ offset + covered (f ∷ fs)) × AreMessages (f ∷ fs)
+by_part ids offset end f fs true part rest goes =
     let others = rest goes in
-    (omega (arith, others.0), (part_is_message place offset f part, others.1))
-by_part place offset end f fs false part rest none = absurd (cc)
+    (omega (arith, others.0), (part_is_message ids offset f part, others.1))
+by_part ids offset end f fs false part rest none = absurd (cc)
 
 -- frames that follow one another are data frames, and end where they cover to
-pub run_covers : (place : BlockIds) (offset end : ℕ) (frames : List Frame) → run_end place offset frames ≡ Some end → (end ≡ offset + covered frames) × AreMessages frames
-run_covers place offset end [] ends = (omega (arith, same_some ends), tt)
-run_covers place offset end (f ∷ fs) ends =
-    by_part place offset end f fs (is_part place offset f) refl (run_covers place (offset + aligned_length f) end fs) ends
+pub run_covers : (ids : BlockIds) (offset end : ℕ) (frames : List Frame) → run_end ids offset frames ≡ Some end → (end ≡ offset + covered frames) × AreMessages frames
+run_covers ids offset end [] ends = (omega (arith, same_some ends), tt)
+run_covers ids offset end (f ∷ fs) ends =
+    by_part ids offset end f fs (is_part ids offset f) refl (run_covers ids (offset + aligned_length f) end fs) ends

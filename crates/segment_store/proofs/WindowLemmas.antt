@@ -41,10 +41,10 @@ window_has image w spot l p bytes window has file_is offset_is are =
     let start : ℕ = min (spot.offset - w.offset) (min w.count 65536) in
     let same_file : w.file ≡ file_of l p = elim has [ inl covers ↦ covers.file ∙ file_is | inr starts ↦ starts.file ∙ file_is ] in
     let count : min w.count 65536 ≡ w.count = omega (arith, window.count_is) in
-    let place : w.offset + start ≡ offset_of l p = elim has [ inl covers ↦ omega (arith, covers.behind, covers.within, count, offset_is) | inr starts ↦ omega (arith, starts.offset, offset_is) ] in
+    let sum : w.offset + start ≡ offset_of l p = elim has [ inl covers ↦ omega (arith, covers.behind, covers.within, count, offset_is) | inr starts ↦ omega (arith, starts.offset, offset_is) ] in
     let within : start ≤ w.count = omega (arith, count) in
     let read : bytes ≡ take (w.count - start) (drop (offset_of l p) file) =
-    are ∙ ap (λ (n : ℕ). take (n - start) (drop start w.bytes)) count ∙ part_of file w.bytes w.count w.offset start window.bytes_are within ∙ ap (λ (n : ℕ). take (w.count - start) (drop n file)) place in
+    are ∙ ap (λ (n : ℕ). take (n - start) (drop start w.bytes)) count ∙ part_of file w.bytes w.count w.offset start window.bytes_are within ∙ ap (λ (n : ℕ). take (w.count - start) (drop n file)) sum in
     let enough : (32 ≤ w.count - start) ⊎ (w.count - start ≡ min 65536 (length file - offset_of l p)) = elim has [
       | inl covers ↦ inl (omega (arith, covers.behind, covers.within, count))
       | inr starts ↦ inr (omega (arith, starts.offset, offset_is, window.count_is))

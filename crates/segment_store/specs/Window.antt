@@ -17,12 +17,12 @@ pub record IsWindow (image : DiskImage) (w : Window) : Type 0 where
   pub count_is : w.count ≡ min 65536 (length (bytes_of (image w.file)) - w.offset)
   pub bytes_are : take w.count w.bytes ≡ take w.count (drop w.offset (bytes_of (image w.file)))
 
--- the window begins at the place
+-- the window begins at the offset
 pub record StartsAt (spot : Spot) (w : Window) : Type 0 where
   pub file : w.file ≡ spot.file
   pub offset : w.offset ≡ spot.offset
 
--- the window has the 32 bytes at the place
+-- the window has the 32 bytes at the offset
 pub record Covers (w : Window) (spot : Spot) : Type 0 where
   pub file : w.file ≡ spot.file
   pub behind : w.offset ≤ spot.offset

@@ -71,7 +71,7 @@ impl Pairs {
 
     /// A recorder session of this number was opened, by a start or an extension: the id of the recording that it writes,
     /// and where that stands. Then each image without a session is paired, in their order. A number from 64 on is not
-    /// noted, nor one that was there. Costs a look at each session for each image.
+    /// noted, nor one that was there. Costs a step for each session for each image.
     pub fn opened(&mut self, number: usize, recording: i64, point: StreamPoint)
         ensures { self.new ≡ after_opened number recording point self.old }
     {
@@ -88,7 +88,7 @@ impl Pairs {
     }
 
     /// An image came: where it joined. None where its publication has one, or 64 images came, and nothing changes then;
-    /// else its index, and each image without a session is paired, in their order. Costs a look at each session for each
+    /// else its index, and each image without a session is paired, in their order. Costs a step for each session for each
     /// image.
     pub fn joined(&mut self, join: StreamPoint) -> Option<usize>
         ensures state { self.new ≡ after_joined join self.old }
@@ -116,7 +116,7 @@ impl Pairs {
     }
 
     /// A recording was stopped, and the session that wrote it has ended. It keeps its image until it is refused. Costs a
-    /// look at each session.
+    /// step for each session.
     pub fn stopped(&mut self, recording: i64)
         ensures { self.new ≡ after_stopped recording self.old }
     {
@@ -136,7 +136,7 @@ impl Pairs {
         self.lose(index);
     }
 
-    /// The index of the image of a publication. Costs a look at each image.
+    /// The index of the image of a publication. Costs a step for each image.
     pub fn image_of(&self, publication: &Publication) -> Option<usize>
         ensures { result ≡ image_with publication.now self.now }
     {
@@ -155,7 +155,7 @@ impl Pairs {
         }
     }
 
-    /// The number of the session that the image of an index feeds. Costs a look at each session.
+    /// The number of the session that the image of an index feeds. Costs a step for each session.
     pub fn session_of_image(&self, index: usize) -> Option<usize>
         ensures { result ≡ position (feeds index) self.now.slots }
     {

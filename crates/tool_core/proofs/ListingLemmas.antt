@@ -46,7 +46,7 @@ not_stopped : (bytes : List ℕ) (header : Frame) → Stops bytes → StandsFirs
 not_stopped bytes header (inl ends) stands = not_both bytes header ends stands
 not_stopped bytes header (inr bad) stands = bad.no_frame header stands
 
--- the frames up to the first place at which none stands, and what is behind them
+-- the frames up to the first offset at which none stands, and what is behind them
 one_list : (bytes : List ℕ) (hs gs : List Frame) (rest other : List ℕ) → HasFrames bytes hs rest → Stops rest → HasFrames bytes gs other → Stops other → (hs ≡ gs) × (rest ≡ other)
 one_list bytes [] [] rest other here stop there also = (refl, here ∙ sym there)
 one_list bytes [] (g ∷ gs) rest other here stop there also = absurd (not_stopped bytes g (subst Stops here stop) there.0)

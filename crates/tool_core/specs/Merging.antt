@@ -33,7 +33,7 @@ OrNoMemory old ends (Ok reply) new = ends (Ok reply) new
 OrNoMemory old ends (Err NoMemory) new = new ≡ old
 OrNoMemory old ends (Err refusal) new = ends (Err refusal) new
 
--- a merge looks at no MTU
+-- a merge reads no MTU
 abbrev pub geometry_of : ℤ → ℤ → Geometry
 geometry_of term term_length = record { initial_term_id = term; term_length = term_length; mtu = pos 65504 }
 

@@ -23,12 +23,12 @@ pub record Moves (old new : Option (List ℕ)) (line_old line_new : Option (List
   pub consumed : Consumes old new (text ++ end)
   pub grown : Grows line_old line_new text
 
--- what one look at an input did
+-- what one read of an input did
 abbrev pub TakesPart : Part → Option (List ℕ) → Option (List ℕ) → Option (List ℕ) → Option (List ℕ) → Type 0
 TakesPart More old new line_old line_new = Moves old new line_old line_new []
 TakesPart Ended old new line_old line_new = Moves old new line_old line_new (10 ∷ [])
 TakesPart AtEnd old new line_old line_new = IsAtEnd old × Keeps old new × (line_new ≡ line_old)
 
--- an input that was looked at as often as may be is refused, and nothing is taken of it
+-- an input that was read as often as may be is refused, and nothing is taken of it
 abbrev pub IsSpent : {T : Type 0} → Result T EarlyEnd → Option (List ℕ) → Option (List ℕ) → Type 0
 IsSpent result old new = (result ≡ Err Read) × Keeps old new

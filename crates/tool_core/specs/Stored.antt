@@ -10,8 +10,8 @@ use Rattle.tool_core.specs.declared.fault.EarlyEnd.TheVariants as ends
 use Rattle.tool_core.specs.declared.frames.Listing.{Listing}
 use Rattle.tool_core.specs.declared.frames.Listing.TheVariants.{Whole, Damaged}
 use Rattle.tool_core.specs.declared.frames.Listed.{Listed}
-use Rattle.tool_core.specs.declared.stored.Look.{Look}
-use Rattle.tool_core.specs.declared.stored.Look.TheVariants.{Passed, AtEnd}
+use Rattle.tool_core.specs.declared.stored.Passage.{Passage}
+use Rattle.tool_core.specs.declared.stored.Passage.TheVariants.{Passed, AtEnd}
 use Rattle.tool_core.specs.declared.stored.Next.{Next}
 use Rattle.tool_core.specs.declared.stored.Next.TheVariants as nexts
 use Rattle.tool_core.specs.FrameLines.{EndsFrames, HasNoFrame, StandsFirst, end_text, frame_text}
@@ -22,13 +22,13 @@ pub record Passes (old new : Option (List ℕ)) (n : ℕ) : Type 0 where
   pub consumed : Consumes old new bytes
   pub count : length bytes ≡ n
 
--- one look into a file took these first bytes of an array
-abbrev pub Fills : Look → Option (List ℕ) → Option (List ℕ) → List ℕ → Type 0
+-- one read of a file took these first bytes of an array
+abbrev pub Fills : Passage → Option (List ℕ) → Option (List ℕ) → List ℕ → Type 0
 Fills (Passed n) old new out = (n ≤ length out) × Consumes old new (take n out)
 Fills AtEnd old new out = IsAtEnd old × Keeps old new
 
--- one look into a file passed so many bytes of those that are to be passed
-abbrev pub Skips : Look → Option (List ℕ) → Option (List ℕ) → ℕ → Type 0
+-- one read of a file passed so many bytes of those that are to be passed
+abbrev pub Skips : Passage → Option (List ℕ) → Option (List ℕ) → ℕ → Type 0
 Skips (Passed n) old new most = (n ≤ most) × Passes old new n
 Skips AtEnd old new most = IsAtEnd old × Keeps old new
 

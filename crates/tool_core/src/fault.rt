@@ -9,7 +9,7 @@ use std::alloc::AllocError;
 /// Why a script, or a listing of a file's frames, ended before its last line.
 #[derive(Clone, Copy, Debug, PartialEq, Eq)]
 pub enum EarlyEnd {
-    /// Its input could not be read on, or was looked at as often as may be.
+    /// Its input could not be read on, or was read as often as may be.
     Read,
     /// What was answered could not be written.
     Write,
@@ -28,7 +28,7 @@ impl From<AllocError> for EarlyEnd {
 /// Why a script ended before its last line, and the disk of its archive.
 #[derive(Drop)]
 pub enum ScriptFault<D> {
-    /// Its input could not be read on, or was looked at as often as may be.
+    /// Its input could not be read on, or was read as often as may be.
     Read(D),
     /// What was answered could not be written.
     Write(D),

@@ -70,7 +70,7 @@ fn write_end<W: Write>(count: u64, writer: &mut W) -> Result<(), EarlyEnd>
 /// How far a listing has come.
 #[derive(Drop)]
 struct Listed {
-    /// Looks into the file.
+    /// Reads of the file.
     reads: u64,
     /// Frames that were listed.
     count: u64,
@@ -155,7 +155,7 @@ fn list_all<R: BufRead, W: Write>(reader: &mut R, writer: &mut W) -> Result<List
 /// `Whole` where they end, at the file's end or before a length of 0; `Damaged` where what stands behind them is no frame.
 /// Takes one buffer of 65,536 bytes, whatever the file's length. What the writer had stays before what it gains.
 ///
-/// `Read` where the file cannot be read on, was looked at 9,223,372,036,854,775,807 times, or has more than
+/// `Read` where the file cannot be read on, was read 9,223,372,036,854,775,807 times, or has more than
 /// 18,446,744,073,709,551,615 bytes: the lines of its first frames are written. `Memory` where there is none for the
 /// buffer, and then nothing is written. `Write` where the writer fails.
 pub fn list_frames<R: Read + Drop, W: Write>(

@@ -12,7 +12,7 @@ use std::alloc::{AllocError, Global};
 use std::io::{BufRead, ErrorKind};
 use std::marker::Model;
 
-/// How often a script looks at its input at most.
+/// How often a script reads its input at most.
 pub const MAX_READS: u64 = 9_223_372_036_854_775_807;
 
 /// What is kept of a line while it is read. To a contract it is the line, or none where that is too long.
@@ -81,7 +81,7 @@ impl LineBuffer {
     }
 }
 
-/// What one look at an input found.
+/// What one read of an input found.
 #[derive(Clone, Copy, Debug, PartialEq, Eq)]
 pub(crate) enum Part {
     /// A part of a line, perhaps an empty one, and not its end.
@@ -92,8 +92,8 @@ pub(crate) enum Part {
     AtEnd,
 }
 
-/// Counts a look at an input. `Read` where as many as may be were made.
-pub(crate) fn count_look(reads: &mut u64) -> Result<(), EarlyEnd>
+/// Counts a read of an input. `Read` where as many as may be were made.
+pub(crate) fn count_read(reads: &mut u64) -> Result<(), EarlyEnd>
     ensures counted { OnOk result ((reads.old < MAX_READS) × (reads.new ≡ reads.old + 1)) }
     ensures spent { IfErr result (λ end. end ≡ EarlyEnd.Read) }
 {
@@ -112,7 +112,7 @@ fn line_end(shown: &[u8]) -> Option<usize>
     memchr(b'\n', shown)
 }
 
-/// Looks at the input once, and counts the look; where as many as may be were made, nothing is looked at. A look that a
+/// Reads the input once, and counts the read; where as many as may be were made, nothing is read. A read that a
 /// signal interrupts takes nothing.
 fn take_part<R: BufRead>(
     reader: &mut R,
@@ -125,7 +125,7 @@ fn take_part<R: BufRead>(
     ensures spent { MAX_READS ≤ reads.old → IsSpent result (R.remaining reader.old) (R.remaining reader.new) }
     ensures faults { IfErr result (λ fault. fault ≢ EarlyEnd.Write) }
 {
-    count_look(reads)?;
+    count_read(reads)?;
     let shown = match reader.fill_buf() {
         Ok(shown) => shown,
         Err(e) => {
@@ -156,8 +156,8 @@ fn take_part<R: BufRead>(
 
 /// Reads the next line of an input, and answers whether there was one. Costs the line's length.
 ///
-/// `reads` counts the looks at the input, at least as many as its reads, also of those that a signal interrupts.
-/// `Read` where the input fails, or was looked at `MAX_READS` times, and then nothing more is taken of it; `Memory`
+/// `reads` counts the reads of the buffer, at least as many as those of the input, also those that a signal interrupts.
+/// `Read` where the input fails, or was read `MAX_READS` times, and then nothing more is taken of it; `Memory`
 /// where the line finds no memory. What was read of the line is then lost.
 pub fn read_line<R: BufRead>(
     reader: &mut R,

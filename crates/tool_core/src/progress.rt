@@ -8,8 +8,8 @@ use std::alloc::Global;
 use std::io::Eprint;
 use std::time::{Clock, Duration, Instant};
 
-/// Reads of a disk from one look at the clock to the next.
-const READS_PER_LOOK: u32 = 256;
+/// Reads of a disk from one read of the clock to the next.
+const READS_PER_CLOCK_READ: u32 = 256;
 /// How long a line stays at least, in milliseconds.
 const SHOWN_FOR_MILLIS: u64 = 200;
 
@@ -93,7 +93,7 @@ impl<D: Disk, V: Viewer> Disk for Watched<D, V> {
 
 /// A file, and how many bytes the segment files before it have.
 #[derive(Clone, Copy)]
-struct Place {
+struct FileStart {
     file: FileId,
     before: u64,
 }
@@ -104,12 +104,12 @@ struct Place {
 pub struct Progress<'a, R> {
     rt: &'a R,
     /// The files, as they rise.
-    places: Vec<Place>,
+    starts: Vec<FileStart>,
     /// The bytes of all segment files.
     total: u64,
-    /// Reads since the clock was looked at.
+    /// Reads of the disk since the clock was read.
     reads: u32,
-    /// When the clock was looked at first.
+    /// When the clock was read first.
     begun: Option<Instant>,
     /// Bytes that were read since then.
     read: u64,
@@ -123,10 +123,10 @@ impl<'a, R: Eprint + Clock> Progress<'a, R> {
     pub fn of<D: Disk>(alloc: Global, rt: &'a R, disk: &mut D) -> Option<Progress<'a, R>>
         ensures { IsQuiet (D.life disk.old) (D.life disk.new) }
     {
-        let (places, total) = places_of(alloc, disk)?;
+        let (starts, total) = starts_of(alloc, disk)?;
         Some(Progress {
             rt,
-            places,
+            starts,
             total,
             reads: 0,
             begun: None,
@@ -142,9 +142,9 @@ impl<'a, R: Eprint + Clock> Progress<'a, R> {
         }
     }
 
-    /// Looks at the clock, and writes the line anew unless that was done a moment ago. `end` is where the last read of the
+    /// Reads the clock, and writes the line anew unless that was done a moment ago. `end` is where the last read of the
     /// file ended.
-    fn look(&mut self, recording: i64, file: FileId, end: u64) {
+    fn show(&mut self, recording: i64, file: FileId, end: u64) {
         let Ok(now) = Instant::now(self.rt) else {
             return;
         };
@@ -159,7 +159,7 @@ impl<'a, R: Eprint + Clock> Progress<'a, R> {
             return;
         }
         self.shown = Some(now);
-        let done = before(self.places.as_slice(), file).saturating_add(end);
+        let done = before(self.starts.as_slice(), file).saturating_add(end);
         let percent = percent_of(done, self.total);
         let rate = megabytes_a_second(self.read, now.duration_since(begun));
         let _ = eprint!(self.rt; "\rrecording {recording} {percent:>3} % {rate:>4} MB/s\x1b[K");
@@ -173,30 +173,30 @@ impl<R: Eprint + Clock> Viewer for Progress<'_, R> {
         };
         self.read = self.read.saturating_add(count as u64);
         self.reads = self.reads.saturating_add(1);
-        if self.reads >= READS_PER_LOOK {
+        if self.reads >= READS_PER_CLOCK_READ {
             self.reads = 0;
-            self.look(recording, file, at.saturating_add(count as u64));
+            self.show(recording, file, at.saturating_add(count as u64));
         }
     }
 }
 
 /// The files of a disk, and how many bytes all its segment files have.
-fn places_of<D: Disk>(alloc: Global, disk: &mut D) -> Option<(Vec<Place>, u64)>
+fn starts_of<D: Disk>(alloc: Global, disk: &mut D) -> Option<(Vec<FileStart>, u64)>
     ensures { IsQuiet (D.life disk.old) (D.life disk.new) }
 {
     let files = disk.list().ok()?;
-    let mut places = Vec::new(alloc);
+    let mut starts = Vec::new(alloc);
     let mut total = 0u64;
     for file in &files {
         let length = segment_length(disk, *file)?;
-        let place = Place {
+        let start = FileStart {
             file: *file,
             before: total,
         };
-        places.push(place).ok()?;
+        starts.push(start).ok()?;
         total = total.saturating_add(length);
     }
-    Some((places, total))
+    Some((starts, total))
 }
 
 /// The length of a segment file, and 0 of any other.
@@ -210,9 +210,9 @@ fn segment_length<D: Disk>(disk: &mut D, file: FileId) -> Option<u64>
 }
 
 /// How many bytes the segment files before this one have; none where it was not listed.
-fn before(places: &[Place], file: FileId) -> u64 {
-    match places.iter().find(|place| place.file == file) {
-        Some(place) => place.before,
+fn before(starts: &[FileStart], file: FileId) -> u64 {
+    match starts.iter().find(|start| start.file == file) {
+        Some(start) => start.before,
         None => 0,
     }
 }

@@ -75,7 +75,7 @@ fn has_line(buffered: &[u8]) -> bool
 }
 
 /// Reads the next line, and answers whether there was one. What was written is handed on before, unless a whole line is at
-/// hand, so that nobody waits for a reply that is there. `reads` counts the looks at the input; `Write` where what was
+/// hand, so that nobody waits for a reply that is there. `reads` counts the reads of the buffer; `Write` where what was
 /// written could not be handed on, else as `read_line`.
 fn next_line<R: Read, W: Write>(
     reader: &mut BufReader<R>,
@@ -134,7 +134,7 @@ fn run_lines<R: Read + Drop, W: Write, A: Answerer>(
 /// makes two at most. The answerer comes back.
 ///
 /// Each line is answered before the next one is waited for. What the writer had stays before what it gains. `Read`
-/// where the reader fails, or was looked at 9,223,372,036,854,775,807 times; `Memory` where a reply's text or the reader's
+/// where the reader fails, or was read 9,223,372,036,854,775,807 times; `Memory` where a reply's text or the reader's
 /// buffer finds no memory; `Write` where the writer fails. What was answered before stays written.
 pub fn answer_lines<R: Read + Drop, W: Write, A: Answerer>(
     alloc: Global,

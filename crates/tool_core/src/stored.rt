@@ -6,15 +6,15 @@ ghost use Rattle.tool_core.specs.FrameLines.{EndsFrames, HasStored};
 ghost use Rattle.tool_core.specs.Stored.{Fills, IsNext, LosesFirst, LosesHeader, Skips};
 
 use crate::fault::EarlyEnd;
-use crate::lines::{MAX_READS, count_look};
+use crate::lines::{MAX_READS, count_read};
 use frame_core::limits::HEADER_LENGTH;
 use frame_core::{FrameKind, FrameRef, decode_header};
 use std::io::{BufRead, ErrorKind, Read};
 
-/// What one look into a file found.
+/// What one read of a file found.
 #[derive(Clone, Copy, Debug, PartialEq, Eq)]
-pub(crate) enum Look {
-    /// So many further bytes, which were passed: none where a signal interrupted the look.
+pub(crate) enum Passage {
+    /// So many further bytes, which were passed: none where a signal interrupted the read.
     Passed(usize),
     /// The file has no further byte.
     AtEnd,
@@ -31,52 +31,52 @@ pub(crate) enum Next<'a> {
     NoFrame,
 }
 
-/// Looks into the file once, for bytes that then come first in `out`. `Read` where the file cannot be read on, or was looked
-/// at `MAX_READS` times.
-fn read_some<R: Read>(reader: &mut R, reads: &mut u64, out: &mut [u8]) -> Result<Look, EarlyEnd>
+/// Reads the file once, for bytes that then come first in `out`. `Read` where the file cannot be read on, or was read
+/// `MAX_READS` times.
+fn read_some<R: Read>(reader: &mut R, reads: &mut u64, out: &mut [u8]) -> Result<Passage, EarlyEnd>
     requires { 0 < length out.old }
-    ensures filled { IfOk result (λ look.
-        Fills look (R.remaining reader.old) (R.remaining reader.new) out.new) }
+    ensures filled { IfOk result (λ passage.
+        Fills passage (R.remaining reader.old) (R.remaining reader.new) out.new) }
     ensures counted { OnOk result ((reads.old < MAX_READS) × (reads.new ≡ reads.old + 1)) }
     ensures fault { IfErr result (λ end. end ≡ EarlyEnd.Read) }
 {
-    count_look(reads)?;
+    count_read(reads)?;
     match reader.read(out) {
-        Ok(0) => Ok(Look::AtEnd),
-        Ok(count) => Ok(Look::Passed(count)),
-        Err(e) if e.kind() == ErrorKind::Interrupted => Ok(Look::Passed(0)),
+        Ok(0) => Ok(Passage::AtEnd),
+        Ok(count) => Ok(Passage::Passed(count)),
+        Err(e) if e.kind() == ErrorKind::Interrupted => Ok(Passage::Passed(0)),
         Err(_) => Err(EarlyEnd::Read),
     }
 }
 
-/// Looks into the file once, and passes at most so many of the bytes that it shows. `Read` as for `read_some`.
-fn skip_some<R: BufRead>(reader: &mut R, reads: &mut u64, most: usize) -> Result<Look, EarlyEnd>
-    ensures skipped { IfOk result (λ look.
-        Skips look (R.remaining reader.old) (R.remaining reader.new) most) }
+/// Reads the buffer once, and passes at most so many of the bytes that it shows. `Read` as for `read_some`.
+fn skip_some<R: BufRead>(reader: &mut R, reads: &mut u64, most: usize) -> Result<Passage, EarlyEnd>
+    ensures skipped { IfOk result (λ passage.
+        Skips passage (R.remaining reader.old) (R.remaining reader.new) most) }
     ensures counted { OnOk result ((reads.old < MAX_READS) × (reads.new ≡ reads.old + 1)) }
     ensures fault { IfErr result (λ end. end ≡ EarlyEnd.Read) }
 {
-    count_look(reads)?;
+    count_read(reads)?;
     let shown = match reader.fill_buf() {
         Ok(shown) => shown,
         Err(e) => {
             return if e.kind() == ErrorKind::Interrupted {
-                Ok(Look::Passed(0))
+                Ok(Passage::Passed(0))
             } else {
                 Err(EarlyEnd::Read)
             };
         }
     };
     if shown.is_empty() {
-        return Ok(Look::AtEnd);
+        return Ok(Passage::AtEnd);
     }
     let count = shown.len().min(most);
     reader.consume(count);
-    Ok(Look::Passed(count))
+    Ok(Passage::Passed(count))
 }
 
-/// Reads the next 32 bytes of the file, and answers how many there are. `reads` counts the looks at the file. `Read` where
-/// it cannot be read on, or was looked at `MAX_READS` times; what was read is then lost.
+/// Reads the next 32 bytes of the file, and answers how many there are. `reads` counts the reads of the file. `Read` where
+/// it cannot be read on, or was read `MAX_READS` times; what was read is then lost.
 pub(crate) fn read_header<R: Read>(
     reader: &mut R,
     reads: &mut u64,
@@ -91,8 +91,8 @@ pub(crate) fn read_header<R: Read>(
     let mut size = 0;
     while size < HEADER_LENGTH {
         match read_some(reader, reads, &mut out[size..])? {
-            Look::Passed(count) => size += count,
-            Look::AtEnd => return Ok(size),
+            Passage::Passed(count) => size += count,
+            Passage::AtEnd => return Ok(size),
         }
     }
     Ok(size)
@@ -109,8 +109,8 @@ fn skip<R: BufRead>(reader: &mut R, reads: &mut u64, most: usize) -> Result<usiz
     let mut size = 0;
     while size < most {
         match skip_some(reader, reads, most - size)? {
-            Look::Passed(count) => size += count,
-            Look::AtEnd => return Ok(size),
+            Passage::Passed(count) => size += count,
+            Passage::AtEnd => return Ok(size),
         }
     }
     Ok(size)

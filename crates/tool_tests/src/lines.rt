@@ -56,7 +56,7 @@ fn long_lines(rt: HostRuntime) -> Result<(), Fail> {
     Ok(())
 }
 
-// Gives its text a byte at a time, each behind a read that a signal interrupts, and fails in place of one byte.
+// Gives its text a byte at a time, each behind a read that a signal interrupts, and fails in slot of one byte.
 #[derive(Drop)]
 struct Flaky<'a> {
     text: &'a [u8],
@@ -75,8 +75,8 @@ impl Read for Flaky<'_> {
             return Err(Error::from(ErrorKind::BrokenPipe));
         }
         match (self.text.get(self.at), buf.first_mut()) {
-            (Some(byte), Some(place)) => {
-                *place = *byte;
+            (Some(byte), Some(slot)) => {
+                *slot = *byte;
                 self.at = self.at.saturating_add(1);
                 Ok(1)
             }

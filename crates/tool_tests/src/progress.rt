@@ -49,7 +49,7 @@ impl Eprint for Desktop {
     }
 }
 
-/// The clock is looked at at each 256th read: at 0, 150, 300, 450 and 600 milliseconds, and the line is written at 300 and
+/// The clock is read at each 256th read: at 0, 150, 300, 450 and 600 milliseconds, and the line is written at 300 and
 /// at 600.
 #[test]
 fn the_line_is_written_now_and_then(rt: HostRuntime) -> Result<(), Fail> {

@@ -13,13 +13,13 @@ is_abs (negsuc n) low = absurd (omega (arith, ints))
 -- a term and an offset have the position that is reckoned over whole numbers
 reckoned : (g : Geometry) (t o p : ℤ) (terms offset : ℕ) → pos 0 <ℤ g.term_length → pos 0 ≤ℤ p → terms_since g t ≡ pos terms → o ≡ pos offset
     → offset < unsigned_abs g.term_length → unsigned_abs p ≡ terms * unsigned_abs g.term_length + offset → HasPosition g t o p
-reckoned g t o p terms offset long low since off high place =
+reckoned g t o p terms offset long low since off high sum =
     let size : g.term_length ≡ pos (unsigned_abs g.term_length) = is_abs _ (omega (arith, ints)) in
     record {
       since = omega (arith, ints);
       low = omega (arith, ints);
       high = omega (arith, ints);
-      place = is_abs p low ∙ ap pos place ∙ rw (since, size, off) refl;
+      sum = is_abs p low ∙ ap pos sum ∙ rw (since, size, off) refl;
     }
 
 pub returns : goal.returns

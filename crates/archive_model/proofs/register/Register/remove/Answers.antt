@@ -3,7 +3,7 @@ use Rattle.std.specs.Map.{values_of}
 use Rattle.archive_model.specs.declared.registration.Registration.{Registration}
 use Rattle.archive_model.specs.Register.{id_of}
 use Rattle.archive_model.specs.Registered.{RegisterView}
-use Rattle.archive_model.specs.Numbered.{IsPlaceOf}
+use Rattle.archive_model.specs.Numbered.{IsIndexOf}
 use Rattle.archive_model.proofs.RegisterLemmas.{keeps_removed, removed_there, without_none}
 use Rattle.archive_model.proofs.register.Register.remove.Goals as goal
 
@@ -16,7 +16,7 @@ invariant_of-self c = rw c.shift_remove_index.ensures.entries (keeps_removed _ _
 pub returns : goal.returns
 returns c =
     let es = c.self.inside.map.entries in
-    let place : IsPlaceOf id_of c.args.id.now (values_of es) c.in-Some.index =
-    subst (λ (v : RegisterView). IsPlaceOf id_of c.args.id.now v.state.recordings c.in-Some.index) (sym c.self.view_is) c.in-Some.ensures in
+    let stands : IsIndexOf id_of c.args.id.now (values_of es) c.in-Some.index =
+    subst (λ (v : RegisterView). IsIndexOf id_of c.args.id.now v.state.recordings c.in-Some.index) (sym c.self.view_is) c.in-Some.ensures in
     rw (← c.self.view_is, c.shift_remove_index.ensures.entries)
-    (ap (λ (rs : List Registration). record { recordings = rs; next = c.self.inside.next }) (removed_there c.args.id.now c.self.inside.next es c.in-Some.index c.self.invariant place))
+    (ap (λ (rs : List Registration). record { recordings = rs; next = c.self.inside.next }) (removed_there c.args.id.now c.self.inside.next es c.in-Some.index c.self.invariant stands))

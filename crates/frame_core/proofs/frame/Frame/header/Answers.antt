@@ -6,9 +6,9 @@ use Rattle.frame_core.specs.declared.frame.Frame.{Frame}
 use Rattle.frame_core.specs.FrameEncoding.{i32_bytes, i64_bytes, header_of, type_of}
 use Rattle.frame_core.proofs.frame.Frame.header.Goals as goal
 
--- bytes with others written over them, from a place on
+-- bytes with others written over them, from an offset on
 abbrev over : List ℕ → ℕ → List ℕ → ℕ → List ℕ
-over out place xs behind = take place out ++ xs ++ drop behind out
+over out offset xs behind = take offset out ++ xs ++ drop behind out
 
 -- the header is what the writes leave
 built : (f : Frame) (number : ℕ) (o1 o2 o3 o4 o5 o6 o7 : List ℕ) → o1 ≡ i32_bytes f.length ++ replicate 28 0 → number ≡ type_of f.kind

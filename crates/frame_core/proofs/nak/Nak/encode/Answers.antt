@@ -8,9 +8,9 @@ use Rattle.frame_core.specs.Nak.{encoded_nak}
 use Rattle.frame_core.proofs.NakLemmas.{IsNak-encoded_nak}
 use Rattle.frame_core.proofs.nak.Nak.encode.Goals as goal
 
--- bytes with others written over them, from a place on
+-- bytes with others written over them, from an offset on
 abbrev over : List ℕ → ℕ → List ℕ → ℕ → List ℕ
-over out place xs behind = take place out ++ xs ++ drop behind out
+over out offset xs behind = take offset out ++ xs ++ drop behind out
 
 -- the frame is what the writes leave
 built : (n : Nak) (o1 o2 o3 o4 o5 o6 o7 : List ℕ) → o1 ≡ i32_bytes (pos 28) ++ replicate 24 0 → o2 ≡ over o1 6 (little_bytes 2 2) 8

@@ -4,7 +4,7 @@ use Rattle.host_disk.specs.Events.{Event, flushed}
 use Rattle.host_disk.specs.OpenFiles.{KeepsOtherMarks, HoldsUnsynced}
 use Rattle.host_disk.specs.Names.{path_of}
 use Rattle.host_disk.specs.Paths.{path_in}
-use Rattle.host_disk.proofs.MarkLemmas.{file_of_place, holds_synced, noted_sync}
+use Rattle.host_disk.proofs.MarkLemmas.{file_of_index, holds_synced, noted_sync}
 use Rattle.host_disk.proofs.host_folder.HostFolderFolder.sync.Goals as goal
 
 pub invariant_of-self : goal.invariant_of-self
@@ -12,7 +12,7 @@ invariant_of-self c =
     let old = c.find.new.self in
     let this : FileId = c.at.result.now.file in
     let ok = sym c.is_ok.ensures.value ∙ c.if-is_ok.true in
-    let is = file_of_place old.open_files old.open_files _ this refl c.at.ensures.file in
+    let is = file_of_index old.open_files old.open_files _ this refl c.at.ensures.file in
     let keeps = subst (λ (file : FileId). KeepsOtherMarks file old.open_files c.mark.new.self) is c.mark.ensures.marks in
     let holds : HoldsUnsynced c.mark.new.self (flushed this ∷ old.notes.record.events) = holds_synced old.open_files c.mark.new.self old.notes.record.events this keeps old.marked in
     record {

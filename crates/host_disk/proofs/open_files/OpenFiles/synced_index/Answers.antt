@@ -2,14 +2,14 @@ use Rattle.std.proofs.Common.{◌<◌, true, Bool, Some, length, ap, ◌∙◌, 
 use Rattle.std.proofs.lemmas.List.{length-map}
 use Rattle.host_disk.specs.declared.system.OpenFile.{OpenFile}
 use Rattle.host_disk.specs.OpenFiles.{entries_of, unsynced}
-use Rattle.host_disk.proofs.OpenFileLemmas.{all_more, all_in, place_of_map}
-use Rattle.host_disk.proofs.open_files.OpenFiles.synced_place.Goals as goal
+use Rattle.host_disk.proofs.OpenFileLemmas.{all_more, all_in, shown_of_map}
+use Rattle.host_disk.proofs.open_files.OpenFiles.synced_index.Goals as goal
 
 pub loop-i-preserved : goal.loop-i-preserved
 loop-i-preserved c =
     let inside : c.loop-i.i < length (entries_of c.args.self.now) = omega (arith, c.args.self.now.entries.ok.0) in
     all_more _ _ _ c.loop-i.invariant
-    (place_of_map (λ (entry : OpenFile). entry.is_unsynced) (entries_of c.args.self.now) c.loop-i.i c.index.result.now inside c.index.ensures ∙ ap (λ (b : Bool). Some b) c.if-not-index.false)
+    (shown_of_map (λ (entry : OpenFile). entry.is_unsynced) (entries_of c.args.self.now) c.loop-i.i c.index.result.now inside c.index.ensures ∙ ap (λ (b : Bool). Some b) c.if-not-index.false)
 
 pub returns-clause-none : goal.returns-clause-none
 returns-clause-none c k d inside =

@@ -2,13 +2,13 @@ use Rattle.std.proofs.Common.{rules, ◌≡◌, ◌≢◌, ◌<◌, Some, length
 use Rattle.std.proofs.lemmas.List.{length-map}
 use Rattle.host_disk.specs.declared.system.OpenFile.{OpenFile}
 use Rattle.host_disk.specs.OpenFiles.{entries_of, held}
-use Rattle.host_disk.proofs.OpenFileLemmas.{none_more, none_in, place_of_map}
-use Rattle.host_disk.proofs.open_files.OpenFiles.place_of.Goals as goal
+use Rattle.host_disk.proofs.OpenFileLemmas.{none_more, none_in, shown_of_map}
+use Rattle.host_disk.proofs.open_files.OpenFiles.index_of.Goals as goal
 
 pub loop-i-preserved : goal.loop-i-preserved
 loop-i-preserved c = none_more _ _ _ c.loop-i.invariant (λ found.
     let inside : c.loop-i.i < length (entries_of c.args.self.now) = omega (arith, c.args.self.now.entries.ok.0) in
-    let here : slice_get (held c.args.self.now) c.loop-i.i ≡ Some c.index.result.now.file = place_of_map (λ (entry : OpenFile). entry.file) (entries_of c.args.self.now) c.loop-i.i c.index.result.now inside c.index.ensures in
+    let here : slice_get (held c.args.self.now) c.loop-i.i ≡ Some c.index.result.now.file = shown_of_map (λ (entry : OpenFile). entry.file) (entries_of c.args.self.now) c.loop-i.i c.index.result.now inside c.index.ensures in
     let same : c.index.result.now.file ≡ c.args.file = (cc) in
     let differ : c.index.result.now.file ≢ c.args.file = search rules in
     differ same)
