@@ -1,7 +1,8 @@
 -- What the tests of an accepted command say.
 use Rattle.std.proofs.Common.{◌≡◌, ◌<◌, ◌&&◌, not, ℤ, pos, negsuc, Bool, true, false, List, [], ◌∷◌, ◌++◌, refl, sym, ◌∙◌, true≢false, arith, unsigned_abs}
 use Rattle.std.proofs.lemmas.Bool.Decides.{nat_tests, Decides-int_eq}
-use Rattle.std.specs.Prelude.{int_le, is_some}
+use Rattle.std.specs.Prelude.{chars, int_le, is_some, length, nat_le}
+use Rattle.std.specs.Char.{is_control}
 use Rattle.std.specs.List.{list_any}
 use Rattle.std.specs.Ordering.{int_eq}
 use Rattle.frame_core.specs.Limits.{is_mtu, is_term_length}
@@ -62,6 +63,15 @@ room_of d c is allows = has_entry d (sym is ∙ passes_at (command_tests d c) (f
 
 pub start_lengths : (d : DeskState) (f : StartFields) → Allows d (commands.Start f) → (0 < unsigned_abs f.term_length) × (0 < unsigned_abs f.segment_length)
 start_lengths d f allows = layout_lengths f (passes_at (command_tests d (commands.Start f)) (Broken ∷ []) (UnknownRecording ∷ ActiveRecording ∷ NotActive ∷ StaleSession ∷ UnknownReplay ∷ BadPosition ∷ (block_checks ++ last_checks)) BadParameter allows)
+
+-- a channel has at most 512 bytes
+pub start_short : (d : DeskState) (f : StartFields) → Allows d (commands.Start f) → nat_le (length f.channel) 512 ≡ true
+unfolding is_channel
+start_short d f allows =
+    let range : is_in_range f ≡ true = passes_at (command_tests d (commands.Start f)) (Broken ∷ []) (UnknownRecording ∷ ActiveRecording ∷ NotActive ∷ StaleSession ∷ UnknownReplay ∷ BadPosition ∷ (block_checks ++ last_checks)) BadParameter allows in
+    let parts = both (is_layout f && is_start_position f.start_position f.term_length && not (is_negative f.timestamp)) (is_channel f.channel) range in
+    let first = both (nat_le 1 (length f.channel) && nat_le (length f.channel) 512) (not (list_any is_control (chars f.channel))) parts.1 in
+    (both (nat_le 1 (length f.channel)) (nat_le (length f.channel) 512) first.0).1
 
 pub extend_there : (d : DeskState) (f : ExtendFields) → Allows d (commands.Extend f) → is_some (registration_in d.register f.recording) ≡ true
 extend_there d f allows = passes_at (command_tests d (commands.Extend f)) (Broken ∷ BadParameter ∷ []) (ActiveRecording ∷ NotActive ∷ StaleSession ∷ UnknownReplay ∷ BadPosition ∷ (block_checks ++ last_checks)) UnknownRecording allows

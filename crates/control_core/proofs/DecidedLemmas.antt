@@ -25,8 +25,8 @@ use Rattle.archive_model.proofs.WellLemmas.{both}
 use Rattle.archive_model.proofs.StateLemmas.{each_found}
 use Rattle.control_core.specs.declared.callers.RecorderSession.{RecorderSession}
 use Rattle.control_core.specs.declared.callers.Written.{Written}
-use Rattle.control_core.specs.declared.decision.Decision.{Decision}
-use Rattle.control_core.specs.declared.decision.Decision.TheVariants as decisions
+use Rattle.control_core.specs.Decided.{Decision}
+use Rattle.control_core.specs.Decided as decisions
 use Rattle.control_core.specs.declared.request.Request.{Request}
 use Rattle.control_core.specs.declared.request.Request.TheVariants as requests
 use Rattle.control_core.specs.declared.turns.Settling.TheVariants as settling

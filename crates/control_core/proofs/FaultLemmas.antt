@@ -13,13 +13,13 @@ use Rattle.archive_model.specs.State.{State}
 use Rattle.control_core.specs.declared.asked.Asked.{Asked}
 use Rattle.control_core.specs.declared.asked.Told.{Told}
 use Rattle.control_core.specs.declared.asked.Told.TheVariants as told
-use Rattle.control_core.specs.declared.decision.Decision.{Decision}
-use Rattle.control_core.specs.declared.decision.Decision.TheVariants.{Refused, Answered, Accepted, IfBoundary}
+use Rattle.control_core.specs.Decided.{Decision}
+use Rattle.control_core.specs.Decided.{Refused, Answered, Accepted, IfBoundary}
 use Rattle.control_core.specs.declared.event.Event.{Event}
 use Rattle.control_core.specs.declared.event.Event.TheVariants as events
 use Rattle.control_core.specs.declared.turns.Opening.{Opening}
-use Rattle.control_core.specs.declared.turns.OpeningDecision.{OpeningDecision}
-use Rattle.control_core.specs.declared.turns.OpeningDecision.TheVariants as opening
+use Rattle.control_core.specs.Opened.{OpeningDecision}
+use Rattle.control_core.specs.Opened as opening
 use Rattle.control_core.specs.Desk.{DeskState}
 use Rattle.control_core.specs.Changes.{after_open, after_write, broken_desk, settled, settled_position}
 use Rattle.control_core.specs.Decisions.{command_in, decision_of}

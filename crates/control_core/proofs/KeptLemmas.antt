@@ -1,7 +1,6 @@
 -- What is made of a desk keeps its seats and what is orderly.
-use Rattle.std.proofs.Common.{◌≡◌, ◌<◌, ◌+ℤ◌, ◌≤ℤ◌, ◌++◌, ℤ, pos, Bool, true, false, refl, sym, ap, subst, ◌∙◌, [], ◌∷◌, length, not, Option, Some, None}
+use Rattle.std.proofs.Common.{◌≡◌, ◌<◌, ◌+ℤ◌, ◌≤ℤ◌, ◌++◌, ℤ, pos, true, false, refl, sym, subst, [], ◌∷◌, length, not, Option, Some, None}
 use Rattle.std.specs.Prelude.{IsSomeAnd, is_some}
-use Rattle.archive_model.specs.declared.command.Command.TheVariants as commands
 use Rattle.archive_model.specs.declared.command.StartFields.{StartFields}
 use Rattle.archive_model.specs.declared.registration.Change.TheVariants as changes
 use Rattle.archive_model.specs.Checks.{is_boundary_by, is_of}
@@ -12,7 +11,7 @@ use Rattle.control_core.specs.declared.callers.OpenReplay.{OpenReplay}
 use Rattle.control_core.specs.declared.callers.RecorderSession.{RecorderSession}
 use Rattle.control_core.specs.declared.callers.Written.{Written}
 use Rattle.control_core.specs.Callers.{CallersState, moved_to, no_callers, replay_number, session_number}
-use Rattle.control_core.specs.Changes.{with_block, with_blocks, with_session, without_callers, without_sessions, writer_of, written_of}
+use Rattle.control_core.specs.Changes.{with_block, with_blocks, with_session, without_callers, without_sessions, written_of}
 use Rattle.control_core.specs.Desk.{is_replay_before}
 use Rattle.control_core.specs.Orderly.{AreLaid, AreOrderly, KeepsDesk, LiesBehind, ReadsFromStart}
 use Rattle.control_core.proofs.DeskLemmas as seats

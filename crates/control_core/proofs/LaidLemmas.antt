@@ -1,10 +1,9 @@
 -- Recordings stay laid, whatever commands make of them.
-use Rattle.std.proofs.Common.{rules, ◌≡◌, ◌∙◌, sym, ap, refl, ℕ, ℤ, pos, negsuc, ◌*◌, ◌/◌, ◌%◌, ◌^◌, ◌-◌, ◌<◌, ◌≤◌, ◌≤ℤ◌, ◌<ℤ◌, ◌&&◌, Bool, true, false, cond, true≢false, List, [], ◌∷◌, Option, Some, int_le, int_lt, nat_lt, unsigned_abs, arith}
+use Rattle.std.proofs.Common.{rules, ◌≡◌, ◌∙◌, sym, ap, refl, ℕ, ℤ, pos, negsuc, ◌*◌, ◌/◌, ◌%◌, ◌^◌, ◌-◌, ◌<◌, ◌≤◌, ◌≤ℤ◌, ◌<ℤ◌, ◌&&◌, Bool, true, false, cond, true≢false, Option, Some, int_le, int_lt, nat_lt, unsigned_abs, arith}
 use Rattle.std.proofs.lemmas.Int.{ints}
 use Rattle.std.proofs.lemmas.Nat.{pow-add}
-use Rattle.std.proofs.lemmas.Bool.Decides.{nat_tests, Decides-int_eq}
-use Rattle.std.specs.Prelude.{◌==◌, not, IsTrue}
-use Rattle.std.specs.Ordering.{int_eq}
+use Rattle.std.proofs.lemmas.Bool.Decides.{nat_tests}
+use Rattle.std.specs.Prelude.{◌==◌, not}
 use Rattle.frame_core.specs.Limits.{is_mtu, is_term_length}
 use Rattle.frame_core.specs.Segment.{segment_base}
 use Rattle.frame_core.proofs.LimitsLemmas.{exponent_le, is_power}
@@ -14,8 +13,8 @@ use Rattle.archive_model.specs.declared.registration.Change.TheVariants as chang
 use Rattle.archive_model.specs.declared.registration.Registration.{Registration}
 use Rattle.archive_model.specs.Checks.{is_of}
 use Rattle.archive_model.specs.Descriptor.{is_channel, is_in_range, is_layout, is_negative, is_start_position}
-use Rattle.archive_model.specs.Register.{RegisterState, all_stopped, changed, changed_by, id_of, is_active, is_later_base, is_within, may_begin, may_record, no_recordings, registered, registration_in, restarted, with_one, with_out}
-use Rattle.archive_model.proofs.RegisterLemmas.{each_map, each_push, id_kept, rise_push}
+use Rattle.archive_model.specs.Register.{RegisterState, all_stopped, changed, changed_by, id_of, is_active, is_later_base, is_within, registered, registration_in, restarted, with_one, with_out}
+use Rattle.archive_model.proofs.RegisterLemmas.{each_map, each_push}
 use Rattle.archive_model.proofs.StateLemmas.{each_change, each_without}
 use Rattle.archive_model.proofs.WellLemmas.{base_is_term, both}
 use Rattle.control_core.specs.Orderly.{AreLaid, IsLaid, IsLayoutIn, stream_end}

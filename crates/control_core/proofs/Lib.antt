@@ -24,3 +24,4 @@ pub mod FaultLemmas
 pub mod RunLemmas
 pub mod StepLemmas
 pub mod OpenedLemmas
+pub mod ThereLemmas

@@ -6,8 +6,7 @@ use Rattle.std.specs.Prelude.{IfSome, IsSomeAnd}
 use Rattle.std.specs.List.{list_any}
 use Rattle.std.specs.Ordering.{int_eq}
 use Rattle.frame_core.specs.declared.refusal.Refusal.TheVariants.{ActiveRecording, ActiveReplay, BadParameter, BadPosition, Broken, MaxRecordings, MaxReplays, HistoryFull, NeedSettle, NotActive, StaleSession, UnknownRecording, UnknownReplay}
-use Rattle.archive_model.specs.declared.command.Command.{Command}
-use Rattle.archive_model.specs.declared.command.Command.TheVariants.{Start, Append, Stop, Extend, Truncate, PurgeSegments, PurgeRecording, Restart}
+use Rattle.archive_model.specs.declared.command.Command.TheVariants.{Start, Truncate, PurgeSegments}
 use Rattle.archive_model.specs.declared.command.StartFields.{StartFields}
 use Rattle.archive_model.specs.declared.registration.Change.{Change}
 use Rattle.archive_model.specs.declared.registration.Change.TheVariants as changes
@@ -15,25 +14,24 @@ use Rattle.archive_model.specs.declared.registration.Registration.{Registration}
 use Rattle.archive_model.specs.Checks.{block_checks, first_checks, is_boundary_by, is_of, last_checks}
 use Rattle.archive_model.specs.Descriptor.{is_in_range}
 use Rattle.archive_model.specs.Keyed.{find, change, without, Each, Rise}
-use Rattle.archive_model.specs.Register.{RegisterState, all_stopped, changed, changed_by, is_end, is_later_base, is_within, registered, registration_in, with_one, with_out}
+use Rattle.archive_model.specs.Register.{RegisterState, changed, changed_by, is_end, is_later_base, is_within, registered, registration_in, with_one, with_out}
 use Rattle.archive_model.proofs.RegisterLemmas.{each_push, id_kept}
 use Rattle.archive_model.proofs.StateLemmas.{each_change, each_found, each_without}
 use Rattle.archive_model.proofs.WellLemmas.{both}
 use Rattle.control_core.specs.declared.callers.OpenReplay.{OpenReplay}
 use Rattle.control_core.specs.declared.callers.RecorderSession.{RecorderSession}
 use Rattle.control_core.specs.declared.callers.Written.{Written}
-use Rattle.control_core.specs.Changes.{begun_session, desk_after, is_session_of, settled, settled_by, with_blocks, with_session, without_callers, without_sessions, writer_of}
+use Rattle.control_core.specs.Changes.{begun_session, is_session_of, with_blocks, with_session, without_callers, without_sessions}
 use Rattle.control_core.specs.Callers.{CallersState, moved_to, no_callers, replay_number, session_number, with_written}
 use Rattle.control_core.specs.Decisions.{Allows, command_tests}
 use Rattle.control_core.specs.Desk.{DeskState, is_replay_before, is_replay_of}
 use Rattle.control_core.specs.Seats.{AreApart, KeepsSeats}
-use Rattle.control_core.specs.Turns.{session_in}
 use Rattle.control_core.proofs.AllowedLemmas.{before_position, is_not, passes_at}
 use Rattle.control_core.proofs.DeskLemmas.{not_same, other_replay, other_session}
 use Rattle.control_core.proofs.FoundLemmas.{each_both, each_filter, each_weaker, found_left, found_other}
 use Rattle.control_core.specs.Orderly.{AreLaid, AreOrderly, LiesBehind, ReadsFromStart, WroteBehind}
 use Rattle.control_core.proofs.SomeLemmas.{some_changed, some_more}
-use Rattle.control_core.proofs.LaidLemmas.{all_stopped_laid, changed_laid, laid_begun, laid_extended, laid_purged, laid_settled, laid_stopped, laid_truncated, le_true, one_less_laid, one_more_laid, test_of}
+use Rattle.control_core.proofs.LaidLemmas.{changed_laid, laid_begun, laid_extended, laid_purged, laid_settled, laid_stopped, laid_truncated, le_true, one_less_laid, one_more_laid, test_of}
 
 -- ---- sessions and replays
 

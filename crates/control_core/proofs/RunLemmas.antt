@@ -1,7 +1,6 @@
 -- Calls one after another, and the commands that they made.
-use Rattle.std.proofs.Common.{◌≡◌, ◌≤◌, ◌⊎◌, inl, inr, not, ℤ, Bool, true, false, cond, List, [], ◌∷◌, ◌++◌, length, Option, Some, None, Result, Ok, Err, refl, sym, ap, subst, ◌∙◌, true≢false, arith}
+use Rattle.std.proofs.Common.{◌≡◌, ◌⊎◌, inl, inr, not, ℤ, Bool, true, false, cond, List, [], ◌∷◌, Option, Some, None, Result, Ok, Err, refl, sym, ap, subst, ◌∙◌, true≢false, arith}
 use Rattle.std.specs.Prelude.{IsTrue, is_some}
-use Rattle.frame_core.specs.declared.block.Block.{Block}
 use Rattle.frame_core.specs.declared.refusal.Refusal.{Refusal}
 use Rattle.frame_core.specs.declared.refusal.Refusal.TheVariants.{BadPosition, DeviceFault, NoMemory}
 use Rattle.archive_model.specs.declared.command.Command.{Command}
@@ -15,8 +14,8 @@ use Rattle.archive_model.specs.WellFormed.{AreAccepted}
 use Rattle.archive_model.proofs.WellLemmas.{both}
 use Rattle.control_core.specs.declared.callers.OpenReplay.{OpenReplay}
 use Rattle.control_core.specs.declared.callers.Written.{Written}
-use Rattle.control_core.specs.declared.decision.Decision.{Decision}
-use Rattle.control_core.specs.declared.decision.Decision.TheVariants as decisions
+use Rattle.control_core.specs.Decided.{Decision}
+use Rattle.control_core.specs.Decided as decisions
 use Rattle.control_core.specs.declared.event.Event.{Event}
 use Rattle.control_core.specs.declared.event.Event.TheVariants as events
 use Rattle.control_core.specs.declared.request.Request.{Request}
@@ -26,9 +25,9 @@ use Rattle.control_core.specs.declared.turns.Settling.TheVariants as settling
 use Rattle.control_core.specs.Decisions.{command_in, decision_of}
 use Rattle.control_core.specs.Turns.{close_decision, open_decision, poll_decision, session_in, settle_decision, settle_tests, settling_of, sweep_tests, write_decision, write_tests}
 use Rattle.control_core.specs.Exact.{Archive, ArchiveEnds, CallEnds, DecisionEnds, Leaves, LeftByFault, Makes, OpeningEnds, PolledEnds, PollingEnds, SettlingEnds, SweepEnds, archive_after, asked_frames, asked_opening, book_of, broken, recording_at, settled_archive, span_of, writes_files}
-use Rattle.control_core.specs.Consistent.{IsAcceptable, IsConsistent, MakesCommand, is_asked}
+use Rattle.control_core.specs.Consistent.{IsConsistent, MakesCommand}
 use Rattle.control_core.specs.Runs.{IsAfterSome, IsHistory, Leave, MayStand, StoodAmong, books_after, last_left}
-use Rattle.control_core.proofs.CallLemmas.{MakesAtMostOne, asked_works, at_most_one, refused_unchanged}
+use Rattle.control_core.proofs.CallLemmas.{asked_works, at_most_one, refused_unchanged}
 use Rattle.control_core.proofs.ConsistentLemmas.{consistent_call}
 use Rattle.control_core.proofs.DecidedLemmas.{decided_accepted, held}
 

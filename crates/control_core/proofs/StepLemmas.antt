@@ -1,5 +1,5 @@
 -- What is decided on a call that reads says what the desk machine allows.
-use Rattle.std.proofs.Common.{◌≡◌, ◌≢◌, inl, inr, ◌++◌, ◌&&◌, ℤ, pos, Bool, true, false, cond, true≢false, List, [], ◌∷◌, Option, Some, None, Result, Ok, Err, refl, sym, ap, subst, int_le}
+use Rattle.std.proofs.Common.{◌≡◌, ◌≢◌, inl, inr, ◌++◌, ◌&&◌, ℤ, pos, Bool, true, false, cond, true≢false, List, [], ◌∷◌, Option, Some, None, Result, Ok, Err, refl, sym, int_le}
 use Rattle.std.specs.Prelude.{MatchBool, is_some}
 use Rattle.frame_core.specs.declared.refusal.Refusal.{Refusal}
 use Rattle.frame_core.specs.declared.refusal.Refusal.TheVariants.{BadBlock, BadPosition, DeviceFault, NoMemory}
@@ -14,13 +14,13 @@ use Rattle.control_core.specs.declared.asked.Asked.{Asked}
 use Rattle.control_core.specs.declared.asked.Asked.TheVariants as calls
 use Rattle.control_core.specs.declared.asked.Told.{Told}
 use Rattle.control_core.specs.declared.asked.Told.TheVariants as told
-use Rattle.control_core.specs.declared.decision.Decision.{Decision}
-use Rattle.control_core.specs.declared.decision.Decision.TheVariants as decisions
+use Rattle.control_core.specs.Decided.{Decision}
+use Rattle.control_core.specs.Decided as decisions
 use Rattle.control_core.specs.Decisions.{decision_of}
 use Rattle.control_core.specs.declared.callers.OpenReplay.{OpenReplay}
 use Rattle.control_core.specs.declared.turns.Opening.{Opening}
-use Rattle.control_core.specs.declared.turns.OpeningDecision.{OpeningDecision}
-use Rattle.control_core.specs.declared.turns.OpeningDecision.TheVariants as opening
+use Rattle.control_core.specs.Opened.{OpeningDecision}
+use Rattle.control_core.specs.Opened as opening
 use Rattle.control_core.specs.Changes.{after_close, after_open, after_write, desk_after, reply_after, settled, settled_position}
 use Rattle.control_core.specs.Desk.{DeskState}
 use Rattle.control_core.specs.Turns.{begins_at, close_tests, open_decision, open_tests, opened_at, opening_decided, opening_of, poll_decision, poll_tests, replay_in, replay_of, session_in, settle_tests, sweep_tests, verify_tests, write_tests}

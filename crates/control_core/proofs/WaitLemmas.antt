@@ -1,5 +1,5 @@
 -- A session's part of its recording lies in it.
-use Rattle.std.proofs.Common.{◌≡◌, true, subst, ℤ, pos, ◌<◌, ◌≤◌, ◌≤ℤ◌, ◌^◌, Option, Some, None, unsigned_abs, arith, ap}
+use Rattle.std.proofs.Common.{◌≡◌, true, subst, ℤ, ◌<◌, ◌≤◌, ◌≤ℤ◌, ◌^◌, Option, Some, None, unsigned_abs, arith, ap}
 use Rattle.std.proofs.Math.Pow.{pow_mono}
 use Rattle.std.proofs.lemmas.Int.{ints}
 use Rattle.std.specs.Prelude.{IfSome, IsSomeAnd}

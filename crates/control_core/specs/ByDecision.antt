@@ -6,8 +6,8 @@ use Rattle.archive_model.specs.Register.{registration_in}
 use Rattle.control_core.specs.declared.asked.Told.TheVariants as told
 use Rattle.control_core.specs.declared.callers.OpenReplay.{OpenReplay}
 use Rattle.control_core.specs.declared.turns.Opening.{Opening}
-use Rattle.control_core.specs.declared.turns.OpeningDecision.{OpeningDecision}
-use Rattle.control_core.specs.declared.turns.OpeningDecision.TheVariants as opening
+use Rattle.control_core.specs.Opened.{OpeningDecision}
+use Rattle.control_core.specs.Opened as opening
 use Rattle.control_core.specs.Changes.{after_open}
 use Rattle.control_core.specs.Desk.{DeskState}
 use Rattle.control_core.specs.Machine.{Either, Ended, Ends, Faults, Gives, Refuses, UnlessBoundary, Unread}

@@ -20,8 +20,8 @@ use Rattle.archive_model.specs.Descriptor.{is_negative}
 use Rattle.control_core.specs.declared.request.Request.{Request}
 use Rattle.control_core.specs.declared.request.Request.TheVariants.{Start, Stop, Extend, Truncate, PurgeSegments, PurgeRecording, List as AskList, Find, Positions as AskPositions}
 use Rattle.control_core.specs.declared.request.FindFields.{FindFields}
-use Rattle.control_core.specs.declared.decision.Decision.{Decision}
-use Rattle.control_core.specs.declared.decision.Decision.TheVariants.{Refused, Answered, Accepted, IfBoundary}
+use Rattle.control_core.specs.Decided.{Decision}
+use Rattle.control_core.specs.Decided.{Refused, Answered, Accepted, IfBoundary}
 use Rattle.control_core.specs.Desk.{DeskState, has_room, has_session_number, is_replayed, is_replay_before}
 
 -- What must hold of the desk for a request to pass each check: the tests of its command, no failed write, and what only

@@ -25,13 +25,13 @@ use Rattle.control_core.specs.declared.asked.Told.TheVariants as told
 use Rattle.control_core.specs.declared.callers.OpenReplay.{OpenReplay}
 use Rattle.control_core.specs.declared.callers.RecorderSession.{RecorderSession}
 use Rattle.control_core.specs.declared.callers.Written.{Written}
-use Rattle.control_core.specs.declared.decision.Decision.{Decision}
-use Rattle.control_core.specs.declared.decision.Decision.TheVariants.{Refused, Answered, Accepted, IfBoundary}
+use Rattle.control_core.specs.Decided.{Decision}
+use Rattle.control_core.specs.Decided.{Refused, Answered, Accepted, IfBoundary}
 use Rattle.control_core.specs.declared.event.Event.{Event}
 use Rattle.control_core.specs.declared.event.Event.TheVariants as events
 use Rattle.control_core.specs.declared.turns.Opening.{Opening}
-use Rattle.control_core.specs.declared.turns.OpeningDecision.{OpeningDecision}
-use Rattle.control_core.specs.declared.turns.OpeningDecision.TheVariants as opening
+use Rattle.control_core.specs.Opened.{OpeningDecision}
+use Rattle.control_core.specs.Opened as opening
 use Rattle.control_core.specs.declared.turns.Settling.{Settling}
 use Rattle.control_core.specs.declared.turns.Settling.TheVariants as settling
 use Rattle.control_core.specs.Callers.{last_number}
@@ -105,9 +105,14 @@ DecisionEnds a (IfBoundary id position decided) = λ outcome new. ⊥
 abbrev pub with_session_blocks : ℤ → List Block → (ℤ → List Block) → ℤ → List Block
 with_session_blocks session blocks all n = if int_eq n session then blocks else all n
 
--- where a block lies; where its end is past the last position that there is, the first one stands for it
+-- where what begins and ends at these positions lies; where its end is past the last position that there is, the first one
+-- stands for it
+abbrev pub span : ℤ → ℤ → Written
+span first last = record { first = first; last = if int_le last last_number then last else first }
+
+-- where a block lies
 abbrev pub span_of : Block → Written
-span_of block = record { first = block.position; last = if int_le (end_position block) last_number then end_position block else block.position }
+span_of block = span block.position (end_position block)
 
 abbrev pub written : Archive → ℤ → Block → Archive
 written a session block = record a { desk = after_write session (span_of block) a.desk; blocks = with_session_blocks session (a.blocks session ++ block ∷ []) a.blocks }

@@ -4,7 +4,9 @@ pub mod Desk
 pub mod Seats
 pub mod Orderly
 pub mod Changes
+pub mod Decided
 pub mod Decisions
+pub mod Opened
 pub mod Turns
 pub mod Machine
 pub mod ByDecision

@@ -14,8 +14,8 @@ use Rattle.control_core.specs.declared.asked.Told.{Told}
 use Rattle.control_core.specs.declared.asked.Told.TheVariants as told
 use Rattle.control_core.specs.declared.callers.OpenReplay.{OpenReplay}
 use Rattle.control_core.specs.declared.callers.Written.{Written}
-use Rattle.control_core.specs.declared.decision.Decision.{Decision}
-use Rattle.control_core.specs.declared.decision.Decision.TheVariants.{Refused, Answered, Accepted, IfBoundary}
+use Rattle.control_core.specs.Decided.{Decision}
+use Rattle.control_core.specs.Decided.{Refused, Answered, Accepted, IfBoundary}
 use Rattle.control_core.specs.Desk.{DeskState}
 use Rattle.control_core.specs.Changes.{after_close, after_open, after_poll, after_write, broken_desk, desk_after, reply_after, settled, settled_position}
 use Rattle.control_core.specs.Decisions.{decision_of}

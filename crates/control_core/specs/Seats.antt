@@ -10,6 +10,8 @@ use Rattle.control_core.specs.declared.callers.RecorderSession.{RecorderSession}
 use Rattle.control_core.specs.declared.callers.FoundReplay.{FoundReplay}
 use Rattle.control_core.specs.declared.callers.FoundSession.{FoundSession}
 use Rattle.control_core.specs.declared.callers.OpenReplay.{OpenReplay}
+use Rattle.control_core.specs.declared.callers.Reader.{Reader}
+use Rattle.control_core.specs.declared.callers.Writer.{Writer}
 use Rattle.control_core.specs.Callers.{CallersState, replay_number, session_number}
 use Rattle.control_core.specs.Desk.{DeskState}
 
@@ -34,6 +36,16 @@ pub record IsFoundSession (number : ℤ) (ss : List RecorderSession) (f : FoundS
 pub record IsFoundReplay (number : ℤ) (rs : List OpenReplay) (f : FoundReplay) : Type 0 where
   pub replay : find replay_number number rs ≡ Some f.replay
   pub stands : IsIndexOf replay_number number rs f.index
+
+-- the session of a number, where it stands, and its recording
+pub record IsWriter (number : ℤ) (d : DeskState) (w : Writer) : Type 0 where
+  pub found : IsFoundSession number d.callers.sessions w.found
+  pub known : registration_in d.register w.found.session.recording ≡ Some w.known.now
+
+-- the replay of a number, where it stands, and its recording
+pub record IsReader (number : ℤ) (d : DeskState) (r : Reader) : Type 0 where
+  pub found : IsFoundReplay number d.callers.replays r.found
+  pub known : registration_in d.register r.found.replay.recording ≡ Some r.known.now
 
 -- the recording that a session writes is there and active
 abbrev pub IsWriting : RegisterState → RecorderSession → Type 0

@@ -7,17 +7,13 @@ use crate::desk::Desk;
 use frame_core::{Geometry, Refusal};
 
 /// The terms by which the bytes that a session writes are read: those of its recording. `Broken` where a write has
-/// failed, else `StaleSession` where no session of that number is open, else `UnknownRecording`, which is not answered:
-/// the recording of an open session is there. Costs the open sessions; does not allocate.
+/// failed, else `StaleSession` where no session of that number is open. Costs the open sessions; does not allocate.
 pub fn read_terms(desk: &Desk, session: &i64) -> Result<Geometry, Refusal>
     ensures { result ≡ terms_in desk.now.state session.now }
 {
     if desk.is_broken() {
         return Err(Refusal::Broken);
     }
-    let found = desk.session(session).ok_or(Refusal::StaleSession)?;
-    let known = desk
-        .recording(&found.session.recording)
-        .ok_or(Refusal::UnknownRecording)?;
-    Ok(known.descriptor.geometry())
+    let writer = desk.session(session).ok_or(Refusal::StaleSession)?;
+    Ok(writer.known.descriptor.geometry())
 }

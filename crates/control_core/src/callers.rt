@@ -59,6 +59,24 @@ pub struct FoundReplay {
     pub replay: OpenReplay,
 }
 
+/// A recorder session that was found, and the recording that it writes.
+#[derive(Clone, Copy, Debug)]
+pub struct Writer<'a> {
+    /// The session, and where it stands.
+    pub found: FoundSession,
+    /// Its recording.
+    pub known: &'a Registration,
+}
+
+/// A replay that was found, and the recording that it gives.
+#[derive(Clone, Copy, Debug)]
+pub struct Reader<'a> {
+    /// The replay, and where it stands.
+    pub found: FoundReplay,
+    /// Its recording.
+    pub known: &'a Registration,
+}
+
 impl Numbered for RecorderSession {
     ghost number_of = { λ s. s.number };
 
@@ -75,15 +93,17 @@ impl Numbered for OpenReplay {
     }
 }
 
-impl RecorderSession {
-    /// Where what it wrote of its recording ends, and up to where that is recorded.
-    pub(crate) fn part_of(&self, known: &Registration) -> Recording
-        ensures { result ≡ part_of known.now self.now }
+impl Writer<'_> {
+    /// Where what the session wrote of its recording ends, and up to where that is recorded.
+    pub(crate) fn part(&self) -> Recording
+        ensures { result ≡ part_of self.now.known.now self.now.found.session }
     {
+        let session = &self.found.session;
+        let recorded = self.known.recorded;
         Recording {
-            session: self.number,
-            written: self.written.map_or(known.recorded, |it| it.last),
-            committed: known.recorded,
+            session: session.number,
+            written: session.written.map_or(recorded, |it| it.last),
+            committed: recorded,
         }
     }
 }

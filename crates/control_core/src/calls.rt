@@ -2,7 +2,7 @@
 
 ghost use Rattle.std.specs.Prelude.{◌≡◌, ◌<◌, ◌≤ℤ◌, IfErr, IsSomeAnd, OnOk};
 ghost use Rattle.frame_core.specs.declared.refusal.Refusal.TheVariants.{NoMemory};
-ghost use Rattle.archive_model.specs.Numbered.{IsPlaceOf};
+ghost use Rattle.archive_model.specs.Numbered.{IsIndexOf};
 ghost use Rattle.control_core.specs.Callers.{replay_number, session_number};
 ghost use Rattle.control_core.specs.Changes.{after_close, after_open, after_poll, after_write, broken_desk, settled, with_block};
 ghost use Rattle.archive_model.specs.Register.{registration_in};
@@ -20,7 +20,7 @@ impl Desk {
     /// The session of a number wrote a block, which lies from its first to its last position; the session stands at an
     /// index. In constant time; does not allocate.
     pub fn note_written(&mut self, session: &i64, index: usize, block: &Written)
-        requires stands { IsPlaceOf session_number session.now self.old.state.callers.sessions index }
+        requires stands { IsIndexOf session_number session.now self.old.state.callers.sessions index }
         requires behind { IsSomeAnd (session_in self.old.state session.now) (λ s.
             IsSomeAnd (registration_in self.old.state.register s.recording)
             (LiesBehind (with_block block.now s.written))) }
@@ -70,7 +70,7 @@ impl Desk {
 
     /// The replay of a number goes on from a position; it stands at an index. In constant time; does not allocate.
     pub fn move_replay(&mut self, replay: &i64, index: usize, next: &i64)
-        requires stands { IsPlaceOf replay_number replay.now self.old.state.callers.replays index }
+        requires stands { IsIndexOf replay_number replay.now self.old.state.callers.replays index }
         requires further { IsSomeAnd (replay_in self.old.state replay.now)
             (λ it. it.next ≤ℤ next.now) }
         ensures { self.new.state ≡ after_poll replay.now next.now self.old.state }
@@ -80,7 +80,7 @@ impl Desk {
 
     /// The replay of a number is closed; it stands at an index. Costs the open replays; does not allocate.
     pub fn close_replay(&mut self, replay: &i64, index: usize)
-        requires { IsPlaceOf replay_number replay.now self.old.state.callers.replays index }
+        requires { IsIndexOf replay_number replay.now self.old.state.callers.replays index }
         ensures { self.new.state ≡ after_close replay.now self.old.state }
     {
         self.replays.close(replay, index);

@@ -1,11 +1,11 @@
 //! What is decided on a request. docs/CONTROL.md, "Requests".
 
-use archive_model::{Command, Reply};
+use archive_model::{Command, Registration, Reply};
 use frame_core::Refusal;
 
 /// What is decided on a request to the catalogue, before any frame is read.
 #[derive(Debug, Drop)]
-pub enum Decision {
+pub enum Decision<'a> {
     /// It is refused.
     Refused(Refusal),
     /// It is answered, and changes nothing.
@@ -14,8 +14,8 @@ pub enum Decision {
     Accepted(Command),
     /// It depends on whether a frame begins at a position strictly inside a recording: `BadPosition` where none does.
     IfBoundary {
-        /// The recording's id.
-        recording: i64,
+        /// The recording.
+        known: &'a Registration,
         /// The position, in bytes of the stream.
         position: i64,
         /// What is decided where one does.

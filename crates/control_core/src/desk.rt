@@ -7,10 +7,10 @@ ghost use Rattle.control_core.specs.Callers.{no_callers};
 ghost use Rattle.control_core.specs.Changes.{next_position, recorded_of};
 ghost use Rattle.control_core.specs.Turns.{replay_in, session_in};
 ghost use Rattle.control_core.specs.Orderly.{KeepsDesk};
-ghost use Rattle.control_core.specs.Seats.{IsFoundReplay, IsFoundSession};
+ghost use Rattle.control_core.specs.Seats.{IsReader, IsWriter};
 ghost use Rattle.control_core.specs.Desk.{new_desk, has_room, has_session_number, is_replayed, is_replay_before};
 
-use crate::callers::{FoundReplay, FoundSession, RecorderSession};
+use crate::callers::{Reader, RecorderSession, Writer};
 use crate::replays::Replays;
 use crate::sessions::Sessions;
 use archive_model::{Register, Registration};
@@ -171,27 +171,41 @@ impl Desk {
         self.replays.is_replayed_below(recording, position)
     }
 
-    /// The recorder session of a number. Costs the sessions that are open.
-    pub fn session(&self, number: &i64) -> Option<FoundSession>
+    /// The recorder session of a number, with its recording. Costs the sessions that are open.
+    #[tactic(auto, using(crate::proofs::ThereLemmas::writes_there))]
+    pub fn session(&self, number: &i64) -> Option<Writer<'_>>
         ensures found { MatchOption result (session_in self.now.state number.now ≡ None)
-            (IsFoundSession number.now self.now.state.callers.sessions) }
+            (IsWriter number.now self.now.state) }
         ensures keeps { KeepsDesk self.now.state.register self.now.state.callers }
     {
-        self.sessions.get(number)
+        let Some(found) = self.sessions.get(number) else {
+            return None;
+        };
+        let Some(known) = self.register.recording(&found.session.recording) else {
+            unreachable!()
+        };
+        Some(Writer { found, known })
     }
 
-    /// The open replay of a number. Costs the replays that are open.
-    pub fn replay(&self, number: &i64) -> Option<FoundReplay>
+    /// The open replay of a number, with its recording. Costs the replays that are open.
+    #[tactic(auto, using(crate::proofs::ThereLemmas::reads_there))]
+    pub fn replay(&self, number: &i64) -> Option<Reader<'_>>
         ensures found { MatchOption result (replay_in self.now.state number.now ≡ None)
-            (IsFoundReplay number.now self.now.state.callers.replays) }
+            (IsReader number.now self.now.state) }
         ensures keeps { KeepsDesk self.now.state.register self.now.state.callers }
     {
-        self.replays.get(number)
+        let Some(found) = self.replays.get(number) else {
+            return None;
+        };
+        let Some(known) = self.register.recording(&found.replay.recording) else {
+            unreachable!()
+        };
+        Some(Reader { found, known })
     }
 
     /// Where a session's next block begins, in bytes of the stream: at the end of what it wrote, or at the recorded
     /// position.
-    pub fn next_position(&self, session: &RecorderSession) -> i64
+    pub(crate) fn next_position(&self, session: &RecorderSession) -> i64
         ensures { result ≡ next_position self.now.state session.now }
     {
         if let Some(written) = session.written {

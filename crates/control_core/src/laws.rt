@@ -30,7 +30,7 @@ ghost use Rattle.control_core.specs.Runs.{IsHistory, Leave};
 ghost use Rattle.control_core.specs.Turns.{MayOpen, open_decision, opening_in, poll_decision, settle_decision, sweep_tests, verify_tests};
 ghost use Rattle.control_core.specs.declared.turns.Opening.{Opening};
 ghost use Rattle.control_core.specs.declared.callers.Written.{Written};
-ghost use Rattle.control_core.specs.declared.decision.Decision.TheVariants.{Accepted};
+ghost use Rattle.control_core.specs.Decided.{Accepted};
 ghost use Rattle.control_core.specs.declared.turns.Settling.TheVariants.{Blocks};
 
 /// Each test holds of the command that a decision leads to, so it may be accepted: docs/CONTROL.md, "Requests".

@@ -4,13 +4,13 @@ ghost use Rattle.std.specs.Prelude.{◌≡◌, ◌+ℤ◌, ◌++◌, ◌∷◌, 
 ghost use Rattle.std.specs.List.{list_any};
 ghost use Rattle.frame_core.specs.declared.refusal.Refusal.TheVariants.{NoMemory};
 ghost use Rattle.archive_model.specs.Keyed.{find, change, without, Rise};
-ghost use Rattle.archive_model.specs.Numbered.{IsPlaceOf};
+ghost use Rattle.archive_model.specs.Numbered.{IsIndexOf};
 ghost use Rattle.control_core.specs.Callers.{last_number, moved_to, replay_number};
 ghost use Rattle.control_core.specs.Desk.{is_replay_of, is_replay_before};
 ghost use Rattle.control_core.specs.Seats.{IsFoundReplay};
 
 use crate::callers::{FoundReplay, OpenReplay};
-use archive_model::place_of;
+use archive_model::index_of;
 use frame_core::Refusal;
 use std::alloc::Global;
 use std::marker::Model;
@@ -66,7 +66,7 @@ impl Replays {
         ensures { MatchOption result (find replay_number number.now self.now.values ≡ None)
             (IsFoundReplay number.now self.now.values) }
     {
-        let index = place_of(self.values.as_slice(), number)?;
+        let index = index_of(self.values.as_slice(), number)?;
         let replay = self.values[index];
         Some(FoundReplay { index, replay })
     }
@@ -138,7 +138,7 @@ impl Replays {
 
     /// Where the replay of a number goes on, which stands at an index. In constant time.
     pub fn set_next(&mut self, number: &i64, index: usize, next: &i64)
-        requires { IsPlaceOf replay_number number.now self.old.values index }
+        requires { IsIndexOf replay_number number.now self.old.values index }
         ensures values { self.new.values ≡ change replay_number number.now
             (moved_to next.now) self.old.values }
         ensures next { self.new.next ≡ self.old.next }
@@ -149,7 +149,7 @@ impl Replays {
 
     /// The replay of a number is gone, which stands at an index. Costs the replays that are open.
     pub fn close(&mut self, number: &i64, index: usize)
-        requires stands { IsPlaceOf replay_number number.now self.old.values index }
+        requires stands { IsIndexOf replay_number number.now self.old.values index }
         requires rising { Rise replay_number (pos 0) self.old.values self.old.next }
         ensures values { self.new.values ≡ without replay_number number.now self.old.values }
         ensures next { self.new.next ≡ self.old.next }

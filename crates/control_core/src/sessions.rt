@@ -3,13 +3,13 @@
 ghost use Rattle.std.specs.Prelude.{◌≡◌, ◌+ℤ◌, ◌++◌, ◌∷◌, [], ◌<◌, ◌≢◌, not, pos, filter, IfErr, IfOk, OnOk, MatchOption, None, Some};
 ghost use Rattle.frame_core.specs.declared.refusal.Refusal.TheVariants.{NoMemory};
 ghost use Rattle.archive_model.specs.Keyed.{find, change};
-ghost use Rattle.archive_model.specs.Numbered.{IsPlaceOf};
+ghost use Rattle.archive_model.specs.Numbered.{IsIndexOf};
 ghost use Rattle.control_core.specs.Callers.{last_number, session_number, with_written};
 ghost use Rattle.control_core.specs.Changes.{begun_session, is_session_of, with_block, written_of};
 ghost use Rattle.control_core.specs.Seats.{IsFoundSession};
 
 use crate::callers::{FoundSession, RecorderSession, Written};
-use archive_model::place_of;
+use archive_model::index_of;
 use frame_core::Refusal;
 use std::alloc::Global;
 use std::marker::Model;
@@ -65,7 +65,7 @@ impl Sessions {
         ensures { MatchOption result (find session_number number.now self.now.values ≡ None)
             (IsFoundSession number.now self.now.values) }
     {
-        let index = place_of(self.values.as_slice(), number)?;
+        let index = index_of(self.values.as_slice(), number)?;
         let session = self.values[index];
         Some(FoundSession { index, session })
     }
@@ -118,7 +118,7 @@ impl Sessions {
 
     /// What the session of a number has written and not settled, which stands at an index. In constant time.
     pub fn set_written(&mut self, number: &i64, index: usize, written: Option<Written>)
-        requires { IsPlaceOf session_number number.now self.old.values index }
+        requires { IsIndexOf session_number number.now self.old.values index }
         ensures values { self.new.values ≡ change session_number number.now
             (with_written written) self.old.values }
         ensures next { self.new.next ≡ self.old.next }
@@ -129,7 +129,7 @@ impl Sessions {
     /// The session of a number, which stands at an index, has written a block more, from its first to its last position. In
     /// constant time.
     pub fn add_written(&mut self, number: &i64, index: usize, block: &Written)
-        requires { IsPlaceOf session_number number.now self.old.values index }
+        requires { IsIndexOf session_number number.now self.old.values index }
         ensures values { self.new.values ≡ change session_number number.now (with_written (Some
             (with_block block.now (written_of (find session_number number.now self.old.values))))) self.old.values }
         ensures next { self.new.next ≡ self.old.next }
@@ -151,7 +151,7 @@ impl Sessions {
             (with_written None) self.old.values }
         ensures next { self.new.next ≡ self.old.next }
     {
-        let Some(index) = place_of(self.values.as_slice(), number) else {
+        let Some(index) = index_of(self.values.as_slice(), number) else {
             return;
         };
         self.set_written(number, index, None);

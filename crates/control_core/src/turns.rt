@@ -1,16 +1,17 @@
 //! What is decided on a call that is no request, by the desk alone. docs/CONTROL.md, "Recorder sessions", "Replays" and
 //! "Refusals".
 
-ghost use Rattle.std.specs.Prelude.{◌≡◌, ◌++◌, ◌≤ℤ◌, negsuc, true, Some, Ok, None, Err, IfOk, IfSome, MatchOption, MatchResult, is_some, option_copied};
+ghost use Rattle.std.specs.Prelude.{◌≡◌, ◌++◌, ◌≤ℤ◌, negsuc, true, Some, Ok, None, Err, IfOk, MatchOption, MatchResult};
 ghost use Rattle.frame_core.specs.ReplayEnd.{bound_of};
 ghost use Rattle.archive_model.specs.Checks.{block_checks, checked, checks, last_checks};
 ghost use Rattle.archive_model.specs.Register.{registration_in};
 ghost use Rattle.archive_model.specs.declared.reply.Reply.TheVariants.{Closed};
 ghost use Rattle.control_core.specs.Orderly.{KeepsDesk};
-ghost use Rattle.control_core.specs.Seats.{IsFoundReplay, IsFoundSession};
+ghost use Rattle.control_core.specs.Seats.{IsFoundReplay, IsReader, IsWriter};
+ghost use Rattle.control_core.specs.Opened.{IfOpensInside, said_opening};
 ghost use Rattle.control_core.specs.Turns.{begins_at, close_decision, open_decision, open_tests, opened_at, poll_decision, session_in, settle_decision, sweep_tests, verify_tests, write_decision};
 
-use crate::callers::{FoundReplay, FoundSession, Written};
+use crate::callers::{FoundReplay, Reader, Writer, Written};
 use crate::desk::Desk;
 use archive_model::{Registration, Reply};
 use frame_core::limits::{LAST_NUMBER, MAX_OPEN_REPLAYS, MAX_POLL};
@@ -46,11 +47,13 @@ pub struct Opening {
 
 /// What is decided on the opening of a replay, before any frame is read.
 #[derive(Clone, Copy, Debug)]
-pub enum OpeningDecision {
+pub enum OpeningDecision<'a> {
     /// It is refused, or opened.
     Decided(Result<Opening, Refusal>),
     /// It depends on whether a frame begins at a position strictly inside the recording: `BadPosition` where none does.
     IfBoundary {
+        /// The recording.
+        known: &'a Registration,
         /// The position, in bytes of the stream.
         position: i64,
         /// What is decided where one does.
@@ -58,37 +61,31 @@ pub enum OpeningDecision {
     },
 }
 
-/// What is decided on writing a block that lies from its first to its last position. `found` is what the desk has under
-/// the session's number; `known` is the session's recording where it is a block of its terms, session and stream, else
-/// none. Answers the block's end. In constant time.
+/// What is decided on writing a block that lies from its first to its last position. `writer` is what the desk has under
+/// the session's number; `fits`: it is a block of the recording's terms, session and stream. Answers the block's end. In
+/// constant time.
 pub fn decide_write(
     desk: &Desk,
     session: &i64,
-    found: &Option<FoundSession>,
+    writer: &Option<Writer<'_>>,
     block: &Written,
-    known: Option<&Registration>,
+    fits: bool,
 ) -> Result<Reply, Refusal>
-    requires found { MatchOption found.now (session_in desk.now.state session.now ≡ None)
-        (IsFoundSession session.now desk.now.state.callers.sessions) }
-    requires known { IfSome (option_copied known) (λ known. IfSome found.now (λ found.
-        registration_in desk.now.state.register found.session.recording ≡ Some known)) }
-    ensures { result ≡ write_decision desk.now.state session.now block.now (is_some
-        (option_copied known.entry)) }
+    requires { MatchOption writer.now (session_in desk.now.state session.now ≡ None)
+        (IsWriter session.now desk.now.state) }
+    ensures { result ≡ write_decision desk.now.state session.now block.now fits }
 {
     if desk.is_broken() {
         return Err(Refusal::Broken);
     }
-    let Some(found) = found else {
+    let Some(writer) = writer else {
         return Err(Refusal::StaleSession);
     };
-    let Some(known) = known else {
-        return Err(Refusal::BadBlock);
-    };
-    let part = found.session.part_of(known);
-    if block.first != part.written {
+    let part = writer.part();
+    if !fits || block.first != part.written {
         return Err(Refusal::BadBlock);
     }
-    if part.needs_settle(&known.descriptor) {
+    if part.needs_settle(&writer.known.descriptor) {
         return Err(Refusal::NeedSettle);
     }
     Ok(Reply::Written {
@@ -98,45 +95,55 @@ pub fn decide_write(
 
 /// What there is to settle of a session that was found.
 #[derive(Clone, Copy, Debug)]
-pub struct FoundSettling {
-    /// The session, and where it stands.
-    pub found: FoundSession,
+pub struct FoundSettling<'a> {
+    /// The session, where it stands, and its recording.
+    pub writer: Writer<'a>,
     /// What there is to settle.
     pub settling: Settling,
 }
 
 /// What is decided on settling what a session wrote. Costs the open sessions.
-pub fn decide_settle(desk: &Desk, session: &i64) -> Result<FoundSettling, Refusal>
+pub fn decide_settle<'a>(desk: &'a Desk, session: &i64) -> Result<FoundSettling<'a>, Refusal>
     ensures decided { MatchResult result
         (λ decided. settle_decision desk.now.state session.now ≡ Ok decided.settling)
         (λ refusal. settle_decision desk.now.state session.now ≡ Err refusal) }
-    ensures found { IfOk result
-        (λ decided. IsFoundSession session.now desk.now.state.callers.sessions decided.found) }
+    ensures found { IfOk result (λ decided. IsWriter session.now desk.now.state decided.writer) }
+    ensures keeps { KeepsDesk desk.now.state.register desk.now.state.callers }
 {
     if desk.is_broken() {
         return Err(Refusal::Broken);
     }
-    let Some(found) = desk.session(session) else {
+    let Some(writer) = desk.session(session) else {
         return Err(Refusal::StaleSession);
     };
-    let Some(written) = found.session.written else {
-        let position = desk.next_position(&found.session);
-        let settling = Settling::Nothing { position };
-        return Ok(FoundSettling { found, settling });
+    let session = &writer.found.session;
+    let Some(written) = session.written else {
+        let settling = Settling::Nothing {
+            position: writer.known.recorded,
+        };
+        return Ok(FoundSettling { writer, settling });
     };
     if !desk.has_room() {
         return Err(Refusal::HistoryFull);
     }
     let settling = Settling::Blocks {
-        recording: found.session.recording,
+        recording: session.recording,
         written,
     };
-    Ok(FoundSettling { found, settling })
+    Ok(FoundSettling { writer, settling })
 }
 
 /// What is decided on opening a replay: docs/CONTROL.md, "Replays".
-pub fn decide_open(desk: &Desk, recording: &i64, position: &i64, length: &i64) -> OpeningDecision
-    ensures { result ≡ open_decision desk.now.state recording.now position.now length.now }
+pub fn decide_open<'a>(
+    desk: &'a Desk,
+    recording: &i64,
+    position: &i64,
+    length: &i64,
+) -> OpeningDecision<'a>
+    ensures decided { said_opening result ≡ open_decision desk.now.state recording.now position.now length.now }
+    ensures known { IfOpensInside result (λ known.
+        (registration_in desk.now.state.register recording.now ≡ Some known)
+        × KeepsDesk desk.now.state.register desk.now.state.callers) }
 {
     if *position < -1 || *length < -1 {
         return OpeningDecision::Decided(Err(Refusal::BadParameter));
@@ -153,17 +160,19 @@ pub fn decide_open(desk: &Desk, recording: &i64, position: &i64, length: &i64) -
 }
 
 /// What is decided at a position, by what comes behind its test.
-fn opened_at(
-    known: &Registration,
+fn opened_at<'a>(
+    known: &'a Registration,
     decided: Result<Opening, Refusal>,
     position: &i64,
-) -> OpeningDecision
-    ensures { result ≡ opened_at (Some known.now) decided position.now }
+) -> OpeningDecision<'a>
+    ensures decided { said_opening result ≡ opened_at (Some known.now) decided position.now }
+    ensures known { IfOpensInside result (λ it. it ≡ known.now) }
 {
     if known.is_end(position) {
         return OpeningDecision::Decided(decided);
     }
     OpeningDecision::IfBoundary {
+        known,
         position: *position,
         decided,
     }
@@ -202,11 +211,12 @@ fn behind_boundary(
 
 /// What is decided on a poll for at most so many frames: the replay to be read from, and where it stands, or a refusal.
 /// Costs the open replays.
-pub fn decide_poll(desk: &Desk, replay: &i64, max: &i64) -> Result<FoundReplay, Refusal>
+pub fn decide_poll<'a>(desk: &'a Desk, replay: &i64, max: &i64) -> Result<Reader<'a>, Refusal>
     ensures decided { MatchResult result
-        (λ found. poll_decision desk.now.state replay.now max.now ≡ Ok found.replay)
+        (λ reader. poll_decision desk.now.state replay.now max.now ≡ Ok reader.found.replay)
         (λ refusal. poll_decision desk.now.state replay.now max.now ≡ Err refusal) }
-    ensures found { IfOk result (IsFoundReplay replay.now desk.now.state.callers.replays) }
+    ensures found { IfOk result (IsReader replay.now desk.now.state) }
+    ensures keeps { IfOk result (λ reader. KeepsDesk desk.now.state.register desk.now.state.callers) }
 {
     if *max < 1 || *max > MAX_POLL {
         return Err(Refusal::BadParameter);
@@ -222,7 +232,8 @@ pub fn decide_close(desk: &Desk, replay: &i64) -> Result<FoundReplay, Refusal>
         (λ refusal. close_decision desk.now.state replay.now ≡ Err refusal) }
     ensures found { IfOk result (IsFoundReplay replay.now desk.now.state.callers.replays) }
 {
-    desk.replay(replay).ok_or(Refusal::UnknownReplay)
+    let reader = desk.replay(replay).ok_or(Refusal::UnknownReplay)?;
+    Ok(reader.found)
 }
 
 /// What is decided on a sweep: it is refused where a write has failed.

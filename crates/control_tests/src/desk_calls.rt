@@ -60,12 +60,9 @@ fn called(desk: &Desk, kind: u8, number: i64, other: i64) -> u8 {
                 first: other,
                 last: other.saturating_add(64),
             };
-            let found = desk.session(&number);
-            let known = match &found {
-                Some(found) => desk.recording(&found.session.recording),
-                None => None,
-            };
-            number_of(&decide_write(desk, &number, &found, &block, known))
+            let writer = desk.session(&number);
+            let fits = writer.is_some();
+            number_of(&decide_write(desk, &number, &writer, &block, fits))
         }
     }
 }
@@ -131,13 +128,11 @@ fn bytes_are_read_by_the_terms_of_the_recording(rt: HostRuntime) -> Result<(), F
 
 /// Session 0 wrote a block from 0 on, of a recording of which nothing is recorded.
 fn note(desk: &mut Desk, last: i64) -> Result<(), Refusal> {
-    let found = desk.session(&0).ok_or(Refusal::StaleSession)?;
-    let Some(known) = desk.recording(&found.session.recording) else {
-        return Err(Refusal::UnknownRecording);
-    };
-    if known.recorded != 0 || last < 0 || last > 131_072 {
+    let writer = desk.session(&0).ok_or(Refusal::StaleSession)?;
+    if writer.known.recorded != 0 || last < 0 || last > 131_072 {
         return Err(Refusal::BadPosition);
     }
+    let found = writer.found;
     let None = found.session.written else {
         return Err(Refusal::NeedSettle);
     };
@@ -172,7 +167,7 @@ fn written_blocks_are_settled_before_the_next_segment(rt: HostRuntime) -> Result
 /// What session 0 wrote is settled: recording 0 is recorded to where its second segment begins.
 fn record_a_segment(desk: &mut Desk) -> Result<(), Refusal> {
     note(desk, 131_072)?;
-    let written = desk.session(&0).ok_or(Refusal::StaleSession)?;
+    let written = desk.session(&0).ok_or(Refusal::StaleSession)?.found;
     if !desk.has_room() {
         return Err(Refusal::HistoryFull);
     }

@@ -1,6 +1,6 @@
 -- How a request is answered.
 use Rattle.std.proofs.Common.{◌≡◌, ◌&&◌, ◌++◌, ◌∙◌, inl, inr, sym, ap, subst, refl, Bool, true, false, true≢false, cond, Option, Some, None, IsTrue, IsFalse, List, [], ◌∷◌, ℤ}
-use Rattle.std.specs.Prelude.{IfOk, IsSome, Result, Ok, Err, is_some}
+use Rattle.std.specs.Prelude.{IfOk, Result, Ok, Err, is_some}
 use Rattle.frame_core.specs.declared.refusal.Refusal.{Refusal}
 use Rattle.frame_core.specs.declared.refusal.Refusal.TheVariants.{BadPosition, DeviceFault, NoMemory}
 use Rattle.disk_core.specs.Life.{HasFailed}
@@ -17,8 +17,8 @@ use Rattle.archive_model.specs.State.{Recording, registration_of}
 use Rattle.catalogue_log.specs.History.{IsRequested}
 use Rattle.control_core.specs.declared.asked.Asked.TheVariants as calls
 use Rattle.control_core.specs.declared.asked.Told.TheVariants as told
-use Rattle.control_core.specs.declared.decision.Decision.{Decision}
-use Rattle.control_core.specs.declared.decision.Decision.TheVariants as decisions
+use Rattle.control_core.specs.Decided.{Decision}
+use Rattle.control_core.specs.Decided as decisions
 use Rattle.control_core.specs.declared.event.Event.{Event}
 use Rattle.control_core.specs.declared.event.Event.TheVariants as events
 use Rattle.control_core.specs.declared.request.Request.{Request}
@@ -218,12 +218,9 @@ asks_inside d (requests.List from count) id position behind is = absurd (not_ans
 asks_inside d (requests.Find f) id position behind is = absurd (not_answered _ id position behind is)
 asks_inside d (requests.Positions other) id position behind is = absurd (not_answered _ id position behind is)
 
-pub inside_requested : (d : DeskState) (request : Request) (id position : ℤ) (behind : Result Command Refusal) → decisions.IfBoundary id position behind ≡ decision_of d request → IfOk behind (λ c. IsRequested c × Allows d c × IsFalse d.is_broken)
-inside_requested d request id position (Ok c) is = decided_requested d request c (ap command_in (sym is))
-inside_requested d request id position (Err refusal) is = tt
-
-pub inside_there : (d : DeskState) (request : Request) (id position : ℤ) (behind : Result Command Refusal) → decisions.IfBoundary id position behind ≡ decision_of d request → IsSome (registration_in d.register id)
-inside_there d request id position behind is = let asks = asks_inside d request id position behind (sym is) in subst IsSome (sym asks.found) refl
+pub requested_inside : (d : DeskState) (request : Request) (id position : ℤ) (behind : Result Command Refusal) (c : Command) → decisions.IfBoundary id position behind ≡ decision_of d request → behind ≡ Ok c
+    → IsRequested c × Allows d c × IsFalse d.is_broken
+requested_inside d request id position behind c is ok = decided_requested d request c (ap command_in (sym is) ∙ ap (λ (b : Result Command Refusal). command_in (decisions.IfBoundary id position b)) ok)
 
 -- what the frames say of it
 inside_is : (a : Archive) (request : Request) (id position : ℤ) (behind : Result Command Refusal) (r : Recording) → decision_of a.desk request ≡ decisions.IfBoundary id position behind → recording_at a id ≡ Some r

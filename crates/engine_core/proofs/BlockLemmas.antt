@@ -20,7 +20,7 @@ use Rattle.segment_store.proofs.StoredLemmas.{AreMessages, message_some, run_cov
 use Rattle.archive_model.specs.Acceptance.{AreBlocksFrom}
 use Rattle.archive_model.specs.Commands.{frames_of}
 use Rattle.archive_model.proofs.HistoriesLemmas.{covered-append}
-use Rattle.archive_model.specs.State.{Recording, recorded_position}
+use Rattle.archive_model.specs.State.{Recording}
 use Rattle.engine_core.specs.Consistent.{LieIn, Stands}
 use Rattle.engine_core.specs.Recovery.{last_of, layout_of}
 use Rattle.engine_core.proofs.FrameLemmas.{holds_append}

@@ -1,6 +1,6 @@
 -- How an operation ends that adds an entry for a command.
-use Rattle.std.proofs.Common.{◌≡◌, ◌≢◌, ◌⊎◌, ◌∙◌, ◌+◌, ◌<◌, sym, ap, subst, refl, ℕ, ℤ, false, true≢false, IsTrue, cond, inl, inr, arith, List, []}
-use Rattle.std.specs.Prelude.{IfErr, IsFalse, OnOk, Result, Ok, Err}
+use Rattle.std.proofs.Common.{◌≡◌, ◌≢◌, ◌⊎◌, ◌∙◌, ◌+◌, ◌<◌, sym, ap, subst, refl, ℕ, false, true≢false, IsTrue, inl, inr, arith, List}
+use Rattle.std.specs.Prelude.{Result, Ok, Err}
 use Rattle.frame_core.specs.declared.refusal.Refusal.{Refusal}
 use Rattle.frame_core.specs.declared.refusal.Refusal.TheVariants.{DeviceFault, NoMemory}
 use Rattle.disk_core.specs.declared.file_id.FileId.TheVariants.{Segment}
@@ -12,7 +12,6 @@ use Rattle.archive_model.specs.declared.command.Command.TheVariants as commands
 use Rattle.archive_model.specs.declared.reply.Reply.{Reply}
 use Rattle.archive_model.specs.Acceptance as acceptance
 use Rattle.archive_model.specs.Keyed.{Each}
-use Rattle.archive_model.specs.State.{State}
 use Rattle.catalogue_log.specs.declared.entry.Entry.{Entry}
 use Rattle.catalogue_log.specs.Fold.{counts}
 use Rattle.catalogue_log.specs.LogState.{LogState}

@@ -1,5 +1,5 @@
 -- How a call of an archive ends: nothing has changed, or an operation on its files has succeeded, or has failed.
-use Rattle.std.proofs.Common.{◌≡◌, ◌∙◌, sym, ap, subst, refl, IsTrue, true, true≢false, false, Option, Some, None, inl, inr, arith}
+use Rattle.std.proofs.Common.{◌≡◌, ◌∙◌, sym, ap, subst, refl, IsTrue, true≢false, false, Option, Some, None, inl, inr, arith}
 use Rattle.std.specs.Prelude.{◌≢◌, ◌⊎◌, IsFalse, Result, Ok, Err, is_some}
 use Rattle.frame_core.specs.declared.refusal.Refusal.{Refusal}
 use Rattle.frame_core.specs.declared.refusal.Refusal.TheVariants.{DeviceFault, NoMemory}
@@ -11,7 +11,7 @@ use Rattle.archive_model.specs.Keyed.{Each}
 use Rattle.archive_model.specs.State.{State}
 use Rattle.catalogue_log.specs.LogState.{LogState}
 use Rattle.control_core.specs.Changes.{broken_desk}
-use Rattle.control_core.specs.Consistent.{AreAtBoundaries, IsConsistent, StaysConsistent}
+use Rattle.control_core.specs.Consistent.{AreAtBoundaries, IsConsistent}
 use Rattle.control_core.specs.Desk.{DeskState}
 use Rattle.control_core.specs.Exact.{Archive, broken}
 use Rattle.control_core.specs.Runs.{MayStand}

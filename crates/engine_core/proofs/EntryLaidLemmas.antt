@@ -1,13 +1,13 @@
 -- Recordings stay laid, whatever entries make of them.
-use Rattle.std.proofs.Common.{◌≡◌, ◌∙◌, ◌<ℤ◌, ◌≤ℤ◌, ◌*◌, ◌^◌, ◌≤◌, ◌&&◌, ap, sym, ℤ, pos, negsuc, Bool, true, true≢false, List, [], ◌∷◌, Option, Some, int_lt, unsigned_abs, arith, rules}
+use Rattle.std.proofs.Common.{◌≡◌, ◌<ℤ◌, ◌≤ℤ◌, ◌*◌, ◌^◌, ◌≤◌, ◌&&◌, sym, ℤ, pos, negsuc, true, true≢false, List, [], ◌∷◌, int_lt, unsigned_abs, arith, rules}
 use Rattle.std.proofs.lemmas.Int.{ints}
-use Rattle.std.proofs.lemmas.Bool.Decides.{nat_tests, Decides-int_eq}
+use Rattle.std.proofs.lemmas.Bool.Decides.{nat_tests}
 use Rattle.std.specs.Prelude.{IsTrue}
 use Rattle.std.specs.Ordering.{int_eq}
 use Rattle.archive_model.specs.declared.registration.Change.TheVariants as changes
 use Rattle.archive_model.specs.declared.registration.Registration.{Registration}
 use Rattle.archive_model.specs.Descriptor.{is_in_range}
-use Rattle.archive_model.specs.Register.{RegisterState, changed_by, is_active, is_later_base, is_within, may_begin, may_record, no_recordings, registered, registration_in}
+use Rattle.archive_model.specs.Register.{RegisterState, changed_by, is_active, is_later_base, is_within, may_begin, may_record, registered, registration_in}
 use Rattle.archive_model.proofs.WellLemmas.{both}
 use Rattle.catalogue_log.specs.declared.entry.Entry.{Entry}
 use Rattle.catalogue_log.specs.declared.entry.Entry.TheVariants.{Start, Settle, Stop, Extend, Truncate, PurgeSegments, PurgeRecording, Restart}

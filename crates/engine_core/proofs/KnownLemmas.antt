@@ -23,11 +23,11 @@ use Rattle.control_core.specs.declared.callers.OpenReplay.{OpenReplay}
 use Rattle.control_core.specs.declared.callers.RecorderSession.{RecorderSession}
 use Rattle.control_core.specs.declared.callers.Written.{Written}
 use Rattle.control_core.specs.Agreement.{Agrees}
-use Rattle.control_core.specs.Callers.{CallersState, replay_number, session_number, written_to}
+use Rattle.control_core.specs.Callers.{replay_number, session_number, written_to}
 use Rattle.control_core.specs.Changes.{next_position, recorded_of}
 use Rattle.control_core.specs.Desk.{DeskState}
 use Rattle.control_core.specs.Exact.{Archive, recording_at}
-use Rattle.control_core.specs.Orderly.{AreOrderly, IsLaid, IsLaidOut, KeepsDesk, LiesBehind, ReadsFromStart, WroteBehind}
+use Rattle.control_core.specs.Orderly.{IsLaid, IsLaidOut, KeepsDesk, LiesBehind, ReadsFromStart, WroteBehind}
 use Rattle.control_core.specs.Seats.{IsWriting, KeepsSeats}
 use Rattle.control_core.specs.Turns.{continues, replay_in, session_in}
 use Rattle.engine_core.specs.Consistent.{IsCrashConsistent}

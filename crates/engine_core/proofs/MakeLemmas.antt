@@ -1,6 +1,6 @@
 -- How a command is made.
 use Rattle.std.proofs.Common.{◌≢◌, rules, ◌≡◌, ◌⊎◌, ◌∙◌, ◌+◌, sym, ap, subst, refl, pos, [], cond, inl, inr}
-use Rattle.std.specs.Prelude.{IsFalse, Result, Ok, Err, Some, is_some}
+use Rattle.std.specs.Prelude.{IsFalse, IsTrue, Result, Ok, Err, Some, is_some}
 use Rattle.frame_core.specs.declared.refusal.Refusal.{Refusal}
 use Rattle.frame_core.specs.declared.refusal.Refusal.TheVariants.{DeviceFault, NoMemory}
 use Rattle.disk_core.specs.DiskImage.{DiskImage, FileState, reads}
@@ -16,6 +16,7 @@ use Rattle.archive_model.specs.State.{State}
 use Rattle.archive_model.proofs.StateLemmas.{each_found}
 use Rattle.catalogue_log.specs.declared.entry.Entry.{Entry}
 use Rattle.catalogue_log.specs.Catalogue.{ChangesBank}
+use Rattle.catalogue_log.specs.EntryBytes.{is_short}
 use Rattle.catalogue_log.specs.Fold.{counts}
 use Rattle.catalogue_log.specs.History.{IsRequested, entry_of}
 use Rattle.catalogue_log.specs.LogState.{LogState}
@@ -27,6 +28,7 @@ use Rattle.control_core.specs.Decisions.{Allows}
 use Rattle.control_core.specs.Desk.{DeskState}
 use Rattle.control_core.specs.Exact.{Archive, archive_after, book_of}
 use Rattle.control_core.specs.Turns.{session_in}
+use Rattle.control_core.proofs.AllowedLemmas.{start_short}
 use Rattle.control_core.proofs.CommandLemmas.{consistent_after, sessions_stay}
 use Rattle.control_core.proofs.FoundLemmas.{each_both}
 use Rattle.control_core.proofs.StayLemmas.{each_itself, open_blocks}
@@ -106,6 +108,22 @@ entry_counted : (d : DeskState) (c : Command) (e : Entry) → IsEntryFor d c e �
 entry_counted d c e for =
     let s : State = record { recordings = []; next = d.register.next } in
     ap counts (for.is s refl) ∙ entry_counts s c
+
+-- the entry of an accepted command may stand in a bank
+pub short_for : (d : DeskState) (c : Command) (e : Entry) → Allows d c → IsEntryFor d c e → IsTrue (is_short e)
+short_for d c e allows for =
+    let s : State = record { recordings = []; next = d.register.next } in
+    subst (λ (x : Entry). IsTrue (is_short x)) (sym (for.is s refl)) (by s c allows)
+  where
+    by : (s : State) (c : Command) → Allows d c → IsTrue (is_short (entry_of s c))
+    by s (commands.Start f) allows = start_short d f allows
+    by s (commands.Append id blocks) allows = refl
+    by s (commands.Stop id timestamp) allows = refl
+    by s (commands.Extend f) allows = refl
+    by s (commands.Truncate id position) allows = refl
+    by s (commands.PurgeSegments id position) allows = refl
+    by s (commands.PurgeRecording id) allows = refl
+    by s commands.Restart allows = refl
 
 -- ---- log and desk
 

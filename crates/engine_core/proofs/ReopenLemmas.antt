@@ -1,8 +1,8 @@
 -- How an archive is opened: what its files give.
-use Rattle.std.proofs.Common.{◌≡◌, ◌≢◌, ◌⊎◌, ◌∙◌, ◌<◌, ◌^◌, inl, inr, sym, ap, subst, refl, ℕ, ℤ, pos, List, Option, arith}
+use Rattle.std.proofs.Common.{◌≡◌, ◌≢◌, ◌⊎◌, ◌∙◌, inl, inr, sym, ap, subst, ℕ, ℤ, pos, List, Option, arith}
 use Rattle.std.specs.Prelude.{IfErr, IfOk, IsTrue, MatchResult, Result, Ok, Err}
 use Rattle.frame_core.specs.declared.refusal.Refusal.{Refusal}
-use Rattle.frame_core.specs.declared.refusal.Refusal.TheVariants.{DeviceFault, NoMemory}
+use Rattle.frame_core.specs.declared.refusal.Refusal.TheVariants.{DeviceFault}
 use Rattle.disk_core.specs.declared.file_id.FileId.{FileId}
 use Rattle.disk_core.specs.declared.file_id.FileId.TheVariants.{BankA}
 use Rattle.disk_core.specs.DiskImage.{DiskImage, FileState, MayLeave, bytes_of, reads}
@@ -12,7 +12,7 @@ use Rattle.archive_model.specs.declared.command.Command.TheVariants.{Restart}
 use Rattle.archive_model.specs.Commands.{after}
 use Rattle.archive_model.specs.Register as register
 use Rattle.archive_model.specs.Register.{RegisterState, all_stopped, no_recordings}
-use Rattle.archive_model.specs.State.{State, active_count, register_of}
+use Rattle.archive_model.specs.State.{State, register_of}
 use Rattle.catalogue_log.specs.declared.entry.Entry.{Entry}
 use Rattle.catalogue_log.specs.Bank.{IsBank}
 use Rattle.catalogue_log.specs.Catalogue.{ChangesBank, RefusesCatalogue, bank_in_use}
@@ -20,12 +20,12 @@ use Rattle.catalogue_log.specs.Fold.{after_entries}
 use Rattle.catalogue_log.specs.LogState.{IsLogOf, LogState}
 use Rattle.catalogue_log.proofs.AppendLemmas.{rest_left}
 use Rattle.control_core.specs.Desk.{DeskState, opened_desk}
-use Rattle.control_core.specs.Exact.{Archive, opened_archive}
+use Rattle.control_core.specs.Exact.{opened_archive}
 use Rattle.engine_core.specs.Engine.{EngineState, GoesOn}
 use Rattle.engine_core.specs.Making.{HasNotStarted, Restarts}
 use Rattle.engine_core.specs.Opened.{IsDeskOf, IsNear, IsNotOpened, IsOpened, LeavesEither}
 use Rattle.engine_core.specs.Opening.{ReadsAsBefore, RefusesOpening}
-use Rattle.engine_core.specs.Recovery.{IsEither, IsSound, Recovers, RecoversTo}
+use Rattle.engine_core.specs.Recovery.{IsEither, IsSound, RecoversTo}
 use Rattle.engine_core.proofs.EndedLemmas.{recovers_as}
 use Rattle.engine_core.proofs.OpeningLemmas.{fault_refuses}
 use Rattle.engine_core.proofs.RestartLemmas.{active_same, opened_consistent, register_restarted}

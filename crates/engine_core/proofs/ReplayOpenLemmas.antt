@@ -1,6 +1,6 @@
 -- How a replay is opened.
-use Rattle.std.proofs.Common.{◌≡◌, ◌∙◌, inl, inr, sym, ap, subst, refl, cond, ℤ, pos, ◌+ℤ◌, ◌≤ℤ◌, Bool, true, false, true≢false, ◌&&◌, ◌||◌, IsTrue, List, [], ◌∷◌, ◌++◌, Option, None, Some}
-use Rattle.std.specs.Prelude.{IfErr, IfOk, IsErrOf, IsSomeAnd, Result, Ok, Err, int_le, is_some, negsuc}
+use Rattle.std.proofs.Common.{◌≡◌, ◌∙◌, inl, inr, sym, ap, subst, refl, cond, ℤ, pos, ◌+ℤ◌, Bool, true, false, true≢false, ◌&&◌, IsTrue, List, [], ◌∷◌, ◌++◌, Option, None, Some}
+use Rattle.std.specs.Prelude.{IfErr, IfOk, IsErrOf, Result, Ok, Err, int_le, is_some, negsuc}
 use Rattle.frame_core.specs.declared.refusal.Refusal.{Refusal}
 use Rattle.frame_core.specs.declared.refusal.Refusal.TheVariants.{BadPosition, DeviceFault, NoMemory}
 use Rattle.disk_core.specs.DiskImage.{MayLeave, reads}
@@ -9,7 +9,7 @@ use Rattle.archive_model.specs.declared.registration.Registration.{Registration}
 use Rattle.archive_model.specs.declared.reply.Reply.TheVariants as replies
 use Rattle.archive_model.specs.Accepting.{begins_in}
 use Rattle.archive_model.specs.Checks.{Tests, block_checks, checked, first_checks, is_boundary_by, is_of, last_checks, passes}
-use Rattle.archive_model.specs.Register.{is_end, is_within, registration_in}
+use Rattle.archive_model.specs.Register.{is_end, registration_in}
 use Rattle.archive_model.specs.Replay.{begins_frame}
 use Rattle.archive_model.specs.State.{Recording}
 use Rattle.archive_model.proofs.RegisterLemmas.{each_push}
@@ -19,17 +19,15 @@ use Rattle.control_core.specs.declared.asked.Told.TheVariants as told
 use Rattle.control_core.specs.declared.callers.OpenReplay.{OpenReplay}
 use Rattle.control_core.specs.declared.event.Event.TheVariants as events
 use Rattle.control_core.specs.declared.turns.Opening.{Opening}
-use Rattle.control_core.specs.declared.turns.OpeningDecision.{OpeningDecision}
-use Rattle.control_core.specs.declared.turns.OpeningDecision.TheVariants as opening
+use Rattle.control_core.specs.Opened.{OpeningDecision}
+use Rattle.control_core.specs.Opened as opening
 use Rattle.control_core.specs.ByDecision.{OpensBy}
 use Rattle.control_core.specs.Changes.{after_open}
 use Rattle.control_core.specs.Consistent.{IsAtBoundary}
 use Rattle.control_core.specs.Desk.{DeskState}
 use Rattle.control_core.specs.Exact.{Archive, CallEnds, OpeningEnds, asked_opening, opens_by_frames, with_desk}
-use Rattle.control_core.specs.Orderly.{BeginsBy}
 use Rattle.control_core.specs.Turns.{begins_at, open_decision, open_tests, opened_at, opening_decided, opening_in, opening_of}
-use Rattle.control_core.proofs.AllowedLemmas.{before_position, passes_at}
-use Rattle.control_core.proofs.CallLemmas.{opened_behind, opened_front, opening_allowed}
+use Rattle.control_core.proofs.CallLemmas.{opening_allowed}
 use Rattle.control_core.proofs.ConsistentLemmas.{opened_at_boundary}
 use Rattle.control_core.proofs.DecidedLemmas.{held}
 use Rattle.control_core.proofs.DeskLemmas.{keeps_opened}

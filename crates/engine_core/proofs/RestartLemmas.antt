@@ -5,7 +5,6 @@ use Rattle.std.proofs.lemmas.List.{map-id}
 use Rattle.std.proofs.lemmas.List.Sums.{sum_by-cons}
 use Rattle.frame_core.specs.declared.refusal.Refusal.{Refusal}
 use Rattle.frame_core.specs.declared.refusal.Refusal.TheVariants.{DeviceFault, NoMemory}
-use Rattle.disk_core.specs.DiskImage.{DiskImage}
 use Rattle.disk_core.specs.Life.{HasFailed, Life, LeavesOnly}
 use Rattle.disk_core.proofs.CallerLemmas.{started, weaker}
 use Rattle.archive_model.specs.declared.command.Command.TheVariants.{Restart}
@@ -31,7 +30,7 @@ use Rattle.engine_core.specs.Consistent.{IsCrashConsistent, MayStandIn}
 use Rattle.engine_core.specs.Engine.{Content, EngineState, archive_of, content_of}
 use Rattle.engine_core.specs.Making.{Commits, Restarts}
 use Rattle.engine_core.specs.Recovery.{IsEither, IsSound, RecoversTo}
-use Rattle.engine_core.proofs.EndedLemmas.{quiet_life, recovers_as, sound_consistent}
+use Rattle.engine_core.proofs.EndedLemmas.{recovers_as, sound_consistent}
 
 -- ---- an archive at which nobody calls yet
 

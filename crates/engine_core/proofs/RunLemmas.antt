@@ -1,5 +1,5 @@
 -- Calls one after another, and what a crash leaves of them.
-use Rattle.std.proofs.Common.{◌≡◌, ◌⊎◌, ◌∙◌, ◌++◌, ◌+◌, ◌<◌, ◌≤◌, inl, inr, sym, ap, subst, refl, ℕ, List, [], ◌∷◌, length, take, get_or, add-one, cond, false, true, true≢false, IsTrue, None, Some, arith}
+use Rattle.std.proofs.Common.{◌≡◌, ◌∙◌, ◌++◌, ◌+◌, ◌<◌, inl, inr, sym, ap, subst, refl, ℕ, List, [], ◌∷◌, length, take, get_or, add-one, cond, true≢false, IsTrue, None, Some, arith}
 use Rattle.std.specs.Prelude.{IsFalse, Result, Ok, Err}
 use Rattle.std.proofs.lemmas.List.Sums.{sum_by-cons}
 use Rattle.std.proofs.Math.Path.{fun_ext}
@@ -7,18 +7,18 @@ use Rattle.std.proofs.Math.Seq.{take-suc}
 use Rattle.frame_core.specs.declared.refusal.Refusal.{Refusal}
 use Rattle.frame_core.specs.declared.refusal.Refusal.TheVariants.{DeviceFault, NoMemory}
 use Rattle.disk_core.specs.DiskImage.{DiskImage, Files, MayLeave, begun, durable}
-use Rattle.disk_core.specs.Life.{HasFailed, Life, LeavesOnly, MayHaveLeft, moment}
+use Rattle.disk_core.specs.Life.{HasFailed, Life, MayHaveLeft, moment}
 use Rattle.disk_core.proofs.CallerLemmas.{durable_left, goes_on_part, started, weaker}
 use Rattle.archive_model.specs.declared.reply.Reply.{Reply}
 use Rattle.archive_model.specs.State.{State}
 use Rattle.catalogue_log.specs.LogState.{LogState}
 use Rattle.control_core.specs.declared.event.Event.{Event}
-use Rattle.control_core.specs.Exact.{Archive, ArchiveEnds, CallEnds, LeftByFault}
+use Rattle.control_core.specs.Exact.{Archive, ArchiveEnds, LeftByFault}
 use Rattle.control_core.specs.Machine.{Outside}
-use Rattle.control_core.specs.Runs.{Leave, MayStand, StoodAmong, last_left}
+use Rattle.control_core.specs.Runs.{MayStand, StoodAmong}
 use Rattle.control_core.proofs.CallLemmas.{refused_unchanged}
 use Rattle.control_core.proofs.FaultLemmas.{other_cause}
-use Rattle.engine_core.specs.Calls.{AnswersEvent, Ended, EndsAs, HasFailedOften, IsRun, LeavesAlone, Ran, faults_in, is_cut, is_fault}
+use Rattle.engine_core.specs.Calls.{AnswersEvent, HasFailedOften, IsRun, LeavesAlone, Ran, faults_in, is_fault}
 use Rattle.engine_core.specs.Consistent.{IsCrashConsistent, MayStandIn}
 use Rattle.engine_core.specs.Engine.{Content, EngineState, GoesOn, archive_of}
 use Rattle.engine_core.specs.Opened.{LeavesEither}

@@ -1,5 +1,5 @@
 -- How a call ends that settles what a session wrote.
-use Rattle.std.proofs.Common.{rules, ◌≡◌, ◌≢◌, ◌⊎◌, ◌∙◌, ◌+◌, ◌<◌, sym, ap, subst, refl, ℤ, pos, ◌+ℤ◌, ◌&&◌, ◌||◌, not, Bool, true, false, cond, true≢false, inl, inr, List, [], ◌∷◌, Option, Some, None, Result, Ok, Err, unsigned_abs, arith}
+use Rattle.std.proofs.Common.{rules, ◌≡◌, ◌≢◌, ◌⊎◌, ◌∙◌, ◌+◌, ◌<◌, sym, ap, subst, refl, ℤ, pos, ◌+ℤ◌, ◌&&◌, ◌||◌, not, Bool, true, false, cond, true≢false, inl, inr, List, [], ◌∷◌, Option, Some, Result, Ok, Err, unsigned_abs, arith}
 use Rattle.std.specs.Prelude.{IsFalse, IsTrue, is_some}
 use Rattle.disk_core.specs.DiskImage.{DiskImage, reads}
 use Rattle.disk_core.specs.Life.{HasFailed}
@@ -28,6 +28,7 @@ use Rattle.catalogue_log.specs.Fold.{counts}
 use Rattle.catalogue_log.specs.History.{entry_of}
 use Rattle.catalogue_log.specs.LogState.{LogState}
 use Rattle.control_core.specs.declared.callers.RecorderSession.{RecorderSession}
+use Rattle.control_core.specs.declared.callers.Writer.{Writer}
 use Rattle.control_core.specs.declared.callers.Written.{Written}
 use Rattle.control_core.specs.declared.event.Event.{Event}
 use Rattle.control_core.specs.declared.event.Event.TheVariants as events
@@ -39,6 +40,7 @@ use Rattle.control_core.specs.Consistent.{HasBlocks, IsConsistent, SettlesByAppe
 use Rattle.control_core.specs.Desk.{DeskState, has_room}
 use Rattle.control_core.specs.Exact.{Archive, ArchiveEnds, CallEnds, SettlingEnds, book_of, has_blocks, is_poll, opened_archive, recording_at, settled_archive, writes_files}
 use Rattle.control_core.specs.Orderly.{KeepsDesk}
+use Rattle.control_core.specs.Seats.{IsWriter}
 use Rattle.control_core.specs.Turns.{has_written, session_in, settle_decision, settle_tests, settling_of}
 use Rattle.control_core.proofs.ConsistentLemmas.{consistent_call, settling_sessions}
 use Rattle.control_core.proofs.DecidedLemmas.{IsSettled, held, settling_accepted, settling_session}
@@ -52,7 +54,7 @@ use Rattle.engine_core.specs.Recovery.{IsSound, last_of, layout_of}
 use Rattle.engine_core.proofs.CommitCallLemmas.{commit_done, commit_refused, exact_commit, tied_behind}
 use Rattle.engine_core.proofs.EndedLemmas.{as_before, ended_as, goes_on_here, no_doubt, quiet_life, spared, spared_by, spared_unbroken, still}
 use Rattle.engine_core.proofs.FrameLemmas.{each_then}
-use Rattle.engine_core.proofs.KnownLemmas.{IsKnown, known_recording, laid_found, layout_laid, session_recording, written_from_start}
+use Rattle.engine_core.proofs.KnownLemmas.{IsKnown, known_recording, laid_found, layout_laid, written_from_start}
 use Rattle.engine_core.proofs.StandLemmas.{stands_nothing, stands_open}
 use Rattle.engine_core.proofs.StayLemmas.{enters}
 
@@ -82,13 +84,13 @@ settles d n id w told =
 
 -- ---- the recording whose blocks are settled
 
--- it is there
-pub settled_there : (d : DeskState) (n id : ℤ) (w : Written) → KeepsDesk d.register d.callers → settle_decision d n ≡ Ok (settling.Blocks id w) → None ≡ registration_in d.register id → ⊥
-settled_there d n id w keeps told none =
+-- it is the one that was found with the session
+pub settled_known : (d : DeskState) (n id : ℤ) (w : Written) (writer : Writer) → settle_decision d n ≡ Ok (settling.Blocks id w) → IsWriter n d writer → Some writer.known.now ≡ registration_in d.register id
+settled_known d n id w writer told is =
     let of = (settles d n id w told).of in
-    let there = session_recording d n of.session keeps.seats of.found in
-    let clash : None ≡ Some there.0 = none ∙ ap (λ (z : ℤ). registration_in d.register z) (sym of.recording) ∙ there.1 in
-    cc
+    let same : Some writer.found.session ≡ Some of.session = sym is.found.session ∙ of.found in
+    let one : writer.found.session ≡ of.session = cc in
+    sym is.known ∙ ap (λ (s : RecorderSession). registration_in d.register s.recording) one ∙ ap (λ (z : ℤ). registration_in d.register z) of.recording
 
 module _ (d : DeskState) (n id : ℤ) (w : Written) (r : Registration) (keeps : KeepsDesk d.register d.callers) (told : settle_decision d n ≡ Ok (settling.Blocks id w)) (there : Some r ≡ registration_in d.register id) where
   -- it is laid out

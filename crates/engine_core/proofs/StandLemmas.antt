@@ -1,5 +1,5 @@
 -- What recorder sessions wrote stands behind what is recorded, while the archive goes on.
-use Rattle.std.proofs.Common.{rules, ◌&&◌, nat_lt, int_le, ◌≡◌, ◌⊎◌, ◌∙◌, ◌+◌, ◌≤ℤ◌, ◌≤◌, ◌-◌, sym, ap, subst, refl, ℕ, ℤ, pos, negsuc, true, true≢false, Option, Some, None, List, [], ◌∷◌, inl, inr, arith}
+use Rattle.std.proofs.Common.{rules, ◌&&◌, nat_lt, int_le, ◌≡◌, ◌⊎◌, ◌∙◌, ◌+◌, ◌≤ℤ◌, ◌≤◌, ◌-◌, sym, ap, subst, refl, ℕ, ℤ, pos, negsuc, true, true≢false, Option, Some, List, [], ◌∷◌, inl, inr, arith}
 use Rattle.std.proofs.lemmas.Int.{ints}
 use Rattle.std.specs.Prelude.{unsigned_abs}
 use Rattle.disk_core.specs.declared.file_id.FileId.{FileId}
@@ -13,10 +13,8 @@ use Rattle.frame_core.specs.FrameEncoding.{aligned_length, stored}
 use Rattle.segment_store.specs.declared.layout.Layout.{Layout}
 use Rattle.segment_store.specs.Layout.{base_of, file_of, offset_of}
 use Rattle.segment_store.specs.Stored.{HoldsFrames}
-use Rattle.archive_model.specs.declared.registration.Registration.{Registration}
-use Rattle.archive_model.specs.Checks.{is_of}
 use Rattle.archive_model.specs.Commands.{frames_of, purged}
-use Rattle.archive_model.specs.Keyed.{Each, find}
+use Rattle.archive_model.specs.Keyed.{Each}
 use Rattle.archive_model.specs.Register.{is_active, is_later_base, registration_in}
 use Rattle.archive_model.specs.State.{Recording, id_of, recorded_position, registration_of}
 use Rattle.archive_model.specs.WellFormed.{IsKept}
@@ -24,11 +22,11 @@ use Rattle.archive_model.proofs.StateLemmas.{each_found, purged_ends}
 use Rattle.archive_model.proofs.WellLemmas.{both}
 use Rattle.control_core.specs.declared.callers.RecorderSession.{RecorderSession}
 use Rattle.control_core.specs.Callers.{session_number}
-use Rattle.control_core.specs.Consistent.{IsConsistent, IsSameOrLater, StaysOpen, WroteNothing}
-use Rattle.control_core.specs.Exact.{Archive, recording_at}
+use Rattle.control_core.specs.Consistent.{IsConsistent, IsSameOrLater, StaysOpen}
+use Rattle.control_core.specs.Exact.{Archive}
 use Rattle.control_core.specs.Seats.{IsWriting}
-use Rattle.engine_core.specs.Consistent.{Lie, LieIn, Stands, StandsBehind}
-use Rattle.engine_core.specs.Recovery.{first_of, last_of, layout_of}
+use Rattle.engine_core.specs.Consistent.{LieIn, Stands, StandsBehind}
+use Rattle.engine_core.specs.Recovery.{last_of, layout_of}
 use Rattle.engine_core.proofs.FrameLemmas.{each_then}
 use Rattle.engine_core.proofs.KnownLemmas.{is_there, known_recording}
 use Rattle.engine_core.proofs.StayLemmas.{IsLater, is_later, same_bases}

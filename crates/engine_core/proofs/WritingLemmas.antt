@@ -2,7 +2,7 @@
 use Rattle.std.proofs.Common.{◌≡◌, ◌≢◌, ◌∙◌, sym, ap, subst, refl, inl, inr, ℕ, ℤ, pos, ◌+◌, ◌*◌, ◌^◌, ◌+ℤ◌, ◌<ℤ◌, ◌≤ℤ◌, not, Bool, true, false, cond, true≢false, List, [], ◌∷◌, ◌++◌, Option, Some, None, Ok, Err, unsigned_abs, arith}
 use Rattle.std.proofs.lemmas.Int.{ints}
 use Rattle.std.proofs.lemmas.Bool.Decides.{Decides-int_eq, nat_tests}
-use Rattle.std.specs.Prelude.{◌==◌, IsSomeAnd, is_some}
+use Rattle.std.specs.Prelude.{◌==◌, IfSome, IsSomeAnd, MatchOption, is_some}
 use Rattle.std.specs.Ordering.{int_eq}
 use Rattle.disk_core.specs.DiskImage.{FileState, reads}
 use Rattle.disk_core.specs.Life.{Life}
@@ -12,7 +12,7 @@ use Rattle.frame_core.specs.declared.frame.Frame.{Frame}
 use Rattle.frame_core.specs.declared.geometry.Geometry.{Geometry}
 use Rattle.frame_core.specs.declared.refusal.Refusal.{Refusal}
 use Rattle.frame_core.specs.declared.refusal.Refusal.TheVariants.{ActiveReplay, BadBlock, BadExtension, Broken, HistoryFull, MaxRecordings, MaxReplays, NeedSettle, StaleSession}
-use Rattle.frame_core.specs.Block.{AreBlockOf, block_ids, covered, end_position}
+use Rattle.frame_core.specs.Block.{AreBlockOf, IsBlock, block_ids, covered, end_position}
 use Rattle.segment_store.specs.declared.layout.Layout.{Layout}
 use Rattle.segment_store.specs.Layout.{IsFromStart, IsLayout, file_of}
 use Rattle.segment_store.specs.Stored.{ChangesFile}
@@ -30,25 +30,54 @@ use Rattle.archive_model.proofs.RegisterLemmas.{found_number}
 use Rattle.archive_model.proofs.StateLemmas.{each_found}
 use Rattle.archive_model.proofs.StreamLemmas.{ends_in_stream}
 use Rattle.control_core.specs.declared.callers.RecorderSession.{RecorderSession}
+use Rattle.control_core.specs.declared.callers.Writer.{Writer}
 use Rattle.control_core.specs.declared.callers.Written.{Written}
 use Rattle.record_core.specs.Writing.{needs_settle}
 use Rattle.control_core.specs.Callers.{session_number, written_to}
 use Rattle.control_core.specs.Changes.{with_block}
 use Rattle.control_core.specs.Desk.{DeskState}
 use Rattle.control_core.specs.Exact.{Archive, recording_at, span_of}
-use Rattle.control_core.specs.Orderly.{LiesBehind, stream_end}
-use Rattle.control_core.specs.Seats.{AreApart}
+use Rattle.control_core.specs.Orderly.{KeepsDesk, LiesBehind, stream_end}
+use Rattle.control_core.specs.Seats.{AreApart, IsWriter}
 use Rattle.control_core.specs.Turns.{continues, is_waiting, part_of, session_in, write_decision, write_tests}
 use Rattle.control_core.proofs.AllowedLemmas.{both, passes_at}
 use Rattle.control_core.proofs.DecidedLemmas.{held}
 use Rattle.control_core.proofs.WriteLemmas.{span_ends}
 use Rattle.engine_core.specs.Consistent.{Stands, StandsBehind}
 use Rattle.engine_core.specs.Recovery.{last_of, layout_of}
-use Rattle.engine_core.specs.Writing.{IsTarget}
+use Rattle.engine_core.specs.Writing.{HasNoTarget, IsTarget}
 use Rattle.engine_core.proofs.FrameLemmas.{apart}
-use Rattle.engine_core.proofs.KnownLemmas.{begins_behind, block_behind, block_from_start, laid_found, layout_laid, written_behind}
+use Rattle.engine_core.proofs.KnownLemmas.{begins_behind, block_behind, block_from_start, laid_found, layout_laid, one_known, written_behind}
 use Rattle.engine_core.proofs.SettleCallLemmas.{not_so}
 use Rattle.engine_core.proofs.StandLemmas.{frames_behind}
+
+-- ---- where a block is written
+
+one_session : (s t : RecorderSession) → Some s ≡ Some t → s ≡ t
+one_session s t is = cc
+
+pub target_is : (d : DeskState) (n : ℤ) (block : Block) (writer : Option Writer) (w : Writer) (layout : Layout) (end : ℤ) → MatchOption writer (session_in d n ≡ None) (IsWriter n d) → KeepsDesk d.register d.callers
+    → (writer ≡ Some w) × (end ≡ end_position block) × IsBlock (geometry_of w.known.now.descriptor) (publication_of w.known.now.descriptor) block → layout ≡ layout_of w.known.now.descriptor → IsTarget d n block layout end
+target_is d n block writer w layout end found keeps of is =
+    let writes : IsWriter n d w = subst (λ (o : Option Writer). MatchOption o (session_in d n ≡ None) (IsWriter n d)) of.0 found in
+    record {
+      session = w.found.session;
+      registration = w.known.now;
+      found = writes.found.session;
+      known = writes.known;
+      is_block = of.2;
+      layout_is = is;
+      end_is = of.1;
+      keeps = keeps;
+    }
+
+pub untargeted : (d : DeskState) (n : ℤ) (block : Block) (writer : Option Writer) → MatchOption writer (session_in d n ≡ None) (IsWriter n d)
+    → IfSome writer (λ w. IsBlock (geometry_of w.known.now.descriptor) (publication_of w.known.now.descriptor) block → ⊥) → HasNoTarget d n block
+untargeted d n block None found none s r session known is = let no : None ≡ Some s = sym found ∙ session in cc
+untargeted d n block (Some w) found none s r session known is =
+    let same : s ≡ w.found.session = one_session s w.found.session (sym session ∙ found.found.session) in
+    let registration : r ≡ w.known.now = one_known r w.known.now (sym known ∙ ap (λ (x : RecorderSession). registration_in d.register x.recording) same ∙ found.known) in
+    none (subst (λ (x : Registration). IsBlock (geometry_of x.descriptor) (publication_of x.descriptor) block) registration is)
 
 -- ---- what is let through
 

@@ -1,17 +1,13 @@
 -- What is read of a recording: docs/CONTROL.md, "Replays"; docs/STORAGE.md, "Boundaries" and "Damaged frames".
-use Rattle.std.specs.Prelude.{◌≡◌, ◌⊎◌, ℕ, pos, Bool, IsTrue, IsSomeAnd}
+use Rattle.std.specs.Prelude.{◌≡◌, ◌⊎◌, ℕ, pos, Bool, IsTrue}
 use Rattle.frame_core.specs.declared.refusal.Refusal.{Refusal}
 use Rattle.frame_core.specs.declared.refusal.Refusal.TheVariants.{Damaged, DeviceFault, NoMemory}
 use Rattle.disk_core.specs.DiskImage.{DiskImage, reads}
 use Rattle.disk_core.specs.Life.{Life}
 use Rattle.segment_store.specs.Boundary.{BreaksAt}
-use Rattle.segment_store.specs.Layout.{IsGeometryOf, IsLayout}
 use Rattle.archive_model.specs.declared.registration.Registration.{Registration}
-use Rattle.archive_model.specs.Keyed.{find}
-use Rattle.archive_model.specs.Replay.{is_boundary}
-use Rattle.archive_model.specs.State.{Recording, State, geometry_of, id_of, registration_of}
+use Rattle.archive_model.specs.State.{Recording, geometry_of, registration_of}
 use Rattle.archive_model.specs.WellFormed.{IsKept}
-use Rattle.control_core.specs.declared.callers.OpenReplay.{OpenReplay}
 use Rattle.engine_core.specs.Recovery.{HoldsRecording, layout_of}
 
 -- The disk obeys, the frames of a recording stand in what it reads as before a call, and a register has this of it.

@@ -6,7 +6,7 @@ use Rattle.archive_model.specs.declared.reply.Reply.{Reply}
 use Rattle.control_core.specs.declared.event.Event.{Event}
 use Rattle.control_core.specs.Exact.{Archive}
 use Rattle.engine_core.specs.declared.engine.Engine.{Engine}
-use Rattle.engine_core.specs.Engine.{EngineState, new_archive}
+use Rattle.engine_core.specs.Engine.{EngineState}
 use Rattle.engine_core.specs.Consistent.{IsCrashConsistent}
 use Rattle.engine_core.specs.Calls.{AnswersEvent}
 

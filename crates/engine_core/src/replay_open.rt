@@ -78,10 +78,11 @@ fn decided_opening<D: Disk>(
 {
     match decide_open(desk, recording, position, length) {
         OpeningDecision::Decided(decided) => decided,
-        OpeningDecision::IfBoundary { position, decided } => {
-            let Some(known) = desk.recording(recording) else {
-                return Err(Refusal::UnknownRecording);
-            };
+        OpeningDecision::IfBoundary {
+            known,
+            position,
+            decided,
+        } => {
             if !reading::begins_at(disk, known, position)? {
                 return Err(Refusal::BadPosition);
             }

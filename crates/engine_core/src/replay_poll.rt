@@ -23,10 +23,9 @@ impl<D: Disk> Engine<D> {
         ensures { HasAnswered D.life self.old self.new
             (events.ReplayPoll replay.now most.now) result }
     {
-        let found = decide_poll(&self.desk, replay, most)?;
-        let Some(known) = self.desk.recording(&found.replay.recording) else {
-            return Err(Refusal::UnknownRecording);
-        };
+        let reader = decide_poll(&self.desk, replay, most)?;
+        let found = reader.found;
+        let known = reader.known;
         let given = reading::poll(alloc, &mut self.storage.disk, known, &found.replay, *most)?;
         let next = goes_on(known, &found.replay.bound, given.next);
         self.desk.move_replay(replay, found.index, &given.next);

@@ -1,13 +1,17 @@
 //! What a recorder session wrote is recorded. docs/CONTROL.md, "Recorder sessions"; docs/STORAGE.md, "Segments".
 
-ghost use Rattle.std.specs.Prelude.{◌≡◌, Ok};
+ghost use Rattle.std.specs.Prelude.{◌≡◌, Ok, Some};
+ghost use Rattle.archive_model.specs.declared.registration.Registration.{Registration};
 ghost use Rattle.archive_model.specs.declared.reply.Reply.TheVariants as replies;
+ghost use Rattle.archive_model.specs.Register.{registration_in};
 ghost use Rattle.control_core.specs.declared.event.Event.TheVariants as events;
 ghost use Rattle.control_core.specs.declared.turns.Settling.TheVariants.{Blocks};
 ghost use Rattle.control_core.specs.Exact.{settled_archive};
+ghost use Rattle.control_core.specs.Orderly.{KeepsDesk};
 ghost use Rattle.control_core.specs.Seats.{IsFoundSession};
 ghost use Rattle.control_core.specs.Turns.{settle_decision};
 ghost use Rattle.engine_core.specs.Making.{Commits};
+ghost use Rattle.engine_core.specs.Recovery.{layout_of};
 
 use crate::Engine;
 use crate::making::failed;
@@ -17,6 +21,7 @@ use catalogue_log::Entry;
 use control_core::{FoundSession, Settling, Written, decide_settle};
 use disk_core::Disk;
 use frame_core::Refusal;
+use segment_store::Layout;
 
 impl<D: Disk> Engine<D> {
     ghost use Rattle.engine_core.specs.Seen.{HasAnswered, seen};
@@ -34,20 +39,26 @@ impl<D: Disk> Engine<D> {
         match decided.settling {
             Settling::Nothing { position } => Ok(Reply::Settled { position }),
             Settling::Blocks { recording, written } => {
-                self.settle_blocks(session, &decided.found, &recording, &written)
+                let layout = layout_of(&decided.writer.known.descriptor);
+                let found = decided.writer.found;
+                self.settle_blocks(session, &found, &recording, &layout, &written)
             }
         }
     }
 
-    /// Records what a session that was found wrote of a recording, once it is decided; then the desk follows. `NoMemory`;
-    /// `DeviceFault` where the disk fails: the archive is then broken.
+    /// Records what a session that was found wrote of a recording of a layout, once it is decided; then the desk follows.
+    /// `NoMemory`; `DeviceFault` where the disk fails: the archive is then broken.
     fn settle_blocks(
         &mut self,
         session: &i64,
         found: &FoundSession,
         recording: &i64,
+        layout: &Layout,
         written: &Written,
     ) -> Result<Reply, Refusal>
+        requires keeps { KeepsDesk self.old.desk.state.register self.old.desk.state.callers }
+        requires laid { (known : Registration) × (Some known ≡ registration_in self.old.desk.state.register recording.now)
+            × (layout.now ≡ layout_of known.descriptor) }
         requires found { IsFoundSession session.now self.old.desk.state.callers.sessions found.now }
         requires decided { settle_decision self.old.desk.state session.now
             ≡ Ok (Blocks recording.now written.now) }
@@ -56,16 +67,12 @@ impl<D: Disk> Engine<D> {
             (replies.Settled written.now.last) (λ a. settled_archive a session.now recording.now) result }
         ensures restarted { self.new.restarted ≡ self.old.restarted }
     {
-        let Some(known) = self.desk.recording(recording) else {
-            return Err(Refusal::UnknownRecording);
-        };
-        let layout = layout_of(&known.descriptor);
         let position = written.last;
         let entry = Entry::Settle {
             recording: *recording,
             position,
         };
-        match self.storage.settle(&layout, written.first, &entry) {
+        match self.storage.settle(layout, written.first, &entry) {
             Ok(()) => {
                 self.desk.settle(session, found);
                 Ok(Reply::Settled { position })

@@ -1,29 +1,22 @@
 //! A recorder session writes a block. docs/CONTROL.md, "Recorder sessions"; docs/STORAGE.md, "Segments".
 
-ghost use Rattle.std.specs.Prelude.{◌≡◌, IfSome, MatchOption, None, Some};
-ghost use Rattle.archive_model.specs.Numbered.{IsIndexOf};
-ghost use Rattle.archive_model.specs.Register.{registration_in};
+ghost use Rattle.std.specs.Prelude.{◌≡◌, IfSome, MatchOption, Some};
+ghost use Rattle.frame_core.specs.Block.{IsBlock, end_position};
+ghost use Rattle.archive_model.specs.State.{geometry_of, publication_of};
 ghost use Rattle.control_core.specs.declared.event.Event.TheVariants as events;
-ghost use Rattle.control_core.specs.Callers.{session_number};
-ghost use Rattle.control_core.specs.Seats.{IsFoundSession};
-ghost use Rattle.control_core.specs.Turns.{session_in};
-ghost use Rattle.engine_core.specs.Writing.{HasNoTarget, IsTarget};
 
 use crate::Engine;
 use crate::making::failed;
 use crate::reading::layout_of;
-use archive_model::{Registration, Reply};
-use control_core::{Desk, FoundSession, Written, decide_write};
+use archive_model::Reply;
+use control_core::{Writer, Written, decide_write};
 use disk_core::Disk;
 use frame_core::{Block, Refusal, block_end};
-use segment_store::Layout;
 
-// At which index a session stands, its recording, where its block is written, and where that ends, in bytes of the stream.
-#[derive(Drop)]
+// Who writes a block, and where that ends, in bytes of the stream.
+#[derive(Clone, Copy)]
 struct Target<'a> {
-    index: usize,
-    known: &'a Registration,
-    layout: Layout,
+    writer: Writer<'a>,
     end: i64,
 }
 
@@ -38,21 +31,16 @@ impl<D: Disk> Engine<D> {
     pub(crate) fn write(&mut self, session: &i64, block: &Block) -> Result<Reply, Refusal>
         ensures { HasAnswered D.life self.old self.new (events.Write session.now block.now) result }
     {
-        let found = self.desk.session(session);
-        let Some(target) = target_of(&self.desk, session, &found, block) else {
-            let nothing = Written {
-                first: block.position,
-                last: block.position,
-            };
-            return decide_write(&self.desk, session, &found, &nothing, None);
+        let writer = self.desk.session(session);
+        let Some(target) = target_of(&writer, block) else {
+            let nothing = span_of(block, block.position);
+            return decide_write(&self.desk, session, &writer, &nothing, false);
         };
-        let span = Written {
-            first: block.position,
-            last: target.end,
-        };
-        let reply = decide_write(&self.desk, session, &found, &span, Some(target.known))?;
-        let index = target.index;
-        match self.storage.write(&target.layout, block) {
+        let span = span_of(block, target.end);
+        let layout = layout_of(&target.writer.known.descriptor);
+        let index = target.writer.found.index;
+        let reply = decide_write(&self.desk, session, &writer, &span, true)?;
+        match self.storage.write(&layout, block) {
             Ok(()) => {
                 self.desk.note_written(session, index, &span);
                 Ok(reply)
@@ -62,36 +50,30 @@ impl<D: Disk> Engine<D> {
     }
 }
 
-/// None where the number is no session's, or the block isn't one of the terms, session and stream of its recording.
-fn target_of<'a>(
-    desk: &'a Desk,
-    session: &i64,
-    found: &Option<FoundSession>,
-    block: &Block,
-) -> Option<Target<'a>>
-    requires { MatchOption found.now (session_in desk.now.state session.now ≡ None)
-        (IsFoundSession session.now desk.now.state.callers.sessions) }
-    ensures stands { IfSome result (λ target.
-        IsIndexOf session_number session.now desk.now.state.callers.sessions target.index) }
-    ensures known { IfSome result (λ target. IfSome found.now (λ found.
-        registration_in desk.now.state.register found.session.recording ≡ Some target.known.now)) }
-    ensures target { MatchOption result (HasNoTarget desk.now.state session.now block.now)
-        (λ target. IsTarget desk.now.state session.now block.now target.layout target.end) }
+/// None where there is no writer, or the block isn't one of the terms, session and stream of its recording.
+fn target_of<'a>(writer: &Option<Writer<'a>>, block: &Block) -> Option<Target<'a>>
+    ensures { MatchOption result
+        (IfSome writer.now (λ w. IsBlock (geometry_of w.known.now.descriptor) (publication_of w.known.now.descriptor) block.now → ⊥))
+        (λ target. (writer.now ≡ Some target.writer) × (target.end ≡ end_position block.now)
+        × IsBlock (geometry_of target.writer.known.now.descriptor) (publication_of target.writer.known.now.descriptor) block.now) }
 {
-    let Some(found) = found else {
+    let Some(writer) = writer else {
         return None;
     };
-    let Some(known) = desk.recording(&found.session.recording) else {
-        return None;
-    };
-    let descriptor = &known.descriptor;
+    let descriptor = &writer.known.descriptor;
     let Some(end) = block_end(&descriptor.geometry(), &descriptor.publication(), block) else {
         return None;
     };
-    Some(Target {
-        index: found.index,
-        known,
-        layout: layout_of(descriptor),
-        end,
-    })
+    let writer = *writer;
+    Some(Target { writer, end })
+}
+
+/// Where a block lies that ends at a position, in bytes of the stream.
+fn span_of(block: &Block, end: i64) -> Written
+    ensures { result ≡ record { first = block.now.position; last = end } }
+{
+    Written {
+        first: block.position,
+        last: end,
+    }
 }

@@ -24,6 +24,9 @@ fn start(alloc: Global) -> Result<Entry> {
 }
 
 fn add(disk: &mut MemoryDisk, log: &mut Log, entry: &Entry) -> Result<()> {
+    if !entry.is_short() {
+        bail!("not added");
+    }
     match log.append(disk, entry) {
         Ok(()) => Ok(()),
         Err(_) => bail!("not added"),

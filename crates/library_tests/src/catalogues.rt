@@ -1,6 +1,9 @@
 //! The catalogue: the bank of docs/STORAGE.md, "Entries", byte for byte, cut and changed; stops at each change of the disk;
 //! requests for memory refused.
 
+ghost use Rattle.std.specs.Prelude.{◌≡◌, length, IfOk, IsTrue};
+ghost use Rattle.catalogue_log.specs.EntryBytes.{is_short};
+
 use archive_model::{Channel, Command, StartFields};
 use catalogue_log::{Entry, Log, create, open, register_from};
 use disk_core::{Disk, FileId, MemoryDisk};
@@ -21,7 +24,9 @@ const BANK: [u8; 108] = [
 ];
 
 /// What the bank's recording is.
-fn fields(alloc: Global) -> Result<StartFields, AllocError> {
+fn fields(alloc: Global) -> Result<StartFields, AllocError>
+    ensures { IfOk result (λ fields. length fields.channel ≡ 1) }
+{
     Ok(StartFields {
         stream_id: 1_001,
         session_id: 7,
@@ -36,7 +41,9 @@ fn fields(alloc: Global) -> Result<StartFields, AllocError> {
 }
 
 /// The start of the bank's recording.
-fn start(alloc: Global) -> Result<Entry, AllocError> {
+fn start(alloc: Global) -> Result<Entry, AllocError>
+    ensures { IfOk result (λ entry. IsTrue (is_short entry)) }
+{
     Ok(Entry::Start {
         recording: 0,
         fields: fields(alloc)?,

@@ -4,7 +4,7 @@ use Rattle.disk_core.specs.DiskImage.{reads}
 use Rattle.archive_model.specs.State.{register_of}
 use Rattle.archive_model.specs.Register.{no_recordings}
 use Rattle.catalogue_log.specs.Fold.{after_entries}
-use Rattle.control_core.specs.Desk.{DeskState, opened_desk}
+use Rattle.control_core.specs.Desk.{DeskState}
 use Rattle.control_core.specs.Orderly.{AreLaid}
 use Rattle.engine_core.specs.Engine.{IsTied}
 use Rattle.engine_core.proofs.OpeningLemmas.{whole_refused}

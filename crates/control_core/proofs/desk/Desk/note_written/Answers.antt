@@ -1,4 +1,4 @@
-use Rattle.std.proofs.Common.{◌≡◌, ap, subst}
+use Rattle.std.proofs.Common.{◌≡◌, ap}
 use Rattle.std.specs.Prelude.{IsSomeAnd}
 use Rattle.archive_model.specs.Keyed.{find}
 use Rattle.archive_model.specs.Register.{registration_in}

@@ -1,4 +1,4 @@
-use Rattle.std.proofs.Common.{◌≡◌, ◌∙◌, ◌+◌, ap, refl, subst, sym, take, [], arith}
+use Rattle.std.proofs.Common.{◌∙◌, ◌+◌, refl, subst, sym, take, [], arith}
 use Rattle.std.proofs.lemmas.List.{take_all}
 use Rattle.engine_core.specs.Calls.{IsRun}
 use Rattle.engine_core.specs.Seen.{seen}

@@ -1,16 +1,10 @@
-use Rattle.std.proofs.Common.{rules, ◌≡◌, ◌≢◌, sym, ap, subst, refl, inl, inr, ◌∙◌}
-use Rattle.std.specs.Prelude.{Result, Ok, Err}
-use Rattle.frame_core.specs.declared.refusal.Refusal.{Refusal}
-use Rattle.frame_core.specs.declared.refusal.Refusal.TheVariants.{DeviceFault, NoMemory}
-use Rattle.archive_model.specs.State.{State}
+use Rattle.std.proofs.Common.{rules, ◌≡◌, sym, ap, subst, refl, ◌∙◌}
+use Rattle.std.specs.Prelude.{Err}
 use Rattle.control_core.specs.Changes.{desk_after, reply_after}
-use Rattle.control_core.specs.Decisions.{Allows}
 use Rattle.control_core.specs.Desk.{DeskState}
-use Rattle.control_core.specs.Exact.{archive_after}
-use Rattle.engine_core.specs.Engine.{EngineState, IsTied}
+use Rattle.engine_core.specs.Engine.{IsTied}
 use Rattle.engine_core.specs.Making.{after_failure}
-use Rattle.engine_core.proofs.CommitCallLemmas.{exact_commit, tied_refused}
-use Rattle.engine_core.proofs.MakeLemmas.{IsEntryFor, commits_done, commits_refused, has_room, made_tied, unmade}
+use Rattle.engine_core.proofs.MakeLemmas.{IsEntryFor, commits_done, commits_refused, has_room, made_tied, short_for, unmade}
 use Rattle.engine_core.proofs.engine.Engine.make.Goals as goal
 
 pub returns-in_err-entry-clause-made : goal.returns-in_err-entry-clause-made
@@ -22,6 +16,12 @@ pub returns-in_err-reserve-clause-made : goal.returns-in_err-reserve-clause-made
 returns-in_err-reserve-clause-made g c =
     let is : c.from_residual-in_err-reserve.result ≡ Err c.in_err-reserve.field-0.0 = search rules in
     unmade _ _ _ _ _ c.from_residual-in_err-reserve.result refl refl c.in_err-reserve.ensures.state (is ∙ ap Err c.in_err-reserve.ensures.err)
+
+pub commit-requires-clause-short : goal.commit-requires-clause-short
+commit-requires-clause-short g c =
+    let d = c.args.self.now.desk.state in
+    let entry : IsEntryFor d c.args.command c.in_ok-entry.entry = record { is = λ s next. (let known : s.next ≡ c.next_recording.result = next ∙ sym c.next_recording.ensures in c.in_ok-entry.ensures.ok s (search (rules, known))) } in
+    short_for d c.args.command c.in_ok-entry.entry c.requires.allowed entry
 
 pub commit-requires-clause-works : goal.commit-requires-clause-works
 commit-requires-clause-works g c = c.args.self.now.tied.works c.requires.works

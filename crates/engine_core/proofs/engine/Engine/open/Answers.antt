@@ -1,4 +1,4 @@
-use Rattle.std.proofs.Common.{◌∙◌, Err, ap, refl, subst, sym}
+use Rattle.std.proofs.Common.{◌∙◌, Err, ap, subst, sym}
 use Rattle.disk_core.specs.DiskImage.{reads}
 use Rattle.archive_model.specs.Register.{no_recordings}
 use Rattle.catalogue_log.specs.Fold.{after_entries}

@@ -1,9 +1,8 @@
-use Rattle.std.proofs.Common.{rules, ◌≡◌, ◌≢◌, ◌∙◌, pos, to_z, w64, refl, sym, ap, subst, arith}
+use Rattle.std.proofs.Common.{rules, ◌≡◌, ◌≢◌, ◌∙◌, pos, to_z, w64, ap, arith}
 use Rattle.std.proofs.lemmas.Int.{ints}
 use Rattle.std.proofs.lemmas.Bool.Decides.{nat_tests}
-use Rattle.std.specs.Prelude.{Result, Ok, Err}
+use Rattle.std.specs.Prelude.{Err}
 use Rattle.archive_model.specs.Register.{active_count}
-use Rattle.engine_core.specs.Making.{Restarts}
 use Rattle.engine_core.proofs.RestartLemmas.{restarts_done, restarts_none, restarts_refused}
 use Rattle.engine_core.proofs.engine.Engine.restart.Goals as goal
 

@@ -6,21 +6,21 @@ use Rattle.catalogue_log.specs.declared.entry.Entry.TheVariants as entries
 use Rattle.engine_core.specs.Engine.{EngineState, IsTied}
 use Rattle.engine_core.specs.Seen.{seen}
 use Rattle.engine_core.proofs.CommitCallLemmas.{tied_refused}
-use Rattle.engine_core.proofs.SettleCallLemmas.{SettlesTo, asked, settled_layout, settled_start, settled_there, settled_tied, settles, settling_done, settling_failed, settling_room, settling_works}
+use Rattle.engine_core.proofs.SettleCallLemmas.{SettlesTo, asked, settled_layout, settled_start, settled_tied, settles, settling_done, settling_failed, settling_room, settling_works}
 use Rattle.engine_core.proofs.engine.Engine.settle_blocks.Goals as goal
 
 pub settle-requires-clause-layout : goal.settle-requires-clause-layout
 settle-requires-clause-layout g c =
-    subst IsLayout (sym c.layout_of-layout.ensures)
-    (settled_layout c.args.self.now.desk.state c.args.session.now c.args.recording.now c.args.written.now c.in-Some.known.now c.in-Some.ensures.keeps c.requires.decided c.in-Some.ensures.found)
+    subst IsLayout (sym c.requires.laid.2)
+    (settled_layout c.args.self.now.desk.state c.args.session.now c.args.recording.now c.args.written.now c.requires.laid.0 c.requires.keeps c.requires.decided c.requires.laid.1)
 
 pub settle-requires-clause-recorded : goal.settle-requires-clause-recorded
 settle-requires-clause-recorded g c =
     let at = to_z w64 (of_z w64 c.args.written.now.first) in
     let same : c.args.written.now.first ≡ at = search rules in
-    subst (λ (p : ℤ). IsFromStart c.layout_of-layout.result p) same
-    (subst (λ (l : Layout). IsFromStart l c.args.written.now.first) (sym c.layout_of-layout.ensures)
-    (settled_start c.args.self.now.desk.state c.args.session.now c.args.recording.now c.args.written.now c.in-Some.known.now c.in-Some.ensures.keeps c.requires.decided c.in-Some.ensures.found))
+    subst (λ (p : ℤ). IsFromStart c.args.layout.now p) same
+    (subst (λ (l : Layout). IsFromStart l c.args.written.now.first) (sym c.requires.laid.2)
+    (settled_start c.args.self.now.desk.state c.args.session.now c.args.recording.now c.args.written.now c.requires.laid.0 c.requires.keeps c.requires.decided c.requires.laid.1))
 
 pub settle-requires-clause-works : goal.settle-requires-clause-works
 settle-requires-clause-works g c = settling_works c.args.self.now.storage.log c.args.self.now.desk.state c.args.session.now c.args.recording.now c.args.written.now c.args.self.now.tied c.requires.decided
@@ -28,10 +28,6 @@ settle-requires-clause-works g c = settling_works c.args.self.now.storage.log c.
 pub settle-requires-clause-room : goal.settle-requires-clause-room
 settle-requires-clause-room g c = settling_room c.args.self.now.storage.log c.args.self.now.desk.state c.args.session.now c.args.recording.now c.args.written.now
     (entries.Settle (to_z w64 (of_z w64 c.args.recording.now)) (to_z w64 (of_z w64 c.args.written.now.last))) c.args.self.now.tied c.requires.decided
-
-pub returns-in_default-clause-settled : goal.returns-in_default-clause-settled
-returns-in_default-clause-settled g c =
-    absurd (settled_there c.args.self.now.desk.state c.args.session.now c.args.recording.now c.args.written.now c.in_default.ensures.keeps c.requires.decided c.in_default.ensures.found)
 
 pub settle-requires-in-Ok-clause-room : goal.settle-requires-in-Ok-clause-room
 settle-requires-in-Ok-clause-room g c = (settles c.args.self.now.desk.state c.args.session.now c.args.recording.now c.args.written.now c.requires.decided).room
@@ -43,14 +39,14 @@ invariant_of-self g c =
     let n = c.args.session.now in
     let id = c.args.recording.now in
     let w = c.args.written.now in
-    let layout = c.layout_of-layout.result in
+    let layout = c.args.layout.now in
     let first = to_z w64 (of_z w64 w.first) in
     let last = to_z w64 (of_z w64 w.last) in
     let number = to_z w64 (of_z w64 id) in
     let same_first : w.first ≡ first = search rules in
     let same_last : w.last ≡ last = search rules in
     let same_id : id ≡ number = search rules in
-    let asks = asked desk n id w layout first last number c.in-Some.known.now c.requires.decided c.in-Some.ensures.found c.layout_of-layout.ensures same_first same_last same_id in
+    let asks = asked desk n id w layout first last number c.requires.laid.0 c.requires.decided c.requires.laid.1 c.requires.laid.2 same_first same_last same_id in
     record { tied = settled_tied log desk n id w layout first (entries.Settle number last) c.args.self.now.tied asks c.settle.new.self.log c.settle-in-Ok.new.self.state c.in-Ok.ensures.adds.header c.in-Ok.ensures.adds.works c.in-Ok.ensures.adds.counted c.settle-in-Ok.ensures }
 
 pub returns-in-Ok-clause-settled : goal.returns-in-Ok-clause-settled
@@ -61,7 +57,7 @@ returns-in-Ok-clause-settled g c =
     let n = c.args.session.now in
     let id = c.args.recording.now in
     let w = c.args.written.now in
-    let layout = c.layout_of-layout.result in
+    let layout = c.args.layout.now in
     let first = to_z w64 (of_z w64 w.first) in
     let last = to_z w64 (of_z w64 w.last) in
     let number = to_z w64 (of_z w64 id) in
@@ -69,7 +65,7 @@ returns-in-Ok-clause-settled g c =
     let same_last : w.last ≡ last = search rules in
     let same_id : id ≡ number = search rules in
     let entry = entries.Settle number last in
-    let asks = asked old.desk n id w layout first last number c.in-Some.known.now c.requires.decided c.in-Some.ensures.found c.layout_of-layout.ensures same_first same_last same_id in
+    let asks = asked old.desk n id w layout first last number c.requires.laid.0 c.requires.decided c.requires.laid.1 c.requires.laid.2 same_first same_last same_id in
     subst (λ (z : ℤ). SettlesTo old new n id w layout first entry c.args.self.now.tied asks c.in-Ok.ensures.keeps (Ok (replies.Settled z))) same_last
     (settling_done old new n id w layout first entry c.args.self.now.tied asks c.in-Ok.ensures.keeps c.in-Ok.ensures.adds c.settle-in-Ok.ensures c.in-Ok.ensures.moves)
 
@@ -85,12 +81,12 @@ returns-clause-settled g c =
     let n = c.args.session.now in
     let id = c.args.recording.now in
     let w = c.args.written.now in
-    let layout = c.layout_of-layout.result in
+    let layout = c.args.layout.now in
     let first = to_z w64 (of_z w64 w.first) in
     let last = to_z w64 (of_z w64 w.last) in
     let number = to_z w64 (of_z w64 id) in
     let same_first : w.first ≡ first = search rules in
     let same_last : w.last ≡ last = search rules in
     let same_id : id ≡ number = search rules in
-    let asks = asked old.desk n id w layout first last number c.in-Some.known.now c.requires.decided c.in-Some.ensures.found c.layout_of-layout.ensures same_first same_last same_id in
+    let asks = asked old.desk n id w layout first last number c.requires.laid.0 c.requires.decided c.requires.laid.1 c.requires.laid.2 same_first same_last same_id in
     settling_failed old new n id w layout first (entries.Settle number last) c.args.self.now.tied asks c.in-Err.ensures.keeps c.in-Err.refusal c.failed.result c.failed.ensures.same c.in-Err.ensures.adds c.in-Err.ensures.quiet c.failed.ensures.state c.in-Err.ensures.moves

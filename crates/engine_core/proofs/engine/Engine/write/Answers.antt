@@ -11,14 +11,16 @@ use Rattle.engine_core.specs.Engine.{EngineState}
 use Rattle.engine_core.specs.Making.{after_failure}
 use Rattle.engine_core.specs.Seen.{seen}
 use Rattle.engine_core.proofs.WriteCallLemmas.{write_done, write_fails, write_refuses, write_untargeted}
-use Rattle.engine_core.proofs.WritingLemmas.{from_start, lies_behind, span_same, span_to, target_layout}
+use Rattle.engine_core.proofs.WritingLemmas.{from_start, lies_behind, span_same, span_to, target_is, target_layout, untargeted}
 use Rattle.engine_core.proofs.engine.Engine.write.Goals as goal
 
 pub returns-in_default : goal.returns-in_default
 returns-in_default g c =
+    let e = seen g.D.Disk.life c.args.self.now in
     let at = to_z w64 (of_z w64 c.args.block.now.position) in
     let nothing : Written = record { first = at; last = at } in
-    record { answers = write_untargeted (seen g.D.Disk.life c.args.self.now) c.args.session.now c.args.block.now nothing c.decide_write.result (search rules) c.decide_write.ensures; restarted = refl }
+    let none = untargeted e.desk c.args.session.now c.args.block.now _ c.session-writer.ensures.found c.in_default.ensures in
+    record { answers = write_untargeted e c.args.session.now c.args.block.now nothing c.decide_write.result none (search rules); restarted = refl }
 
 pub returns-in_err-reply : goal.returns-in_err-reply
 returns-in_err-reply g c =
@@ -27,28 +29,26 @@ returns-in_err-reply g c =
     let decided : Err c.in_err-reply.field-0.0 ≡ write_decision e.desk c.args.session.now (span_to c.args.block.now c.in-Some.target.end) true = search rules in
     record {
       answers = subst (λ o. AnswersEvent e e (events.Write c.args.session.now c.args.block.now) o) (sym is)
-          (write_refuses e c.args.session.now c.args.block.now c.in-Some.target.layout c.in-Some.target.end c.in-Some.ensures.target c.in_err-reply.field-0.0 decided);
+          (write_refuses e c.args.session.now c.args.block.now c.layout_of-layout.result c.in-Some.target.end (target_is _ _ _ _ _ _ _ c.session-writer.ensures.found c.session-writer.ensures.keeps c.in-Some.ensures c.layout_of-layout.ensures) c.in_err-reply.field-0.0 decided);
       restarted = refl;
     }
 
 pub write-requires-clause-layout : goal.write-requires-clause-layout
-write-requires-clause-layout g c = target_layout c.args.self.now.desk.state c.args.session.now c.args.block.now c.in-Some.target.layout c.in-Some.target.end c.in-Some.ensures.target
+write-requires-clause-layout g c = target_layout c.args.self.now.desk.state c.args.session.now c.args.block.now c.layout_of-layout.result c.in-Some.target.end (target_is _ _ _ _ _ _ _ c.session-writer.ensures.found c.session-writer.ensures.keeps c.in-Some.ensures c.layout_of-layout.ensures)
 
 pub write-requires-clause-recorded : goal.write-requires-clause-recorded
 write-requires-clause-recorded g c =
     let decided : Ok c.in_ok-reply.reply ≡ write_decision c.args.self.now.desk.state c.args.session.now (span_to c.args.block.now c.in-Some.target.end) true = search rules in
-    from_start c.args.self.now.desk.state c.args.session.now c.args.block.now c.in-Some.target.layout c.in-Some.target.end c.in-Some.ensures.target c.in_ok-reply.reply decided
+    from_start c.args.self.now.desk.state c.args.session.now c.args.block.now c.layout_of-layout.result c.in-Some.target.end (target_is _ _ _ _ _ _ _ c.session-writer.ensures.found c.session-writer.ensures.keeps c.in-Some.ensures c.layout_of-layout.ensures) c.in_ok-reply.reply decided
 
 pub note_written-requires-clause-behind : goal.note_written-requires-clause-behind
 note_written-requires-clause-behind g c =
     let d = c.args.self.now.desk.state in
     let decided : Ok c.in_ok-reply.reply ≡ write_decision d c.args.session.now (span_to c.args.block.now c.in-Some.target.end) true = search rules in
-    let at = to_z w64 (of_z w64 c.args.block.now.position) in
     let to = to_z w64 (of_z w64 c.in-Some.target.end) in
-    let same_at : c.args.block.now.position ≡ at = search rules in
     let same_to : c.in-Some.target.end ≡ to = search rules in
-    subst (λ (w : Written). IsSomeAnd (session_in d c.args.session.now) (λ s. IsSomeAnd (registration_in d.register s.recording) (LiesBehind (with_block w s.written)))) (sym (span_same c.args.block.now c.in-Some.target.end at to same_at same_to))
-    (lies_behind d c.args.session.now c.args.block.now c.in-Some.target.layout c.in-Some.target.end c.in-Some.ensures.target c.in_ok-reply.reply decided)
+    subst (λ (w : Written). IsSomeAnd (session_in d c.args.session.now) (λ s. IsSomeAnd (registration_in d.register s.recording) (LiesBehind (with_block w s.written)))) (sym (c.span_of-span.ensures ∙ span_same c.args.block.now c.in-Some.target.end c.args.block.now.position to refl same_to))
+    (lies_behind d c.args.session.now c.args.block.now c.layout_of-layout.result c.in-Some.target.end (target_is _ _ _ _ _ _ _ c.session-writer.ensures.found c.session-writer.ensures.keeps c.in-Some.ensures c.layout_of-layout.ensures) c.in_ok-reply.reply decided)
 
 pub returns-in-Ok : goal.returns-in-Ok
 returns-in-Ok g c =
@@ -56,13 +56,11 @@ returns-in-Ok g c =
     let old = seen life c.args.self.now in
     let new : EngineState = record { life = life c.write.new.self.disk; log = c.write.new.self.log; desk = c.note_written.new.self.state } in
     let decided : Ok c.in_ok-reply.reply ≡ write_decision old.desk c.args.session.now (span_to c.args.block.now c.in-Some.target.end) true = search rules in
-    let at = to_z w64 (of_z w64 c.args.block.now.position) in
     let to = to_z w64 (of_z w64 c.in-Some.target.end) in
-    let same_at : c.args.block.now.position ≡ at = search rules in
     let same_to : c.in-Some.target.end ≡ to = search rules in
-    let noted = c.note_written.ensures ∙ ap (λ w. after_write c.args.session.now w old.desk) (span_same c.args.block.now c.in-Some.target.end at to same_at same_to) in
+    let noted = c.note_written.ensures ∙ ap (λ w. after_write c.args.session.now w old.desk) (c.span_of-span.ensures ∙ span_same c.args.block.now c.in-Some.target.end c.args.block.now.position to refl same_to) in
     record {
-      answers = write_done old c.args.session.now c.args.block.now c.in-Some.target.layout c.in-Some.target.end c.in-Some.ensures.target new c.in_ok-reply.reply decided (Ok tt) c.in-Ok.ensures.changes c.in-Ok.ensures.moves c.in-Ok.ensures.stays refl noted
+      answers = write_done old c.args.session.now c.args.block.now c.layout_of-layout.result c.in-Some.target.end (target_is _ _ _ _ _ _ _ c.session-writer.ensures.found c.session-writer.ensures.keeps c.in-Some.ensures c.layout_of-layout.ensures) new c.in_ok-reply.reply decided (Ok tt) c.in-Ok.ensures.changes c.in-Ok.ensures.moves c.in-Ok.ensures.stays refl noted
           c.in-Ok.ensures.written;
       restarted = refl;
     }
@@ -75,7 +73,7 @@ returns-in-Err g c =
     let decided : Ok c.in_ok-reply.reply ≡ write_decision old.desk c.args.session.now (span_to c.args.block.now c.in-Some.target.end) true = search rules in
     let fault = c.in-Err.ensures.refusal in
     record {
-      answers = write_fails old c.args.session.now c.args.block.now c.in-Some.target.layout c.in-Some.target.end c.in-Some.ensures.target new c.in_ok-reply.reply decided (Err c.in-Err.refusal) c.in-Err.ensures.changes c.in-Err.ensures.moves c.in-Err.ensures.stays
+      answers = write_fails old c.args.session.now c.args.block.now c.layout_of-layout.result c.in-Some.target.end (target_is _ _ _ _ _ _ _ c.session-writer.ensures.found c.session-writer.ensures.keeps c.in-Some.ensures c.layout_of-layout.ensures) new c.in_ok-reply.reply decided (Err c.in-Err.refusal) c.in-Err.ensures.changes c.in-Err.ensures.moves c.in-Err.ensures.stays
           c.failed.result (c.failed.ensures.same ∙ fault) c.in-Err.ensures.cause (c.failed.ensures.state ∙ ap (λ refusal. after_failure refusal old.desk) fault);
       restarted = refl;
     }
