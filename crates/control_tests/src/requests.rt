@@ -26,7 +26,8 @@ fn request_of(alloc: Global, line: &[u8]) -> Result<Request, Refusal> {
 
 #[test]
 fn a_start_is_accepted(rt: HostRuntime) -> Result<(), Fail> {
-    let decision = decide(rt.alloc(), &Desk::new(rt.alloc(), 1), &start(rt.alloc())?);
+    let desk = Desk::new(rt.alloc(), 1);
+    let decision = decide(rt.alloc(), &desk, &start(rt.alloc())?);
     assert!(rt; matches!(decision, Decision::Accepted(Command::Start(_))));
     Ok(())
 }
@@ -34,7 +35,8 @@ fn a_start_is_accepted(rt: HostRuntime) -> Result<(), Fail> {
 #[test]
 fn nothing_is_listed(rt: HostRuntime) {
     let request = Request::List { from: 0, count: 10 };
-    let decision = decide(rt.alloc(), &Desk::new(rt.alloc(), 1), &request);
+    let desk = Desk::new(rt.alloc(), 1);
+    let decision = decide(rt.alloc(), &desk, &request);
     assert!(rt; matches!(decision, Decision::Answered(Reply::Recordings(_))));
 }
 
@@ -46,7 +48,8 @@ fn nothing_is_found(rt: HostRuntime) -> Result<(), Fail> {
         session_id: 7,
         fragment: Channel::new(String::from_str(rt.alloc(), "c")?),
     });
-    let decision = decide(rt.alloc(), &Desk::new(rt.alloc(), 1), &request);
+    let desk = Desk::new(rt.alloc(), 1);
+    let decision = decide(rt.alloc(), &desk, &request);
     assert!(rt; matches!(decision, Decision::Answered(Reply::Found { recording: -1 })));
     Ok(())
 }
@@ -63,7 +66,8 @@ fn is_unknown(decision: &Decision) -> bool {
 #[test]
 fn a_full_history_refuses_a_start(rt: HostRuntime) -> Result<(), Fail> {
     let request = start(rt.alloc())?;
-    let decision = decide(rt.alloc(), &Desk::new(rt.alloc(), 0), &request);
+    let desk = Desk::new(rt.alloc(), 0);
+    let decision = decide(rt.alloc(), &desk, &request);
     assert!(rt; is_full(&decision));
     Ok(())
 }
@@ -71,12 +75,13 @@ fn a_full_history_refuses_a_start(rt: HostRuntime) -> Result<(), Fail> {
 #[test]
 fn no_recording_is_purged(rt: HostRuntime) {
     let request = Request::PurgeRecording { recording: 5 };
-    let decision = decide(rt.alloc(), &Desk::new(rt.alloc(), 0), &request);
+    let desk = Desk::new(rt.alloc(), 0);
+    let decision = decide(rt.alloc(), &desk, &request);
     assert!(rt; is_unknown(&decision));
 }
 
 /// Asked for again, where a request for memory was refused.
-fn decided(alloc: Global, desk: &Desk, request: &Request) -> Decision {
+fn decided<'a>(alloc: Global, desk: &'a Desk, request: &Request) -> Decision<'a> {
     match decide(alloc, desk, request) {
         Decision::Refused(Refusal::NoMemory) => decide(alloc, desk, request),
         decision => decision,
@@ -94,7 +99,8 @@ fn started(alloc: Global) -> Result<Request, Refusal> {
 #[test]
 fn refused_memory_at_a_decision(rt: HostRuntime) -> Result<(), Fail> {
     let request = started(rt.alloc())?;
-    let decision = decided(rt.alloc(), &Desk::new(rt.alloc(), 1), &request);
+    let desk = Desk::new(rt.alloc(), 1);
+    let decision = decided(rt.alloc(), &desk, &request);
     assert!(rt; matches!(decision, Decision::Accepted(_)));
     Ok(())
 }
