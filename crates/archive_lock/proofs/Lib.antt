@@ -3,3 +3,5 @@ mod RunLemmas
 mod HistoryLemmas
 mod SpanLemmas
 mod HeldLemmas
+mod KeptLemmas
+mod DurableLemmas

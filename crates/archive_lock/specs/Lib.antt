@@ -1,7 +1,8 @@
--- What a reader has to believe: legal histories and where they lead, what is stored of a call, and what a closed archive
--- gives.
+-- What a reader has to believe: legal histories and where they lead, what stays of what was settled, what is stored of a
+-- call, and what a closed archive gives.
 pub mod History
 pub mod Leading
+pub mod Durable
 pub mod Records
 pub mod Closing
 -- What lies under the lock, and the name of no archive.
