@@ -3,10 +3,10 @@
 ghost use Rattle.std.specs.Prelude.{◌≡◌, []};
 ghost use Rattle.archive_lock.specs.Held.{engine_seen, view_of};
 
-use crate::calls::{event_in, made, told};
+use crate::seat::Seat;
 use archive_lock::{Call, Made, MissingPass, Naming, SharedArchive};
-use call_history::{Opened, Pass, Stored};
-use disk_core::Disk;
+use call_history::{Opened, Stored};
+use disk_core::{Disk, MemoryDisk};
 use engine_core::Engine;
 use frame_core::Refusal;
 use std::alloc::Global;
@@ -16,122 +16,132 @@ use std::sync::Wait;
 use std::test::Fail;
 use std::thread::{Threads, join};
 
-/// What an archive answers to a line, as lines.
-fn answered<D: Disk, A: Naming, R: Wait>(
-    rt: &R,
-    alloc: Global,
-    archive: &SharedArchive<D, A>,
-    pass: &mut Pass<Made>,
-    line: &str,
-) -> Result<Vec<u8>, Refusal>
-    requires { pass.old.table ≡ A.table }
-    ensures { pass.new.table ≡ pass.old.table }
-{
-    let event = event_in(alloc, line)?;
-    let outcome = archive.call(rt, alloc, pass, &event);
-    told(alloc, &outcome)
-}
-
-/// How many calls were stored, and whether by their records.
-fn stored(history: &Stored<Call>) -> (u64, bool) {
-    match history {
-        Stored::Kept(records) => (records.len() as u64, true),
-        Stored::Counted(number) => (*number, false),
-    }
+/// What is played on an archive with two seats.
+#[derive(Clone, Copy)]
+enum Scenario {
+    MissingPass,
+    BoundedPart,
+    Break,
 }
 
 #[test]
 fn a_missing_pass(rt: HostRuntime) -> Result<(), Fail> {
-    two_threads(&rt, rt.alloc(), true)?;
-    two_threads(&rt, rt.alloc(), false)
+    both(&rt, rt.alloc(), Scenario::MissingPass)
 }
 
-fn two_threads<R: Threads + Wait + Abort + Sync>(
+#[test]
+fn bounded_part_of_a_recording(rt: HostRuntime) -> Result<(), Fail> {
+    both(&rt, rt.alloc(), Scenario::BoundedPart)
+}
+
+#[test]
+fn an_archive_that_breaks(rt: HostRuntime) -> Result<(), Fail> {
+    both(&rt, rt.alloc(), Scenario::Break)
+}
+
+/// Where records are kept, and where calls are counted alone.
+fn both<R: Threads + Wait + Abort + Sync>(
     rt: &R,
     alloc: Global,
-    keeps: bool,
+    scenario: Scenario,
 ) -> Result<(), Fail> {
-    let engine = made(alloc)?;
-    name_three(rt, alloc, keeps, engine)
+    opened(rt, alloc, true, made(alloc, scenario)?, scenario)?;
+    opened(rt, alloc, false, made(alloc, scenario)?, scenario)
 }
 
-fn name_three<D: Disk + Drop + Send, R: Threads + Wait + Abort + Sync>(
+/// A new archive in memory; the disk of the one that breaks fails at the first call of the second settling.
+fn made(alloc: Global, scenario: Scenario) -> Result<Engine<MemoryDisk>, Refusal> {
+    let mut disk = MemoryDisk::new(alloc);
+    if matches!(scenario, Scenario::Break) {
+        disk.fail_at(19);
+    }
+    Engine::create(alloc, disk, 64).map_err(|refused| refused.refusal)
+}
+
+fn opened<D: Disk + Drop + Send, R: Threads + Wait + Abort + Sync>(
     rt: &R,
     alloc: Global,
     keeps: bool,
     engine: Engine<D>,
+    scenario: Scenario,
 ) -> Result<(), Fail> {
     let Ok(opened) = Opened::new(alloc, keeps) else {
         return Err(Fail::from("opened"));
     };
-    three_calls::<D, Brand, R>(rt, alloc, keeps, opened, engine)
+    shared::<D, Brand, R>(rt, alloc, opened, engine, scenario)
 }
 
-fn three_calls<D: Disk + Drop + Send, A: Naming + Send + Sync, R: Threads + Wait + Abort + Sync>(
+fn shared<D: Disk + Drop + Send, A: Naming + Send + Sync, R: Threads + Wait + Abort + Sync>(
     rt: &R,
     alloc: Global,
-    keeps: bool,
     opened: Opened<Made>,
     engine: Engine<D>,
+    scenario: Scenario,
 ) -> Result<(), Fail>
     requires named { opened.table ≡ A.table }
     requires stores { opened.keeps ≡ A.keeps }
     requires opens { engine_seen D.life (view_of engine []) ≡ A.opening }
 {
     let Ok((archive, mut passes)) = SharedArchive::<D, A>::new(alloc, opened, engine, 2) else {
-        return Err(Fail::from("made"));
+        return Err(Fail::from("shared"));
     };
-    let second = passes.pop().ok_or("two passes")?;
-    let first = passes.pop().ok_or("two passes")?;
+    let second = Seat::new(passes.pop().ok_or("two passes")?);
+    let first = Seat::new(passes.pop().ok_or("two passes")?);
+    match scenario {
+        Scenario::MissingPass => missing_pass(rt, alloc, archive, first, second),
+        Scenario::BoundedPart => bounded_part(rt, alloc, archive, first, second),
+        Scenario::Break => breaks(rt, alloc, archive, first, second),
+    }
+}
+
+/// How many calls were stored.
+fn stored(history: &Stored<Call>) -> u64 {
+    match history {
+        Stored::Kept(records) => records.len() as u64,
+        Stored::Counted(number) => *number,
+    }
+}
+
+/// The archive closes with both seats, behind so many calls.
+fn closes<D: Disk + Drop, A: Naming, R: Abort>(
+    rt: &R,
+    alloc: Global,
+    archive: SharedArchive<D, A>,
+    first: Seat<A>,
+    second: Seat<A>,
+    calls: u64,
+) -> Result<(), Fail> {
+    let mut given = Vec::new(alloc);
+    given.push(first.into_pass())?;
+    given.push(second.into_pass())?;
+    let Ok(closed) = archive.close(given) else {
+        return Err(Fail::from("both passes are given"));
+    };
+    assert!(rt; stored(&closed.history) == calls);
+    Ok(())
+}
+
+const STARTED: &str = "\
+start 1001 7 42 65536 1408 131072 0 1000 c: started 0 0
+positions 0: positions 0 0 -1
+";
+
+/// Two threads call; the archive is closed with one pass, and then with both.
+fn missing_pass<D: Disk + Drop + Send, A: Naming + Send + Sync, R: Threads + Wait + Abort + Sync>(
+    rt: &R,
+    alloc: Global,
+    archive: SharedArchive<D, A>,
+    first: Seat<A>,
+    second: Seat<A>,
+) -> Result<(), Fail> {
     let shared = &archive;
     let (first, second) = join(
         rt,
-        move || start_and_look(rt, alloc, shared, first),
-        move || list(rt, alloc, shared, second),
+        move || played(rt, alloc, shared, first, STARTED),
+        move || listed(rt, alloc, shared, second),
     );
-    close_twice(rt, alloc, keeps, archive, first, second)
-}
-
-fn start_and_look<D: Disk, A: Naming, R: Wait>(
-    rt: &R,
-    alloc: Global,
-    archive: &SharedArchive<D, A>,
-    mut pass: Pass<Made>,
-) -> Pass<Made>
-    requires { pass.table ≡ A.table }
-    ensures { result.table ≡ A.table }
-{
-    let _ = answered(rt, alloc, archive, &mut pass, "start");
-    let _ = answered(rt, alloc, archive, &mut pass, "positions 0");
-    pass
-}
-
-fn list<D: Disk, A: Naming, R: Wait>(
-    rt: &R,
-    alloc: Global,
-    archive: &SharedArchive<D, A>,
-    mut pass: Pass<Made>,
-) -> Pass<Made>
-    requires { pass.table ≡ A.table }
-    ensures { result.table ≡ A.table }
-{
-    let _ = answered(rt, alloc, archive, &mut pass, "list 0 10");
-    pass
-}
-
-fn close_twice<D: Disk + Drop, A: Naming, R: Abort>(
-    rt: &R,
-    alloc: Global,
-    keeps: bool,
-    archive: SharedArchive<D, A>,
-    first: Pass<Made>,
-    second: Pass<Made>,
-) -> Result<(), Fail>
-    requires first { first.table ≡ A.table }
-    requires second { second.table ≡ A.table }
-{
     let mut given = Vec::new(alloc);
-    given.push(first)?;
+    given.push(first?.into_pass())?;
     let Err(left) = archive.close(given) else {
         return Err(Fail::from("one call is missing"));
     };
@@ -141,92 +151,93 @@ fn close_twice<D: Disk + Drop, A: Naming, R: Abort>(
         missing,
     } = left;
     assert!(rt; missing == 1);
-    given.push(second)?;
+    given.push(second.into_pass())?;
     let Ok(closed) = archive.close(given) else {
         return Err(Fail::from("all passes are given"));
     };
-    assert!(rt; stored(&closed.history) == (3, keeps));
+    assert!(rt; stored(&closed.history) == 3);
     Ok(())
 }
 
+fn played<D: Disk, A: Naming, R: Wait + Abort>(
+    rt: &R,
+    alloc: Global,
+    archive: &SharedArchive<D, A>,
+    mut seat: Seat<A>,
+    script: &str,
+) -> Result<Seat<A>, Fail> {
+    seat.plays(rt, alloc, archive, script)?;
+    Ok(seat)
+}
+
+/// A listing, of whatever is there by then.
+fn listed<D: Disk, A: Naming, R: Wait>(
+    rt: &R,
+    alloc: Global,
+    archive: &SharedArchive<D, A>,
+    mut seat: Seat<A>,
+) -> Seat<A> {
+    let _ = seat.answer(rt, alloc, archive, "list 0 10");
+    seat
+}
+
 const BOUNDED_PART: &str = "\
-start: started 0 0
-write 0 0: written 64
-settle 0: settled 64
-write 0 64: written 128
-settle 0: settled 128
-write 0 128: written 192
-settle 0: settled 192
+start 1001 7 42 65536 1408 131072 0 1000 c: started 0 0
+block 0 2500000000c001000000000007000000e90300002a000000000000000000000068656c6c6f: settled 64
+block 0 2500000000c001004000000007000000e90300002a000000000000000000000068656c6c6f: settled 128
+block 0 2500000000c001008000000007000000e90300002a000000000000000000000068656c6c6f: settled 192
 replay 0 64 65: replay 0
 poll 0 10: frame 64 2500000000c001004000000007000000e90300002a000000000000000000000068656c6c6f
 frame 128 2500000000c001008000000007000000e90300002a000000000000000000000068656c6c6f
 done
 ";
 
-#[test]
-fn bounded_part_of_a_recording(rt: HostRuntime) -> Result<(), Fail> {
-    let engine = made(rt.alloc())?;
-    one_thread(&rt, rt.alloc(), true, engine)?;
-    let engine = made(rt.alloc())?;
-    one_thread(&rt, rt.alloc(), false, engine)
-}
-
-fn one_thread<D: Disk + Drop + Send, R: Wait + Abort>(
+fn bounded_part<D: Disk + Drop, A: Naming, R: Wait + Abort>(
     rt: &R,
     alloc: Global,
-    keeps: bool,
-    engine: Engine<D>,
+    archive: SharedArchive<D, A>,
+    mut first: Seat<A>,
+    second: Seat<A>,
 ) -> Result<(), Fail> {
-    let Ok(opened) = Opened::new(alloc, keeps) else {
-        return Err(Fail::from("opened"));
-    };
-    play::<D, Brand, R>(rt, alloc, keeps, opened, engine)
+    first.plays(rt, alloc, &archive, BOUNDED_PART)?;
+    closes(rt, alloc, archive, first, second, 9)
 }
 
-fn play<D: Disk + Drop + Send, A: Naming, R: Wait + Abort>(
-    rt: &R,
-    alloc: Global,
-    keeps: bool,
-    opened: Opened<Made>,
-    engine: Engine<D>,
-) -> Result<(), Fail>
-    requires named { opened.table ≡ A.table }
-    requires stores { opened.keeps ≡ A.keeps }
-    requires opens { engine_seen D.life (view_of engine []) ≡ A.opening }
-{
-    let Ok((archive, mut passes)) = SharedArchive::<D, A>::new(alloc, opened, engine, 1) else {
-        return Err(Fail::from("made"));
-    };
-    let mut pass = passes.pop().ok_or("a pass")?;
-    let text = transcript(rt, alloc, &archive, &mut pass)?;
-    assert!(rt; text.as_slice() == BOUNDED_PART.as_bytes());
-    let mut given = Vec::new(alloc);
-    given.push(pass)?;
-    let Ok(closed) = archive.close(given) else {
-        return Err(Fail::from("all passes are given"));
-    };
-    assert!(rt; stored(&closed.history) == (9, keeps));
-    Ok(())
-}
+const BREAK: &str = "\
+start 1001 7 42 65536 1408 131072 0 1000 c: started 0 0
+block 0 2500000000c001000000000007000000e90300002a000000000000000000000068656c6c6f: settled 64
+block 0 2500000000c001004000000007000000e90300002a000000000000000000000068656c6c6f: error 17 DeviceFault
+";
 
-/// The transcript of the calls of the script.
-fn transcript<D: Disk, A: Naming, R: Wait>(
+const BROKEN: &str = "\
+start 1001 7 42 65536 1408 131072 0 1000 c: error 16 Broken
+block 0 2500000000c001004000000007000000e90300002a000000000000000000000068656c6c6f: error 16 Broken
+settle 0: error 16 Broken
+stop 0 2000: error 16 Broken
+truncate 0 0: error 16 Broken
+sweep: error 16 Broken
+positions 0: positions 0 64 -1
+verify 0: verified 1
+";
+
+const BROKEN_REPLAY: &str = "\
+replay 0 0 -1: replay 0
+poll 0 10: frame 0 2500000000c001000000000007000000e90300002a000000000000000000000068656c6c6f
+more 64
+close 0: closed
+";
+
+/// A settling's write fails: no pass writes from then on, each reads what was recorded before, and the archive closes.
+fn breaks<D: Disk + Drop, A: Naming, R: Wait + Abort>(
     rt: &R,
     alloc: Global,
-    archive: &SharedArchive<D, A>,
-    pass: &mut Pass<Made>,
-) -> Result<Vec<u8>, Refusal>
-    requires { pass.old.table ≡ A.table }
-    ensures { pass.new.table ≡ pass.old.table }
-{
-    let mut text = Vec::new(alloc);
-    for line in BOUNDED_PART.lines() {
-        if let Some((call, _)) = line.split_once(": ") {
-            let mut lines = answered(rt, alloc, archive, pass, call)?;
-            text.extend_from_slice(call.as_bytes())?;
-            text.extend_from_slice(b": ")?;
-            text.append(&mut lines)?;
-        }
-    }
-    Ok(text)
+    archive: SharedArchive<D, A>,
+    mut first: Seat<A>,
+    mut second: Seat<A>,
+) -> Result<(), Fail> {
+    first.plays(rt, alloc, &archive, BREAK)?;
+    second.plays(rt, alloc, &archive, BROKEN)?;
+    first.plays(rt, alloc, &archive, BROKEN)?;
+    second.plays(rt, alloc, &archive, BROKEN_REPLAY)?;
+    closes(rt, alloc, archive, first, second, 22)
 }
