@@ -4,12 +4,13 @@
 Usage: bench/threads.py [--runs N]. First: cd crates/lock_trials && rt run -- memory 1 1
 
 Blocks of nearly 64 KiB over a folder, on the file system of TRIAL_ROOM, else that of TMPDIR, and blocks of 64 bytes over
-memory and over a folder; each is written and settled, and its bytes are made before. Ways come in turn, and medians are
-compared: the engine alone, one thread under the lock where records are kept and where calls are counted, and four threads
+memory and over a folder; each is written and settled, and its bytes are made before. Ways come in turn, each first now and then, and
+medians are compared: the engine alone, one thread under the lock where records are kept and where calls are counted, and four threads
 that each settle a quarter into their own recording. Status 1 where a ratio is below its goal.
 """
 import argparse
 import os
+import shutil
 import statistics
 import subprocess
 import sys
@@ -39,12 +40,15 @@ def rates(work: Path, load: str, disk: str, blocks: int, runs: int) -> dict[str,
     """The median of each way, of runs in turn."""
     told: dict[str, list[float]] = {how: [] for how in ("engine", "call", "counted", "four")}
     for index in range(runs):
-        for how, of_way in told.items():
+        turn = [*told, *told][index % len(told) :][: len(told)]  # each way comes first now and then
+        for how in turn:
             place: Path | str = disk
             if disk == "folder":
-                place = work / f"{load}-{how}-{index}"
+                place = work / how
                 place.mkdir()
-            of_way.append(rate(how, place, load, blocks))
+            told[how].append(rate(how, place, load, blocks))
+            if disk == "folder":
+                shutil.rmtree(place)
     return {how: statistics.median(of_way) for how, of_way in told.items()}
 
 

@@ -140,7 +140,9 @@ class Storm:
         told = self.write(20, None)
         expect("a process at its end", told, [f"closed {self.calls - before}", "0"])
         self.look()
-        expect("verify", run([self.tool, "verify", self.folder]), [f"verified {each.settled // FRAME}" for each in self.recordings])
+        ended = subprocess.run([self.tool, "verify", self.folder], stdout=subprocess.PIPE, stderr=subprocess.DEVNULL, text=True)
+        right = [f"verified {each.settled // FRAME}" for each in self.recordings]
+        expect("verify", (ended.stdout.splitlines(), ended.returncode), (right, 0))
         for recording in self.recordings:
             self.replay(recording, 0)
 
