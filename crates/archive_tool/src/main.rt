@@ -28,6 +28,9 @@ use std::process::ExitCode;
 use std::rt::Env;
 use tool_core::EarlyEnd;
 
+/// Bytes of standard output that are written at once at most, but for longer texts.
+const WRITTEN_AT_ONCE: usize = 65_536;
+
 fn main(rt: HostRuntime) -> ExitCode {
     ExitCode::from(ended(rt))
 }
@@ -69,7 +72,8 @@ fn commanded(rt: HostRuntime) -> Ended {
         Err(error) => return no_command(rt, &error),
     };
     let fault = Cell::new(None);
-    match BufWriter::new(rt.alloc(), Outlet::new(io::writer(&rt), &fault)) {
+    let outlet = Outlet::new(io::writer(&rt), &fault);
+    match BufWriter::with_capacity(rt.alloc(), WRITTEN_AT_ONCE, outlet) {
         Ok(mut writer) => obeyed(rt, &command, &mut writer).with_output_fault(fault.get()),
         Err(_) => Ended::told(Ending::Cut(EarlyEnd::Memory)),
     }
