@@ -1,9 +1,11 @@
 """What measures share: the module of the built program, plain Rust programs to measure beside it, and how long a command takes."""
+import os
 import resource
 import subprocess
 import sys
 import time
 from collections.abc import Sequence
+from dataclasses import dataclass
 from pathlib import Path
 
 HERE = Path(__file__).resolve().parent
@@ -28,3 +30,25 @@ def seconds(words: Sequence[str | Path], given: Path | None = None, into: Path |
 def most_memory() -> int:
     """The most megabytes that a program which has ended held."""
     return resource.getrusage(resource.RUSAGE_CHILDREN).ru_maxrss // 1024
+
+
+@dataclass(frozen=True)
+class Cost:
+    """What a command took: seconds by the clock and of a processor, and the most memory that it held."""
+
+    clock: float
+    processor: float
+    kibibytes: int
+
+
+def cost(words: Sequence[str | Path], given: Path | None = None, into: Path | None = None) -> Cost:
+    """What a command takes, with its standard input from a file and its output into one."""
+    with open(given or "/dev/null", "rb") as lines, open(into or "/dev/null", "wb") as told:
+        begin = time.monotonic()
+        child = subprocess.Popen(words, stdin=lines, stdout=told, stderr=subprocess.DEVNULL)
+        _, status, used = os.wait4(child.pid, 0)
+        child.returncode = os.waitstatus_to_exitcode(status)
+        clock = time.monotonic() - begin
+    if child.returncode:
+        raise subprocess.CalledProcessError(child.returncode, words)
+    return Cost(clock, used.ru_utime + used.ru_stime, used.ru_maxrss)

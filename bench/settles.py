@@ -1,6 +1,7 @@
 #!/usr/bin/env python3
 """Measures the program over a folder: settles of one block and of 16, beside a plain program that makes the same writes and
-syncs and does nothing else (plain_settles.rs), and a replay.
+syncs and does nothing else (plain_settles.rs); the processor seconds of `block` lines, beside the plain program when it reads
+the same lines and decodes their digits; a replay; and the memory of the largest poll.
 
 Usage: bench/settles.py [--settles N] [program], on the file system of TRIAL_ROOM, else that of TMPDIR.
 
@@ -18,7 +19,7 @@ import time
 from collections.abc import Sequence
 from pathlib import Path
 
-from measure import compiled, seconds
+from measure import compiled, cost, seconds
 from tool import MTU, Fault, Stream, bank, file_system, program, room, run, settle_entry, stop_entry
 
 STREAM = Stream(term_length=2**30, segment_length=2**30)
@@ -32,6 +33,11 @@ SETTLES = {
     "46 frames of 1,408 bytes": (1, 46, MTU, 4),
     "16 blocks of 46 frames of 1,408 bytes": (16, 46, MTU, 64),
 }
+LINES = {"a 64-byte frame": (1, 64), "a frame of 1,408 bytes": (1, MTU), "46 frames of 1,408 bytes": (46, MTU)}
+PROCESSOR_GOAL = 1.1
+LARGEST = 65_504  # bytes of the longest frame
+LARGEST_POLL = 1_200  # frames of that length, together 79 MB
+MEMORY_GOAL = 1.3, 16_000_000  # bytes for a byte of the polled frames, and bytes beside
 REPLAYED = 142_046  # frames of 1,408 bytes, together 200 MB
 POLLED = 4_096  # frames of a poll
 
@@ -105,6 +111,49 @@ def compare_settles(trial: Trial, most: int) -> None:
         )
 
 
+def compare_lines(trial: Trial, settles: int) -> None:
+    """Processor seconds of `block` lines over a folder, beside those of the plain program for the same lines."""
+    for name, (frames, length) in LINES.items():
+        write_lines(trial.script, settles, 1, frames, length)
+        costs = {"proved": [], "plain": []}
+        for who in ["proved", "plain", "plain", "proved"] * TURNS:
+            folder = trial.empty_folder()
+            words = [trial.tool, "run", folder] if who == "proved" else [trial.plain, folder]
+            costs[who].append(cost(words, trial.script, trial.answers))
+            last = trial.answers.read_text().splitlines()[-1]
+            if last != f"settled {settles * frames * length}":
+                raise Fault(f"{who}: the last line was answered {last}")
+        proved, plain = (statistics.median(it.processor for it in costs[who]) for who in ("proved", "plain"))
+        clock = statistics.median(it.clock for it in costs["proved"]) / statistics.median(it.clock for it in costs["plain"])
+        print(
+            f"lines of {name}: {proved / settles * 1e6:.1f} us of a processor, plain {plain / settles * 1e6:.1f}: "
+            f"{proved / plain:.2f} of it, goal {PROCESSOR_GOAL}; {clock:.2f} by the clock",
+            flush=True,
+        )
+
+
+def measure_poll(trial: Trial) -> None:
+    """The most memory that the largest poll takes."""
+    folder, size = trial.empty_folder(), LARGEST_POLL * LARGEST
+    stream = Stream(term_length=2**30, segment_length=2**30, mtu=LARGEST)
+    step = -(-LARGEST // 32) * 32
+    with open(folder / "0-0.rec", "wb") as segment:
+        for place in range(0, LARGEST_POLL * step, step):
+            segment.write(stream.message(place, bytes(LARGEST - 32)).ljust(step, b"\0"))
+    entries = [stream.start_entry(0, b"c"), settle_entry(0, LARGEST_POLL * step), stop_entry(0, 2_000)]
+    (folder / "catalogue-a.bank").write_bytes(bank(1_048_576, entries))
+    trial.script.write_text(f"replay 0 0 -1\npoll 0 {POLLED}\nquit\n")
+    taken = cost([trial.tool, "run", folder], trial.script, trial.answers)
+    with open(trial.answers, "rb") as answers:
+        if (count := sum(line.startswith(b"frame ") for line in answers)) != LARGEST_POLL:
+            raise Fault(f"the largest poll gave {count} frames")
+    most = MEMORY_GOAL[0] * size + MEMORY_GOAL[1]
+    held = taken.kibibytes * 1_024
+    print(f"the largest poll: {held / 1e6:.0f} MB for {size / 1e6:.0f} MB of frames, goal {most / 1e6:.0f}", flush=True)
+    if held > most:
+        raise Fault("the largest poll takes too much memory")
+
+
 def measure_replay(trial: Trial) -> None:
     """Megabytes of frames a second that a replay gives, in polls of 4,096 frames."""
     folder, size = trial.empty_folder(), REPLAYED * MTU
@@ -137,6 +186,8 @@ def main() -> int:
     with room() as path:
         print(f"{asked.settles} settles a run, {TURNS} times proved, plain, plain, proved, on {file_system(path)}", flush=True)
         trial = Trial(program(asked.program), compiled("plain_settles.rs", path), path)
+        measure_poll(trial)
+        compare_lines(trial, asked.settles)
         compare_settles(trial, asked.settles)
         measure_replay(trial)
     return 0

@@ -3,8 +3,8 @@
 
 The worked scripts are read from tool_tests. Those over an empty disk are run over memory and over a folder, and
 both have to give the test's text, byte for byte; those over another disk are run over a folder that was made to be like it.
-Then each command is run on archives that are whole, damaged, absent or in use: its status, and what it prints on either
-stream. Then what docs/STORAGE.md tells an operator: retention to its end, and what `verify` and `frames` don't see.
+Then each command is run on archives that are whole, damaged, absent or in use: its status, what it prints, and the line of
+its refusal on standard error (what stands there beside that line is tried by standard_error.py). Then what docs/STORAGE.md tells an operator: retention to its end, and what `verify` and `frames` don't see.
 
 Usage: trials/both_disks.py [program]. Prints what differs and the folder that it lies in, and ends with status 1 where
 anything does.
@@ -37,7 +37,6 @@ STORED = HELLO.ljust(64, b"\x00")
 RECORDED = f"{START}\nblock 0 {HELLO.hex()}\n"
 STOPPED = STREAM.descriptor(0, -1, 64, "c") + "\n"
 BAD_PARAMETER, DAMAGED, DEVICE_FAULT = "error 10 BadParameter\n", "error 15 Damaged", "error 17 DeviceFault\n"
-UNOPENED, BUSY = DEVICE_FAULT + "the folder cannot be opened\n", DEVICE_FAULT + "the folder is in use\n"
 NOT_CATALOGUE, NEWER_VERSION, BAD_FRAME = "error 19 NotCatalogue\n", "error 20 NewerVersion\n", "error 21 BadFrame"
 
 Ended = tuple[int, str, str]
@@ -64,6 +63,12 @@ class Trial:
                 print(f"  what failed lies in {kept}")
 
     def ended(self, *words: str | Path, given: str = "", into: str | None = None) -> Ended:
+        """Status and standard output of a command, and the line of its refusal, if it was refused."""
+        status, told, error = self.streams(*words, given=given, into=into)
+        refused = re.search(r"^error \d+ .*\n", error, re.M)
+        return status, told, refused[0] if refused else ""
+
+    def streams(self, *words: str | Path, given: str = "", into: str | None = None) -> Ended:
         """Status, standard output and standard error of a command."""
         with open(into, "wb") if into else tempfile.TemporaryFile() as output:
             done = subprocess.run([self.tool, *words], input=given.encode(), stdout=output, stderr=subprocess.PIPE)
@@ -143,7 +148,7 @@ def try_scripts(trial: Trial) -> None:
         with trial.folder() as folder:
             MADE[disk](trial, folder)
             answer = trial.ended("run", folder, given=text_of(lines, vectors))
-            trial.expect(f"{name}, over a folder", answer, (0, text_of(told, vectors), ""))
+            trial.expect(f"{name}, over a folder", answer[:2], (0, text_of(told, vectors)))
     trial.expect("scripts found in the tests", len(empty) + len(other) >= FEWEST_SCRIPTS, True)
 
 
@@ -175,7 +180,7 @@ def try_absence(trial: Trial) -> None:
     """A folder or a file that is not there, which `create` alone makes, and a folder without an archive."""
     with trial.folder() as folder:
         for command in ("run", "list", "verify"):
-            trial.expect(f"{command} of nothing", trial.ended(command, folder / "gone"), (3, "", UNOPENED))
+            trial.expect(f"{command} of nothing", trial.ended(command, folder / "gone"), (3, "", DEVICE_FAULT))
         trial.expect("frames of nothing", trial.ended("frames", folder / "gone"), (3, "", DEVICE_FAULT))
         trial.expect("create of nothing in nothing", trial.ended("create", folder / "gone" / "new"), (3, "", DEVICE_FAULT))
         for command in ("list", "verify"):
@@ -185,7 +190,7 @@ def try_absence(trial: Trial) -> None:
         trial.expect("list of what was made", trial.ended("list", folder / "new"), (0, "end 0\n", ""))
         (folder / "file").touch()
         for command in ("create", "run", "list", "verify"):
-            trial.expect(f"{command} of a file", trial.ended(command, folder / "file"), (3, "", UNOPENED))
+            trial.expect(f"{command} of a file", trial.ended(command, folder / "file"), (3, "", DEVICE_FAULT))
         trial.expect("frames of a folder", trial.ended("frames", folder), (3, "", DEVICE_FAULT))
         trial.expect("create beside another file", trial.ended("create", folder), (0, "created\n", ""))
 
@@ -196,7 +201,7 @@ def try_use_by_two(trial: Trial) -> None:
         first = Session(trial.tool, folder)
         trial.expect("the first process", first.ask("positions 0"), ["positions 0 64 64"])
         for command in ("create", "run", "list", "verify"):
-            trial.expect(f"{command} in use", trial.ended(command, folder), (3, "", BUSY))
+            trial.expect(f"{command} in use", trial.ended(command, folder), (3, "", DEVICE_FAULT))
         trial.expect("frames in use", trial.ended("frames", folder / "0-0.rec"), (0, "frame 42 0 1 37 c0\nend 1\n", ""))
         trial.expect("the first process goes on", first.ask("verify 0"), ["verified 1"])
         trial.expect("its status", first.end(), 0)
@@ -241,7 +246,7 @@ def try_catalogues(trial: Trial) -> None:
             for command in ("list", "verify"):
                 trial.expect(f"{command}, a catalogue {what}", trial.ended(command, folder), (status, "", line))
             answer = trial.ended("run", folder, given="list 0 1\nreopen\nquit\n")
-            trial.expect(f"run, a catalogue {what}", answer, (0, f"error 16 Broken\n{line}bye\n", ""))
+            trial.expect(f"run, a catalogue {what}", answer, (0, f"error 16 Broken\n{line}bye\n", line))
             trial.expect(f"create, a catalogue {what}", trial.ended("create", folder), (1, "", BAD_PARAMETER))
             trial.expect("the catalogue stays", (folder / "catalogue-a.bank").read_bytes(), text)
     with trial.folder() as folder:
@@ -281,10 +286,10 @@ def try_words(trial: Trial) -> None:
         wrong += [("list", path, path), ("create", path, "--history"), ("create", path, "--history", "x")]
         wrong += [("create", path, "--history", "4294967296"), ("create", path, "--history", "-1"), ("list", path, "--history", "1")]
         for words in wrong:
-            status, told, fault = trial.ended(*words)
+            status, told, fault = trial.streams(*words)
             trial.expect(f"wrong words {words}", (status, told, fault != ""), (2, "", True))
         for words in [("--help",), *((word, "--help") for word in ("create", "run", "list", "verify", "frames"))]:
-            status, told, fault = trial.ended(*words)
+            status, told, fault = trial.streams(*words)
             trial.expect(f"help {words}", (status, told != "", fault), (0, True, ""))
         trial.expect("nothing is made", list(folder.iterdir()), [])
 
@@ -345,7 +350,7 @@ def try_version(trial: Trial) -> None:
     """The version names the catalogue's that a new archive has."""
     with trial.folder() as folder:
         trial.ended("create", folder)
-        status, told, fault = trial.ended("--version")
+        status, told, fault = trial.streams("--version")
         catalogue = (folder / "catalogue-a.bank").read_bytes()[1]
         named = told.startswith("archive_tool ") and f"(catalogue {catalogue}, " in told
         trial.expect(f"--version: {told}", (status, named, fault), (0, True, ""))

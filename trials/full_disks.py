@@ -165,7 +165,9 @@ def full_at_an_opening(archive: Archive) -> str:
     expect("the status", session.end(), 0)
     archive.fill(sys.maxsize)
     ended = subprocess.run([archive.tool, "list", archive.folder], capture_output=True, text=True)
-    expect("list, still full", (ended.returncode, ended.stdout, ended.stderr), (3, "", DEVICE_FAULT[0] + "\n"))
+    why = "catalogue-a.bank: write: No space left on device"
+    right = 3, "", [*DEVICE_FAULT, why]
+    expect("list, still full", (ended.returncode, ended.stdout, ended.stderr.splitlines()), right)
     told = run([archive.tool, "run", archive.folder], ["list 0 1", "reopen", "quit"])
     expect("run, still full", told, [*BROKEN, *DEVICE_FAULT, "bye"])
     archive.make_room()

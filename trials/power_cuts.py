@@ -239,7 +239,7 @@ def shown(tool: Path, folder: Path | None, before: list[str], count: int) -> lis
     asked += [f"poll {number} {MOST}" for number in range(count)]
     given = "".join(line + "\n" for line in [*before, *(["reopen"] if folder is None else []), *asked])
     ended = subprocess.run([tool, "run", *([folder] if folder else [])], input=given, capture_output=True, text=True)
-    if ended.returncode != 0 or ended.stderr:
+    if ended.returncode != 0:
         raise Fault(f"ended with status {ended.returncode}: {ended.stderr.strip()}")
     told = ended.stdout.splitlines()
     skipped = len(before) + (folder is None)

@@ -57,7 +57,7 @@ def mount_point_without_its_mount(tool: Path, work: Path) -> str:
         recorded(tool, disk / "archive")
     for command in ("run", "list", "verify"):
         ended = subprocess.run([tool, command, work / "disk/archive"], input="", capture_output=True, text=True)
-        right = 3, "", f"{DEVICE_FAULT}\nthe folder cannot be opened\n"
+        right = 3, "", f"{DEVICE_FAULT}\nthe folder is not there\n"
         expect(f"{command} without the mount", (ended.returncode, ended.stdout, ended.stderr), right)
     expect("what was made", list((work / "disk").iterdir()), [])
     return "a mount point without its mount: an archive in a folder below it is refused, and nothing is made"

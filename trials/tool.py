@@ -66,6 +66,7 @@ class Stream:
 
     term_length: int
     segment_length: int
+    mtu: int = MTU
 
     def header(self, position: int, length: int, kind: int) -> bytes:
         """The header of the frame at a position."""
@@ -80,23 +81,23 @@ class Stream:
 
     def start(self, channel: str, position: int = 0) -> str:
         """The line that starts a recording."""
-        geometry = f"{INITIAL_TERM} {self.term_length} {MTU} {self.segment_length}"
+        geometry = f"{INITIAL_TERM} {self.term_length} {self.mtu} {self.segment_length}"
         return f"start {STREAM_ID} {SESSION_ID} {geometry} {position} {TIMESTAMP} {channel}"
 
     def extend(self, recording: int, position: int) -> str:
         """The line that goes on with a recording which stopped at a position."""
-        return f"extend {recording} {STREAM_ID} {SESSION_ID} {INITIAL_TERM} {self.term_length} {MTU} {position}"
+        return f"extend {recording} {STREAM_ID} {SESSION_ID} {INITIAL_TERM} {self.term_length} {self.mtu} {position}"
 
     def descriptor(self, recording: int, stop_timestamp: int, stop: int, channel: str) -> str:
         """A recording from position 0, as a listing tells it."""
-        geometry = f"{INITIAL_TERM} {self.segment_length} {self.term_length} {MTU}"
+        geometry = f"{INITIAL_TERM} {self.segment_length} {self.term_length} {self.mtu}"
         return (
             f"recording {recording} {TIMESTAMP} {stop_timestamp} 0 {stop} {geometry} {SESSION_ID} {STREAM_ID} {channel}"
         )
 
     def start_entry(self, recording: int, channel: bytes) -> bytes:
         """The catalogue's entry of a start at position 0: docs/STORAGE.md, "Entries"."""
-        fields = INITIAL_TERM, self.segment_length, self.term_length, MTU, SESSION_ID, STREAM_ID, len(channel)
+        fields = INITIAL_TERM, self.segment_length, self.term_length, self.mtu, SESSION_ID, STREAM_ID, len(channel)
         return entry(1, struct.pack("<qqq6iH", recording, TIMESTAMP, 0, *fields) + channel)
 
 
@@ -122,10 +123,11 @@ def bank(history_limit: int, entries: Iterable[bytes]) -> bytes:
 
 
 def run(words: Sequence[str | Path], lines: Iterable[str] = ()) -> list[str]:
-    """The lines that a command answers to lines on its standard input; it has to end with status 0."""
+    """The lines that a command answers to lines on its standard input; it has to end with status 0. What it tells beside them
+    on standard error is tried by standard_error.py."""
     given = "".join(line + "\n" for line in lines)
     ended = subprocess.run(words, input=given, capture_output=True, text=True)
-    if ended.returncode != 0 or ended.stderr:
+    if ended.returncode != 0:
         raise Fault(f"{' '.join(map(str, words[1:]))} ended with status {ended.returncode}: {ended.stderr.strip()}")
     return ended.stdout.splitlines()
 
@@ -135,7 +137,8 @@ class Session:
 
     def __init__(self, program: Path, folder: str | Path) -> None:
         words = [program, "run", folder]
-        self.process = subprocess.Popen(words, stdin=subprocess.PIPE, stdout=subprocess.PIPE, text=True)
+        told = subprocess.DEVNULL
+        self.process = subprocess.Popen(words, stdin=subprocess.PIPE, stdout=subprocess.PIPE, stderr=told, text=True)
 
     def ask(self, line: str) -> list[str]:
         """The lines that answer a line; no line where the program has ended. Not for lines to a merge."""

@@ -1,5 +1,6 @@
 -- How the program ends, and the status that says so: docs/CONTROL.md, "The program".
-use Rattle.std.specs.Prelude.{◌≡◌, ℕ, Bool, false, Option, Some, None}
+use Rattle.std.specs.Prelude.{◌≡◌, ℕ, Bool, false, List, Option, Some, None}
+use Rattle.std.specs.Io.KnownBytes.{Appends}
 use Rattle.std.specs.Option.{option_map_or}
 use Rattle.std.specs.declared.io.ErrorKind.TheVariants as io
 use Rattle.clap.specs.declared.error.ErrorKind.{ErrorKind}
@@ -7,6 +8,8 @@ use Rattle.clap.specs.declared.error.ErrorKind.TheVariants as kinds
 use Rattle.frame_core.specs.declared.refusal.Refusal.{Refusal}
 use Rattle.frame_core.specs.declared.refusal.Refusal.TheVariants.{Broken, Damaged, DeviceFault, NoMemory}
 use Rattle.host_disk.specs.declared.open_fault.OpenFault.TheVariants as folders
+use Rattle.tool_core.specs.declared.commands.Stopped.{Stopped}
+use Rattle.tool_core.specs.declared.commands.Stopped.TheVariants as stops
 use Rattle.tool_core.specs.declared.fault.EarlyEnd.TheVariants as faults
 use Rattle.archive_tool.specs.declared.status.Ending.{Ending}
 use Rattle.archive_tool.specs.declared.status.Ending.TheVariants.{Done, Cut, Refused, Unopened, FoundDamage, NoCommand, Failed}
@@ -45,6 +48,11 @@ untold_status ending = 0
 abbrev pub status_of : Ending → ℕ
 status_of ending = option_map_or status_of_refusal (refusal_of ending) (untold_status ending)
 
+-- how a command ends that was refused, or that ended early
+abbrev pub ending_of : Stopped → Ending
+ending_of (stops.Refused refusal) = Refused refusal
+ending_of (stops.Cut end) = Cut end
+
 -- A command whose output could not be handed on ends by that, if it had not failed before.
 abbrev pub handed_on : Ending → Bool → Ending
 handed_on Done false = Cut faults.Write
@@ -55,9 +63,17 @@ handed_on ending is_flushed = ending
 abbrev pub IsStatus : ℕ → Type 0
 IsStatus status = (ending : Ending) × (status ≡ status_of ending)
 
--- an error of that kind was told, or could not be
-abbrev pub IsTold : ErrorKind → Ending → Type 0
-IsTold kind (NoCommand told) = told ≡ kind
-IsTold kinds.OutOfMemory (Failed fault) = ⊥
-IsTold kind (Failed fault) = Unit {0}
-IsTold kind ending = ⊥
+-- How the text of an error of this kind is told: help and the version on standard output, want of memory not at all, and all
+-- else on standard error.
+abbrev pub IsToldBy : ErrorKind → List ℕ → Option (List ℕ) → Option (List ℕ) → Option (List ℕ) → Option (List ℕ) → Type 0
+IsToldBy kinds.OutOfMemory text output shown errors told = (shown ≡ output) × (told ≡ errors)
+IsToldBy kinds.DisplayHelp text output shown errors told = Appends output shown text × (told ≡ errors)
+IsToldBy kinds.DisplayVersion text output shown errors told = Appends output shown text × (told ≡ errors)
+IsToldBy kind text output shown errors told = (shown ≡ output) × Appends errors told text
+
+-- an error of that kind was told so, or could not be
+abbrev pub IsTold : ErrorKind → List ℕ → Option (List ℕ) → Option (List ℕ) → Option (List ℕ) → Option (List ℕ) → Ending → Type 0
+IsTold kind text output shown errors told (NoCommand of) = (of ≡ kind) × IsToldBy kind text output shown errors told
+IsTold kinds.OutOfMemory text output shown errors told (Failed fault) = ⊥
+IsTold kind text output shown errors told (Failed fault) = Unit {0}
+IsTold kind text output shown errors told ending = ⊥

@@ -1,20 +1,23 @@
 //! What the program's commands do. docs/CONTROL.md, "The program".
 
 ghost use Rattle.std.specs.Prelude.{◌≡◌};
-ghost use Rattle.archive_tool.specs.Status.{handed_on};
+ghost use Rattle.archive_tool.specs.Status.{ending_of};
 
+use crate::outcome::Ended;
+use crate::reason::Reason;
 use crate::status::Ending;
+use crate::teller::{FaultTeller, OpeningTeller, ScriptTeller, VerifyTeller};
 use command_line::ToolCommand;
-use disk_core::{Disk, MemoryDisk};
-use engine_core::{Engine, OpenRefusal};
+use disk_core::MemoryDisk;
 use frame_core::Refusal;
+use frame_core::limits::MAX_HISTORY;
 use host_disk::HostDisk;
 use std::fs::{self, File};
 use std::io::{self, IsTerminal, Write};
 use std::path::Path;
 use tool_core::{
-    EarlyEnd, Listing, Progress, Verdict, Watched, list_frames, list_recordings, run_script,
-    verify_recordings,
+    CommandFault, Listing, OpeningProgress, Progress, Screen, Stage, Stopped, Unobserved, Verdict,
+    Watched, create_archive, list_archive, list_frames, run_script, verify_archive,
 };
 
 /// Does what a command asks for, hands on what it writes, and answers how that ended.
@@ -22,38 +25,24 @@ pub(crate) fn obeyed<W: Write>(
     rt: HostRuntime,
     command: &ToolCommand<'_>,
     writer: &mut W,
-) -> Ending {
-    let ending = match obey(rt, command, writer) {
-        Ok(()) => Ending::Done,
-        Err(ending) => ending,
+) -> Ended {
+    let ended = match obey(rt, command, writer) {
+        Ok(()) => Ended::told(Ending::Done),
+        Err(ended) => ended,
     };
-    handed_on(ending, writer.flush().is_ok())
+    ended.handed_on(writer.flush().is_ok())
 }
 
-fn obey<W: Write>(
-    rt: HostRuntime,
-    command: &ToolCommand<'_>,
-    writer: &mut W,
-) -> Result<(), Ending> {
+fn obey<W: Write>(rt: HostRuntime, command: &ToolCommand<'_>, writer: &mut W) -> Result<(), Ended> {
     match command {
         ToolCommand::Create { folder, history } => create(rt, folder, *history, writer),
-        ToolCommand::Run { folder: None } => run(rt, MemoryDisk::new(rt.alloc()), writer),
+        ToolCommand::Run { folder: None } => run_in_memory(rt, writer),
         ToolCommand::Run {
             folder: Some(folder),
-        } => run(rt, disk_of(rt, folder)?, writer),
+        } => run(rt, folder, writer),
         ToolCommand::List { folder } => list(rt, folder, writer),
         ToolCommand::Verify { folder } => verify(rt, folder, writer),
         ToolCommand::Frames { file } => frames(rt, file, writer),
-    }
-}
-
-/// How a command ended whose output was handed on, or could not be.
-fn handed_on(ending: Ending, is_flushed: bool) -> Ending
-    ensures { result ≡ handed_on ending is_flushed }
-{
-    match ending {
-        Ending::Done | Ending::FoundDamage if !is_flushed => Ending::Cut(EarlyEnd::Write),
-        ending => ending,
     }
 }
 
@@ -63,91 +52,166 @@ fn create<W: Write>(
     folder: &str,
     history: u32,
     writer: &mut W,
-) -> Result<(), Ending> {
-    if make_folder(rt, folder).is_err() {
-        return Err(Ending::Refused(Refusal::DeviceFault));
+) -> Result<(), Ended> {
+    if let Err(error) = make_folder(rt, folder) {
+        return Err(Ended {
+            ending: Ending::Refused(Refusal::DeviceFault),
+            reason: Reason::NewFolder(error),
+        });
     }
-    match Engine::create(rt.alloc(), disk_of(rt, folder)?, history) {
-        Ok(_) => say(writer, "created\n"),
-        Err(OpenRefusal { refusal, .. }) => Err(Ending::Refused(refusal)),
+    match create_archive(rt.alloc(), disk_of(rt, folder)?, history, writer) {
+        Ok(_) => Ok(()),
+        Err(CommandFault { why, disk }) => Err(unmade(why, &disk, history)),
     }
 }
 
-/// Makes a folder that is not there, and syncs its name.
-fn make_folder(rt: HostRuntime, folder: &str) -> io::Result<()> {
-    match fs::create_dir(&rt, folder) {
-        Ok(()) => {}
-        Err(error) if error.kind() == io::ErrorKind::AlreadyExists => return Ok(()),
-        Err(error) => return Err(error),
+/// Why no archive was made on a disk, with this limit of its history, or was not told to be.
+fn unmade(why: Stopped, disk: &HostDisk, history: u32) -> Ended
+    ensures { result.ending ≡ ending_of why }
+{
+    if why != Stopped::Refused(Refusal::BadParameter) {
+        return Ended::stopped(why, disk.last_fault());
     }
+    Ended {
+        ending: Ending::Refused(Refusal::BadParameter),
+        reason: if history == 0 || history > MAX_HISTORY {
+            Reason::History(history)
+        } else {
+            Reason::HasFiles
+        },
+    }
+}
+
+/// Makes a folder that is not there, and syncs its name; that of one that is there too, since who made it may have been
+/// stopped before that.
+fn make_folder(rt: HostRuntime, folder: &str) -> io::Result<()> {
+    let is_there = match fs::create_dir(&rt, folder) {
+        Ok(()) => false,
+        Err(error) if error.kind() == io::ErrorKind::AlreadyExists => true,
+        Err(error) => return Err(error),
+    };
+    match sync_name(rt, folder) {
+        // Who may not read the folder above did not make this one so.
+        Err(error) if is_there && error.kind() == io::ErrorKind::PermissionDenied => Ok(()),
+        synced => synced,
+    }
+}
+
+/// Syncs the name of a folder.
+fn sync_name(rt: HostRuntime, folder: &str) -> io::Result<()> {
     match fs::canonicalize(&rt, folder)?.parent() {
         Some(above) => File::open(&rt, above)?.sync_all(),
         None => Ok(()),
     }
 }
 
-/// Answers the control lines of standard input, over the archive of a disk.
-fn run<W: Write, D: Disk + Drop>(rt: HostRuntime, disk: D, writer: &mut W) -> Result<(), Ending> {
-    match run_script(rt.alloc(), rt.reader(), writer, disk) {
+/// Answers the control lines of standard input, over an archive in memory.
+fn run_in_memory<W: Write>(rt: HostRuntime, writer: &mut W) -> Result<(), Ended> {
+    let disk = MemoryDisk::new(rt.alloc());
+    match run_script(rt.alloc(), rt.reader(), writer, disk, &mut Unobserved) {
         Ok(_) => Ok(()),
-        Err(fault) => Err(Ending::Cut(fault.end())),
+        Err(fault) => Err(Ended::from(fault.end())),
+    }
+}
+
+/// Answers the control lines of standard input, over the archive of a folder.
+fn run<W: Write>(rt: HostRuntime, folder: &str, writer: &mut W) -> Result<(), Ended> {
+    let screen = Screen::new(&rt);
+    let faults = FaultTeller::new(rt.alloc(), &screen, Stage::Opening);
+    let viewer = (faults, opening_of(&rt, &screen));
+    let disk = Watched::new(disk_of(rt, folder)?, viewer);
+    let mut teller = ScriptTeller::new(&screen);
+    match run_script(rt.alloc(), rt.reader(), writer, disk, &mut teller) {
+        Ok(_) => Ok(()),
+        Err(fault) => Err(Ended::from(fault.end())),
     }
 }
 
 /// Writes the recordings of the archive in a folder.
-fn list<W: Write>(rt: HostRuntime, folder: &str, writer: &mut W) -> Result<(), Ending> {
-    let engine = engine_of(rt, disk_of(rt, folder)?)?;
-    Ok(list_recordings(rt.alloc(), engine.desk(), writer)?)
+fn list<W: Write>(rt: HostRuntime, folder: &str, writer: &mut W) -> Result<(), Ended> {
+    let screen = Screen::new(&rt);
+    let disk = Watched::new(disk_of(rt, folder)?, opening_of(&rt, &screen));
+    match list_archive(rt.alloc(), disk, writer, &mut OpeningTeller::new(&screen)) {
+        Ok(_) => Ok(()),
+        Err(CommandFault { why, disk }) => Err(stopped(why, disk)),
+    }
 }
 
 /// Reads each recorded frame of the archive in a folder, and writes what was found of each recording. How far it has come
-/// is shown on standard error, where that is a terminal.
-fn verify<W: Write>(rt: HostRuntime, folder: &str, writer: &mut W) -> Result<(), Ending> {
+/// is shown on standard error, where that is a terminal, and what it found in all is told there.
+fn verify<W: Write>(rt: HostRuntime, folder: &str, writer: &mut W) -> Result<(), Ended> {
+    let screen = Screen::new(&rt);
     let mut disk = disk_of(rt, folder)?;
-    let progress = if rt.stderr().is_terminal() {
-        Progress::of(rt.alloc(), &rt, &mut disk)
-    } else {
-        None
+    let progress = progress_of(&rt, &screen, &mut disk);
+    let faults = FaultTeller::new(rt.alloc(), &screen, Stage::Working);
+    let disk = Watched::new(disk, (faults, (opening_of(&rt, &screen), progress)));
+    let mut teller = VerifyTeller::new(&screen);
+    let verdict = match verify_archive(rt.alloc(), disk, writer, &mut teller) {
+        Ok((_, verdict)) => verdict,
+        Err(CommandFault { why, disk }) => {
+            screen.clear();
+            return Err(stopped(why, disk));
+        }
     };
-    let mut engine = engine_of(rt, Watched::new(disk, progress))?;
-    let verdict = verify_recordings(rt.alloc(), &mut engine, writer);
-    let (_, progress) = engine.into_disk().into_parts();
-    if let Some(progress) = progress {
-        progress.finish();
-    }
-    match verdict? {
+    teller.finish();
+    match verdict {
         Verdict::Whole => Ok(()),
-        Verdict::Refused => Err(Ending::FoundDamage),
+        Verdict::Refused => Err(Ended::told(Ending::FoundDamage)),
     }
 }
 
 /// Writes the frames of a segment file.
-fn frames<W: Write>(rt: HostRuntime, file: &str, writer: &mut W) -> Result<(), Ending> {
-    let Ok(reader) = File::open(&rt, file) else {
-        return Err(Ending::Refused(Refusal::DeviceFault));
+fn frames<W: Write>(rt: HostRuntime, file: &str, writer: &mut W) -> Result<(), Ended> {
+    let reader = match File::open(&rt, file) {
+        Ok(reader) => reader,
+        Err(error) => {
+            return Err(Ended {
+                ending: Ending::Refused(Refusal::DeviceFault),
+                reason: Reason::File(error),
+            });
+        }
     };
-    match list_frames(rt.alloc(), reader, writer)? {
-        Listing::Whole => Ok(()),
-        Listing::Damaged => Err(Ending::FoundDamage),
+    match list_frames(rt.alloc(), reader, writer) {
+        Ok(Listing::Whole) => Ok(()),
+        Ok(Listing::Damaged) => Err(Ended::told(Ending::FoundDamage)),
+        Err(end) => Err(Ended::cut(end, Reason::FileRead)),
     }
 }
 
 /// The disk of a folder, which no other process has.
-fn disk_of(rt: HostRuntime, folder: &str) -> Result<HostDisk, Ending> {
+fn disk_of(rt: HostRuntime, folder: &str) -> Result<HostDisk, Ended> {
     Ok(HostDisk::open(rt, rt.alloc(), Path::new(folder))?)
 }
 
-/// The archive of a disk, opened.
-fn engine_of<D: Disk + Drop>(rt: HostRuntime, disk: D) -> Result<Engine<D>, Ending> {
-    match Engine::open(rt.alloc(), disk) {
-        Ok(engine) => Ok(engine),
-        Err(OpenRefusal { refusal, .. }) => Err(Ending::Refused(refusal)),
+/// What shows an opening that lasts, where standard error is a terminal.
+fn opening_of<'a>(
+    rt: &'a HostRuntime,
+    screen: &'a Screen<'a, HostRuntime>,
+) -> Option<OpeningProgress<'a, HostRuntime>> {
+    if rt.stderr().is_terminal() {
+        Some(OpeningProgress::new(rt, screen))
+    } else {
+        None
     }
 }
 
-fn say<W: Write>(writer: &mut W, text: &str) -> Result<(), Ending> {
-    if writer.write_all(text.as_bytes()).is_err() {
-        return Err(Ending::Cut(EarlyEnd::Write));
+/// What shows how far a verification of a disk has come, where standard error is a terminal.
+fn progress_of<'a>(
+    rt: &'a HostRuntime,
+    screen: &'a Screen<'a, HostRuntime>,
+    disk: &mut HostDisk,
+) -> Option<Progress<'a, HostRuntime>> {
+    if rt.stderr().is_terminal() {
+        Progress::of(rt.alloc(), rt, screen, disk)
+    } else {
+        None
     }
-    Ok(())
+}
+
+/// Why a command over a watched disk ended before it was done.
+fn stopped<V: Drop>(why: Stopped, disk: Watched<HostDisk, V>) -> Ended
+    ensures { result.ending ≡ ending_of why }
+{
+    let (disk, _) = disk.into_parts();
+    Ended::stopped(why, disk.last_fault())
 }

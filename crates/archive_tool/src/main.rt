@@ -2,11 +2,14 @@
 #![tactic(auto)]
 
 ghost use Rattle.std.specs.Prelude.{◌≡◌};
-ghost use Rattle.clap.specs.Words.{kind_of};
 ghost use Rattle.archive_tool.specs.Status.{IsStatus, IsTold, status_of};
 
 mod commands;
+mod outcome;
+mod outlet;
+mod reason;
 mod status;
+mod teller;
 
 use clap::Error;
 use clap::error::ErrorKind;
@@ -14,12 +17,19 @@ use command_line::{command_of, unreadable_words};
 use commands::obeyed;
 use control_lines::print_refusal;
 use frame_core::Refusal;
+use outcome::Ended;
+use outlet::Outlet;
+use reason::Reason;
 use status::Ending;
+use std::cell::Cell;
 use std::env;
-use std::io::{self, BufWriter};
+use std::io::{self, BufWriter, Write};
 use std::process::ExitCode;
 use std::rt::Env;
 use tool_core::EarlyEnd;
+
+/// Bytes of standard output that are written at once at most, but for longer texts.
+const WRITTEN_AT_ONCE: usize = 65_536;
 
 fn main(rt: HostRuntime) -> ExitCode {
     ExitCode::from(ended(rt))
@@ -33,34 +43,39 @@ fn ended(rt: HostRuntime) -> u8
 }
 
 /// Tells on standard error why the program ended early, if it did, and answers its status.
-fn concluded<R: Eprint>(rt: &R, ending: Ending) -> u8
-    ensures { result ≡ status_of ending }
+fn concluded<R: Eprint>(rt: &R, ended: Ended) -> u8
+    ensures { result ≡ status_of ended.ending }
 {
-    if let Some(refusal) = ending.refusal() {
+    if let Some(refusal) = ended.ending.refusal() {
         tell(rt, &refusal);
     }
-    if let Ending::Unopened(fault) = ending {
-        let _ = rt.eprintln(fault);
+    match ended.reason {
+        Reason::Told => {}
+        reason => {
+            let _ = rt.eprintln(reason);
+        }
     }
-    ending.status()
+    ended.ending.status()
 }
 
 /// Does what the command line asks for. A word that is no UTF-8 is a wrong one.
-fn commanded(rt: HostRuntime) -> Ending {
+fn commanded(rt: HostRuntime) -> Ended {
     let words = match words_of(&rt) {
         Ok(words) => words,
         Err(error) if error.kind() == io::ErrorKind::InvalidData => {
-            return told(&rt, &unreadable_words(rt.alloc()));
+            return no_command(rt, &unreadable_words(rt.alloc()));
         }
-        Err(error) => return Ending::Failed(error.kind()),
+        Err(error) => return Ended::told(Ending::Failed(error.kind())),
     };
     let command = match command_of(rt.alloc(), words.as_slice()) {
         Ok(command) => command,
-        Err(error) => return told(&rt, &error),
+        Err(error) => return no_command(rt, &error),
     };
-    match BufWriter::new(rt.alloc(), io::writer(&rt)) {
-        Ok(mut writer) => obeyed(rt, &command, &mut writer),
-        Err(_) => Ending::Cut(EarlyEnd::Memory),
+    let fault = Cell::new(None);
+    let outlet = Outlet::new(io::writer(&rt), &fault);
+    match BufWriter::with_capacity(rt.alloc(), WRITTEN_AT_ONCE, outlet) {
+        Ok(mut writer) => obeyed(rt, &command, &mut writer).with_output_fault(fault.get()),
+        Err(_) => Ended::told(Ending::Cut(EarlyEnd::Memory)),
     }
 }
 
@@ -75,17 +90,36 @@ fn words_of<R: AllocGlobal + Env>(rt: &R) -> io::Result<Vec<String>> {
     Ok(words)
 }
 
-/// Tells why a command line asks for no command, or gives the help that it asks for. Want of memory is not told here.
-fn told<R: Print + Eprint>(rt: &R, error: &Error) -> Ending
-    ensures { IsTold (kind_of error.now) result }
-{
-    let kind = error.kind();
-    if kind == ErrorKind::OutOfMemory {
-        return Ending::NoCommand(kind);
+/// Tells why a command line asks for no command, or gives the help that it asks for.
+fn no_command(rt: HostRuntime, error: &Error) -> Ended {
+    match error.to_string(rt.alloc()) {
+        Ok(text) => told(
+            error.kind(),
+            text.as_str(),
+            &mut io::writer(&rt),
+            &mut rt.stderr(),
+        ),
+        Err(_) => Ended::told(Ending::NoCommand(ErrorKind::OutOfMemory)),
     }
-    match error.print(rt) {
-        Ok(()) => Ending::NoCommand(kind),
-        Err(fault) => Ending::Failed(fault.kind()),
+}
+
+/// Tells the text of an error of this kind: help and the version on standard output, else on standard error. Want of memory
+/// is not told here.
+fn told<W: Write, E: Write>(kind: ErrorKind, text: &str, output: &mut W, errors: &mut E) -> Ended
+    ensures { IsTold kind text.now (W.contents output.old) (W.contents output.new)
+        (E.contents errors.old) (E.contents errors.new) result.ending }
+{
+    let written = match kind {
+        ErrorKind::OutOfMemory => Ok(()),
+        ErrorKind::DisplayHelp | ErrorKind::DisplayVersion => output.write_all(text.as_bytes()),
+        _ => errors.write_all(text.as_bytes()),
+    };
+    match written {
+        Ok(()) => Ended::told(Ending::NoCommand(kind)),
+        Err(fault) => Ended {
+            ending: Ending::Failed(fault.kind()),
+            reason: Reason::Output(Some(fault)),
+        },
     }
 }
 

@@ -1,7 +1,6 @@
 //! How the program ends, and the status that says so: docs/CONTROL.md, "The program".
 
 ghost use Rattle.std.specs.Prelude.{◌≡◌};
-ghost use Rattle.archive_tool.specs.declared.status.Ending.TheVariants.{Cut, Refused, Unopened};
 ghost use Rattle.archive_tool.specs.Status.{refusal_of, status_of, status_of_refusal, untold_status};
 
 use clap::error::ErrorKind;
@@ -71,36 +70,12 @@ impl Ending {
             Ending::Cut(EarlyEnd::Read | EarlyEnd::Write) => Some(Refusal::DeviceFault),
             Ending::Refused(refusal) => Some(refusal),
             Ending::Unopened(OpenFault::NoMemory) => Some(Refusal::NoMemory),
-            Ending::Unopened(OpenFault::Device | OpenFault::Busy) => Some(Refusal::DeviceFault),
+            Ending::Unopened(_) => Some(Refusal::DeviceFault),
             Ending::NoCommand(ErrorKind::OutOfMemory) => Some(Refusal::NoMemory),
             Ending::NoCommand(_) => None,
             Ending::Failed(io::ErrorKind::OutOfMemory) => Some(Refusal::NoMemory),
             Ending::Failed(_) => Some(Refusal::DeviceFault),
         }
-    }
-}
-
-impl From<EarlyEnd> for Ending {
-    ghost from_gives = { λ end ending. ending ≡ Cut end };
-
-    fn from(end: EarlyEnd) -> Self {
-        Ending::Cut(end)
-    }
-}
-
-impl From<OpenFault> for Ending {
-    ghost from_gives = { λ fault ending. ending ≡ Unopened fault };
-
-    fn from(fault: OpenFault) -> Self {
-        Ending::Unopened(fault)
-    }
-}
-
-impl From<Refusal> for Ending {
-    ghost from_gives = { λ refusal ending. ending ≡ Refused refusal };
-
-    fn from(refusal: Refusal) -> Self {
-        Ending::Refused(refusal)
     }
 }
 

@@ -1,10 +1,20 @@
 //! Why a folder is not opened.
+use std::io;
 use thiserror::Error;
 
 /// Why a folder is not opened.
 #[derive(Clone, Copy, Debug, PartialEq, Eq, Error)]
 pub enum OpenFault {
-    /// It is not there, is no folder, or the system refused it.
+    /// It is not there.
+    #[error("the folder is not there")]
+    Missing,
+    /// What has its name is no folder.
+    #[error("what has this name is no folder")]
+    NoFolder,
+    /// This user may not open it.
+    #[error("no permission to open the folder")]
+    Denied,
+    /// The system refused it.
     #[error("the folder cannot be opened")]
     Device,
     /// Another process, or another disk of this one, has it open.
@@ -13,4 +23,17 @@ pub enum OpenFault {
     /// There was no memory for what a disk keeps: its open files and their names.
     #[error("no memory for the folder")]
     NoMemory,
+}
+
+impl OpenFault {
+    /// What the system's answer to its path or its opening says of a folder.
+    pub(crate) fn of(error: io::Error) -> OpenFault {
+        match error.kind() {
+            io::ErrorKind::NotFound => OpenFault::Missing,
+            io::ErrorKind::NotADirectory => OpenFault::NoFolder,
+            io::ErrorKind::PermissionDenied => OpenFault::Denied,
+            io::ErrorKind::OutOfMemory => OpenFault::NoMemory,
+            _ => OpenFault::Device,
+        }
+    }
 }

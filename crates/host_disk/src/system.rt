@@ -78,7 +78,7 @@ impl Names {
         ensures { IfOk result (λ begun.
             noted begun.1 ≡ locked (path_of begun.0) ∷ opened given ∷ []) }
     {
-        let real = fs::canonicalize(rt, path).map_err(|_| OpenFault::Device)?;
+        let real = fs::canonicalize(rt, path).map_err(OpenFault::of)?;
         let path = format!(in alloc; "{}/", real.display()).map_err(|_| OpenFault::NoMemory)?;
         let folder = locked_folder(rt, real.as_path())?;
         let mut notes = Notes::begin();
@@ -158,13 +158,12 @@ impl Names {
     }
 }
 
-/// Opens a folder and locks it.
+/// Opens a folder and locks it. What is none is not opened: a pipe would wait.
 fn locked_folder(rt: &HostRuntime, path: Path<'_>) -> Result<File, OpenFault> {
-    let folder = File::open(rt, path).map_err(|_| OpenFault::Device)?;
-    match folder.metadata() {
-        Ok(found) if found.is_dir() => {}
-        _ => return Err(OpenFault::Device),
+    if !fs::metadata(rt, path).map_err(OpenFault::of)?.is_dir() {
+        return Err(OpenFault::NoFolder);
     }
+    let folder = File::open(rt, path).map_err(OpenFault::of)?;
     match folder.try_lock() {
         Ok(()) => Ok(folder),
         Err(fs::TryLockError::WouldBlock) => Err(OpenFault::Busy),

@@ -125,7 +125,7 @@ fn a_folder_is_opened_once(rt: HostRuntime) -> Result<(), Fail> {
     drop(disk);
     drop(opened(&rt, rt, path.as_str()));
     fs::remove_dir_all(&rt, path.as_str())?;
-    assert!(rt; matches!(disk_at(rt, path.as_str()), Err(OpenFault::Device)));
+    assert!(rt; matches!(disk_at(rt, path.as_str()), Err(OpenFault::Missing)));
     Ok(())
 }
 

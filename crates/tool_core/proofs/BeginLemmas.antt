@@ -19,7 +19,9 @@ use Rattle.engine_core.specs.Recovery.{IsEither, RecoversTo}
 use Rattle.engine_core.specs.Seen.{seen}
 use Rattle.tool_core.specs.declared.archive.ScriptArchive.{ScriptArchive}
 use Rattle.tool_core.specs.declared.archive.ScriptArchive.TheVariants.{Open, Closed}
-use Rattle.tool_core.specs.Archives.{BeginsByOpening, BeginsWith, HasMade, HasOpened, HasRefused, OpensOrRefuses, closed_by, life_of}
+use Rattle.tool_core.specs.declared.observer.Beginning.{Beginning}
+use Rattle.tool_core.specs.declared.observer.Beginning.TheVariants as beginnings
+use Rattle.tool_core.specs.Archives.{BeginsAs, BeginsByOpening, HasMade, HasOpened, HasRefused, OpensAs, closed_by, life_of}
 use Rattle.tool_core.specs.Script.{Begins, HasNotBegun, IsBlank, IsRefused, IsRefusedBy, Opens}
 use Rattle.tool_core.specs.ScriptLines.{Standing, closed, doubtful, opened, refused, unknown}
 use Rattle.tool_core.proofs.StandingLemmas.{IsStanding, recovers_as}
@@ -174,31 +176,47 @@ module _ {D : Type 0} (life : D → Life) where
           not_fault why is same = subst (IsRefusedBy mid) same is
       by unknown was opens = absurd opens
 
-  by_opening : (old : Life) (archive : ScriptArchive D) (first : Standing) → BeginsByOpening life old archive → IsTrue (life_of life archive).obeys → Begins old first → Starts old archive first
-  by_opening old (Open engine) first b obeys begins = by b.opens begins
+  by_opening : (old : Life) (beginning : Beginning) (archive : ScriptArchive D) (first : Standing) → BeginsByOpening life old beginning archive → IsTrue (life_of life archive).obeys → Begins old first → Starts old archive first
+  by_opening old beginnings.Made (Open engine) first b obeys begins = absurd b.opens
+  by_opening old beginnings.Made (Closed disk) first b obeys begins = absurd b.opens
+  by_opening old beginnings.Opened (Closed disk) first b obeys begins = absurd b.opens
+  by_opening old (beginnings.Refused refusal) (Open engine) first b obeys begins = absurd b.opens
+  by_opening old beginnings.Opened (Open engine) first b obeys begins = by b.opens begins
     where
       by : HasOpened life b.mid engine → Begins old first → Starts old (Open engine) first
       by answer (inl blank) = absurd (no_new old b.mid b.files (answer.goes_on.obeyed obeys) blank.0)
       by answer (inr files) = opened_files old b.mid engine first b.files.0 answer obeys files.1
-  by_opening old (Closed disk) first b obeys begins = by b.opens begins
+  by_opening old (beginnings.Refused refusal) (Closed disk) first b obeys begins = by b.opens begins
     where
-      by : OpensOrRefuses life b.mid (Closed disk) → Begins old first → Starts old (Closed disk) first
-      by (refusal, other, answer) (inl blank) = absurd (no_new old b.mid b.files (answer.goes_on.obeyed obeys) blank.0)
-      by (refusal, other, answer) (inr files) = refused_files old b.mid disk refusal first b.files.0 other answer obeys files.1
+      by : (refusal ≢ NoMemory) × HasRefused life b.mid refusal disk → Begins old first → Starts old (Closed disk) first
+      by (other, answer) (inl blank) = absurd (no_new old b.mid b.files (answer.goes_on.obeyed obeys) blank.0)
+      by (other, answer) (inr files) = refused_files old b.mid disk refusal first b.files.0 other answer obeys files.1
 
-  pub starts : (old : Life) (archive : ScriptArchive D) (first : Standing) → MayLeave old.now (reads old.now) → BeginsWith life old archive → IsTrue (life_of life archive).obeys → Begins old first → Starts old archive first
-  starts old (Open engine) first may (inl is) obeys begins = made old engine first may is obeys begins
-  starts old (Open engine) first may (inr opening) obeys begins = by_opening old (Open engine) first opening obeys begins
-  starts old (Closed disk) first may (inl no_archive) obeys begins = unmade old disk first may no_archive obeys begins
-  starts old (Closed disk) first may (inr opening) obeys begins = by_opening old (Closed disk) first opening obeys begins
+  pub starts : (old : Life) (beginning : Beginning) (archive : ScriptArchive D) (first : Standing) → MayLeave old.now (reads old.now) → BeginsAs life old beginning archive → IsTrue (life_of life archive).obeys → Begins old first → Starts old archive first
+  starts old beginnings.Made (Open engine) first may is obeys begins = made old engine first may is obeys begins
+  starts old beginnings.Made (Closed disk) first may is obeys begins = absurd is
+  starts old beginnings.Opened archive first may opening obeys begins = by_opening old beginnings.Opened archive first opening obeys begins
+  starts old (beginnings.Refused refusal) (Open engine) first may is obeys begins = absurd is
+  starts old (beginnings.Refused refusal) (Closed disk) first may (inl no_archive) obeys begins = unmade old disk first may no_archive.1 obeys begins
+  starts old (beginnings.Refused refusal) (Closed disk) first may (inr opening) obeys begins = by_opening old (beginnings.Refused refusal) (Closed disk) first opening obeys begins
 
 -- where it is refused by anything but want of memory none is open
-pub closed_then : {D : Type 0} (life : D → Life) (old : Life) (refusal : Refusal) (disk : D) (result : Result (ScriptArchive D) D) → result ≡ closed_by refusal disk → HasRefused life old refusal disk → IfOk result (OpensOrRefuses life old)
-closed_then life old refusal disk result is answer = subst (λ (r : Result (ScriptArchive _) _). IfOk r (OpensOrRefuses life old)) (sym is) (by refusal answer)
+pub closed_then : {D : Type 0} (life : D → Life) (old : Life) (refusal : Refusal) (disk : D) (result : Result (ScriptArchive D × Beginning) D) → result ≡ closed_by refusal disk → HasRefused life old refusal disk → IfOk result (λ found. OpensAs life old found.1 found.0)
+closed_then life old refusal disk result is answer = subst (λ (r : Result (ScriptArchive _ × Beginning) _). IfOk r (λ found. OpensAs life old found.1 found.0)) (sym is) (by refusal answer)
   where
-    by : (r : Refusal) → HasRefused life old r disk → IfOk (closed_by r disk) (OpensOrRefuses life old)
+    by : (r : Refusal) → HasRefused life old r disk → IfOk (closed_by r disk) (λ found. OpensAs life old found.1 found.0)
     by NoMemory answer = tt
-    by r answer = (r, (λ same. let wrong : r ≡ NoMemory = same in absurd cc), answer)
+    by r answer = ((λ same. let wrong : r ≡ NoMemory = same in absurd cc), answer)
+
+-- where a call failed while it was made none is open
+pub unmade_then : {D : Type 0} (life : D → Life) (old : Life) (refusal : Refusal) (disk : D) (result : Result (ScriptArchive D × Beginning) D) → result ≡ closed_by refusal disk → refusal ≢ BadParameter → RefusesNew old (life disk) 1048576 refusal → IfOk result (λ found. BeginsAs life old found.1 found.0)
+unmade_then life old refusal disk result is other refuses = subst (λ (r : Result (ScriptArchive _ × Beginning) _). IfOk r (λ found. BeginsAs life old found.1 found.0)) (sym is) (by refusal other refuses)
+  where
+    by : (r : Refusal) → r ≢ BadParameter → RefusesNew old (life disk) 1048576 r → IfOk (closed_by r disk) (λ found. BeginsAs life old found.1 found.0)
+    by NoMemory other refuses = tt
+    by DeviceFault other refuses = inl (refl, refuses)
+    by BadParameter other refuses = absurd (other refl)
+    by r other refuses = absurd refuses
 
 -- for want of memory the disk goes back as it was
 quiet_before : (old new : Life) → IsQuiet old new → ReadsAsBefore old new
@@ -217,6 +235,6 @@ before_then old mid new quiet before = record {
   faults = let first = quiet.faults in let more = before.faults in omega (arith, first, more);
 }
 
-pub before_with_files : {D : Type 0} (life : D → Life) (old mid : Life) (result : Result (ScriptArchive D) D) → RefusesNew old mid 1048576 BadParameter → IfErr result (λ back. ReadsAsBefore mid (life back)) → IfErr result (λ back. ReadsAsBefore old (life back))
-before_with_files life old mid (Ok archive) no_archive before = tt
+pub before_with_files : {D X : Type 0} (life : D → Life) (old mid : Life) (result : Result X D) → RefusesNew old mid 1048576 BadParameter → IfErr result (λ back. ReadsAsBefore mid (life back)) → IfErr result (λ back. ReadsAsBefore old (life back))
+before_with_files life old mid (Ok found) no_archive before = tt
 before_with_files life old mid (Err back) no_archive before = before_then old mid (life back) no_archive.0 before

@@ -19,3 +19,6 @@ mod QuietLemmas
 mod StoredLemmas
 mod FrameLinesLemmas
 mod ListingLemmas
+mod PolledLemmas
+mod QuitLemmas
+mod SumLemmas

@@ -5,10 +5,11 @@ use Rattle.disk_core.specs.DiskImage.{MayLeave, reads}
 use Rattle.disk_core.specs.Life.{Life}
 use Rattle.tool_core.specs.declared.archive.ScriptArchive.{ScriptArchive}
 use Rattle.tool_core.specs.declared.state.ScriptState.{ScriptState}
-use Rattle.tool_core.specs.Answering.{Replies, asked, asked_copies, begun_with, quits}
-use Rattle.tool_core.specs.Archives.{IsScript, IsScriptOfFirst, archive_ways, life_of}
-use Rattle.tool_core.specs.Script.{Answers, Begins, BeginsAt, IsTranscript, IsTranscriptOfFirst, LeavesScene, LeavesStanding}
+use Rattle.tool_core.specs.Answering.{AnswersFirstLines, AnswersLines, Replies, asked, asked_copies, begun_with, quits}
+use Rattle.tool_core.specs.Archives.{IsScript, IsScriptBy, IsScriptOfFirst, archive_ways, life_of}
+use Rattle.tool_core.specs.Script.{Answers, Begins, BeginsAt, IsTranscript, IsTranscriptBy, IsTranscriptOfFirst, LeavesScene, LeavesStanding}
 use Rattle.tool_core.specs.ScriptLines.{Scene, Standing}
+use Rattle.tool_core.specs.Transcript.{AnswersAll, AnswersSome}
 use Rattle.tool_core.proofs.BeginLemmas.{Starts, starts}
 use Rattle.tool_core.proofs.GoesOnLemmas.{answer_goes_on}
 use Rattle.tool_core.proofs.LineLemmas.{IsScene, answered, at_scene, scene_at}
@@ -33,29 +34,32 @@ module _ {D : Type 0} (life : D → Life) (stays : (disk : D) → MayLeave (life
   good : (new : Life) (last : ScriptArchive D) (s : ScriptState (ScriptArchive D)) → new ≡ life_of life last → IsTrue new.obeys → s.archive ≡ last → IsTrue (life_of life s.archive).obeys
   good new last s left obeys same = subst (λ (a : ScriptArchive D). IsTrue (life_of life a).obeys) (sym same) (subst (λ (l : Life). IsTrue l.obeys) left obeys)
 
+  -- the disk obeys
+  abbrev pub Good : ScriptState (ScriptArchive D) → Type 0
+  Good s = IsTrue (life_of life s.archive).obeys
+
   begins_at : (old : Life) (archive : ScriptArchive D) (first : Standing) (at : Starts life old archive first) → BeginsAt old first (scene_at life (begun_with archive) at.begun)
   begins_at old archive first at = record { no_merge = refl; archive = at.is; any_moment = at.any_moment }
 
-  pub transcript : (old new : Life) (first : Standing) → MayLeave old.now (reads old.now) → Begins old first → IsTrue new.obeys → (lines : List (List ℕ)) (text : List ℕ) → IsScript life old new lines text → IsTranscript first old new lines text
-  transcript old new first may begins obeys lines text script =
-      let goods : (s : ScriptState (ScriptArchive D)) → s.archive ≡ script.last → IsTrue (life_of life s.archive).obeys = λ s same. good new script.last s script.left obeys same in
-      let here = all_good (Replies (archive_ways life)) Answers (λ (s : ScriptState (ScriptArchive D)). IsTrue (life_of life s.archive).obeys) (IsScene life) back step (begun_with script.first) quits (λ (s : ScriptState (ScriptArchive D)). s.archive ≡ script.last) goods lines text script.answers in
-      let at = starts life old script.first first may script.begins here begins in
-      record {
-        begun = scene_at life (begun_with script.first) at.begun;
-        begins = begins_at old script.first first at;
-        answers = all_as (Replies (archive_ways life)) Answers (λ (s : ScriptState (ScriptArchive D)). IsTrue (life_of life s.archive).obeys) (IsScene life) back step (begun_with script.first) (scene_at life (begun_with script.first) at.begun) quits
-            (λ (s : ScriptState (ScriptArchive D)). s.archive ≡ script.last) (LeavesScene new) goods (λ s x same is. scene_left new script.last s x script.left same is) (at_scene life (begun_with script.first) at.begun at.stands) lines text script.answers;
-      }
+  -- what lines are answered from what was opened on, told by scenes
+  by_scenes : (Answer : ScriptArchive D → ScriptArchive D → List (List ℕ) → List ℕ → Type 0) (Scenes : Scene → List (List ℕ) → List ℕ → Type 0) (old new : Life) (first : Standing) → MayLeave old.now (reads old.now) → Begins old first
+      → (lines : List (List ℕ)) (text : List ℕ) (script : IsScriptBy life Answer old new lines text) → Good (begun_with script.first) → ((x : Scene) → IsScene life (begun_with script.first) x → Scenes x lines text) → IsTranscriptBy Scenes first old lines text
+  by_scenes Answer Scenes old new first may begins lines text script good told =
+      let at = starts life old script.beginning script.first first may script.begins good begins in
+      let begun = scene_at life (begun_with script.first) at.begun in
+      record { begun = begun; begins = begins_at old script.first first at; answers = told begun (at_scene life (begun_with script.first) at.begun at.stands) }
 
-  pub transcript_of_first : (old new : Life) (first : Standing) → MayLeave old.now (reads old.now) → Begins old first → IsTrue new.obeys → (lines : List (List ℕ)) (text : List ℕ) → IsScriptOfFirst life old new lines text → IsTranscriptOfFirst first old new lines text
-  transcript_of_first old new first may begins obeys lines text script =
-      let goods : (s : ScriptState (ScriptArchive D)) → s.archive ≡ script.last → IsTrue (life_of life s.archive).obeys = λ s same. good new script.last s script.left obeys same in
-      let here = some_good (Replies (archive_ways life)) Answers (λ (s : ScriptState (ScriptArchive D)). IsTrue (life_of life s.archive).obeys) (IsScene life) back step (begun_with script.first) quits (λ (s : ScriptState (ScriptArchive D)). s.archive ≡ script.last) goods lines text script.answers in
-      let at = starts life old script.first first may script.begins here begins in
-      record {
-        begun = scene_at life (begun_with script.first) at.begun;
-        begins = begins_at old script.first first at;
-        answers = some_as (Replies (archive_ways life)) Answers (λ (s : ScriptState (ScriptArchive D)). IsTrue (life_of life s.archive).obeys) (IsScene life) back step (begun_with script.first) (scene_at life (begun_with script.first) at.begun) quits
-            (λ (s : ScriptState (ScriptArchive D)). s.archive ≡ script.last) (LeavesScene new) goods (λ s x same is. scene_left new script.last s x script.left same is) (at_scene life (begun_with script.first) at.begun at.stands) lines text script.answers;
-      }
+  module _ (old new : Life) (first : Standing) (may : MayLeave old.now (reads old.now)) (begins : Begins old first) (obeys : IsTrue new.obeys) (lines : List (List ℕ)) (text : List ℕ) where
+    pub transcript : IsScript life old new lines text → IsTranscript first old new lines text
+    transcript script =
+        let ends : (s : ScriptState (ScriptArchive D)) → s.archive ≡ script.last → Good s = λ s same. good new script.last s script.left obeys same in
+        by_scenes (AnswersLines (archive_ways life)) (λ begun. AnswersAll begun (LeavesScene new) quits Answers) old new first may begins lines text script
+        (all_good (Replies (archive_ways life)) Answers Good (IsScene life) back step (begun_with script.first) quits (λ s. s.archive ≡ script.last) ends lines text script.answers)
+        (λ x is. all_as (Replies (archive_ways life)) Answers Good (IsScene life) back step (begun_with script.first) x quits (λ s. s.archive ≡ script.last) (LeavesScene new) ends (λ s x same is. scene_left new script.last s x script.left same is) is lines text script.answers)
+
+    pub transcript_of_first : IsScriptOfFirst life old new lines text → IsTranscriptOfFirst first old new lines text
+    transcript_of_first script =
+        let ends : (s : ScriptState (ScriptArchive D)) → s.archive ≡ script.last → Good s = λ s same. good new script.last s script.left obeys same in
+        by_scenes (AnswersFirstLines (archive_ways life)) (λ begun. AnswersSome begun (LeavesScene new) quits Answers) old new first may begins lines text script
+        (some_good (Replies (archive_ways life)) Answers Good (IsScene life) back step (begun_with script.first) quits (λ s. s.archive ≡ script.last) ends lines text script.answers)
+        (λ x is. some_as (Replies (archive_ways life)) Answers Good (IsScene life) back step (begun_with script.first) x quits (λ s. s.archive ≡ script.last) (LeavesScene new) ends (λ s x same is. scene_left new script.last s x script.left same is) is lines text script.answers)

@@ -7,27 +7,28 @@ use Rattle.disk_core.specs.Life.{Life}
 use Rattle.tool_core.specs.declared.archive.ScriptArchive.{ScriptArchive}
 use Rattle.tool_core.specs.declared.fault.EarlyEnd.{EarlyEnd}
 use Rattle.tool_core.specs.declared.fault.ScriptFault.{ScriptFault}
+use Rattle.tool_core.specs.declared.observer.Beginning.{Beginning}
 use Rattle.tool_core.specs.Answering.{AnswersFirstLines, AnswersLines, EndsEarly}
-use Rattle.tool_core.specs.Archives.{BeginsWith, IsScript, IsScriptOfFirst, archive_ways, disk_of, end_of, life_of}
+use Rattle.tool_core.specs.Archives.{BeginsAs, IsScript, IsScriptOfFirst, archive_ways, disk_of, end_of, life_of}
 use Rattle.tool_core.specs.Script.{Begins, IsTranscript, IsTranscriptOfFirst}
 use Rattle.tool_core.specs.ScriptLines.{Standing}
 use Rattle.tool_core.specs.Transcript.{Writes}
 use Rattle.tool_core.proofs.EndLemmas.{early_as, writes_as}
 use Rattle.tool_core.proofs.ScriptLemmas.{transcript, transcript_of_first}
 
-module _ {D : Type 0} (life : D → Life) (old : Life) (input contents written : Option (List ℕ)) (first last : ScriptArchive D) (begins : BeginsWith life old first) where
+module _ {D : Type 0} (life : D → Life) (old : Life) (input contents written : Option (List ℕ)) (first last : ScriptArchive D) (beginning : Beginning) (begins : BeginsAs life old beginning first) where
   -- what was answered, over the archive of the disk
   pub whole : (new : Life) (result : Result (Unit {0}) EarlyEnd) (done : Unit {0}) → new ≡ life_of life last → result ≡ Ok done → OnOk result (Writes input contents written (AnswersLines (archive_ways life) first last))
       → Writes input contents written (IsScript life old new)
   whole new result done left is answers =
       writes_as input contents written written (AnswersLines (archive_ways life) first last) (IsScript life old new)
-      (λ lines text answers. record { first = first; begins = begins; last = last; answers = answers; left = left }) (Keeps-refl written)
+      (λ lines text answers. record { first = first; beginning = beginning; begins = begins; last = last; answers = answers; left = left }) (Keeps-refl written)
       (subst (λ (r : Result (Unit {0}) EarlyEnd). OnOk r (Writes input contents written (AnswersLines (archive_ways life) first last))) is answers)
 
   early_at : (new : Life) (end : EarlyEnd) → new ≡ life_of life last → EndsEarly end (AnswersFirstLines (archive_ways life) first last) input contents written → EndsEarly end (IsScriptOfFirst life old new) input contents written
   early_at new end left ends =
       early_as end input contents written written (AnswersFirstLines (archive_ways life) first last) (IsScriptOfFirst life old new)
-      (λ lines text answers. record { first = first; begins = begins; last = last; answers = answers; left = left }) (Keeps-refl written) ends
+      (λ lines text answers. record { first = first; beginning = beginning; begins = begins; last = last; answers = answers; left = left }) (Keeps-refl written) ends
 
   -- the same with the disk of a fault
   pub early : (fault : ScriptFault D) (end : EarlyEnd) (disk : D) (result : Result (Unit {0}) EarlyEnd) → end_of fault ≡ end → disk_of fault ≡ disk → life disk ≡ life_of life last → result ≡ Err end

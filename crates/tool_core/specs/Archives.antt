@@ -22,6 +22,8 @@ use Rattle.tool_core.specs.declared.fault.EarlyEnd.{EarlyEnd}
 use Rattle.tool_core.specs.declared.fault.EarlyEnd.TheVariants as ends
 use Rattle.tool_core.specs.declared.fault.ScriptFault.{ScriptFault}
 use Rattle.tool_core.specs.declared.fault.ScriptFault.TheVariants as faults
+use Rattle.tool_core.specs.declared.observer.Beginning.{Beginning}
+use Rattle.tool_core.specs.declared.observer.Beginning.TheVariants as beginnings
 use Rattle.tool_core.specs.Answering.{AnswersFirstLines, AnswersLines, Ways}
 use Rattle.tool_core.specs.Merging.{Ends}
 
@@ -86,41 +88,47 @@ module _ {D : Type 0} (life : D → Life) where
     pub faults : old.faults ≤ (life engine.storage.disk).faults
 
   -- a disk is opened, or refused by anything but want of memory
-  abbrev pub OpensOrRefuses : Life → ScriptArchive D → Type 0
-  OpensOrRefuses old (Open engine) = HasOpened old engine
-  OpensOrRefuses old (Closed disk) = (refusal : Refusal) × (refusal ≢ NoMemory) × HasRefused old refusal disk
+  abbrev pub OpensAs : Life → Beginning → ScriptArchive D → Type 0
+  OpensAs old beginnings.Opened (Open engine) = HasOpened old engine
+  OpensAs old (beginnings.Refused refusal) (Closed disk) = (refusal ≢ NoMemory) × HasRefused old refusal disk
+  OpensAs old beginning archive = ⊥
 
   -- so a disk with files begins, as the refused making of an archive left it
-  pub record BeginsByOpening (old : Life) (archive : ScriptArchive D) : Type 0 where
+  pub record BeginsByOpening (old : Life) (beginning : Beginning) (archive : ScriptArchive D) : Type 0 where
     pub mid : Life
     pub files : RefusesNew old mid 1048576 BadParameter
-    pub opens : OpensOrRefuses mid archive
+    pub opens : OpensAs mid beginning archive
 
-  -- what a script begins with: an archive that was made, none because a call failed while it was made, or what is opened
-  abbrev pub BeginsWith : Life → ScriptArchive D → Type 0
-  BeginsWith old (Open engine) = HasMade old engine ⊎ BeginsByOpening old (Open engine)
-  BeginsWith old (Closed disk) = RefusesNew old (life disk) 1048576 DeviceFault ⊎ BeginsByOpening old (Closed disk)
+  -- What a script begins with: an archive that was made, none because a call failed while it was made, or what is opened.
+  abbrev pub BeginsAs : Life → Beginning → ScriptArchive D → Type 0
+  BeginsAs old beginnings.Made (Open engine) = HasMade old engine
+  BeginsAs old beginnings.Made (Closed disk) = ⊥
+  BeginsAs old beginnings.Opened archive = BeginsByOpening old beginnings.Opened archive
+  BeginsAs old (beginnings.Refused refusal) (Open engine) = ⊥
+  BeginsAs old (beginnings.Refused refusal) (Closed disk) =
+      ((refusal ≡ DeviceFault) × RefusesNew old (life disk) 1048576 DeviceFault) ⊎ BeginsByOpening old (beginnings.Refused refusal) (Closed disk)
 
-  -- The text answers all lines, from what was opened of the disk on, and that is what the disk came to.
-  pub record IsScript (old new : Life) (lines : List (List ℕ)) (text : List ℕ) : Type 0 where
+  -- From what was opened of the disk on, the text answers lines so, and that is what the disk came to.
+  pub record IsScriptBy (Answer : ScriptArchive D → ScriptArchive D → List (List ℕ) → List ℕ → Type 0) (old new : Life) (lines : List (List ℕ)) (text : List ℕ) : Type 0 where
     pub first : ScriptArchive D
-    pub begins : BeginsWith old first
+    pub beginning : Beginning
+    pub begins : BeginsAs old beginning first
     pub last : ScriptArchive D
-    pub answers : AnswersLines archive_ways first last lines text
+    pub answers : Answer first last lines text
     pub left : new ≡ life_of last
 
-  -- the same of the first of these lines, or of one more, of whose answer nothing was written
-  pub record IsScriptOfFirst (old new : Life) (lines : List (List ℕ)) (text : List ℕ) : Type 0 where
-    pub first : ScriptArchive D
-    pub begins : BeginsWith old first
-    pub last : ScriptArchive D
-    pub answers : AnswersFirstLines archive_ways first last lines text
-    pub left : new ≡ life_of last
+  -- the text answers all lines
+  abbrev pub IsScript : Life → Life → List (List ℕ) → List ℕ → Type 0
+  IsScript = IsScriptBy (AnswersLines archive_ways)
+
+  -- it answers the first of these lines, or one more, of whose answer nothing was written
+  abbrev pub IsScriptOfFirst : Life → Life → List (List ℕ) → List ℕ → Type 0
+  IsScriptOfFirst = IsScriptBy (AnswersFirstLines archive_ways)
 
 -- none is open by a refusal, or the disk goes back for want of memory
-abbrev pub closed_by : {D : Type 0} → Refusal → D → Result (ScriptArchive D) D
+abbrev pub closed_by : {D : Type 0} → Refusal → D → Result (ScriptArchive D × Beginning) D
 closed_by NoMemory disk = Err disk
-closed_by refusal disk = Ok (Closed disk)
+closed_by refusal disk = Ok (Closed disk, beginnings.Refused refusal)
 
 -- the archive was not opened, for want of memory: nothing is written, and the disk reads and leaves what it did before
 pub record IsUnopened (old new : Life) (contents written : Option (List ℕ)) (end : EarlyEnd) : Type 0 where

@@ -7,7 +7,9 @@ pub mod Archives
 pub mod ScriptLines
 pub mod Script
 pub mod Reports
+pub mod Commands
 pub mod FrameLines
+pub mod Progress
 -- How a line is put together from parts.
 pub mod Parts
 -- How what stands next in a file is read.

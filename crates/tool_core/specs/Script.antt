@@ -120,14 +120,16 @@ LeavesScene life s = (s.life ≡ life) × LeavesStanding life s.archive
 
 -- ---- scripts
 
--- the text answers all lines up to the one that quits, from this beginning on
-pub record IsTranscript (first : Standing) (old new : Life) (lines : List (List ℕ)) (text : List ℕ) : Type 0 where
+-- from this beginning on the text answers lines so
+pub record IsTranscriptBy (Answer : Scene → List (List ℕ) → List ℕ → Type 0) (first : Standing) (old : Life) (lines : List (List ℕ)) (text : List ℕ) : Type 0 where
   pub begun : Scene
   pub begins : BeginsAt old first begun
-  pub answers : AnswersAll begun (LeavesScene new) quits Answers lines text
+  pub answers : Answer begun lines text
+
+-- the text answers all lines up to the one that quits, and the disk is left so
+abbrev pub IsTranscript : Standing → Life → Life → List (List ℕ) → List ℕ → Type 0
+IsTranscript first old new = IsTranscriptBy (λ begun. AnswersAll begun (LeavesScene new) quits Answers) first old
 
 -- the same of the first of these lines
-pub record IsTranscriptOfFirst (first : Standing) (old new : Life) (lines : List (List ℕ)) (text : List ℕ) : Type 0 where
-  pub begun : Scene
-  pub begins : BeginsAt old first begun
-  pub answers : AnswersSome begun (LeavesScene new) quits Answers lines text
+abbrev pub IsTranscriptOfFirst : Standing → Life → Life → List (List ℕ) → List ℕ → Type 0
+IsTranscriptOfFirst first old new = IsTranscriptBy (λ begun. AnswersSome begun (LeavesScene new) quits Answers) first old

@@ -7,6 +7,7 @@ ghost use Rattle.control_lines.specs.RefusalText.{refusal_text};
 ghost use Rattle.tool_core.specs.Answering.{FailsToAnswer, outcome_text};
 
 use crate::fault::EarlyEnd;
+use crate::polled::write_polled;
 use archive_model::Reply;
 use control_lines::{print_refusal, print_reply};
 use frame_core::Refusal;
@@ -31,14 +32,17 @@ pub fn write_outcome<W: Write>(
     }
 }
 
-/// Writes a reply, each line with its end. `Memory` where its text finds no memory, and then nothing is written; `Write`
-/// where the writer fails.
+/// Writes a reply, each line with its end: of a poll frame by frame, which does not allocate. `Memory` where its text finds
+/// no memory, and then nothing is written; `Write` where the writer fails.
 pub fn write_reply<W: Write>(alloc: Global, reply: &Reply, writer: &mut W) -> Result<(), EarlyEnd>
     ensures ok { OnOk result
         (Appends (W.contents writer.old) (W.contents writer.new) (reply_text reply.now)) }
     ensures err { IfErr result
         (λ fault. FailsToAnswer fault (W.contents writer.old) (W.contents writer.new)) }
 {
+    if let Reply::Polled { frames, next } = reply {
+        return write_polled(frames.as_slice(), *next, writer);
+    }
     let Ok(text) = print_reply(alloc, reply) else {
         return Err(EarlyEnd::Memory);
     };

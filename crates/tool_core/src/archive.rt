@@ -3,9 +3,10 @@
 ghost use Rattle.std.specs.Prelude.{◌≡◌, IfErr, IfOk};
 ghost use Rattle.archive_model.specs.declared.reply.Reply.TheVariants.{Reopened};
 ghost use Rattle.engine_core.specs.Opening.{ReadsAsBefore};
-ghost use Rattle.tool_core.specs.Archives.{BeginsWith, OpensOrRefuses, archive_ways, closed_by, life_of};
+ghost use Rattle.tool_core.specs.Archives.{BeginsAs, OpensAs, archive_ways, closed_by, life_of};
 
 use crate::answerer::Answerer;
+use crate::observer::Beginning;
 use archive_model::Reply;
 use control_core::{Event, read_terms};
 use disk_core::Disk;
@@ -27,14 +28,14 @@ pub enum ScriptArchive<D> {
 
 impl<D: Disk> ScriptArchive<D> {
     /// The archive of a disk: a new one where no file is there, whose history may have 1,048,576 entries; else the one that
-    /// is opened. Where it is refused none is open. Want of memory hands the disk back, and has changed nothing that is
-    /// read. Costs what `Engine::create` or `Engine::open` costs.
-    pub fn of_disk(alloc: Global, disk: D) -> Result<ScriptArchive<D>, D>
-        ensures begun { IfOk result (BeginsWith D.life (D.life disk)) }
+    /// is opened. Where it is refused none is open. Which of these it was stands beside it. Want of memory hands the disk
+    /// back, and has changed nothing that is read. Costs what `Engine::create` or `Engine::open` costs.
+    pub fn of_disk(alloc: Global, disk: D) -> Result<(ScriptArchive<D>, Beginning), D>
+        ensures begun { IfOk result (λ found. BeginsAs D.life (D.life disk) found.1 found.0) }
         ensures unopened { IfErr result (λ back. ReadsAsBefore (D.life disk) (D.life back)) }
     {
         match Engine::create(alloc, disk, HISTORY) {
-            Ok(engine) => Ok(ScriptArchive::Open(engine)),
+            Ok(engine) => Ok((ScriptArchive::Open(engine), Beginning::Made)),
             Err(OpenRefusal { refusal, disk }) => {
                 if refusal == Refusal::BadParameter {
                     opened(alloc, disk)
@@ -92,23 +93,23 @@ impl<D: Disk> Answerer for ScriptArchive<D> {
 }
 
 /// The archive of a disk with files, opened; none where that is refused. The disk again for want of memory.
-fn opened<D: Disk>(alloc: Global, disk: D) -> Result<ScriptArchive<D>, D>
-    ensures begun { IfOk result (OpensOrRefuses D.life (D.life disk)) }
+fn opened<D: Disk>(alloc: Global, disk: D) -> Result<(ScriptArchive<D>, Beginning), D>
+    ensures begun { IfOk result (λ found. OpensAs D.life (D.life disk) found.1 found.0) }
     ensures unopened { IfErr result (λ back. ReadsAsBefore (D.life disk) (D.life back)) }
 {
     match Engine::open(alloc, disk) {
-        Ok(engine) => Ok(ScriptArchive::Open(engine)),
+        Ok(engine) => Ok((ScriptArchive::Open(engine), Beginning::Opened)),
         Err(OpenRefusal { refusal, disk }) => unless_memory(refusal, disk),
     }
 }
 
 /// None is open, by this refusal; the disk again for want of memory.
-fn unless_memory<D: Disk>(refusal: Refusal, disk: D) -> Result<ScriptArchive<D>, D>
+fn unless_memory<D: Disk>(refusal: Refusal, disk: D) -> Result<(ScriptArchive<D>, Beginning), D>
     ensures { result ≡ closed_by refusal disk }
 {
     match refusal {
         Refusal::NoMemory => Err(disk),
-        _ => Ok(ScriptArchive::Closed(disk)),
+        _ => Ok((ScriptArchive::Closed(disk), Beginning::Refused(refusal))),
     }
 }
 

@@ -1,9 +1,12 @@
-//! A disk whose reads are watched, and what a terminal shows of a long verification. docs/CONTROL.md, "The program".
+//! What a terminal shows of an opening and of a verification that last. docs/CONTROL.md, "Standard error".
 
-ghost use Rattle.std.specs.Prelude.{◌≡◌, ◌*◌, ◌/◌, min, max};
+ghost use Rattle.std.specs.Prelude.{◌≡◌, ◌+◌};
 ghost use Rattle.disk_core.specs.Life.{IsQuiet};
+ghost use Rattle.tool_core.specs.Progress.{bytes_before, bytes_in, counted, hundredths};
 
-use disk_core::{Disk, Fault, FileId, ListFault};
+use crate::screen::{Screen, Stage};
+use crate::watched::Viewer;
+use disk_core::{Disk, FileId};
 use std::alloc::Global;
 use std::io::Eprint;
 use std::time::{Clock, Duration, Instant};
@@ -12,101 +15,24 @@ use std::time::{Clock, Duration, Instant};
 const READS_PER_CLOCK_READ: u32 = 256;
 /// How long a line stays at least, in milliseconds.
 const SHOWN_FOR_MILLIS: u64 = 200;
+/// How long an opening lasts at least of which something is shown, in milliseconds.
+const OPENING_SHOWN_AFTER_MILLIS: u64 = 500;
 
-/// Is told of each read of a disk.
-pub trait Viewer {
-    /// So many bytes of a file were read from an offset on.
-    fn saw(&mut self, file: FileId, at: u64, count: usize);
+/// A file of a disk, and its length in bytes: none of a bank.
+#[derive(Clone, Copy, Debug, PartialEq, Eq)]
+pub(crate) struct ListedFile {
+    pub file: FileId,
+    pub length: u64,
 }
 
-/// Nobody is told where there is no viewer.
-impl<V: Viewer> Viewer for Option<V> {
-    fn saw(&mut self, file: FileId, at: u64, count: usize) {
-        if let Some(viewer) = self {
-            viewer.saw(file, at, count);
-        }
-    }
-}
-
-/// A disk whose viewer is told of each read that succeeds. To a contract it is the disk inside.
-#[derive(Drop)]
-pub struct Watched<D, V> {
-    disk: D,
-    viewer: V,
-}
-
-impl<D, V> Watched<D, V> {
-    /// The disk, watched by this viewer.
-    pub fn new(disk: D, viewer: V) -> Watched<D, V>
-        ensures { result.disk ≡ disk }
-    {
-        Watched { disk, viewer }
-    }
-
-    /// The disk inside, and its viewer.
-    pub fn into_parts(self) -> (D, V)
-        ensures { result.0 ≡ self.disk }
-    {
-        (self.disk, self.viewer)
-    }
-}
-
-impl<D: Disk, V: Viewer> Disk for Watched<D, V> {
-    ghost life = { λ w. D.life w.disk };
-
-    ghost reads_may_stay = { λ w. D.reads_may_stay w.disk };
-
-    fn len(&mut self, file: FileId) -> Result<u64, Fault> {
-        self.disk.len(file)
-    }
-
-    fn read_at(&mut self, file: FileId, at: u64, into: &mut [u8]) -> Result<usize, Fault> {
-        let count = self.disk.read_at(file, at, into)?;
-        self.viewer.saw(file, at, count);
-        Ok(count)
-    }
-
-    fn write_at(&mut self, file: FileId, at: u64, bytes: &[u8]) -> Result<(), Fault> {
-        self.disk.write_at(file, at, bytes)
-    }
-
-    fn cut(&mut self, file: FileId, len: u64) -> Result<(), Fault> {
-        self.disk.cut(file, len)
-    }
-
-    fn remove(&mut self, file: FileId) -> Result<(), Fault> {
-        self.disk.remove(file)
-    }
-
-    fn sync(&mut self, file: FileId) -> Result<(), Fault> {
-        self.disk.sync(file)
-    }
-
-    fn list(&mut self) -> Result<Vec<FileId>, ListFault> {
-        self.disk.list()
-    }
-
-    fn faults(&self) -> u64 {
-        self.disk.faults()
-    }
-}
-
-/// A file, and how many bytes the segment files before it have.
-#[derive(Clone, Copy)]
-struct FileStart {
-    file: FileId,
-    before: u64,
-}
-
-/// Shows on standard error which recording is read, how much of all segment files lies before that, and how many bytes
-/// a second were read: a line that is written anew about five times a second.
+/// Shows which recording is read, how much of all segment files lies before that, and how many bytes a second were read: a
+/// line that is written anew about five times a second.
 #[derive(Drop)]
 pub struct Progress<'a, R> {
-    rt: &'a R,
+    screen: &'a Screen<'a, R>,
+    clock: &'a R,
     /// The files, as they rise.
-    starts: Vec<FileStart>,
-    /// The bytes of all segment files.
-    total: u64,
+    files: Vec<ListedFile>,
     /// Reads of the disk since the clock was read.
     reads: u32,
     /// When the clock was read first.
@@ -119,15 +45,20 @@ pub struct Progress<'a, R> {
 
 impl<'a, R: Eprint + Clock> Progress<'a, R> {
     /// What is shown of a disk's segment files, with the lengths that they have now. None where a call of the disk fails
-    /// or there is no memory for a list of the files: then nothing is shown. docs/CONTROL.md, "The program".
-    pub fn of<D: Disk>(alloc: Global, rt: &'a R, disk: &mut D) -> Option<Progress<'a, R>>
+    /// or there is no memory for a list of the files: then nothing is shown. docs/CONTROL.md, "Standard error".
+    pub fn of<D: Disk>(
+        alloc: Global,
+        clock: &'a R,
+        screen: &'a Screen<'a, R>,
+        disk: &mut D,
+    ) -> Option<Progress<'a, R>>
         ensures { IsQuiet (D.life disk.old) (D.life disk.new) }
     {
-        let (starts, total) = starts_of(alloc, disk)?;
+        let files = listed_files(alloc, disk)?;
         Some(Progress {
-            rt,
-            starts,
-            total,
+            screen,
+            clock,
+            files,
             reads: 0,
             begun: None,
             read: 0,
@@ -135,17 +66,10 @@ impl<'a, R: Eprint + Clock> Progress<'a, R> {
         })
     }
 
-    /// Clears the line, if one was written.
-    pub fn finish(self) {
-        if self.shown.is_some() {
-            let _ = eprint!(self.rt; "\r\x1b[K");
-        }
-    }
-
     /// Reads the clock, and writes the line anew unless that was done a moment ago. `end` is where the last read of the
     /// file ended.
-    fn show(&mut self, recording: i64, file: FileId, end: u64) {
-        let Ok(now) = Instant::now(self.rt) else {
+    fn time(&mut self, recording: i64, file: FileId, end: u64) {
+        let Ok(now) = Instant::now(self.clock) else {
             return;
         };
         let Some(begun) = self.begun else {
@@ -159,14 +83,13 @@ impl<'a, R: Eprint + Clock> Progress<'a, R> {
             return;
         }
         self.shown = Some(now);
-        let done = before(self.starts.as_slice(), file).saturating_add(end);
-        let percent = percent_of(done, self.total);
+        let percent = percent_of(file, end, self.files.as_slice());
         let rate = megabytes_a_second(self.read, now.duration_since(begun));
-        let _ = eprint!(self.rt; "\rrecording {recording} {percent:>3} % {rate:>4} MB/s\x1b[K");
+        self.screen.show(format_args!("recording {recording} {percent:>3} % {rate:>4} MB/s"));
     }
 }
 
-impl<R: Eprint + Clock> Viewer for Progress<'_, R> {
+impl<D, R: Eprint + Clock> Viewer<D> for Progress<'_, R> {
     fn saw(&mut self, file: FileId, at: u64, count: usize) {
         let FileId::Segment { recording, .. } = file else {
             return;
@@ -175,28 +98,95 @@ impl<R: Eprint + Clock> Viewer for Progress<'_, R> {
         self.reads = self.reads.saturating_add(1);
         if self.reads >= READS_PER_CLOCK_READ {
             self.reads = 0;
-            self.show(recording, file, at.saturating_add(count as u64));
+            self.time(recording, file, at.saturating_add(count as u64));
         }
     }
 }
 
-/// The files of a disk, and how many bytes all its segment files have.
-fn starts_of<D: Disk>(alloc: Global, disk: &mut D) -> Option<(Vec<FileStart>, u64)>
+/// Shows how many segment files an opening has synced and how much of the catalogue it has read, once it has lasted half a
+/// second: a line that is written anew about five times a second, until the archive is open.
+#[derive(Drop)]
+pub struct OpeningProgress<'a, R> {
+    screen: &'a Screen<'a, R>,
+    clock: &'a R,
+    begun: Option<Instant>,
+    /// Segment files that were synced.
+    synced: u64,
+    /// Bytes of the catalogue that were read.
+    read: u64,
+    /// When the line was written last.
+    shown: Option<Instant>,
+}
+
+impl<'a, R: Eprint + Clock> OpeningProgress<'a, R> {
+    /// What is shown of an opening that begins now.
+    pub fn new(clock: &'a R, screen: &'a Screen<'a, R>) -> OpeningProgress<'a, R> {
+        OpeningProgress {
+            screen,
+            clock,
+            begun: Instant::now(clock).ok(),
+            synced: 0,
+            read: 0,
+            shown: None,
+        }
+    }
+
+    /// Reads the clock, and writes the line anew where the opening lasts and that was not done a moment ago.
+    fn time(&mut self) {
+        let (Some(begun), Ok(now)) = (self.begun, Instant::now(self.clock)) else {
+            return;
+        };
+        let is_due = match self.shown {
+            None => is_after(now, begun, OPENING_SHOWN_AFTER_MILLIS),
+            Some(shown) => is_after(now, shown, SHOWN_FOR_MILLIS),
+        };
+        if is_due {
+            self.shown = Some(now);
+            let OpeningProgress { synced, read, .. } = self;
+            self.screen.show(format_args!(
+                "opening: {synced} segment files, {read} bytes of the catalogue"
+            ));
+        }
+    }
+}
+
+impl<D, R: Eprint + Clock> Viewer<D> for OpeningProgress<'_, R> {
+    fn saw(&mut self, file: FileId, _at: u64, count: usize) {
+        if self.screen.stage() == Stage::Opening {
+            if let FileId::BankA | FileId::BankB = file {
+                self.read = self.read.saturating_add(count as u64);
+                self.time();
+            }
+        }
+    }
+
+    fn synced(&mut self, file: FileId) {
+        if self.screen.stage() == Stage::Opening {
+            if let FileId::Segment { .. } = file {
+                self.synced = self.synced.saturating_add(1);
+                self.time();
+            }
+        }
+    }
+}
+
+/// Whether so many milliseconds lie between two moments.
+fn is_after(now: Instant, then: Instant, millis: u64) -> bool {
+    now.duration_since(then) >= Duration::from_millis(millis)
+}
+
+/// The files of a disk, with the lengths of its segment files.
+fn listed_files<D: Disk>(alloc: Global, disk: &mut D) -> Option<Vec<ListedFile>>
     ensures { IsQuiet (D.life disk.old) (D.life disk.new) }
 {
     let files = disk.list().ok()?;
-    let mut starts = Vec::new(alloc);
-    let mut total = 0u64;
+    let mut listed = Vec::new(alloc);
     for file in &files {
         let length = segment_length(disk, *file)?;
-        let start = FileStart {
-            file: *file,
-            before: total,
-        };
-        starts.push(start).ok()?;
-        total = total.saturating_add(length);
+        let file = *file;
+        listed.push(ListedFile { file, length }).ok()?;
     }
-    Some((starts, total))
+    Some(listed)
 }
 
 /// The length of a segment file, and 0 of any other.
@@ -209,19 +199,37 @@ fn segment_length<D: Disk>(disk: &mut D, file: FileId) -> Option<u64>
     }
 }
 
-/// How many bytes the segment files before this one have; none where it was not listed.
-fn before(starts: &[FileStart], file: FileId) -> u64 {
-    match starts.iter().find(|start| start.file == file) {
-        Some(start) => start.before,
-        None => 0,
+/// How many bytes these files have together, as far as a `u64` counts them.
+fn bytes_in(files: &[ListedFile]) -> u64
+    ensures { result ≡ counted (bytes_in files.now) }
+{
+    let mut total = 0u64;
+    for listed in files {
+        total = total.saturating_add(listed.length);
     }
+    total
 }
 
-/// How many of a hundred parts a part of the whole is, 100 at most.
-fn percent_of(part: u64, whole: u64) -> u128
-    ensures { result ≡ min (part * 100 / max whole 1) 100 }
+/// How many bytes the files before this one have together, as far as a `u64` counts them.
+fn bytes_before(file: FileId, files: &[ListedFile]) -> u64
+    ensures { result ≡ counted (bytes_before file files.now) }
 {
-    (part as u128 * 100 / (whole as u128).max(1)).min(100)
+    let mut total = 0u64;
+    for listed in files {
+        if listed.file.compare(&file).is_eq() {
+            return total;
+        }
+        total = total.saturating_add(listed.length);
+    }
+    total
+}
+
+/// How many hundredths of the bytes of all these files lie before an offset in one of them, a hundred at most.
+fn percent_of(file: FileId, end: u64, files: &[ListedFile]) -> u128
+    ensures { result ≡ hundredths (counted (bytes_before file files.now) + end) (counted (bytes_in files.now)) }
+{
+    let done = bytes_before(file, files) as u128 + end as u128;
+    (done * 100 / (bytes_in(files) as u128).max(1)).min(100)
 }
 
 /// Millions of bytes a second.

@@ -11,6 +11,7 @@ ghost use Rattle.tool_core.specs.Reports.{AnswersEach, HasReported, HasReportedF
 
 use crate::answers::{write_outcome, write_reply};
 use crate::fault::EarlyEnd;
+use crate::observer::Observer;
 use archive_model::{Registration, Reply};
 use control_core::{Decision, Desk, Event, Request, decide};
 use disk_core::Disk;
@@ -52,14 +53,15 @@ pub fn list_recordings<W: Write>(alloc: Global, desk: &Desk, writer: &mut W) -> 
 }
 
 /// Verifies each recording, by rising id, and writes the answer to each as a script does: `verified <frames>`, or the
-/// line of its refusal. The archive stays as it is.
+/// line of its refusal. The archive stays as it is. An observer is told of each answer before it is written.
 ///
 /// `Memory` where there is none for the list of ids or for a reply's text, and `Write` where the writer fails: what was
 /// written before stays written. Costs what each recorded frame costs. docs/CONTROL.md, "The program".
-pub fn verify_recordings<W: Write, D: Disk>(
+pub fn verify_recordings<W: Write, D: Disk, O: Observer>(
     alloc: Global,
     engine: &mut Engine<D>,
     writer: &mut W,
+    observer: &mut O,
 ) -> Result<Verdict, EarlyEnd>
     ensures whole { IfOk result
         (HasReported D.life engine.old engine.new (W.contents writer.old) (W.contents writer.new)) }
@@ -69,7 +71,7 @@ pub fn verify_recordings<W: Write, D: Disk>(
     let ids = ids_of(alloc, engine.desk().recordings())?;
     let mut is_whole = true;
     for id in ids.as_slice() {
-        let is_verified = report(alloc, engine, id, writer)?;
+        let is_verified = report(alloc, engine, id, writer, observer)?;
         is_whole = is_whole && is_verified;
     }
     Ok(if is_whole {
@@ -90,15 +92,19 @@ fn ids_of(alloc: Global, recordings: &[Registration]) -> Result<Vec<i64>, AllocE
 }
 
 /// Verifies a recording, writes the answer, and says whether it was verified.
-fn report<W: Write, D: Disk>(
+fn report<W: Write, D: Disk, O: Observer>(
     alloc: Global,
     engine: &mut Engine<D>,
     recording: &i64,
     writer: &mut W,
+    observer: &mut O,
 ) -> Result<bool, EarlyEnd>
     ensures { HasReportedOne D.life engine.old engine.new recording.now (W.contents writer.old) (W.contents writer.new) result }
 {
     let outcome = verify(alloc, engine, recording);
+    if let Some(known) = engine.desk().recording(recording) {
+        observer.verified(known, &outcome);
+    }
     write_outcome(alloc, &outcome, writer)?;
     Ok(outcome.is_ok())
 }

@@ -15,6 +15,7 @@ use crate::answers::write_outcome;
 use crate::archive::ScriptArchive;
 use crate::fault::{EarlyEnd, ScriptFault};
 use crate::lines::{LineBuffer, MAX_READS, read_line};
+use crate::observer::Observer;
 use crate::state::ScriptState;
 use archive_model::Reply;
 use control_lines::parse_line;
@@ -27,44 +28,45 @@ use std::io::{BufReader, Read, Write};
 /// Bytes that are read at once at most.
 pub(crate) const READ_AHEAD: usize = 65_536;
 
-/// The line behind which no further line is read.
-fn is_quit(line: &LineBuffer) -> bool
-    ensures { result ≡ quits line.now }
-{
-    match line.bytes() {
-        Some(bytes) => bytes == b"quit".as_slice(),
-        None => false,
-    }
-}
-
-/// What a line is answered, and how the script stands then. A line that is too long is `BadLine`.
+/// How the script stands behind a line, what that is answered, and whether no further line is read. A line that is too
+/// long is `BadLine`.
 fn outcome_of<A: Answerer>(
     alloc: Global,
     state: ScriptState<A>,
     line: &LineBuffer,
-) -> (ScriptState<A>, Result<Reply, Refusal>)
-    ensures { IsAnswer A.ways (asked_copies line.now) state (asked line.now) result.1 result.0 }
+) -> (ScriptState<A>, Result<Reply, Refusal>, bool)
+    ensures answer { IsAnswer A.ways (asked_copies line.now) state (asked line.now) result.1 result.0 }
+    ensures last { result.2 ≡ quits line.now }
 {
     let Some(bytes) = line.bytes() else {
-        return (state, Err(Refusal::BadLine));
+        return (state, Err(Refusal::BadLine), false);
     };
+    if bytes == b"quit".as_slice() {
+        return (state, Ok(Reply::Bye), true);
+    }
     match parse_line(alloc, bytes) {
-        Ok(line) => state.answer(alloc, &line),
-        Err(refusal) => (state, Err(refusal)),
+        Ok(line) => {
+            let (state, outcome) = state.answer(alloc, &line);
+            (state, outcome, false)
+        }
+        Err(refusal) => (state, Err(refusal), false),
     }
 }
 
-/// Answers a line.
-fn answer_line<W: Write, A: Answerer>(
+/// Answers a line, and says whether no further line is read.
+fn answer_line<W: Write, A: Answerer, O: Observer>(
     alloc: Global,
     state: ScriptState<A>,
     line: &LineBuffer,
     writer: &mut W,
-) -> (ScriptState<A>, Result<(), EarlyEnd>)
-    ensures { RepliesTo A.ways (W.contents writer.old) (W.contents writer.new) line.now state result.0 result.1 }
+    observer: &mut O,
+) -> (ScriptState<A>, Result<(), EarlyEnd>, bool)
+    ensures replied { RepliesTo A.ways (W.contents writer.old) (W.contents writer.new) line.now state result.0 result.1 }
+    ensures last { result.2 ≡ quits line.now }
 {
-    let (state, outcome) = outcome_of(alloc, state, line);
-    (state, write_outcome(alloc, &outcome, writer))
+    let (state, outcome, is_last) = outcome_of(alloc, state, line);
+    observer.answered(&outcome);
+    (state, write_outcome(alloc, &outcome, writer), is_last)
 }
 
 /// Whether a whole line is at hand.
@@ -96,11 +98,12 @@ fn next_line<R: Read, W: Write>(
 }
 
 /// Answers line after line, up to the one that quits or the end of the input.
-fn run_lines<R: Read + Drop, W: Write, A: Answerer>(
+fn run_lines<R: Read + Drop, W: Write, A: Answerer, O: Observer>(
     alloc: Global,
     state: ScriptState<A>,
     reader: &mut BufReader<R>,
     writer: &mut W,
+    observer: &mut O,
 ) -> (ScriptState<A>, Result<(), EarlyEnd>)
     ensures whole { OnOk result.1 (Writes (reader_remaining R.remaining reader.old)
         (W.contents writer.old) (W.contents writer.new)
@@ -117,13 +120,13 @@ fn run_lines<R: Read + Drop, W: Write, A: Answerer>(
             Ok(false) => return (state, Ok(())),
             Err(end) => return (state, Err(end)),
         }
-        let (next, answered) = answer_line(alloc, state, &line, writer);
+        let (next, answered, is_last) = answer_line(alloc, state, &line, writer, observer);
         state = next;
         match answered {
             Ok(()) => {}
             Err(end) => return (state, Err(end)),
         }
-        if is_quit(&line) {
+        if is_last {
             return (state, Ok(()));
         }
     }
@@ -131,16 +134,17 @@ fn run_lines<R: Read + Drop, W: Write, A: Answerer>(
 
 /// Answers the control lines of a reader on a writer, up to the line `quit` or the end of the input, as the answerer
 /// answers their calls: docs/CONTROL.md, "Scripts". A line to a merge, `quit`, and what is no line make no call; `block`
-/// makes two at most. The answerer comes back.
+/// makes two at most. The answerer comes back. An observer is told of each answer before it is written.
 ///
 /// Each line is answered before the next one is waited for. What the writer had stays before what it gains. `Read`
 /// where the reader fails, or was read 9,223,372,036,854,775,807 times; `Memory` where a reply's text or the reader's
 /// buffer finds no memory; `Write` where the writer fails. What was answered before stays written.
-pub fn answer_lines<R: Read + Drop, W: Write, A: Answerer>(
+pub fn answer_lines<R: Read + Drop, W: Write, A: Answerer, O: Observer>(
     alloc: Global,
     reader: R,
     writer: &mut W,
     archive: A,
+    observer: &mut O,
 ) -> (A, Result<(), EarlyEnd>)
     ensures whole { OnOk result.1 (Writes (R.remaining reader) (W.contents writer.old) (W.contents writer.new)
         (AnswersLines A.ways archive result.0)) }
@@ -154,7 +158,7 @@ pub fn answer_lines<R: Read + Drop, W: Write, A: Answerer>(
         archive,
         merge: None,
     };
-    let (state, outcome) = run_lines(alloc, state, &mut reader, writer);
+    let (state, outcome) = run_lines(alloc, state, &mut reader, writer, observer);
     let is_flushed = writer.flush().is_ok();
     (state.archive, after_flush(outcome, is_flushed))
 }
@@ -171,14 +175,16 @@ fn after_flush(outcome: Result<(), EarlyEnd>, is_flushed: bool) -> Result<(), Ea
 
 /// Answers the control lines of a reader on a writer as `answer_lines`, over the archive of a disk. Where no file is there
 /// it is made, with a history of 1,048,576 entries; else it is opened, and where that is refused every line is `Broken` but
-/// those that need no archive, until `reopen` opens it. The disk comes back. docs/CONTROL.md, "Scripts".
+/// those that need no archive, until `reopen` opens it. An observer is told which of these it was. The disk comes back.
+/// docs/CONTROL.md, "Scripts".
 ///
 /// The faults of `answer_lines`; `Memory` also where the opening finds no memory.
-pub fn run_script<R: Read + Drop, W: Write, D: Disk>(
+pub fn run_script<R: Read + Drop, W: Write, D: Disk, O: Observer>(
     alloc: Global,
     reader: R,
     writer: &mut W,
     disk: D,
+    observer: &mut O,
 ) -> Result<D, ScriptFault<D>>
     // Whatever the disk holds and does: each line is answered as `Engine::step` and `Engine::open` say.
     ensures whole { IfOk result (λ back. Writes (R.remaining reader) (W.contents writer.old) (W.contents writer.new)
@@ -197,11 +203,12 @@ pub fn run_script<R: Read + Drop, W: Write, D: Disk>(
         (R.remaining reader) (W.contents writer.old) (W.contents writer.new)
         ⊎ IsUnopened (D.life disk) (D.life (disk_of fault)) (W.contents writer.old) (W.contents writer.new) (end_of fault)) }
 {
-    let archive = match ScriptArchive::of_disk(alloc, disk) {
-        Ok(archive) => archive,
+    let (archive, beginning) = match ScriptArchive::of_disk(alloc, disk) {
+        Ok(found) => found,
         Err(disk) => return Err(ScriptFault::Memory(disk)),
     };
-    let (archive, outcome) = answer_lines(alloc, reader, writer, archive);
+    observer.began(&beginning);
+    let (archive, outcome) = answer_lines(alloc, reader, writer, archive, observer);
     let disk = archive.into_disk();
     match outcome {
         Ok(()) => Ok(disk),

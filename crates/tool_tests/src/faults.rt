@@ -3,7 +3,7 @@
 use disk_core::MemoryDisk;
 use std::io::{Error, ErrorKind, Read, Write};
 use std::test::*;
-use tool_core::{ScriptFault, run_script};
+use tool_core::{ScriptFault, Unobserved, run_script};
 
 /// Gives its bytes a few at a time, and then fails.
 #[derive(Drop)]
@@ -60,7 +60,13 @@ fn a_failing_reader_loses_no_reply(rt: HostRuntime) {
             at_once,
         };
         let mut out = Vec::new(rt.alloc());
-        let outcome = run_script(rt.alloc(), reader, &mut out, MemoryDisk::new(rt.alloc()));
+        let outcome = run_script(
+            rt.alloc(),
+            reader,
+            &mut out,
+            MemoryDisk::new(rt.alloc()),
+            &mut Unobserved,
+        );
         assert!(rt; matches!(outcome, Err(ScriptFault::Read(_))), "{at_once}");
         assert!(rt;
             out.as_slice() == b"end 0\nerror 22 BadLine\n".as_slice(),
@@ -81,7 +87,7 @@ fn a_failing_writer_ends_the_script(rt: HostRuntime) {
             b"list 0 0\nlist 0 0\n".as_slice(),
             MemoryDisk::new(rt.alloc()),
         );
-        let outcome = run_script(rt.alloc(), lines, &mut writer, disk);
+        let outcome = run_script(rt.alloc(), lines, &mut writer, disk, &mut Unobserved);
         assert!(rt;
             matches!(outcome, Err(ScriptFault::Write(_))),
             "room for {room} bytes"
@@ -103,7 +109,13 @@ fn a_reply_is_handed_on_before_the_next_read(rt: HostRuntime) {
             bytes,
             at_once: 100,
         };
-        let outcome = run_script(rt.alloc(), reader, &mut writer, MemoryDisk::new(rt.alloc()));
+        let outcome = run_script(
+            rt.alloc(),
+            reader,
+            &mut writer,
+            MemoryDisk::new(rt.alloc()),
+            &mut Unobserved,
+        );
         assert!(rt; matches!(outcome, Err(ScriptFault::Write(_))), "{bytes:?}");
     }
 }
@@ -116,6 +128,7 @@ fn what_was_written_before_stays(rt: HostRuntime) -> Result<(), Fail> {
         b"quit\n".as_slice(),
         &mut out,
         MemoryDisk::new(rt.alloc()),
+        &mut Unobserved,
     );
     assert!(rt; outcome.is_ok() && out.as_slice() == b"before\nbye\n".as_slice());
     Ok(())

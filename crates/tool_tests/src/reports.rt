@@ -5,7 +5,7 @@ use disk_core::{Disk, FileId, MemoryDisk};
 use engine_core::Engine;
 use std::alloc::Global;
 use std::test::*;
-use tool_core::{Verdict, list_recordings, verify_recordings};
+use tool_core::{Unobserved, Verdict, list_recordings, verify_recordings};
 
 /// The disk of an archive with two recordings: one of two frames, which was stopped, and one of a frame, which was not.
 pub fn two_recordings(alloc: Global) -> Result<MemoryDisk, Fail> {
@@ -45,7 +45,7 @@ fn verified(alloc: Global, disk: MemoryDisk) -> Result<(Vec<u8>, Verdict), Fail>
         return Err(Fail::new("the archive was not opened"));
     };
     let mut out = Vec::new(alloc);
-    match verify_recordings(alloc, &mut engine, &mut out) {
+    match verify_recordings(alloc, &mut engine, &mut out, &mut Unobserved) {
         Ok(verdict) => Ok((out, verdict)),
         Err(_) => Err(Fail::new("the verification ended early")),
     }

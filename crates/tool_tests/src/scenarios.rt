@@ -3,7 +3,7 @@
 use disk_core::MemoryDisk;
 use std::alloc::Global;
 use std::test::*;
-use tool_core::run_script;
+use tool_core::{Unobserved, run_script};
 
 // The vectors that scripts name, in hex.
 const VECTORS: [(&str, &str); 13] = [
@@ -89,7 +89,7 @@ fn text_of(alloc: Global, lines: &str) -> Result<String, Fail> {
 /// What a script answers over the archive of a disk, and the disk then.
 fn replies(alloc: Global, disk: MemoryDisk, script: &str) -> Result<(String, MemoryDisk), Fail> {
     let mut out = Vec::new(alloc);
-    let Ok(disk) = run_script(alloc, script.as_bytes(), &mut out, disk) else {
+    let Ok(disk) = run_script(alloc, script.as_bytes(), &mut out, disk, &mut Unobserved) else {
         return Err(Fail::new("the script ended early"));
     };
     let text = std::str::from_utf8(out.as_slice())?;

@@ -1,6 +1,7 @@
 //! What the words of a command line lead to, and how the program ends, beside their clauses: the texts, and where they are
 //! told.
 
+use crate::outcome::Ended;
 use crate::status::Ending;
 use crate::{concluded, told};
 use clap::Error;
@@ -9,7 +10,7 @@ use command_line::{ToolCommand, command_of, unreadable_words};
 use std::alloc::Global;
 use std::cell::Cell;
 use std::fmt::Display;
-use std::io;
+use std::io::{self, Write};
 use std::process::Abort;
 use std::test::*;
 use tool_core::EarlyEnd;
@@ -38,66 +39,51 @@ fn refused(alloc: Global, line: &str) -> Result<Option<Error>, Fail> {
     Ok(command_of(alloc, words.as_slice()).err())
 }
 
-// Counts what is told on the one stream and on the other, and whether it was the text that is awaited; or fails to tell it.
+// Counts what is told on standard error, and whether it was the text that is awaited.
 #[derive(Drop)]
 struct Streams<'a> {
     alloc: Global,
     awaited: &'a str,
-    output: Cell<u32>,
     errors: Cell<u32>,
     awaited_came: Cell<bool>,
-    is_full: bool,
 }
 
 impl Streams<'_> {
-    fn new(alloc: Global, awaited: &str, is_full: bool) -> Streams<'_> {
+    fn new(alloc: Global, awaited: &str) -> Streams<'_> {
         Streams {
             alloc,
             awaited,
-            output: Cell::new(0),
             errors: Cell::new(0),
             awaited_came: Cell::new(false),
-            is_full,
         }
-    }
-
-    fn tell(&self, count: &Cell<u32>) -> io::Result<()> {
-        count.set(count.get().wrapping_add(1));
-        if self.is_full {
-            return Err(io::Error::from(io::ErrorKind::Other));
-        }
-        Ok(())
-    }
-
-    fn tell_value<D: Display>(&self, count: &Cell<u32>, value: &D) -> io::Result<()> {
-        if let Ok(text) = value.to_string(self.alloc) {
-            self.awaited_came.set(text.as_str() == self.awaited);
-        }
-        self.tell(count)
-    }
-}
-
-impl Print for Streams<'_> {
-    fn print<D: Display + Drop>(&self, value: D) -> io::Result<()> {
-        self.tell_value(&self.output, &value)
-    }
-
-    fn println<D: Display + Drop>(&self, value: D) -> io::Result<()> {
-        self.tell_value(&self.output, &value)
-    }
-
-    fn write_all(&self, _bytes: &[u8]) -> io::Result<()> {
-        self.tell(&self.output)
     }
 }
 
 impl Eprint for Streams<'_> {
     fn eprint<D: Display + Drop>(&self, value: D) -> io::Result<()> {
-        self.tell_value(&self.errors, &value)
+        if let Ok(text) = value.to_string(self.alloc) {
+            self.awaited_came.set(text.as_str() == self.awaited);
+        }
+        self.errors.set(self.errors.get().wrapping_add(1));
+        Ok(())
     }
 
     fn eprintln<D: Display + Drop>(&self, value: D) -> io::Result<()> {
-        self.tell_value(&self.errors, &value)
+        self.eprint(value)
+    }
+}
+
+/// Takes nothing.
+#[derive(Drop)]
+struct Full;
+
+impl Write for Full {
+    fn write(&mut self, _buf: &[u8]) -> io::Result<usize> {
+        Err(io::Error::from(io::ErrorKind::Other))
+    }
+
+    fn flush(&mut self) -> io::Result<()> {
+        Ok(())
     }
 }
 
@@ -110,14 +96,18 @@ fn check_told(
     text: &str,
     status: u8,
 ) -> Result<(), Fail> {
-    assert!(rt; error.kind() == kind);
-    assert!(rt; error.to_string(alloc)?.as_str().starts_with(text));
-    let streams = Streams::new(alloc, text, false);
-    assert!(rt; concluded(&streams, told(&streams, error)) == status);
-    let is_help = status == 0;
-    assert!(rt; (streams.output.get() == 1) == is_help && (streams.errors.get() == 1) == !is_help);
-    let full = Streams::new(alloc, text, true);
-    assert!(rt; concluded(&full, told(&full, error)) == 3);
+    let whole = error.to_string(alloc)?;
+    assert!(rt; error.kind() == kind && whole.as_str().starts_with(text));
+    let (mut output, mut errors) = (Vec::new(alloc), Vec::new(alloc));
+    let ended = told(kind, whole.as_str(), &mut output, &mut errors);
+    let (used, other) = if status == 0 {
+        (output, errors)
+    } else {
+        (errors, output)
+    };
+    assert!(rt; used.as_slice() == whole.as_bytes() && other.is_empty());
+    let full = told(kind, whole.as_str(), &mut Full, &mut Full);
+    assert!(rt; ended.ending.status() == status && full.ending.status() == 3);
     Ok(())
 }
 
@@ -138,33 +128,44 @@ fn check_refused(
 
 #[test]
 fn help(rt: HostRuntime) -> Result<(), Fail> {
-    for (line, text) in [
+    for (line, kind, text) in [
         (
             "archive_tool --help",
+            ErrorKind::DisplayHelp,
             "Records Aeron streams and replays them. An archive lies in a folder,",
         ),
         (
             "archive_tool create --help",
+            ErrorKind::DisplayHelp,
             "Makes an archive without recordings in a folder, and prints `created`.",
         ),
         (
             "archive_tool run --help",
+            ErrorKind::DisplayHelp,
             "Reads control lines from standard input, one a line,",
         ),
         (
             "archive_tool list --help",
+            ErrorKind::DisplayHelp,
             "Prints a line `recording ..` for each recording",
         ),
         (
             "archive_tool verify --help",
+            ErrorKind::DisplayHelp,
             "Reads each recorded frame of the archive in a folder,",
         ),
         (
             "archive_tool frames --help",
+            ErrorKind::DisplayHelp,
             "Prints a line `frame <term id> <term offset> <type> <length> <flags>` for each frame",
         ),
+        (
+            "archive_tool --version",
+            ErrorKind::DisplayVersion,
+            "archive_tool 0.1.0 (catalogue 1, rattle-kit-",
+        ),
     ] {
-        check_refused(&rt, rt.alloc(), line, ErrorKind::DisplayHelp, text, 0)?;
+        check_refused(&rt, rt.alloc(), line, kind, text, 0)?;
     }
     Ok(())
 }
@@ -325,8 +326,11 @@ fn a_fault_is_told_by_its_line(rt: HostRuntime) {
             3,
         ),
     ] {
-        let streams = Streams::new(rt.alloc(), line, false);
-        assert!(rt; concluded(&streams, ending) == status, "{line} {status}");
+        let streams = Streams::new(rt.alloc(), line);
+        assert!(rt;
+            concluded(&streams, Ended::told(ending)) == status,
+            "{line} {status}"
+        );
         assert!(rt;
             streams.awaited_came.get() == (status > 0),
             "{line} {status}"

@@ -9,7 +9,7 @@ use std::io::{self, Write};
 use std::path::Path;
 use std::test::*;
 use std::{env, fs};
-use tool_core::run_script;
+use tool_core::{Unobserved, run_script};
 
 const SCRIPT: &str = "start 1001 7 42 65536 1408 131072 0 1000 c\n\
     block 0 2500000000c001000000000007000000e90300002a000000000000000000000068656c6c6f\n";
@@ -35,8 +35,8 @@ fn within(rt: HostRuntime, folder: &str, name: &str) -> Result<String, Fail> {
 /// What a command writes has to be this, and its status that.
 fn check(rt: HostRuntime, command: ToolCommand<'_>, told: &str, status: u8) -> Result<(), Fail> {
     let mut out = Vec::new(rt.alloc());
-    let ending = obeyed(rt, &command, &mut out);
-    if ending.status() == status && out.as_slice() == told.as_bytes() {
+    let ended = obeyed(rt, &command, &mut out);
+    if ended.ending.status() == status && out.as_slice() == told.as_bytes() {
         Ok(())
     } else {
         Err(Fail::new(told))
@@ -58,6 +58,7 @@ fn record(rt: HostRuntime, folder: &str) -> Result<(), Fail> {
         SCRIPT.as_bytes(),
         &mut out,
         disk_of(rt, folder)?,
+        &mut Unobserved,
     );
     if outcome.is_ok() && out.as_slice() == b"started 0 0\nsettled 64\n".as_slice() {
         Ok(())
@@ -169,8 +170,8 @@ fn what_is_not_handed_on_is_told(rt: HostRuntime) -> Result<(), Fail> {
         folder,
         history: 16,
     };
-    let ending = obeyed(rt, &command, &mut Holding);
-    assert!(rt; ending.status() == 3);
+    let ended = obeyed(rt, &command, &mut Holding);
+    assert!(rt; ended.ending.status() == 3);
     fs::remove_dir_all(&rt, folder)?;
     Ok(())
 }

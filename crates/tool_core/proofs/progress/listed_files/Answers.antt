@@ -1,6 +1,6 @@
 -- The listing and each length leave the disk as it was.
 use Rattle.tool_core.proofs.QuietLemmas.{quiet_then}
-use Rattle.tool_core.proofs.progress.starts_of.Goals as goal
+use Rattle.tool_core.proofs.progress.listed_files.Goals as goal
 
 pub loop-file-init : goal.loop-file-init
 loop-file-init g c = c.list.ensures.quiet

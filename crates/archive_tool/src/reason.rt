@@ -1,0 +1,124 @@
+//! Why a command could not do what it was asked for, in a line behind its refusal's. docs/CONTROL.md, "Standard error".
+
+use disk_core::FileId;
+use host_disk::{FailedCall, LastFault, OpenFault};
+use std::fmt;
+use std::io::{self, Cursor, ErrorKind, Write};
+
+/// Why a command ended as it did.
+#[derive(Clone, Copy, Drop)]
+pub enum Reason {
+    /// What was told says so.
+    Told,
+    /// Its folder was not opened.
+    Folder(OpenFault),
+    /// Its folder was not made.
+    NewFolder(io::Error),
+    /// Where an archive was to be made the folder has files of one.
+    HasFiles,
+    /// The history that was asked for is out of its range.
+    History(u32),
+    /// A call of the disk failed.
+    Call(LastFault),
+    /// Its file was not opened.
+    File(io::Error),
+    /// Its file could not be read on.
+    FileRead,
+    /// Standard input could not be read on.
+    Input,
+    /// Standard output took no more; what the system told of it, if it told anything.
+    Output(Option<io::Error>),
+}
+
+impl fmt::Display for Reason {
+    fn fmt<W: fmt::Write>(&self, f: &mut fmt::Formatter<W>) -> fmt::Result {
+        match self {
+            Reason::Told => Ok(()),
+            Reason::Folder(fault) => write!(f, "{fault}"),
+            Reason::NewFolder(error) => write!(
+                f,
+                "the folder cannot be made: {}",
+                SystemText(*error)
+            ),
+            Reason::HasFiles => write!(f, "the folder has an archive, or files of one"),
+            Reason::History(entries) => {
+                write!(f, "a history has 1 to 16777216 entries, and not {entries}")
+            }
+            Reason::Call(fault) => write!(f, "{}", FaultLine(*fault)),
+            Reason::File(error) => write!(f, "the file cannot be opened: {}", SystemText(*error)),
+            Reason::FileRead => write!(f, "the file cannot be read on"),
+            Reason::Input => write!(f, "standard input cannot be read on"),
+            Reason::Output(Some(error)) if !is_closed(error) => {
+                write!(f, "standard output: {}", SystemText(*error))
+            }
+            Reason::Output(_) => write!(f, "standard output was closed"),
+        }
+    }
+}
+
+/// Whether standard output failed because nobody reads it.
+fn is_closed(error: &io::Error) -> bool {
+    error.kind() == ErrorKind::BrokenPipe || error.raw_os_error() == Some(BAD_DESCRIPTOR)
+}
+
+/// Linux's number of an error: the descriptor is not open.
+const BAD_DESCRIPTOR: i32 = 9;
+
+/// The system's text of an error, without its number.
+#[derive(Clone, Copy, Drop)]
+struct SystemText(io::Error);
+
+impl fmt::Display for SystemText {
+    fn fmt<W: fmt::Write>(&self, f: &mut fmt::Formatter<W>) -> fmt::Result {
+        let mut buffer = Cursor::new([0u8; 256]);
+        let _ = write!(buffer, "{}", self.0);
+        let text = std::str::from_utf8(buffer.get_ref()).unwrap_or("");
+        let text = text.trim_end_matches('\0');
+        match text.split_once(" (os error ") {
+            Some((text, _)) => f.write_str(text),
+            None => f.write_str(text),
+        }
+    }
+}
+
+/// A call that failed as `0-131072.rec: write: No space left on device`.
+#[derive(Clone, Copy, Drop)]
+pub(crate) struct FaultLine(pub LastFault);
+
+impl fmt::Display for FaultLine {
+    fn fmt<W: fmt::Write>(&self, f: &mut fmt::Formatter<W>) -> fmt::Result {
+        let (call, text) = (self.0.call, SystemText(self.0.error));
+        match file_of(call) {
+            Some(file) => write!(f, "{file}: {}: {text}", word_of(call)),
+            None => write!(f, "the folder: {}: {text}", word_of(call)),
+        }
+    }
+}
+
+/// The file that a call was of.
+pub(crate) fn file_of(call: FailedCall) -> Option<FileId> {
+    match call {
+        FailedCall::Measure(file)
+        | FailedCall::Read(file, _)
+        | FailedCall::Write(file, _, _)
+        | FailedCall::Cut(file, _)
+        | FailedCall::Remove(file)
+        | FailedCall::Sync(file)
+        | FailedCall::Refused(file, _, _) => Some(file),
+        FailedCall::List => None,
+    }
+}
+
+/// What a call was to do.
+pub(crate) fn word_of(call: FailedCall) -> &'static str {
+    match call {
+        FailedCall::Measure(_) => "length",
+        FailedCall::Read(_, _) => "read",
+        FailedCall::Write(_, _, _) => "write",
+        FailedCall::Cut(_, _) => "cut",
+        FailedCall::Remove(_) => "remove",
+        FailedCall::Sync(_) => "sync",
+        FailedCall::List => "list",
+        FailedCall::Refused(_, _, _) => "refused",
+    }
+}

@@ -1,0 +1,203 @@
+//! What is told on standard error while a command runs. docs/CONTROL.md, "Standard error".
+
+use crate::reason::{FaultLine, file_of, word_of};
+use archive_model::{Registration, Reply};
+use disk_core::FileId;
+use frame_core::{Refusal, segment_base};
+use host_disk::{HostDisk, LastFault};
+use std::alloc::Global;
+use std::io::Eprint;
+use tool_core::{Beginning, Observer, Screen, Stage, Viewer};
+
+/// Tells each call of a folder that fails, once for each file and cause.
+#[derive(Drop)]
+pub(crate) struct FaultTeller<'a, R> {
+    screen: &'a Screen<'a, R>,
+    from: Stage,
+    told: Vec<LastFault>,
+}
+
+impl<'a, R: Eprint> FaultTeller<'a, R> {
+    /// Tells the calls that fail from this stage of the command on.
+    pub(crate) fn new(alloc: Global, screen: &'a Screen<'a, R>, from: Stage) -> FaultTeller<'a, R> {
+        FaultTeller {
+            screen,
+            from,
+            told: Vec::new(alloc),
+        }
+    }
+}
+
+impl<R: Eprint> Viewer<HostDisk> for FaultTeller<'_, R> {
+    fn failed(&mut self, disk: &HostDisk) {
+        if self.from == Stage::Working && self.screen.stage() == Stage::Opening {
+            return;
+        }
+        let Some(fault) = disk.last_fault() else {
+            return;
+        };
+        if self.told.iter().any(|told| is_same(told, &fault)) {
+            return;
+        }
+        // Where there is no memory for it, it may be told again.
+        let _ = self.told.push(fault);
+        self.screen.tell(FaultLine(fault));
+    }
+}
+
+/// Whether two faults are of one file, and have one cause.
+fn is_same(first: &LastFault, second: &LastFault) -> bool {
+    file_of(first.call) == file_of(second.call)
+        && word_of(first.call) == word_of(second.call)
+        && first.error.raw_os_error() == second.error.raw_os_error()
+        && first.error.kind() == second.error.kind()
+}
+
+/// Tells nothing, but takes away the line that shows an opening.
+#[derive(Drop)]
+pub(crate) struct OpeningTeller<'a, R> {
+    screen: &'a Screen<'a, R>,
+}
+
+impl<'a, R: Eprint> OpeningTeller<'a, R> {
+    pub(crate) fn new(screen: &'a Screen<'a, R>) -> OpeningTeller<'a, R> {
+        OpeningTeller { screen }
+    }
+}
+
+impl<R: Eprint> Observer for OpeningTeller<'_, R> {
+    fn began(&mut self, _beginning: &Beginning) {
+        self.screen.work();
+    }
+}
+
+/// Tells how a script's archive began, and that its history is full.
+#[derive(Drop)]
+pub(crate) struct ScriptTeller<'a, R> {
+    screen: &'a Screen<'a, R>,
+    has_told_full: bool,
+}
+
+impl<'a, R: Eprint> ScriptTeller<'a, R> {
+    pub(crate) fn new(screen: &'a Screen<'a, R>) -> ScriptTeller<'a, R> {
+        ScriptTeller {
+            screen,
+            has_told_full: false,
+        }
+    }
+}
+
+impl<R: Eprint> Observer for ScriptTeller<'_, R> {
+    fn began(&mut self, beginning: &Beginning) {
+        self.screen.work();
+        match beginning {
+            Beginning::Made => self
+                .screen
+                .tell("a new archive was made, as the folder had none"),
+            Beginning::Opened => {}
+            Beginning::Refused(refusal) => {
+                self.screen.tell_refusal(refusal);
+                self.screen.tell(
+                    "the archive is not open: lines that need it are Broken until reopen opens it",
+                );
+            }
+        }
+    }
+
+    fn answered(&mut self, outcome: &Result<Reply, Refusal>) {
+        if let Err(Refusal::HistoryFull) = outcome {
+            if !self.has_told_full {
+                self.has_told_full = true;
+                self.screen.tell(
+                    "the history is full: nothing is recorded here any more, and what is recorded stays and is read; \
+                    go on with an archive in another folder, made with a greater --history",
+                );
+            }
+        }
+    }
+}
+
+/// Tells what a verification found of each damaged recording, and at its end of all.
+#[derive(Drop)]
+pub(crate) struct VerifyTeller<'a, R> {
+    screen: &'a Screen<'a, R>,
+    recordings: u64,
+    frames: u64,
+    bytes: u64,
+    damaged: u64,
+    unread: u64,
+}
+
+impl<'a, R: Eprint> VerifyTeller<'a, R> {
+    pub(crate) fn new(screen: &'a Screen<'a, R>) -> VerifyTeller<'a, R> {
+        VerifyTeller {
+            screen,
+            recordings: 0,
+            frames: 0,
+            bytes: 0,
+            damaged: 0,
+            unread: 0,
+        }
+    }
+
+    /// Tells how many recordings there are, how many frames and bytes those have that were verified, and how many are
+    /// damaged or could not be read.
+    pub(crate) fn finish(self) {
+        let VerifyTeller {
+            screen,
+            recordings,
+            frames,
+            bytes,
+            damaged,
+            unread,
+        } = self;
+        screen.tell(format_args!(
+            "recordings {recordings}, frames {frames}, bytes {bytes}, damaged {damaged}, not read {unread}"
+        ));
+    }
+}
+
+impl<R: Eprint> Observer for VerifyTeller<'_, R> {
+    fn began(&mut self, _beginning: &Beginning) {
+        self.screen.work();
+    }
+
+    fn verified(&mut self, known: &Registration, outcome: &Result<Reply, Refusal>) {
+        self.recordings = self.recordings.saturating_add(1);
+        match outcome {
+            Ok(Reply::Verified { frames }) => {
+                let bytes = known
+                    .recorded
+                    .saturating_sub(known.descriptor.start_position);
+                self.frames = self.frames.saturating_add(frames.unsigned_abs());
+                self.bytes = self.bytes.saturating_add(bytes.unsigned_abs());
+            }
+            Err(Refusal::Damaged { position, .. }) => {
+                self.damaged = self.damaged.saturating_add(1);
+                if let Some((file, offset)) = stored_at(known, *position) {
+                    self.screen
+                        .tell(format_args!("{file}: damaged at offset {offset}"));
+                }
+            }
+            _ => self.unread = self.unread.saturating_add(1),
+        }
+    }
+}
+
+/// The segment file in which a position of a recording is stored, and the offset in it.
+fn stored_at(known: &Registration, position: i64) -> Option<(FileId, u64)> {
+    let descriptor = &known.descriptor;
+    let start = u64::try_from(descriptor.start_position).ok()?;
+    let term_length = u32::try_from(descriptor.term_length).ok()?;
+    let segment_length = u32::try_from(descriptor.segment_length).ok()?;
+    let position = u64::try_from(position).ok()?;
+    if term_length == 0 || segment_length == 0 || position < start {
+        return None;
+    }
+    let base = segment_base(start, term_length, segment_length, position);
+    let file = FileId::Segment {
+        recording: descriptor.recording,
+        base: i64::try_from(base).ok()?,
+    };
+    Some((file, position.saturating_sub(base)))
+}

@@ -1,0 +1,24 @@
+-- What the opening says, and what is reported behind it.
+use Rattle.std.proofs.Common.{rules, refl}
+use Rattle.tool_core.proofs.commands.verify_archive.Goals as goal
+
+pub returns-in-Err-clause-fault : goal.returns-in-Err-clause-fault
+returns-in-Err-clause-fault g c = (record { whole = c.in-Err.ensures.refused; refuses = c.in-Err.ensures.other; goes_on = c.in-Err.ensures.goes_on }, refl)
+
+pub returns-in-Ok-outcome-clause-verified : goal.returns-in-Ok-outcome-clause-verified
+returns-in-Ok-outcome-clause-verified g c = record {
+  opened = c.in-Ok.engine;
+  opens = record { opened_as = c.in-Ok.ensures.opened; desk = c.in-Ok.ensures.desk; goes_on = c.in-Ok.ensures.goes_on };
+  last = c.verify_recordings-outcome.new.engine;
+  reported = search rules;
+  left = c.into_disk-disk.ensures;
+}
+
+pub returns-in-Err-outcome-clause-fault : goal.returns-in-Err-outcome-clause-fault
+returns-in-Err-outcome-clause-fault g c = record {
+  opened = c.in-Ok.engine;
+  opens = record { opened_as = c.in-Ok.ensures.opened; desk = c.in-Ok.ensures.desk; goes_on = c.in-Ok.ensures.goes_on };
+  last = c.verify_recordings-outcome.new.engine;
+  reported = search rules;
+  left = c.into_disk-disk.ensures;
+}

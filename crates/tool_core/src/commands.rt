@@ -1,0 +1,138 @@
+//! What `create`, `list` and `verify` do over a disk and a writer. docs/CONTROL.md, "The program".
+
+ghost use Rattle.std.specs.Prelude.{IfErr, IfOk, codes};
+ghost use Rattle.std.specs.Io.KnownBytes.{Appends};
+ghost use Rattle.tool_core.specs.Commands.{FailsToCreate, FailsToList, FailsToVerify, HasListed, HasVerified, IsCreated};
+
+use crate::fault::EarlyEnd;
+use crate::observer::{Beginning, Observer};
+use crate::reports::{Verdict, list_recordings, verify_recordings};
+use disk_core::Disk;
+use engine_core::{Engine, OpenRefusal};
+use frame_core::Refusal;
+use std::alloc::Global;
+use std::io::Write;
+
+/// Why a command ended before it was done.
+#[derive(Clone, Copy, Debug, PartialEq, Eq)]
+pub enum Stopped {
+    /// Its archive was neither made nor opened.
+    Refused(Refusal),
+    /// It ended early.
+    Cut(EarlyEnd),
+}
+
+/// Why a command ended before it was done, and the disk of its archive.
+#[derive(Drop)]
+pub struct CommandFault<D> {
+    /// Why.
+    pub why: Stopped,
+    /// The disk that was given.
+    pub disk: D,
+}
+
+/// Makes an archive without recordings on a disk without files, with this limit of its history, and writes `created`. The
+/// disk comes back.
+///
+/// Refused as `Engine::create` refuses, and then nothing is written; cut by `Write` where the writer fails: then the archive is
+/// there. docs/CONTROL.md, "The program".
+pub fn create_archive<W: Write, D: Disk>(
+    alloc: Global,
+    disk: D,
+    history: u32,
+    writer: &mut W,
+) -> Result<D, CommandFault<D>>
+    ensures created { IfOk result (λ back. IsCreated D.life history (D.life disk) (D.life back)
+        × Appends (W.contents writer.old) (W.contents writer.new) (codes "created\n")) }
+    ensures fault { IfErr result (λ fault. FailsToCreate D.life history (D.life disk) fault.disk fault.why
+        (W.contents writer.old) (W.contents writer.new)) }
+{
+    let engine = match Engine::create(alloc, disk, history) {
+        Ok(engine) => engine,
+        Err(OpenRefusal { refusal, disk }) => return Err(CommandFault {
+            why: Stopped::Refused(refusal),
+            disk,
+        }),
+    };
+    let disk = engine.into_disk();
+    if writer.write_all(b"created\n").is_err() {
+        let why = Stopped::Cut(EarlyEnd::Write);
+        return Err(CommandFault { why, disk });
+    }
+    Ok(disk)
+}
+
+/// Opens the archive of a disk, and writes its recordings as `list_recordings`. The disk comes back. An observer is told
+/// whether it was opened.
+///
+/// Refused as `Engine::open` refuses, and then nothing is written; cut as `list_recordings`. docs/CONTROL.md, "The program".
+pub fn list_archive<W: Write, D: Disk, O: Observer>(
+    alloc: Global,
+    disk: D,
+    writer: &mut W,
+    observer: &mut O,
+) -> Result<D, CommandFault<D>>
+    ensures listed { IfOk result (λ back. HasListed D.life (D.life disk) (D.life back)
+        (W.contents writer.old) (W.contents writer.new)) }
+    ensures fault { IfErr result (λ fault. FailsToList D.life (D.life disk) fault.disk fault.why
+        (W.contents writer.old) (W.contents writer.new)) }
+{
+    let engine = match Engine::open(alloc, disk) {
+        Ok(engine) => engine,
+        Err(OpenRefusal { refusal, disk }) => {
+            observer.began(&Beginning::Refused(refusal));
+            return Err(CommandFault {
+                why: Stopped::Refused(refusal),
+                disk,
+            });
+        }
+    };
+    observer.began(&Beginning::Opened);
+    let outcome = list_recordings(alloc, engine.desk(), writer);
+    let disk = engine.into_disk();
+    match outcome {
+        Ok(()) => Ok(disk),
+        Err(end) => Err(CommandFault {
+            why: Stopped::Cut(end),
+            disk,
+        }),
+    }
+}
+
+/// Opens the archive of a disk, and verifies its recordings as `verify_recordings`. The disk comes back, with the verdict. An
+/// observer is told whether it was opened, and of each answer.
+///
+/// Refused as `Engine::open` refuses, and then nothing is written; cut as `verify_recordings`. docs/CONTROL.md, "The
+/// program".
+pub fn verify_archive<W: Write, D: Disk, O: Observer>(
+    alloc: Global,
+    disk: D,
+    writer: &mut W,
+    observer: &mut O,
+) -> Result<(D, Verdict), CommandFault<D>>
+    ensures verified { IfOk result (λ found. HasVerified D.life (D.life disk) (D.life found.0)
+        (W.contents writer.old) (W.contents writer.new) found.1) }
+    ensures fault { IfErr result (λ fault. FailsToVerify D.life (D.life disk) fault.disk fault.why
+        (W.contents writer.old) (W.contents writer.new)) }
+{
+    let mut engine = match Engine::open(alloc, disk) {
+        Ok(engine) => engine,
+        Err(OpenRefusal { refusal, disk }) => {
+            observer.began(&Beginning::Refused(refusal));
+            return Err(CommandFault {
+                why: Stopped::Refused(refusal),
+                disk,
+            });
+        }
+    };
+    observer.began(&Beginning::Opened);
+    let outcome = verify_recordings(alloc, &mut engine, writer, observer);
+    let disk = engine.into_disk();
+    match outcome {
+        Ok(verdict) => Ok((disk, verdict)),
+        Err(end) => Err(CommandFault {
+            why: Stopped::Cut(end),
+            disk,
+        }),
+    }
+}

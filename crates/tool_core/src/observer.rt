@@ -1,0 +1,33 @@
+//! What is told of a command while it runs, beside what it writes. docs/CONTROL.md, "Standard error".
+
+use archive_model::{Registration, Reply};
+use frame_core::Refusal;
+
+/// How a script's archive began.
+#[derive(Clone, Copy, Debug, PartialEq, Eq)]
+pub enum Beginning {
+    /// It was made, where no file was.
+    Made,
+    /// It was there, and is open.
+    Opened,
+    /// It is not open, by this refusal.
+    Refused(Refusal),
+}
+
+/// Is told how a command goes on. Nothing that is written or recorded depends on it.
+pub trait Observer {
+    /// How a script's archive began, before the first line is read.
+    fn began(&mut self, _beginning: &Beginning) {}
+
+    /// What a script's line is answered, before that is written.
+    fn answered(&mut self, _outcome: &Result<Reply, Refusal>) {}
+
+    /// What the verifying of a recording is answered, before that is written.
+    fn verified(&mut self, _known: &Registration, _outcome: &Result<Reply, Refusal>) {}
+}
+
+/// Nobody is told.
+#[derive(Clone, Copy, Debug, Drop)]
+pub struct Unobserved;
+
+impl Observer for Unobserved {}

@@ -1,0 +1,355 @@
+#!/usr/bin/env python3
+"""Asks what the program tells on standard error, text for text: docs/CONTROL.md, "Standard error". Beside it the status and
+what stands on standard output. Then that the name of a new folder is synced before `created` is told.
+
+Usage: trials/standard_error.py [program]. Some rows need the right to mount, or another user than root; what may not be
+tried here is skipped, and said to be. Ends with status 1 where anything is wrong.
+"""
+import os
+import re
+import resource
+import shutil
+import subprocess
+import sys
+from collections.abc import Callable, Iterator
+from contextlib import contextmanager
+from dataclasses import dataclass, field
+from pathlib import Path
+
+from mounts import Skipped, mount, mounted
+from tool import Session, Stream, bank, expect, program, room
+
+STREAM = Stream(term_length=65_536, segment_length=131_072)
+START = STREAM.start("c")
+BLOCK = f"block 0 {STREAM.message(0, b'hello').hex()}"
+NEXT = f"block 0 {STREAM.message(64, b'hello').hex()}"
+LONG = f"block 0 {STREAM.message(0, bytes(1_000)).hex()}"
+RECORDED = [START, BLOCK]
+NOBODY = 65_534
+
+MADE = "a new archive was made, as the folder had none\n"
+CLOSED = "the archive is not open: lines that need it are Broken until reopen opens it\n"
+FULL = (
+    "the history is full: nothing is recorded here any more, and what is recorded stays and is read; "
+    "go on with an archive in another folder, made with a greater --history\n"
+)
+FAULT = "error 17 DeviceFault\n"
+BROKEN = "error 16 Broken\n"
+BAD_PARAMETER = "error 10 BadParameter\n"
+
+Make = Callable[[Path], None]
+
+
+@dataclass(frozen=True)
+class Row:
+    """What a command tells in a folder that was made so."""
+
+    what: str
+    words: list[str]  # `.` stands for the folder
+    status: int
+    output: str
+    error: str
+    make: list[Make] = field(default_factory=list)
+    lines: list[str] = field(default_factory=list)
+    into: str = "pipe"  # a pipe, a pipe that nobody reads, nothing at all, or a file
+    nobody: bool = False
+    file_size: int | None = None
+
+
+class Program:
+    """The program, where every user may run it."""
+
+    def __init__(self, tool: Path, work: Path) -> None:
+        self.path = work / "archive_tool"
+        shutil.copy(tool, self.path)
+        self.path.chmod(0o755)
+        work.chmod(0o755)
+
+    def run(self, folder: Path, row: Row) -> tuple[int, str, str]:
+        """The status, standard output and standard error of a row's command."""
+        words = [str(folder) + word[1:] if word.startswith(".") else word for word in row.words]
+
+        def prepare() -> None:
+            if row.file_size is not None:
+                resource.setrlimit(resource.RLIMIT_FSIZE, (row.file_size, row.file_size))
+            if row.into == "nothing":
+                os.close(1)
+
+        with outputs(row.into) as output:
+            ended = subprocess.run(
+                [self.path, *words],
+                input="".join(line + "\n" for line in row.lines).encode(),
+                stdout=output,
+                stderr=subprocess.PIPE,
+                preexec_fn=prepare,
+                restore_signals=False,
+                user=NOBODY if row.nobody else None,
+            )
+        return ended.returncode, (ended.stdout or b"").decode(), ended.stderr.decode()
+
+    def script(self, folder: Path, *lines: str) -> None:
+        """Runs a script over a folder."""
+        given = "".join(line + "\n" for line in lines).encode()
+        subprocess.run([self.path, "run", folder], input=given, capture_output=True, check=True)
+
+
+@contextmanager
+def outputs(into: str) -> Iterator[int]:
+    """Where a command writes: to a pipe that is read, to one that nobody reads, or to a file."""
+    if into in ("pipe", "nothing"):
+        yield subprocess.PIPE
+    elif into == "unread":
+        reader, writer = os.pipe()
+        os.close(reader)
+        yield writer
+        os.close(writer)
+    else:
+        with open(into, "wb") as file:
+            yield file.fileno()
+
+
+def overwrite(name: str, offset: int, text: bytes) -> Make:
+    """Writes over some bytes of a file."""
+
+    def make(folder: Path) -> None:
+        with open(folder / name, "r+b") as file:
+            file.seek(offset)
+            file.write(text)
+
+    return make
+
+
+def write(name: str, text: bytes) -> Make:
+    return lambda folder: (folder / name).write_bytes(text)
+
+
+def mode(name: str, bits: int) -> Make:
+    return lambda folder: (folder / name).chmod(bits)
+
+
+def make_folder(name: str) -> Make:
+    return lambda folder: (folder / name).mkdir()
+
+
+def rows(tool: Program) -> list[Row]:
+    """The table."""
+    recorded: Make = lambda folder: tool.script(folder, *RECORDED)
+    short: Make = lambda folder: subprocess.run(
+        [tool.path, "create", folder, "--history", "2"], check=True, capture_output=True
+    )
+    two: Make = lambda folder: tool.script(folder, *RECORDED, NEXT, STREAM.start("d"))
+    big = f"{START}\nblock 0 {STREAM.header(0, 65_536, 0).hex()}".splitlines()
+    two_files: Make = lambda folder: tool.script(
+        folder, *big, f"block 0 {STREAM.header(65_536, 65_536, 0).hex()}", f"block 0 {STREAM.message(131_072, b'x').hex()}"
+    )
+    summary = "recordings {}, frames {}, bytes {}, damaged {}, not read {}\n".format
+    return [
+        # run
+        Row("run in an empty folder", ["run", "."], 0, "started 0 0\nsettled 64\n", MADE, lines=RECORDED),
+        Row("run on an archive", ["run", "."], 0, "verified 1\n", "", [recorded], ["verify 0"]),
+        Row("run in memory", ["run"], 0, "started 0 0\n", "", lines=[START]),
+        Row(
+            "run on a damaged catalogue", ["run", "."], 0, BROKEN + "error 15 Damaged -1 32\nbye\n",
+            "error 15 Damaged -1 32\n" + CLOSED, [write("catalogue-a.bank", bank(3, [])[:32])],
+            ["list 0 1", "reopen", "quit"],
+        ),
+        Row(
+            "run on what is no catalogue", ["run", "."], 0, BROKEN, "error 19 NotCatalogue\n" + CLOSED,
+            [write("catalogue-a.bank", b"")], ["list 0 1"],
+        ),
+        Row(
+            "run beside a folder of a file's name", ["run", "."], 0, BROKEN,
+            "the folder: list: unsupported\n" + FAULT + CLOSED, [recorded, make_folder("1-0.rec")], ["list 0 1"],
+        ),
+        Row(
+            "run where no more fits into a file", ["run", "."], 0, "started 0 0\n" + FAULT + BROKEN + "reopened 1\n",
+            MADE + "0-0.rec: write: File too large\n",
+            lines=[START, LONG, BLOCK, "reopen"], file_size=512,
+        ),
+        Row(
+            "run where that is met twice", ["run", "."], 0, "started 0 0\n" + FAULT + "reopened 1\nextended 0\n" + FAULT,
+            MADE + "0-0.rec: write: File too large\n",
+            lines=[START, LONG, "reopen", STREAM.extend(0, 0), LONG], file_size=512,
+        ),
+        Row(
+            "run with a history that runs full", ["run", "."], 0,
+            "started 0 0\nsettled 64\nerror 11 HistoryFull\nerror 11 HistoryFull\n", FULL, [short],
+            [*RECORDED, START, "stop 0 1"],
+        ),
+        # create
+        Row("create", ["create", "./new"], 0, "created\n", ""),
+        Row(
+            "create where an archive is", ["create", "."], 1, "",
+            BAD_PARAMETER + "the folder has an archive, or files of one\n", [recorded],
+        ),
+        Row(
+            "create with no history", ["create", ".", "--history", "0"], 1, "",
+            BAD_PARAMETER + "a history has 1 to 16777216 entries, and not 0\n",
+        ),
+        Row(
+            "create with too long a history", ["create", ".", "--history", "16777217"], 1, "",
+            BAD_PARAMETER + "a history has 1 to 16777216 entries, and not 16777217\n", [recorded],
+        ),
+        Row(
+            "create below nothing", ["create", "./gone/new"], 3, "",
+            FAULT + "the folder cannot be made: No such file or directory\n",
+        ),
+        Row(
+            "create without permission", ["create", "./new"], 3, "",
+            FAULT + "the folder cannot be made: Permission denied\n", nobody=True,
+        ),
+        Row(
+            "create in a file's place", ["create", "./file"], 3, "", FAULT + "what has this name is no folder\n",
+            [write("file", b"")],
+        ),
+        # folders and files
+        *(
+            row
+            for command in ("run", "list", "verify")
+            for row in (
+                Row(f"{command} of nothing", [command, "./gone"], 3, "", FAULT + "the folder is not there\n"),
+                Row(
+                    f"{command} of a file", [command, "./file"], 3, "", FAULT + "what has this name is no folder\n",
+                    [write("file", b"")],
+                ),
+                Row(
+                    f"{command} of a pipe", [command, "./pipe"], 3, "", FAULT + "what has this name is no folder\n",
+                    [lambda folder: os.mkfifo(folder / "pipe")],
+                ),
+                Row(
+                    f"{command} without permission", [command, "."], 3, "",
+                    FAULT + "no permission to open the folder\n", [mode(".", 0o700)], nobody=True,
+                ),
+            )
+        ),
+        *(
+            Row(
+                f"{command} of a file without permission", [command, "."], 3, "",
+                FAULT + "catalogue-a.bank: sync: Permission denied\n",
+                [lambda folder: (folder / "catalogue-a.bank").write_bytes(bank(3, [])), mode("catalogue-a.bank", 0o600)],
+                nobody=True,
+            )
+            for command in ("list", "verify")
+        ),
+        Row("list without an archive", ["list", "."], 1, "", "error 19 NotCatalogue\n"),
+        Row(
+            "frames of nothing", ["frames", "./gone"], 3, "",
+            FAULT + "the file cannot be opened: No such file or directory\n",
+        ),
+        Row("frames of a folder", ["frames", "."], 3, "", FAULT + "the file cannot be read on\n"),
+        # verify
+        Row("verify", ["verify", "."], 0, "verified 2\nverified 0\n", summary(2, 2, 128, 0, 0), [two]),
+        Row("verify of no recording", ["verify", "."], 0, "", summary(0, 0, 0, 0, 0), [short]),
+        Row(
+            "verify of a damaged frame", ["verify", "."], 3, "error 15 Damaged 0 64\nverified 0\n",
+            "0-0.rec: damaged at offset 64\n" + summary(2, 0, 0, 1, 0), [two, overwrite("0-0.rec", 64, b"\0")],
+        ),
+        Row(
+            "verify of a damaged frame in a later file", ["verify", "."], 3, "error 15 Damaged 0 131072\n",
+            "0-131072.rec: damaged at offset 0\n" + summary(1, 0, 0, 1, 0),
+            [two_files, overwrite("0-131072.rec", 0, b"\0")],
+        ),
+        Row(
+            "verify where a folder took a file's place", ["verify", "."], 3, "", FAULT + "the folder: list: unsupported\n",
+            [recorded, lambda folder: (folder / "0-0.rec").unlink(), make_folder("0-0.rec")],
+        ),
+        # standard output
+        *(
+            Row(f"{words[0]}, {how}", words, 3, "", FAULT + told, [recorded], into=into)
+            for words in (["list", "."], ["frames", "./0-0.rec"], ["create", "./new"], ["--help"])
+            for how, into, told in (
+                ("unread", "unread", "standard output was closed\n"),
+                ("into a full device", "/dev/full", "standard output: No space left on device\n"),
+            )
+        ),
+        Row(
+            "verify, unread", ["verify", "."], 3, "", summary(1, 1, 64, 0, 0) + FAULT + "standard output was closed\n",
+            [recorded], into="unread",
+        ),
+        Row(
+            "run, unread", ["run", "."], 3, "", FAULT + "standard output was closed\n", [recorded], ["list 0 1"],
+            into="unread",
+        ),
+        Row("list into nothing", ["list", "."], 3, "", FAULT + "standard output was closed\n", [recorded], into="nothing"),
+    ]
+
+
+def try_row(tool: Program, row: Row) -> None:
+    """Makes a folder for a row, and asks what its command tells."""
+    with room() as folder:
+        folder.chmod(0o755)
+        for make in row.make:
+            make(folder)
+        expect(row.what, tool.run(folder, row), (row.status, row.output, row.error))
+
+
+def try_use(tool: Program) -> None:
+    """A folder that another process has open."""
+    with room() as folder:
+        tool.script(folder, *RECORDED)
+        first = Session(tool.path, folder)
+        expect("the first process", first.ask("positions 0"), ["positions 0 64 64"])
+        for command in ("create", "run", "list", "verify"):
+            row = Row("", [command, "."], 3, "", FAULT + "the folder is in use\n")
+            expect(f"{command} in use", tool.run(folder, row), (row.status, row.output, row.error))
+        expect("its status", first.end(), 0)
+
+
+def try_read_only(tool: Program, work: Path) -> None:
+    """A file system that is mounted read-only."""
+    line = "catalogue-a.bank: sync: Read-only file system\n"
+    with mounted(work / "disk", "-t", "tmpfs", "-o", "size=16m", "tmpfs") as disk:
+        folder = disk / "archive"
+        folder.mkdir()
+        tool.script(folder)
+        mount("-o", "remount,ro", disk)
+        for command in ("list", "verify"):
+            row = Row("", [command, "."], 3, "", FAULT + line)
+            expect(f"{command}, read-only", tool.run(folder, row), (row.status, row.output, row.error))
+        row = Row("", ["run", "."], 0, BROKEN, line + FAULT + CLOSED, lines=["list 0 1"])
+        expect("run, read-only", tool.run(folder, row), (row.status, row.output, row.error))
+        row = Row("", ["create", "./new"], 3, "", FAULT + "the folder cannot be made: Read-only file system\n")
+        expect("create, read-only", tool.run(folder, row), (row.status, row.output, row.error))
+
+
+def try_new_folder(tool: Program, work: Path) -> None:
+    """`create` syncs the name of its folder before it tells that an archive was made, also in a folder that is there."""
+    for what in ("a new folder", "a folder that a creation left which was stopped"):
+        with room() as above:
+            folder = above / "new"
+            if what != "a new folder":
+                folder.mkdir()
+            calls = above / "calls"
+            words = ["strace", "-f", "-y", "-o", calls, "-e", "trace=fsync,write", tool.path, "create", folder]
+            subprocess.run(words, check=True, capture_output=True)
+            made = [re.sub(r"^\d+ +", "", line) for line in calls.read_text().splitlines()]
+            synced = [n for n, line in enumerate(made) if re.match(rf"fsync\(\d+<{re.escape(str(above))}>\) += 0", line)]
+            told = [n for n, line in enumerate(made) if '"created\\n"' in line]
+            expect(f"{what}: its name is synced before that is told", bool(synced and told and synced[0] < told[0]), True)
+
+
+def main() -> int:
+    named = program(sys.argv[1] if len(sys.argv) > 1 else None)
+    with room() as work:
+        tool = Program(named, work)
+        table = rows(tool)
+        for row in table:
+            if row.nobody and os.geteuid() != 0:
+                print(f"{row.what}: skipped, it takes a second user")
+                continue
+            try_row(tool, row)
+        print(f"{len(table)} commands tell what they have to")
+        try_use(tool)
+        if shutil.which("strace"):
+            try_new_folder(tool, work)
+        else:
+            print("the name of a new folder: skipped, there is no strace")
+        try:
+            try_read_only(tool, work)
+        except Skipped as why:
+            print(f"read-only: skipped, {why}")
+    return 0
+
+
+if __name__ == "__main__":
+    sys.exit(main())
