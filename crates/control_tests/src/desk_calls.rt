@@ -128,11 +128,13 @@ fn bytes_are_read_by_the_terms_of_the_recording(rt: HostRuntime) -> Result<(), F
 
 /// Session 0 wrote a block from 0 on, of a recording of which nothing is recorded.
 fn note(desk: &mut Desk, last: i64) -> Result<(), Refusal> {
-    let writer = desk.session(&0).ok_or(Refusal::StaleSession)?;
-    if writer.known.recorded != 0 || last < 0 || last > 131_072 {
+    let found = desk.session(&0).ok_or(Refusal::StaleSession)?.found;
+    let Some(known) = desk.recording(&found.session.recording) else {
+        return Err(Refusal::UnknownRecording);
+    };
+    if known.recorded != 0 || last < 0 || last > 131_072 {
         return Err(Refusal::BadPosition);
     }
-    let found = writer.found;
     let None = found.session.written else {
         return Err(Refusal::NeedSettle);
     };
