@@ -120,7 +120,9 @@ fn a_start_is_committed_byte_for_byte(rt: HostRuntime) -> Result<(), Fail> {
     let mut disk = MemoryDisk::new(rt.alloc());
     let mut log = create(rt.alloc(), &mut disk, 3)?;
     let command = Command::Start(fields(rt.alloc())?);
-    log.append(&mut disk, &Entry::of_command(rt.alloc(), &0, &command)?)?;
+    let entry = Entry::of_command(rt.alloc(), &0, &command)?;
+    assert!(rt; entry.is_short());
+    log.append(&mut disk, &entry)?;
     log.append(&mut disk, &SETTLE)?;
     assert!(rt; bytes_of(rt.alloc(), &mut disk, FileId::BankA)?.as_slice() == BANK.as_slice());
     Ok(())
@@ -339,7 +341,9 @@ fn append_again(
     disk: &mut MemoryDisk,
     mut log: Log,
     entry: &Entry,
-) -> Result<Log, Fail> {
+) -> Result<Log, Fail>
+    requires { IsTrue (is_short entry.now) }
+{
     let changes = disk.changes();
     let entries = log.counted();
     match log.append(disk, entry) {
