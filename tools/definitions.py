@@ -8,8 +8,8 @@ Usage: tools/definitions.py          prints the words of public clauses that doc
        tools/definitions.py --mark   marks the rows of these words in docs/DEFINITIONS.md
 
 A row has the word in backquotes. Words of std and of the toolchain's crates are not asked for, nor the names of the
-repository's own types and their variants, which the code documents. Of a word with two meanings the list says where each
-stands: the same thing over two types may share a word, and nothing else.
+repository's own types and their variants, which the code documents. The same thing over two types may share a word, and
+nothing else: `SHARED` names the words that do, and of every other word in two files it is printed where it stands.
 """
 import re
 import sys
@@ -21,9 +21,19 @@ CRATES = {it.name for it in (ROOT / "crates").iterdir() if it.is_dir()}
 DEFINITIONS = ROOT / "docs/DEFINITIONS.md"
 FUNCTION = re.compile(r"^(\s*)(pub )?(?:const )?fn (\w+)")
 USE = re.compile(r"^\s*(?:ghost )?use Rattle\.(\w+)\.specs\.([\w.]+?)(?:\.\{([^}]*)\}| as (\w+));?$", re.M)
-HEAD = re.compile(r"(?:abbrev )?(?:pub )?(?:record |data )?([A-Za-z_]\w*)\b.* : ")
+HEAD = re.compile(r"(?:abbrev |unfoldable )?(?:pub )?(?:record |data )?([A-Za-z_]\w*)\b.* : ")
 NAME = re.compile(r"(?<![\w.])(?:(\w+)\.)?([A-Za-z_]\w*)")
 MARK = "• "
+
+# Words of the same thing over two types, as the id of a recording with its frames and of its registration.
+SHARED = frozenset(
+    """
+    AreWell Ends Fits IsChain IsWell OfArchive OfMerge Records Stays ThenSettles WritesBytes active_count after append_tests base_of
+    changed counts encoded extend_tests geometry_of has_room header_of id_of is_active is_among life_at life_of name_of
+    publication_of purge_segments_tests purge_tests refusal_of restarted segments_before start_tests stop_tests takes_memory
+    truncate_tests
+    """.split()
+)
 
 # The calls and laws whose clauses are the main guarantee: how each call ends, runs of them, and openings behind a crash.
 MAIN = {
@@ -173,10 +183,12 @@ def report(specs: Specs, words: set[Word]) -> int:
     stands = defaultdict(list)
     for crate, file, name in specs.text:
         stands[name].append(f"{crate} {file}")
-    twice = {name: places for name, places in stands.items() if len(places) > 1}
-    for name, places in sorted(twice.items(), key=lambda it: (-len(it[1]), it[0])):
-        print(f"{name}: {', '.join(places)}")
-    print(f"{len(twice)} of {len(stands)} words of specs stand in more than one file\n")
+    twice = {name: files for name, files in stands.items() if len(files) > 1}
+    for name, files in sorted(twice.items(), key=lambda it: (-len(it[1]), it[0])):
+        if name not in SHARED:
+            print(f"{name}: {', '.join(files)}")
+    shared = len(SHARED & set(twice))
+    print(f"{len(twice)} of {len(stands)} words of specs stand in more than one file, {shared} of them for the same thing over two types\n")
     files, lines = by_file(words), sum(len(specs.text[word]) for word in words)
     print(f"The main guarantee unfolds to {len(words)} of {len(specs.text)} definitions: {lines} lines in {len(files)} files")
     is_marked = marked(text, words) == text

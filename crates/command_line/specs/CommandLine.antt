@@ -50,12 +50,12 @@ pub record IsCommand (app : App) (command : Command) : Type 0 where
   pub local : (fields_of command).has_globals ≡ false
 
 -- the word that asks for a command
-abbrev pub name_of : ToolCommand → Text
-name_of (Create folder history) = codes "create"
-name_of (Run folder) = codes "run"
-name_of (AskList folder) = codes "list"
-name_of (Verify folder) = codes "verify"
-name_of (Frames file) = codes "frames"
+abbrev pub command_word : ToolCommand → Text
+command_word (Create folder history) = codes "create"
+command_word (Run folder) = codes "run"
+command_word (AskList folder) = codes "list"
+command_word (Verify folder) = codes "verify"
+command_word (Frames file) = codes "frames"
 
 -- the text is a u32 in decimal, and this number
 abbrev pub IsNumber : ℕ → Text → Type 0
@@ -71,7 +71,7 @@ HasWords rows (Frames file) = first_of (codes "file") rows ≡ Some file.now
 
 -- a subcommand of that name, with those entries, is the command
 pub record IsAsked (name : Text) (rows : List Row) (command : ToolCommand) : Type 0 where
-  pub named : name ≡ name_of command
+  pub named : name ≡ command_word command
   pub words : HasWords rows command
 
 -- the subcommand that was met, if there is one, is the command

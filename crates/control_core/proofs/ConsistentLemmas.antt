@@ -39,7 +39,7 @@ use Rattle.control_core.specs.Callers.{moved_to, replay_number, session_number, 
 use Rattle.control_core.specs.Desk.{DeskState}
 use Rattle.control_core.specs.Changes.{after_close, after_open, after_poll, settled, settled_by}
 use Rattle.control_core.specs.Decisions.{decision_of}
-use Rattle.control_core.specs.Turns.{begins_at, close_decision, open_decision, open_tests, opened_at, opening_decided, opening_in, opening_of, poll_decision, poll_tests, replay_in, replay_of, session_in, settle_decision, sweep_tests, write_decision}
+use Rattle.control_core.specs.Turns.{begins_at, close_decision, open_decision, open_tests, opened_at, opening_decided, opening_in, opening_of, poll_decision, poll_tests, open_replay_in, open_replay_of, session_in, settle_decision, sweep_tests, write_decision}
 use Rattle.control_core.specs.Seats.{AreApart, KeepsSeats}
 use Rattle.control_core.specs.Agreement.{Agrees, WroteBlocks}
 use Rattle.control_core.specs.Exact.{Archive, ArchiveEnds, CallEnds, DecisionEnds, Leaves, LeftByFault, OpeningEnds, PolledEnds, PollingEnds, SettlingEnds, SweepEnds, asked_frames, asked_opening, book_of, broken, frames_end, opened_archive, recording_at, settled_archive, span_of, with_desk, with_session_blocks, written}
@@ -81,7 +81,7 @@ closed a number consistent =
     (λ at_all. each_without replay_number (IsAtBoundary a.state) number a.desk.callers.replays at_all)
 
 -- a replay that is moved to where its poll ends
-moved : (a : Archive) (number most : ℤ) (replay : OpenReplay) (r : Recording) → IsConsistent a → replay_in a.desk number ≡ Some replay → recording_at a replay.recording ≡ Some r
+moved : (a : Archive) (number most : ℤ) (replay : OpenReplay) (r : Recording) → IsConsistent a → open_replay_in a.desk number ≡ Some replay → recording_at a replay.recording ≡ Some r
     → StaysConsistent a (with_desk (after_poll replay.number (frames_end replay.next (polled replay.next replay.bound (unsigned_abs most) r)) a.desk) a)
 moved a number most replay r consistent is found =
     let next = frames_end replay.next (polled replay.next replay.bound (unsigned_abs most) r) in
@@ -298,16 +298,16 @@ opened_consistent : (a : Archive) (id position size : ℤ) (decision : Result Op
 opened_consistent a id position size (Err r) reply b consistent is h = absurd (let clash = h.0 in cc)
 opened_consistent a id position size (Ok o) reply b consistent is h = subst (StaysConsistent a) (sym h.1) (opened a id position size o consistent is)
 
-polled_consistent : (a : Archive) (number most : ℤ) (replay : OpenReplay) (found : Option Recording) (reply : Reply) (b : Archive) → IsConsistent a → replay_in a.desk number ≡ Some replay → recording_at a replay.recording ≡ found
+polled_consistent : (a : Archive) (number most : ℤ) (replay : OpenReplay) (found : Option Recording) (reply : Reply) (b : Archive) → IsConsistent a → open_replay_in a.desk number ≡ Some replay → recording_at a replay.recording ≡ found
     → PolledEnds a replay most found (Ok reply) b → StaysConsistent a b
 polled_consistent a number most replay None reply b consistent is at h = absurd h
 polled_consistent a number most replay (Some r) reply b consistent is at h = subst (StaysConsistent a) (sym h.1) (moved a number most replay r consistent is at)
 
 -- what is polled is open
-pub polled_open : (d : DeskState) (number most : ℤ) (replay : OpenReplay) → poll_decision d number most ≡ Ok replay → replay_in d number ≡ Some replay
-polled_open d number most replay is = by (replay_in d number) (all_hold (poll_tests d number most) checks (replay_of (replay_in d number)) replay is).1
+pub polled_open : (d : DeskState) (number most : ℤ) (replay : OpenReplay) → poll_decision d number most ≡ Ok replay → open_replay_in d number ≡ Some replay
+polled_open d number most replay is = by (open_replay_in d number) (all_hold (poll_tests d number most) checks (open_replay_of (open_replay_in d number)) replay is).1
   where
-    by : (found : Option OpenReplay) → replay_of found ≡ Ok replay → found ≡ Some replay
+    by : (found : Option OpenReplay) → open_replay_of found ≡ Ok replay → found ≡ Some replay
     by None e = absurd cc
     by (Some x) e = cc
 

@@ -32,7 +32,7 @@ use Rattle.control_core.specs.declared.request.Request.TheVariants as requests
 use Rattle.control_core.specs.declared.turns.Settling.TheVariants as settling
 use Rattle.control_core.specs.Callers.{session_number}
 use Rattle.control_core.specs.Desk.{DeskState, has_room, has_session_number, is_replay_before, is_replayed}
-use Rattle.control_core.specs.Changes.{settled, writer_of}
+use Rattle.control_core.specs.Changes.{settled, writer_in}
 use Rattle.control_core.specs.Decisions.{Allows, accepted, answered, command_in, command_tests, decided, decision_of, if_boundary, truncate_tests}
 use Rattle.control_core.specs.Turns.{has_written, session_in, settle_decision, settle_tests, settling_by, settling_of}
 use Rattle.control_core.specs.Seats.{AreApart, IsWriting, KeepsSeats}
@@ -289,7 +289,7 @@ settling_by_append a number id w agrees seats blocks e =
     let ends : w.last ≡ recorded_in (recording_at a id) +ℤ pos (covered (frames_of (a.blocks number))) =
     subst (λ (z : ℤ). w.last ≡ recorded_in (recording_at a z) +ℤ pos (covered (frames_of (a.blocks number)))) settles.recording
     (subst (λ (z : ℤ). w.last ≡ recorded_in (recording_at a s.recording) +ℤ pos (covered (frames_of (a.blocks z)))) at has.last) in
-    let writer : writer_of d id ≡ Some s = subst (λ (z : ℤ). writer_of d z ≡ Some s) settles.recording (writer_is number d.callers.sessions s seats.sessions.apart settles.found) in
+    let writer : writer_in d id ≡ Some s = subst (λ (z : ℤ). writer_in d z ≡ Some s) settles.recording (writer_is number d.callers.sessions s seats.sessions.apart settles.found) in
     record {
       acceptable = record {
         accepted = (true, follow, subst (WithRegister (λ g. model.append_tests (registration_in g id) (has_room d) true)) agrees (and_true known (and_true writing (and_true room refl))));
@@ -316,5 +316,5 @@ settled_session a number id w consistent e by =
     let d = a.desk in
     let is = held (settle_tests d number) checks (settling_of d (session_in d number)) (settling.Blocks id w) e in
     let settles = settling_session d number id w (session_in d number) refl is.1 in
-    let writer : writer_of d id ≡ Some settles.session = subst (λ (z : ℤ). writer_of d z ≡ Some settles.session) settles.recording (writer_is number d.callers.sessions settles.session consistent.seats.sessions.apart settles.found) in
+    let writer : writer_in d id ≡ Some settles.session = subst (λ (z : ℤ). writer_in d z ≡ Some settles.session) settles.recording (writer_is number d.callers.sessions settles.session consistent.seats.sessions.apart settles.found) in
     settles.found ∙ sym writer ∙ by.writer

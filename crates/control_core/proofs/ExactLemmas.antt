@@ -32,8 +32,8 @@ use Rattle.control_core.specs.Callers.{replay_number, written_to}
 use Rattle.control_core.specs.Desk.{DeskState}
 use Rattle.control_core.specs.Changes.{after_close, after_open, after_poll, after_write, recorded_of, settled, settled_by, settled_position}
 use Rattle.control_core.specs.Decisions.{decision_of}
-use Rattle.control_core.specs.Turns.{begins_at, close_tests, continues, is_done_at, open_tests, opened_at, opening_decided, opening_of, poll_tests, replay_in, replay_of, session_in, settle_tests, settling_by, settling_of, sweep_tests, verify_tests, write_tests}
-use Rattle.control_core.specs.Machine.{AtPosition, Breaks, Decided, Either, Ended, Faults, Gives, Outcome, Passing, Refuses, Step, UnlessBoundary, Unread, recording_of}
+use Rattle.control_core.specs.Turns.{begins_at, close_tests, continues, is_done_at, open_tests, opened_at, opening_decided, opening_of, poll_tests, open_replay_in, open_replay_of, session_in, settle_tests, settling_by, settling_of, sweep_tests, verify_tests, write_tests}
+use Rattle.control_core.specs.Machine.{AtPosition, Breaks, Decided, Either, Ended, Faults, GivesFrames, Outcome, Passing, RefusesCall, Step, UnlessBoundary, Unread, recording_of}
 use Rattle.control_core.specs.Exact.{Archive, ArchiveEnds, DecisionEnds, Is, Leaves, OpeningEnds, PolledEnds, PollingEnds, SettlingEnds, SweepEnds, WriteEnds, asked_frames, asked_of, asked_opening, frames_end, frames_of_one, from_position, goes_on, plain, plain_poll, recording_at, settled_archive, span_of, told_of, with_desk, written, is_poll}
 use Rattle.control_core.specs.Consistent.{AreAtBoundaries, IsAtBoundary, IsConsistent}
 use Rattle.control_core.proofs.PollLemmas.{le_true, poll_moves}
@@ -55,7 +55,7 @@ module _ {X : Type 0} (a : Archive) (tell : Result Reply Refusal → Outcome) (r
     where
       by : (t : Bool) → tests r ≡ t → F (cond t (checked tests rs answer) (Err r)) o b
           → ((passes tests rs ≡ true → F answer o b → ends (tell o) b.desk) → F (checked tests rs answer) o b → Passing a.desk tests rs ends (tell o) b.desk)
-          → MatchBool t (Passing a.desk tests rs ends (tell o) b.desk) (Refuses a.desk r (tell o) b.desk)
+          → MatchBool t (Passing a.desk tests rs ends (tell o) b.desk) (RefusesCall a.desk r (tell o) b.desk)
       by true is h rest = rest (λ all. done (rw is all)) h
       by false is h rest = let end = tells tell (Err r) a o b (refused r o b h) in (end.0 ∙ refuses r, end.1)
 
@@ -91,7 +91,7 @@ writes_fit a session block o b h =
     let F = Leaves a (written a session block) in
     let answer : Result Reply Refusal = Ok (replies.Written (span_of block).last) in
     let written_so : Outcome → DeskState → Type 0 = Either (Ended (plain answer) (after_write session (span_of block) a.desk)) (Breaks a.desk) in
-    let behind : Outcome → DeskState → Type 0 = Either (Refuses a.desk BadBlock) (Passing a.desk tests last_checks written_so) in
+    let behind : Outcome → DeskState → Type 0 = Either (RefusesCall a.desk BadBlock) (Passing a.desk tests last_checks written_so) in
     passing a F (λ r o b h. h) tests (first_checks ++ block_checks) (checked tests last_checks answer) behind o b
     (λ rest. inr (passing a F (λ r o b h. h) tests last_checks answer written_so o b (λ done. inl (told_so answer (written a session block) o b done)) rest)) h
 
@@ -103,7 +103,7 @@ writes_not a session block o b h = by (not a.desk.is_broken) (is_some (session_i
   where
     by : (works found goes_on : Bool) (ends : Outcome → DeskState → Type 0)
         → Leaves a (written a session block) (cond works (cond found (Err BadBlock) (Err StaleSession)) (Err Broken)) o b
-        → MatchBool works (MatchBool found (MatchBool goes_on (Either (Refuses a.desk BadBlock) ends (plain o) b.desk) (Refuses a.desk BadBlock (plain o) b.desk)) (Refuses a.desk StaleSession (plain o) b.desk)) (Refuses a.desk Broken (plain o) b.desk)
+        → MatchBool works (MatchBool found (MatchBool goes_on (Either (RefusesCall a.desk BadBlock) ends (plain o) b.desk) (RefusesCall a.desk BadBlock (plain o) b.desk)) (RefusesCall a.desk StaleSession (plain o) b.desk)) (RefusesCall a.desk Broken (plain o) b.desk)
     by true true true ends h = inl (told_so _ a o b h)
     by true true false ends h = told_so _ a o b h
     by true false goes_on ends h = told_so _ a o b h
@@ -198,22 +198,22 @@ is_done true next = refl
 is_done false next = refl
 
 -- what a poll of a replay of a recording gives
-gives : (a : Archive) (number most : ℤ) (replay : OpenReplay) (r : Recording) (o : Result Reply Refusal) (b : Archive) → replay_in a.desk number ≡ Some replay → IsKept r → is_boundary replay.next r ≡ true → 0 < unsigned_abs most
-    → PolledEnds a replay most (Some r) o b → Gives a.desk (Some replay) (Some (registration_of r)) (plain_poll (from_position (replay_in a.desk number)) o) b.desk
+gives : (a : Archive) (number most : ℤ) (replay : OpenReplay) (r : Recording) (o : Result Reply Refusal) (b : Archive) → open_replay_in a.desk number ≡ Some replay → IsKept r → is_boundary replay.next r ≡ true → 0 < unsigned_abs most
+    → PolledEnds a replay most (Some r) o b → GivesFrames a.desk (Some replay) (Some (registration_of r)) (plain_poll (from_position (open_replay_in a.desk number)) o) b.desk
 gives a number most replay r o b is kept boundary some h =
     let frames = polled replay.next replay.bound (unsigned_abs most) r in
     let next = frames_end replay.next frames in
     let moved : Written = record { first = replay.next; last = next } in
     let answer : Result Reply Refusal = Ok (replies.Polled frames (goes_on r replay next)) in
-    let end = tells (plain_poll (from_position (replay_in a.desk number))) answer (with_desk (after_poll replay.number next a.desk) a) o b h in
+    let end = tells (plain_poll (from_position (open_replay_in a.desk number))) answer (with_desk (after_poll replay.number next a.desk) a) o b h in
     let done = is_done (is_done_at (registration_of r) replay.bound next) next in
-    let told_is : plain_poll (from_position (replay_in a.desk number)) answer ≡ Ok (told.Polled moved (is_done_at (registration_of r) replay.bound next)) =
+    let told_is : plain_poll (from_position (open_replay_in a.desk number)) answer ≡ Ok (told.Polled moved (is_done_at (registration_of r) replay.bound next)) =
     ap (λ (found : Option OpenReplay). plain_poll (from_position found) answer) is ∙ ap (λ (t : Bool). Ok (told.Polled moved t)) done in
     (moved, poll_moves r replay (unsigned_abs most) kept boundary some, (end.0 ∙ told_is, end.1))
 
 -- the recording of a replay, as the register has it
-gives_of : (a : Archive) (number most : ℤ) (replay : OpenReplay) (found : Option Recording) (o : Result Reply Refusal) (b : Archive) → IsConsistent a → AreAtBoundaries a → replay_in a.desk number ≡ Some replay → recording_at a replay.recording ≡ found → 0 < unsigned_abs most
-    → PolledEnds a replay most found o b → Gives a.desk (Some replay) (option_map registration_of found) (plain_poll (from_position (replay_in a.desk number)) o) b.desk
+gives_of : (a : Archive) (number most : ℤ) (replay : OpenReplay) (found : Option Recording) (o : Result Reply Refusal) (b : Archive) → IsConsistent a → AreAtBoundaries a → open_replay_in a.desk number ≡ Some replay → recording_at a replay.recording ≡ found → 0 < unsigned_abs most
+    → PolledEnds a replay most found o b → GivesFrames a.desk (Some replay) (option_map registration_of found) (plain_poll (from_position (open_replay_in a.desk number)) o) b.desk
 gives_of a number most replay None o b consistent at_all is at some h = absurd h
 gives_of a number most replay (Some r) o b consistent at_all is at some h =
     let kept = each_found id_of IsKept replay.recording a.state.recordings r consistent.well.kept at in
@@ -221,13 +221,13 @@ gives_of a number most replay (Some r) o b consistent at_all is at some h =
     let boundary : is_boundary replay.next r ≡ true = subst (λ (x : Option Recording). IsSomeAnd x (λ y. IsTrue (is_boundary replay.next y))) at there in
     gives a number most replay r o b is kept boundary some h
 
-polls : (a : Archive) (number most : ℤ) (found : Option OpenReplay) (o : Result Reply Refusal) (b : Archive) → IsConsistent a → AreAtBoundaries a → replay_in a.desk number ≡ found → is_some found ≡ true → 0 < unsigned_abs most
-    → PollingEnds a most (replay_of found) o b → Gives a.desk found (recording_of a.desk found) (plain_poll (from_position (replay_in a.desk number)) o) b.desk
+polls : (a : Archive) (number most : ℤ) (found : Option OpenReplay) (o : Result Reply Refusal) (b : Archive) → IsConsistent a → AreAtBoundaries a → open_replay_in a.desk number ≡ found → is_some found ≡ true → 0 < unsigned_abs most
+    → PollingEnds a most (open_replay_of found) o b → GivesFrames a.desk found (recording_of a.desk found) (plain_poll (from_position (open_replay_in a.desk number)) o) b.desk
 polls a number most None o b consistent at_all is there some h = absurd (true≢false (sym there))
 polls a number most (Some replay) o b consistent at_all is there some h =
     let known : registration_in a.desk.register replay.recording ≡ option_map registration_of (recording_at a replay.recording) =
     ap (λ (g : RegisterState). registration_in g replay.recording) consistent.agrees ∙ found_registration replay.recording a.state.recordings in
-    subst (λ (x : Option Registration). Gives a.desk (Some replay) x (plain_poll (from_position (replay_in a.desk number)) o) b.desk) (sym known)
+    subst (λ (x : Option Registration). GivesFrames a.desk (Some replay) x (plain_poll (from_position (open_replay_in a.desk number)) o) b.desk) (sym known)
     (gives_of a number most replay (recording_at a replay.recording) o b consistent at_all is refl some h)
 
 at_least_one : (most : ℤ) → (int_le (pos 1) most && int_le most (pos 4096)) ≡ true → 0 < unsigned_abs most
@@ -236,10 +236,10 @@ at_least_one most is = let least = both is in let low = le_true (pos 1) most lea
 exact_poll : (a : Archive) (number most : ℤ) (o : Result Reply Refusal) (b : Archive) → IsConsistent a → AreAtBoundaries a → ArchiveEnds a (events.ReplayPoll number most) o b
     → Step a.desk (asked_of (events.ReplayPoll number most)) (told_of a.desk (events.ReplayPoll number most) o) b.desk
 exact_poll a number most o b consistent at_all h =
-    let found = replay_in a.desk number in
+    let found = open_replay_in a.desk number in
     let tests = poll_tests a.desk number most in
-    let gives_so : Outcome → DeskState → Type 0 = Either (Unread a.desk) (Gives a.desk found (recording_of a.desk found)) in
-    checking a (plain_poll (from_position found)) (λ r. refl) (PollingEnds a most) (λ r o b h. h) tests checks (replay_of found) gives_so o b
+    let gives_so : Outcome → DeskState → Type 0 = Either (Unread a.desk) (GivesFrames a.desk found (recording_of a.desk found)) in
+    checking a (plain_poll (from_position found)) (λ r. refl) (PollingEnds a most) (λ r o b h. h) tests checks (open_replay_of found) gives_so o b
     (λ all done.
     let parts : ((int_le (pos 1) most && int_le most (pos 4096)) ≡ true) × ((is_some found && true) ≡ true) = both all in
     let there : (is_some found ≡ true) × (true ≡ true) = both parts.1 in

@@ -23,9 +23,9 @@ use Rattle.control_core.specs.Opened as opening
 use Rattle.control_core.specs.Desk.{DeskState}
 use Rattle.control_core.specs.Changes.{after_open, after_write, broken_desk, settled, settled_position}
 use Rattle.control_core.specs.Decisions.{command_in, decision_of}
-use Rattle.control_core.specs.Turns.{begins_at, open_tests, opened_at, opening_decided, opening_of, poll_tests, replay_in, session_in, settle_tests, sweep_tests, verify_tests, write_tests}
-use Rattle.control_core.specs.Machine.{AtPosition, Breaks, Decided, Either, Ended, Ends, Faults, Gives, Outcome, Passing, Refuses, Step, Stepped, UnlessBoundary, Unread, recording_of}
-use Rattle.control_core.specs.Exact.{Archive, CallEnds, LeftByFault, Makes, asked_of, opens_by_frames, reads_files, span_of, told_of, waits_for_frames, writes_files, is_poll}
+use Rattle.control_core.specs.Turns.{begins_at, open_tests, opened_at, opening_decided, opening_of, poll_tests, open_replay_in, session_in, settle_tests, sweep_tests, verify_tests, write_tests}
+use Rattle.control_core.specs.Machine.{AtPosition, Breaks, Decided, Either, Ended, Ends, Faults, GivesFrames, Outcome, Passing, RefusesCall, Step, Stepped, UnlessBoundary, Unread, recording_of}
+use Rattle.control_core.specs.Exact.{Archive, CallEnds, LeftByFault, MakesState, asked_of, opens_by_frames, reads_files, span_of, told_of, waits_for_frames, writes_files, is_poll}
 use Rattle.control_core.specs.Consistent.{AreAtBoundaries, IsConsistent}
 use Rattle.control_core.proofs.ExactLemmas.{exact_is_allowed}
 
@@ -35,7 +35,7 @@ passed : (d : DeskState) (tests : Tests) (rs : List Refusal) (ends : Ends) (o : 
 passed d tests [] ends o new all end = end
 passed d tests (r ∷ rs) ends o new all end = by (tests r) all (λ rest. passed d tests rs ends o new rest end)
   where
-    by : (b : Bool) → (b && passes tests rs) ≡ true → (passes tests rs ≡ true → Passing d tests rs ends o new) → MatchBool b (Passing d tests rs ends o new) (Refuses d r o new)
+    by : (b : Bool) → (b && passes tests rs) ≡ true → (passes tests rs ≡ true → Passing d tests rs ends o new) → MatchBool b (Passing d tests rs ends o new) (RefusesCall d r o new)
     by true all rest = rest all
     by false all rest = absurd (true≢false (sym all))
 
@@ -44,7 +44,7 @@ passed_on : (d : DeskState) (tests : Tests) (rs : List Refusal) (ends others : E
 passed_on d tests [] ends others t x o new was then = then was
 passed_on d tests (r ∷ rs) ends others t x o new was then = by (tests r) was (λ rest. passed_on d tests rs ends others t x o new rest then)
   where
-    by : (b : Bool) → MatchBool b (Passing d tests rs ends (Ok t) x) (Refuses d r (Ok t) x) → (Passing d tests rs ends (Ok t) x → Passing d tests rs others o new) → MatchBool b (Passing d tests rs others o new) (Refuses d r o new)
+    by : (b : Bool) → MatchBool b (Passing d tests rs ends (Ok t) x) (RefusesCall d r (Ok t) x) → (Passing d tests rs ends (Ok t) x → Passing d tests rs others o new) → MatchBool b (Passing d tests rs others o new) (RefusesCall d r o new)
     by true was rest = rest was
     by false was rest = let wrong : Ok t ≡ Err r = was.0 in absurd cc
 
@@ -69,7 +69,7 @@ opening_unread : (d : DeskState) (tests : Tests) (rs : List Refusal) (decision :
 opening_unread d tests [] decision ends o new by_frames end = end by_frames
 opening_unread d tests (r ∷ rs) decision ends o new by_frames end = by (tests r) by_frames (λ rest. opening_unread d tests rs decision ends o new rest end)
   where
-    by : (b : Bool) → opens_by_frames (opening_decided (cond b (checked tests rs (Ok decision)) (Err r))) ≡ true → (opens_by_frames (opening_decided (checked tests rs (Ok decision))) ≡ true → Passing d tests rs ends o new) → MatchBool b (Passing d tests rs ends o new) (Refuses d r o new)
+    by : (b : Bool) → opens_by_frames (opening_decided (cond b (checked tests rs (Ok decision)) (Err r))) ≡ true → (opens_by_frames (opening_decided (checked tests rs (Ok decision))) ≡ true → Passing d tests rs ends o new) → MatchBool b (Passing d tests rs ends o new) (RefusesCall d r o new)
     by true frames rest = rest frames
     by false frames rest = absurd (true≢false (sym frames))
 
@@ -100,8 +100,8 @@ left_read a (events.ReplayOpen id position size) new reads same =
     let opened : Ends = Passing d tests (block_checks ++ last_checks) (Ended (Ok (told.Reply (replies.ReplayOpened d.callers.next_replay))) (after_open id next (bound_of next size) d)) in
     opening_unread d tests first_checks (opened_at found behind next) (AtPosition d found next opened) (Err DeviceFault) new reads (λ by_frames. position_unread d found next behind opened new by_frames same)
 left_read a (events.ReplayPoll number most) new reads same =
-    let found = replay_in a.desk number in
-    let ends : Ends = Either (Unread a.desk) (Gives a.desk found (recording_of a.desk found)) in
+    let found = open_replay_in a.desk number in
+    let ends : Ends = Either (Unread a.desk) (GivesFrames a.desk found (recording_of a.desk found)) in
     passed a.desk (poll_tests a.desk number most) checks ends (Err DeviceFault) new reads (inl (inl (refl, same)))
 left_read a (events.ReplayClose number) new reads same = absurd (true≢false (sym reads))
 left_read a events.Sweep new reads same =
@@ -111,12 +111,12 @@ left_read a (events.Verify id) new reads same =
     let ends : Ends = λ o x. ((frames : ℤ) × Ended (Ok (told.Reply (replies.Verified frames))) a.desk o x) ⊎ Unread a.desk o x in
     passed a.desk (verify_tests a.desk id) checks ends (Err DeviceFault) new reads (inr (inl (refl, same)))
 
-left_written : (a : Archive) (event : Event) (u : State) (new : DeskState) → IsTrue (writes_files a.desk event) → Makes a event u → new ≡ broken_desk a.desk → Step a.desk (asked_of event) (Err DeviceFault) new
+left_written : (a : Archive) (event : Event) (u : State) (new : DeskState) → IsTrue (writes_files a.desk event) → MakesState a event u → new ≡ broken_desk a.desk → Step a.desk (asked_of event) (Err DeviceFault) new
 left_written a (events.Ask request) u new writes makes same = decided_breaks a.desk (decision_of a.desk request) new writes same
 left_written a (events.Write session block) u new writes (reply, (b, ends, state)) same =
     let tests = write_tests a.desk session (span_of block) true in
     let done : Ends = Either (Ended (Ok (told.Reply (replies.Written (span_of block).last))) (after_write session (span_of block) a.desk)) (Breaks a.desk) in
-    let behind : Ends = Either (Refuses a.desk BadBlock) (Passing a.desk tests last_checks done) in
+    let behind : Ends = Either (RefusesCall a.desk BadBlock) (Passing a.desk tests last_checks done) in
     passed_on a.desk tests (first_checks ++ block_checks) behind behind (told.Reply reply) b.desk (Err DeviceFault) new (exact_is_allowed a (events.Write session block) (Ok reply) b (λ poll. absurd (true≢false (sym poll))) ends)
     (λ was. elim was [
       | inl bad ↦ absurd (not_answered (told.Reply reply) BadBlock bad.0)

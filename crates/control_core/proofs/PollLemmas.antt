@@ -17,7 +17,7 @@ use Rattle.archive_model.specs.WellFormed.{IsKept, IsOfStream}
 use Rattle.archive_model.proofs.ReplayLemmas.{polled_end}
 use Rattle.archive_model.proofs.WellLemmas.{both}
 use Rattle.control_core.specs.declared.callers.OpenReplay.{OpenReplay}
-use Rattle.control_core.specs.Machine.{Moves}
+use Rattle.control_core.specs.Machine.{MovesReplay}
 use Rattle.control_core.specs.Exact.{frames_end}
 
 pub le_true : (a b : ℤ) → int_le a b ≡ true → a ≤ℤ b
@@ -140,7 +140,7 @@ first_none (suc n) (x ∷ xs) some none = absurd cc
 
 -- a poll from a boundary moves its replay as the desk machine says
 pub poll_moves : (r : Recording) (replay : OpenReplay) (n : ℕ) → IsKept r → is_boundary replay.next r ≡ true → 0 < n
-    → Moves (registration_of r) replay (record { first = replay.next; last = frames_end replay.next (polled replay.next replay.bound n r) })
+    → MovesReplay (registration_of r) replay (record { first = replay.next; last = frames_end replay.next (polled replay.next replay.bound n r) })
 poll_moves r replay n kept boundary some = by (polled replay.next replay.bound n r) refl (given replay.next replay.bound n r kept) (polled_end replay.next replay.bound n r)
   where
     none : polled replay.next replay.bound n r ≡ [] → (replay.bound ≤ℤ replay.next) ⊎ (recorded_position r ≤ℤ replay.next)
@@ -154,7 +154,7 @@ poll_moves r replay n kept boundary some = by (polled replay.next replay.bound n
         tests false u before below = inl (lt_false replay.next replay.bound before)
 
     by : (fs : List PolledFrame) → polled replay.next replay.bound n r ≡ fs → Each (IsGiven replay.next replay.bound) fs → EndBy (recorded_position r) fs
-        → Moves (registration_of r) replay (record { first = replay.next; last = frames_end replay.next fs })
+        → MovesReplay (registration_of r) replay (record { first = replay.next; last = frames_end replay.next fs })
     by [] is all ends = (refl, inr (refl, none is))
     by (f ∷ fs) is all ends =
         let moved = ends_behind replay.next replay.bound (recorded_position r) replay.next f fs all ends in

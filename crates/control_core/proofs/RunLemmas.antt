@@ -24,7 +24,7 @@ use Rattle.control_core.specs.declared.turns.Settling.{Settling}
 use Rattle.control_core.specs.declared.turns.Settling.TheVariants as settling
 use Rattle.control_core.specs.Decisions.{command_in, decision_of}
 use Rattle.control_core.specs.Turns.{close_decision, open_decision, poll_decision, session_in, settle_decision, settle_tests, settling_of, sweep_tests, write_decision, write_tests}
-use Rattle.control_core.specs.Exact.{Archive, ArchiveEnds, CallEnds, DecisionEnds, Leaves, LeftByFault, Makes, OpeningEnds, PolledEnds, PollingEnds, SettlingEnds, SweepEnds, archive_after, asked_frames, asked_opening, book_of, broken, recording_at, settled_archive, span_of, writes_files}
+use Rattle.control_core.specs.Exact.{Archive, ArchiveEnds, CallEnds, DecisionEnds, Leaves, LeftByFault, MakesState, OpeningEnds, PolledEnds, PollingEnds, SettlingEnds, SweepEnds, archive_after, asked_frames, asked_opening, book_of, broken, recording_at, settled_archive, span_of, writes_files}
 use Rattle.control_core.specs.Consistent.{IsConsistent, MakesCommand}
 use Rattle.control_core.specs.Runs.{IsAfterSome, IsHistory, Leave, MayStand, StoodAmong, books_after, last_left}
 use Rattle.control_core.proofs.CallLemmas.{asked_works, at_most_one, refused_unchanged}
@@ -182,7 +182,7 @@ final_run a (event ∷ events) (outcome ∷ outcomes) (b ∷ left) consistent br
 abbrev pub MakesOneMore : Archive → State → Type 0
 MakesOneMore a u = (u ≡ a.state) ⊎ ((c : Command) × Accepts (book_of a) c × (u ≡ after a.state c))
 
-one_more : (a : Archive) (event : Event) (u : State) → IsConsistent a → Makes a event u → MakesOneMore a u
+one_more : (a : Archive) (event : Event) (u : State) → IsConsistent a → MakesState a event u → MakesOneMore a u
 one_more a event u consistent (reply, (b, ends, state)) = elim (at_most_one a event reply b consistent ends) [
   | inl same ↦ inl (sym state ∙ ap (λ (x : BookState). x.state) same)
   | inr made ↦ inr (made.command, made.acceptable.accepted, sym state ∙ ap (λ (x : BookState). x.state) made.book)

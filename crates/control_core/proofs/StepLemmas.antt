@@ -23,12 +23,12 @@ use Rattle.control_core.specs.Opened.{OpeningDecision}
 use Rattle.control_core.specs.Opened as opening
 use Rattle.control_core.specs.Changes.{after_close, after_open, after_write, desk_after, reply_after, settled, settled_position}
 use Rattle.control_core.specs.Desk.{DeskState}
-use Rattle.control_core.specs.Turns.{begins_at, close_tests, open_decision, open_tests, opened_at, opening_decided, opening_of, poll_decision, poll_tests, replay_in, replay_of, session_in, settle_tests, sweep_tests, verify_tests, write_tests}
-use Rattle.control_core.specs.Machine.{AtPosition, Breaks, Decided, Does, Either, Ended, Ends, Gives, Outcome, Passing, Refuses, Step, Stepped, UnlessBoundary, Unread, recording_of}
+use Rattle.control_core.specs.Turns.{begins_at, close_tests, open_decision, open_tests, opened_at, opening_decided, opening_of, poll_decision, poll_tests, open_replay_in, open_replay_of, session_in, settle_tests, sweep_tests, verify_tests, write_tests}
+use Rattle.control_core.specs.Machine.{AtPosition, Breaks, Decided, Does, Either, Ended, Ends, GivesFrames, Outcome, Passing, RefusesCall, Step, Stepped, UnlessBoundary, Unread, recording_of}
 use Rattle.control_core.specs.ByDecision.{OpensAs, OpensBy, PollsBy, SweepsBy, VerifiesBy}
 
 -- what an answer that is checked ends with, one check after another
-module _ {X : Type 0} (d : DeskState) (F : Result X Refusal → Ends) (refuses : (r : Refusal) (o : Outcome) (new : DeskState) → F (Err r) o new → Refuses d r o new) where
+module _ {X : Type 0} (d : DeskState) (F : Result X Refusal → Ends) (refuses : (r : Refusal) (o : Outcome) (new : DeskState) → F (Err r) o new → RefusesCall d r o new) where
   by_checks : (tests : Tests) (rs : List Refusal) (answer : Result X Refusal) (ends : Ends) (o : Outcome) (new : DeskState)
       → (passes tests rs ≡ true → F answer o new → ends o new) → F (checked tests rs answer) o new → Passing d tests rs ends o new
   by_checks tests [] answer ends o new done h = done refl h
@@ -36,19 +36,19 @@ module _ {X : Type 0} (d : DeskState) (F : Result X Refusal → Ends) (refuses :
     where
       by : (t : Bool) → tests r ≡ t → F (cond t (checked tests rs answer) (Err r)) o new
           → ((passes tests rs ≡ true → F answer o new → ends o new) → F (checked tests rs answer) o new → Passing d tests rs ends o new)
-          → MatchBool t (Passing d tests rs ends o new) (Refuses d r o new)
+          → MatchBool t (Passing d tests rs ends o new) (RefusesCall d r o new)
       by true is h rest = rest (λ all. done (rw is all)) h
       by false is h rest = refuses r o new h
 
 pub poll_step : (d : DeskState) (number most : ℤ) (o : Outcome) (new : DeskState) → PollsBy d (poll_decision d number most) o new → Step d (calls.ReplayPoll number most) o new
 poll_step d number most o new h =
-    let found = replay_in d number in
-    by_checks d (PollsBy d) (λ r o new h. h) (poll_tests d number most) checks (replay_of found) (Either (Unread d) (Gives d found (recording_of d found))) o new
+    let found = open_replay_in d number in
+    by_checks d (PollsBy d) (λ r o new h. h) (poll_tests d number most) checks (open_replay_of found) (Either (Unread d) (GivesFrames d found (recording_of d found))) o new
     (λ all polled.
     let parts : ((int_le (pos 1) most && int_le most (pos 4096)) ≡ true) × ((is_some found && true) ≡ true) = both all in
     open_of found (both parts.1).0 polled) h
   where
-    open_of : (found : Option OpenReplay) → is_some found ≡ true → PollsBy d (replay_of found) o new → Either (Unread d) (Gives d found (recording_of d found)) o new
+    open_of : (found : Option OpenReplay) → is_some found ≡ true → PollsBy d (open_replay_of found) o new → Either (Unread d) (GivesFrames d found (recording_of d found)) o new
     open_of None some polled = absurd (true≢false (sym some))
     open_of (Some replay) some polled = polled
 
@@ -60,7 +60,7 @@ verify_step d id o new h = by_checks d (VerifiesBy d) (λ r o new h. h) (verify_
 
 -- ---- a replay is opened
 
-refused_by : (d : DeskState) (r : Refusal) (o : Outcome) (new : DeskState) → OpensBy d (opening_decided (Err r)) o new → Refuses d r o new
+refused_by : (d : DeskState) (r : Refusal) (o : Outcome) (new : DeskState) → OpensBy d (opening_decided (Err r)) o new → RefusesCall d r o new
 refused_by d r o new h = h
 
 unless_then : (d : DeskState) (A B : Ends) (o : Outcome) (new : DeskState) → (A o new → B o new) → UnlessBoundary d A o new → UnlessBoundary d B o new
@@ -92,7 +92,7 @@ open_step d id position size o new h =
 record Stays (d : DeskState) (ends : Ends) : Type 0 where
   is : (refusal : Refusal) (new : DeskState) → refusal ≢ DeviceFault → ends (Err refusal) new → new ≡ d
 
-refuses_stay : (d : DeskState) (r : Refusal) → Stays d (Refuses d r)
+refuses_stay : (d : DeskState) (r : Refusal) → Stays d (RefusesCall d r)
 refuses_stay d r = record { is = λ refusal new other h. h.1 }
 
 told_stays : (d x : DeskState) (t : Told) → Stays d (Ended (Ok t) x)
@@ -105,7 +105,7 @@ passing_stays : (d : DeskState) (tests : Tests) (rs : List Refusal) (ends : Ends
 passing_stays d tests [] ends stays = record { is = stays.is }
 passing_stays d tests (r ∷ rs) ends stays = record { is = λ refusal new other h. by (tests r) (passing_stays d tests rs ends stays) refusal new other h }
   where
-    by : (b : Bool) → Stays d (Passing d tests rs ends) → (refusal : Refusal) (new : DeskState) → refusal ≢ DeviceFault → MatchBool b (Passing d tests rs ends (Err refusal) new) (Refuses d r (Err refusal) new) → new ≡ d
+    by : (b : Bool) → Stays d (Passing d tests rs ends) → (refusal : Refusal) (new : DeskState) → refusal ≢ DeviceFault → MatchBool b (Passing d tests rs ends (Err refusal) new) (RefusesCall d r (Err refusal) new) → new ≡ d
     by true rest refusal new other h = rest.is refusal new other h
     by false rest refusal new other h = h.1
 
@@ -120,7 +120,7 @@ unread_stays : (d : DeskState) → Stays d (Unread d)
 unread_stays d = record { is = λ refusal new other h. elim h [ inl fault ↦ fault.1 | inr damaged ↦ damaged.2.1 ] }
 
 boundary_stays : (d : DeskState) (ends : Ends) → Stays d ends → Stays d (UnlessBoundary d ends)
-boundary_stays d ends stays = either_stays d (Refuses d BadPosition) (Either (Unread d) ends) (refuses_stay d BadPosition) (either_stays d (Unread d) ends (unread_stays d) stays)
+boundary_stays d ends stays = either_stays d (RefusesCall d BadPosition) (Either (Unread d) ends) (refuses_stay d BadPosition) (either_stays d (Unread d) ends (unread_stays d) stays)
 
 does_stay : (d : DeskState) (decided : Result Command Refusal) → Stays d (Does d decided)
 does_stay d (Ok c) = done_stays d (desk_after d c) (told.Reply (reply_after d c))
@@ -140,7 +140,7 @@ position_stays d (Some r) position ends stays = record { is = by (is_end positio
     by true refusal new other h = stays.is refusal new other h
     by false refusal new other h = (boundary_stays d ends stays).is refusal new other h
 
-gives_stay : (d : DeskState) (found : Option OpenReplay) (known : Option Registration) → Stays d (Gives d found known)
+gives_stay : (d : DeskState) (found : Option OpenReplay) (known : Option Registration) → Stays d (GivesFrames d found known)
 gives_stay d None known = record { is = λ refusal new other h. absurd h }
 gives_stay d (Some replay) None = record { is = λ refusal new other h. absurd h }
 gives_stay d (Some replay) (Some r) = record { is = λ refusal new other h. absurd (let clash = h.2.0 in cc) }
@@ -156,7 +156,7 @@ step_stays d (calls.Ask request) = decided_stays d (decision_of d request)
 step_stays d (calls.Write session block) =
     let tests = write_tests d session block true in
     let done = done_stays d (after_write session block d) (told.Reply (replies.Written block.last)) in
-    passing_stays d tests (first_checks ++ block_checks) _ (either_stays d (Refuses d BadBlock) _ (refuses_stay d BadBlock) (passing_stays d tests last_checks _ done))
+    passing_stays d tests (first_checks ++ block_checks) _ (either_stays d (RefusesCall d BadBlock) _ (refuses_stay d BadBlock) (passing_stays d tests last_checks _ done))
 step_stays d (calls.Settle session) =
     let found = session_in d session in
     passing_stays d (settle_tests d session) checks _ (done_stays d (settled found d) (told.Reply (replies.Settled (settled_position d found))))
@@ -167,8 +167,8 @@ step_stays d (calls.ReplayOpen id position size) =
     let opened = told_stays d (after_open id next (bound_of next size) d) (told.Reply (replies.ReplayOpened d.callers.next_replay)) in
     passing_stays d tests first_checks _ (position_stays d found next _ (passing_stays d tests (block_checks ++ last_checks) _ opened))
 step_stays d (calls.ReplayPoll number most) =
-    let found = replay_in d number in
-    passing_stays d (poll_tests d number most) checks _ (either_stays d (Unread d) (Gives d found (recording_of d found)) (unread_stays d) (gives_stay d found (recording_of d found)))
+    let found = open_replay_in d number in
+    passing_stays d (poll_tests d number most) checks _ (either_stays d (Unread d) (GivesFrames d found (recording_of d found)) (unread_stays d) (gives_stay d found (recording_of d found)))
 step_stays d (calls.ReplayClose number) = passing_stays d (close_tests d number) checks _ (told_stays d (after_close number d) (told.Reply replies.Closed))
 step_stays d calls.Sweep = passing_stays d (sweep_tests d) checks (SweepsBy d (Ok tt)) (swept_stays d)
 step_stays d (calls.Verify id) = passing_stays d (verify_tests d id) checks (VerifiesBy d (Ok tt)) (verified_stays d)

@@ -10,7 +10,7 @@ use Rattle.archive_model.specs.Commands.{frames_of, recorded_in}
 use Rattle.control_core.specs.declared.callers.RecorderSession.{RecorderSession}
 use Rattle.control_core.specs.declared.callers.Written.{Written}
 use Rattle.control_core.specs.Desk.{DeskState}
-use Rattle.control_core.specs.Changes.{writer_of}
+use Rattle.control_core.specs.Changes.{writer_in}
 
 -- the desk's register is the state's
 abbrev pub Agrees : DeskState → State → Type 0
@@ -20,7 +20,7 @@ Agrees d s = d.register ≡ register_of s
 pub record WroteBlocks (d : DeskState) (s : State) (id : ℤ) (blocks : List Block) : Type 0 where
   pub session : RecorderSession
   pub written : Written
-  pub writer : writer_of d id ≡ Some session
+  pub writer : writer_in d id ≡ Some session
   pub recording : session.recording ≡ id
   pub has : session.written ≡ Some written
   pub ends : written.last ≡ recorded_in (find id_of id s.recordings) +ℤ pos (covered (frames_of blocks))

@@ -63,14 +63,14 @@ settled None d = d
 settled (Some s) d = settled_by s s.written d
 
 -- the recorder session that writes a recording
-abbrev pub writer_of : DeskState → ℤ → Option RecorderSession
-writer_of d id = find (λ s. s.recording) id d.callers.sessions
+abbrev pub writer_in : DeskState → ℤ → Option RecorderSession
+writer_in d id = find (λ s. s.recording) id d.callers.sessions
 
 -- The desk after an accepted command. What is recorded by an append is what the recording's session wrote. A recording
 -- that isn't active has no session, and one that is gone no replay. An opening has neither.
 abbrev pub desk_after : DeskState → Command → DeskState
 desk_after d (Start f) = entered (with_one (registered d.register.next f) d.register) (with_session d.register.next d.callers) d
-desk_after d (Append id blocks) = settled (writer_of d id) d
+desk_after d (Append id blocks) = settled (writer_in d id) d
 desk_after d (Stop id timestamp) = entered (changed id (changes.Stop timestamp) d.register) (without_sessions id d.callers) d
 desk_after d (Extend f) = entered (changed f.recording (changes.Extend f.session_id) d.register) (with_session f.recording d.callers) d
 desk_after d (Truncate id position) = entered (changed id (changes.Truncate position) d.register) (without_sessions id d.callers) d
@@ -99,7 +99,7 @@ settled_position d (Some s) = next_position d s
 
 abbrev pub reply_after : DeskState → Command → Reply
 reply_after d (Start f) = replies.Started d.register.next d.callers.next_session
-reply_after d (Append id blocks) = replies.Settled (settled_position d (writer_of d id))
+reply_after d (Append id blocks) = replies.Settled (settled_position d (writer_in d id))
 reply_after d (Stop id timestamp) = replies.Stopped (recorded_of (registration_in d.register id))
 reply_after d (Extend f) = replies.Extended d.callers.next_session
 reply_after d (Truncate id position) = replies.Truncated position

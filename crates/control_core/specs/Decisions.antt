@@ -110,9 +110,9 @@ matches f r = is_sought f r && has_fragment r.descriptor.channel f.fragment
 abbrev pub greatest : FindFields → List Registration → ℤ
 greatest f rs = fold int_max (negsuc 0) (map id_of (filter (matches f) rs))
 
-abbrev pub positions_of : Option Registration → Reply
-positions_of None = Positions (pos 0) (pos 0) (pos 0)
-positions_of (Some r) = Positions r.descriptor.start_position r.recorded r.descriptor.stop_position
+abbrev pub positions_reply : Option Registration → Reply
+positions_reply None = Positions (pos 0) (pos 0) (pos 0)
+positions_reply (Some r) = Positions r.descriptor.start_position r.recorded r.descriptor.stop_position
 
 -- ---- decisions
 
@@ -150,7 +150,7 @@ decision_of d (PurgeSegments id position) = accepted (checked (purge_segments_te
 decision_of d (PurgeRecording id) = accepted (checked (purge_tests d id) checks (Ok (commands.PurgeRecording id)))
 decision_of d (AskList from count) = answered (checked (list_tests from count) checks (Ok (Recordings (listed from count d.register.recordings))))
 decision_of d (Find f) = answered (checked (find_tests f) checks (Ok (Found (greatest f d.register.recordings))))
-decision_of d (AskPositions id) = answered (checked (positions_tests d id) checks (Ok (positions_of (registration_in d.register id))))
+decision_of d (AskPositions id) = answered (checked (positions_tests d id) checks (Ok (positions_reply (registration_in d.register id))))
 
 -- this decision, or want of memory in its place, where the decision takes memory
 abbrev pub Decides : Bool → Decision → Decision → Type 0

@@ -38,7 +38,7 @@ use Rattle.control_core.specs.Callers.{last_number}
 use Rattle.control_core.specs.Desk.{DeskState, opened_desk}
 use Rattle.control_core.specs.Changes.{after_close, after_open, after_poll, after_write, broken_desk, desk_after, reply_after, settled}
 use Rattle.control_core.specs.Decisions.{accepted, command_in, decision_of}
-use Rattle.control_core.specs.Turns.{close_decision, is_done_at, open_decision, poll_decision, poll_tests, replay_in, session_in, settle_decision, sweep_tests, verify_tests, write_decision}
+use Rattle.control_core.specs.Turns.{close_decision, is_done_at, open_decision, poll_decision, poll_tests, open_replay_in, session_in, settle_decision, sweep_tests, verify_tests, write_decision}
 use Rattle.control_core.specs.Machine.{OrOutside, Outcome}
 
 -- The recordings with their frames, the desk, the blocks that each recorder session wrote and did not settle, and the
@@ -230,15 +230,15 @@ is_poll (events.ReplayPoll number most) = true
 is_poll _ = false
 
 -- the state that the call makes where it is accepted
-abbrev pub Makes : Archive → Event → State → Type 0
-Makes a event u = (reply : Reply) × ((b : Archive) × ArchiveEnds a event (Ok reply) b × (b.state ≡ u))
+abbrev pub MakesState : Archive → Event → State → Type 0
+MakesState a event u = (reply : Reply) × ((b : Archive) × ArchiveEnds a event (Ok reply) b × (b.state ≡ u))
 
 -- After a device fault in reading nothing has changed; after one in writing what the call makes is in doubt. A call that
 -- asks nothing of the device meets none; a truncation may do both, and may end either way.
 abbrev pub LeftByFault : Archive → Event → Archive → Type 0
 LeftByFault a event b =
     (IsTrue (reads_files a.desk event) × (b ≡ a))
-    ⊎ (IsTrue (writes_files a.desk event) × ((u : State) × Makes a event u × (b ≡ broken u a)))
+    ⊎ (IsTrue (writes_files a.desk event) × ((u : State) × MakesState a event u × (b ≡ broken u a)))
 
 -- What a call ends with: its answer, want of memory, which changes nothing, or a device fault where the device had one.
 abbrev pub CallEnds : Archive → Event → Type 0 → ArchiveEnd
@@ -271,5 +271,5 @@ plain_poll first (Ok reply) = Ok (told.Reply reply)
 plain_poll first (Err refusal) = Err refusal
 
 abbrev pub told_of : DeskState → Event → Result Reply Refusal → Outcome
-told_of d (events.ReplayPoll number most) = plain_poll (from_position (replay_in d number))
+told_of d (events.ReplayPoll number most) = plain_poll (from_position (open_replay_in d number))
 told_of d _ = plain

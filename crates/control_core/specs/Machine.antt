@@ -19,7 +19,7 @@ use Rattle.control_core.specs.Decided.{Refused, Answered, Accepted, IfBoundary}
 use Rattle.control_core.specs.Desk.{DeskState}
 use Rattle.control_core.specs.Changes.{after_close, after_open, after_poll, after_write, broken_desk, desk_after, reply_after, settled, settled_position}
 use Rattle.control_core.specs.Decisions.{decision_of}
-use Rattle.control_core.specs.Turns.{begins_at, close_tests, is_done_at, open_tests, poll_tests, replay_in, session_in, settle_tests, sweep_tests, verify_tests, write_tests}
+use Rattle.control_core.specs.Turns.{begins_at, close_tests, is_done_at, open_tests, poll_tests, open_replay_in, session_in, settle_tests, sweep_tests, verify_tests, write_tests}
 
 abbrev pub Outcome : Type 0
 Outcome = Result Told Refusal
@@ -33,8 +33,8 @@ abbrev pub Ended : Outcome → DeskState → Ends
 Ended answer after outcome new = (outcome ≡ answer) × (new ≡ after)
 
 -- this refusal, and the desk as it was
-abbrev pub Refuses : DeskState → Refusal → Ends
-Refuses old refusal = Ended (Err refusal) old
+abbrev pub RefusesCall : DeskState → Refusal → Ends
+RefusesCall old refusal = Ended (Err refusal) old
 
 -- either of two ends
 abbrev pub Either : Ends → Ends → Ends
@@ -43,11 +43,11 @@ Either this that outcome new = this outcome new ⊎ that outcome new
 -- the refusal of the first check whose test does not hold; where each holds, these ends
 abbrev pub Passing : DeskState → Tests → List Refusal → Ends → Ends
 Passing old tests [] ends outcome new = ends outcome new
-Passing old tests (r ∷ rs) ends outcome new = MatchBool (tests r) (Passing old tests rs ends outcome new) (Refuses old r outcome new)
+Passing old tests (r ∷ rs) ends outcome new = MatchBool (tests r) (Passing old tests rs ends outcome new) (RefusesCall old r outcome new)
 
 -- a device fault that leaves the desk as it was
 abbrev pub Faults : DeskState → Ends
-Faults old = Refuses old DeviceFault
+Faults old = RefusesCall old DeviceFault
 
 -- a device fault in a write, which may leave the archive broken
 abbrev pub Breaks : DeskState → Ends
@@ -55,11 +55,11 @@ Breaks old = Either (Faults old) (Ended (Err DeviceFault) (broken_desk old))
 
 -- frames that cannot be read
 abbrev pub Unread : DeskState → Ends
-Unread old outcome new = Faults old outcome new ⊎ ((recording position : ℤ) × Refuses old (Damaged recording position) outcome new)
+Unread old outcome new = Faults old outcome new ⊎ ((recording position : ℤ) × RefusesCall old (Damaged recording position) outcome new)
 
 -- what the frames say of a position: that none begins there, that they cannot be read, or that one begins there
 abbrev pub UnlessBoundary : DeskState → Ends → Ends
-UnlessBoundary old ends = Either (Refuses old BadPosition) (Either (Unread old) ends)
+UnlessBoundary old ends = Either (RefusesCall old BadPosition) (Either (Unread old) ends)
 
 -- a command's entry is made, or a write fails
 abbrev pub Commits : DeskState → Command → Ends
@@ -67,12 +67,12 @@ Commits old command = Either (Ended (Ok (told.Reply (reply_after old command))) 
 
 abbrev pub Does : DeskState → Result Command Refusal → Ends
 Does old (Ok command) = Commits old command
-Does old (Err refusal) = Refuses old refusal
+Does old (Err refusal) = RefusesCall old refusal
 
 -- ---- requests
 
 abbrev pub Decided : DeskState → Decision → Ends
-Decided old (Refused refusal) = Refuses old refusal
+Decided old (Refused refusal) = RefusesCall old refusal
 Decided old (Answered reply) = Ended (Ok (told.Reply reply)) old
 Decided old (Accepted command) = Commits old command
 Decided old (IfBoundary recording position decided) = UnlessBoundary old (Does old decided)
@@ -83,7 +83,7 @@ Decided old (IfBoundary recording position decided) = UnlessBoundary old (Does o
 abbrev pub Writes : DeskState → ℤ → Written → Ends
 Writes old session block =
     let tests = write_tests old session block true in
-    Passing old tests (first_checks ++ block_checks) (Either (Refuses old BadBlock)
+    Passing old tests (first_checks ++ block_checks) (Either (RefusesCall old BadBlock)
     (Passing old tests last_checks (Either (Ended (Ok (told.Reply (replies.Written block.last))) (after_write session block old)) (Breaks old))))
 
 abbrev pub Settles : DeskState → ℤ → Ends
@@ -106,17 +106,17 @@ Opens old id position size =
 
 -- The frames of a poll begin at the next position and end at or below the recorded one. There are some exactly where
 -- the next position is below the bound and the recorded position.
-abbrev pub Moves : Registration → OpenReplay → Written → Type 0
-Moves r replay frames =
+abbrev pub MovesReplay : Registration → OpenReplay → Written → Type 0
+MovesReplay r replay frames =
     (frames.first ≡ replay.next)
     × (((replay.next <ℤ frames.last) × (frames.last ≤ℤ r.recorded) × (replay.next <ℤ replay.bound))
     ⊎ ((frames.last ≡ replay.next) × ((replay.bound ≤ℤ replay.next) ⊎ (r.recorded ≤ℤ replay.next))))
 
-abbrev pub Gives : DeskState → Option OpenReplay → Option Registration → Ends
-Gives old None found outcome new = ⊥
-Gives old (Some replay) None outcome new = ⊥
-Gives old (Some replay) (Some r) outcome new =
-    (frames : Written) × Moves r replay frames × Ended (Ok (told.Polled frames (is_done_at r replay.bound frames.last))) (after_poll replay.number frames.last old) outcome new
+abbrev pub GivesFrames : DeskState → Option OpenReplay → Option Registration → Ends
+GivesFrames old None found outcome new = ⊥
+GivesFrames old (Some replay) None outcome new = ⊥
+GivesFrames old (Some replay) (Some r) outcome new =
+    (frames : Written) × MovesReplay r replay frames × Ended (Ok (told.Polled frames (is_done_at r replay.bound frames.last))) (after_poll replay.number frames.last old) outcome new
 
 -- the recording that a replay gives
 abbrev pub recording_of : DeskState → Option OpenReplay → Option Registration
@@ -125,8 +125,8 @@ recording_of d (Some replay) = registration_in d.register replay.recording
 
 abbrev pub Polls : DeskState → ℤ → ℤ → Ends
 Polls old number most =
-    let found = replay_in old number in
-    Passing old (poll_tests old number most) checks (Either (Unread old) (Gives old found (recording_of old found)))
+    let found = open_replay_in old number in
+    Passing old (poll_tests old number most) checks (Either (Unread old) (GivesFrames old found (recording_of old found)))
 
 abbrev pub Closes : DeskState → ℤ → Ends
 Closes old number = Passing old (close_tests old number) checks (Ended (Ok (told.Reply replies.Closed)) (after_close number old))

@@ -28,8 +28,8 @@ use Rattle.control_core.specs.Changes.{next_position, recorded_of}
 abbrev pub session_in : DeskState → ℤ → Option RecorderSession
 session_in d number = find session_number number d.callers.sessions
 
-abbrev pub replay_in : DeskState → ℤ → Option OpenReplay
-replay_in d number = find replay_number number d.callers.replays
+abbrev pub open_replay_in : DeskState → ℤ → Option OpenReplay
+open_replay_in d number = find replay_number number d.callers.replays
 
 -- ---- writing
 
@@ -141,19 +141,19 @@ is_done_at r bound next = is_done bound next r.recorded (is_active r)
 
 abbrev pub poll_tests : DeskState → ℤ → ℤ → Tests
 poll_tests d number most BadParameter = int_le (pos 1) most && int_le most (pos 4096)
-poll_tests d number most UnknownReplay = is_some (replay_in d number)
+poll_tests d number most UnknownReplay = is_some (open_replay_in d number)
 poll_tests d number most _ = true
 
 -- a replay to be read from, if it is open
-abbrev pub replay_of : Option OpenReplay → Result OpenReplay Refusal
-replay_of None = Err UnknownReplay
-replay_of (Some replay) = Ok replay
+abbrev pub open_replay_of : Option OpenReplay → Result OpenReplay Refusal
+open_replay_of None = Err UnknownReplay
+open_replay_of (Some replay) = Ok replay
 
 abbrev pub poll_decision : DeskState → ℤ → ℤ → Result OpenReplay Refusal
-poll_decision d number most = checked (poll_tests d number most) checks (replay_of (replay_in d number))
+poll_decision d number most = checked (poll_tests d number most) checks (open_replay_of (open_replay_in d number))
 
 abbrev pub close_tests : DeskState → ℤ → Tests
-close_tests d number UnknownReplay = is_some (replay_in d number)
+close_tests d number UnknownReplay = is_some (open_replay_in d number)
 close_tests d number _ = true
 
 abbrev pub close_decision : DeskState → ℤ → Result Reply Refusal

@@ -4,7 +4,7 @@ ghost use Rattle.std.specs.Prelude.{◌≡◌, ◌<◌, Some, OnOk, IfErr, IsTru
 ghost use Rattle.frame_core.specs.declared.refusal.Refusal.TheVariants.{NoMemory};
 ghost use Rattle.archive_model.specs.Checks.{is_of};
 ghost use Rattle.archive_model.specs.Register.{is_later_base, registration_in};
-ghost use Rattle.control_core.specs.Changes.{desk_after, reply_after, segments_of, settled, settled_position, writer_of};
+ghost use Rattle.control_core.specs.Changes.{desk_after, reply_after, segments_of, settled, settled_position, writer_in};
 ghost use Rattle.control_core.specs.Decisions.{Allows};
 ghost use Rattle.control_core.specs.Orderly.{KeepsDesk};
 ghost use Rattle.control_core.specs.Seats.{HasRoomFor};
@@ -72,7 +72,7 @@ impl Desk {
     /// Up to where a recording is recorded once what its session wrote is; 0 where it has none.
     fn settled_position(&self, recording: &i64) -> i64
         ensures { result ≡ settled_position self.now.state
-            (writer_of self.now.state recording.now) }
+            (writer_in self.now.state recording.now) }
     {
         match self.sessions.writer(recording) {
             Some(session) => self.next_position(&session),
@@ -134,7 +134,7 @@ impl Desk {
 
     fn append(&mut self, recording: &i64)
         requires room { self.old.state.counted < self.old.state.limit }
-        ensures { self.new.state ≡ settled (writer_of self.old.state recording.now) self.old.state }
+        ensures { self.new.state ≡ settled (writer_in self.old.state recording.now) self.old.state }
     {
         let Some(session) = self.sessions.writer(recording) else {
             return;
@@ -145,7 +145,7 @@ impl Desk {
     /// What a session wrote is recorded.
     fn settle_session(&mut self, session: &RecorderSession)
         requires room { self.old.state.counted < self.old.state.limit }
-        requires writer { writer_of self.old.state session.now.recording ≡ Some session.now }
+        requires writer { writer_in self.old.state session.now.recording ≡ Some session.now }
         ensures { self.new.state ≡ settled (Some session.now) self.old.state }
     {
         let Some(written) = session.written else {

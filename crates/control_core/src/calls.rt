@@ -8,7 +8,7 @@ ghost use Rattle.control_core.specs.Changes.{after_close, after_open, after_poll
 ghost use Rattle.archive_model.specs.Register.{registration_in};
 ghost use Rattle.control_core.specs.Orderly.{BeginsBy, LiesBehind};
 ghost use Rattle.control_core.specs.Seats.{IsFoundSession};
-ghost use Rattle.control_core.specs.Turns.{MayOpen, replay_in, session_in};
+ghost use Rattle.control_core.specs.Turns.{MayOpen, open_replay_in, session_in};
 
 use crate::callers::{FoundSession, Written};
 use crate::desk::Desk;
@@ -71,7 +71,7 @@ impl Desk {
     /// The replay of a number goes on from a position; it stands at an index. In constant time; does not allocate.
     pub fn move_replay(&mut self, replay: &i64, index: usize, next: &i64)
         requires stands { IsIndexOf replay_number replay.now self.old.state.callers.replays index }
-        requires further { IsSomeAnd (replay_in self.old.state replay.now)
+        requires further { IsSomeAnd (open_replay_in self.old.state replay.now)
             (λ it. it.next ≤ℤ next.now) }
         ensures { self.new.state ≡ after_poll replay.now next.now self.old.state }
     {

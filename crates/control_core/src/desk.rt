@@ -5,7 +5,7 @@ ghost use Rattle.std.specs.List.{list_any};
 ghost use Rattle.archive_model.specs.Register.{HasLayout, active_count, may_begin, may_record, registration_in, no_recordings};
 ghost use Rattle.control_core.specs.Callers.{no_callers};
 ghost use Rattle.control_core.specs.Changes.{next_position, recorded_of};
-ghost use Rattle.control_core.specs.Turns.{replay_in, session_in};
+ghost use Rattle.control_core.specs.Turns.{open_replay_in, session_in};
 ghost use Rattle.control_core.specs.Orderly.{KeepsDesk};
 ghost use Rattle.control_core.specs.Seats.{IsReader, IsWriter};
 ghost use Rattle.control_core.specs.Desk.{new_desk, has_room, has_session_number, is_replayed, is_replay_before};
@@ -190,7 +190,7 @@ impl Desk {
     /// The open replay of a number, with its recording. Costs the replays that are open.
     #[tactic(auto, using(crate::proofs::ThereLemmas::reads_there))]
     pub fn replay(&self, number: &i64) -> Option<Reader<'_>>
-        ensures found { MatchOption result (replay_in self.now.state number.now ≡ None)
+        ensures found { MatchOption result (open_replay_in self.now.state number.now ≡ None)
             (IsReader number.now self.now.state) }
         ensures keeps { KeepsDesk self.now.state.register self.now.state.callers }
     {

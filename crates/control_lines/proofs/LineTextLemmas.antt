@@ -8,7 +8,7 @@ use Rattle.std.proofs.lemmas.List.Elements.{All-cons}
 use Rattle.std.proofs.lemmas.Slice.Eq.{bytes_eq-Decides}
 use Rattle.frame_core.specs.declared.refusal.Refusal.TheVariants.{BadLine}
 use Rattle.control_lines.specs.declared.line.Line.{Line}
-use Rattle.control_lines.specs.Table.{Fields, none, text, ◌&◌, Makes, Row, rows, is_served}
+use Rattle.control_lines.specs.Table.{Fields, none, text, ◌&◌, MakesLine, Row, rows, is_served}
 use Rattle.control_lines.specs.Lines.{word_at, text_at, value_at, read, read_by, whole, text_of, read_of, line_of}
 use Rattle.control_lines.specs.LineText.{Values, line_with, AreFit, text_with, word_of, AreSpelled, IsShortText, IsSpelling}
 use Rattle.control_lines.proofs.WordLemmas.{ok, ok_same, some_length, bind_ok, if_ok, HasNoBlank, behind, word_at-ok, word_at-text, value_at-ok, value_at-word, word_of-spelled}
@@ -16,7 +16,7 @@ use Rattle.control_lines.proofs.WordLemmas.{ok, ok_same, some_length, bind_ok, i
 -- ---- fields
 
 -- what was read as fields, and nothing is left
-record AreRead (fields : Fields) (make : Makes fields) (rest : Option (List ℕ)) (line : Line) : Type 0 where
+record AreRead (fields : Fields) (make : MakesLine fields) (rest : Option (List ℕ)) (line : Line) : Type 0 where
   values : Values fields
   fit : AreFit fields values
   spelled : AreSpelled fields values (behind rest)
@@ -34,7 +34,7 @@ text_at-ok (Some s) r h =
     let is = text_by (length s == 0) s r refl h in
     (ap (λ v. 32 ∷ v) is.0, subst (λ v. 0 < length v) is.0 is.1)
 
-read-ok : (fields : Fields) (make : Makes fields) (rest : Option (List ℕ)) (r : Line × Option (List ℕ)) → read fields make rest ≡ ok r → r.1 ≡ None → AreRead fields make rest r.0
+read-ok : (fields : Fields) (make : MakesLine fields) (rest : Option (List ℕ)) (r : Line × Option (List ℕ)) → read fields make rest ≡ ok r → r.1 ≡ None → AreRead fields make rest r.0
 read-ok none make rest r h end =
     let same : (make, rest) ≡ r = ok_same _ r h in
     let left : rest ≡ None = ap (λ (v : Line × Option (List ℕ)). v.1) same ∙ end in
@@ -67,7 +67,7 @@ behind_none : (rest : Option (List ℕ)) → behind rest ≡ [] → rest ≡ Non
 behind_none None e = refl
 behind_none (Some r) e = absurd (cc e)
 
-read-spelled : (fields : Fields) (make : Makes fields) (values : Values fields) (rest : Option (List ℕ)) → AreFit fields values → AreSpelled fields values (behind rest)
+read-spelled : (fields : Fields) (make : MakesLine fields) (values : Values fields) (rest : Option (List ℕ)) → AreFit fields values → AreSpelled fields values (behind rest)
     → read fields make rest ≡ Ok (line_with fields make values, None)
 read-spelled none make values rest fit is = ap (λ r. ok (make, r)) (behind_none rest is)
 read-spelled text make values rest fit is = ap (λ r. read text make r) (behind_same rest values is) ∙ rw (some_text values fit)

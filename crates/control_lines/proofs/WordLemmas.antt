@@ -20,7 +20,7 @@ use Rattle.hex.proofs.HexLemmas.{decode_of-encode_lower, decode_of-ok}
 use Rattle.frame_core.specs.declared.refusal.Refusal.{Refusal}
 use Rattle.frame_core.specs.declared.refusal.Refusal.TheVariants.{BadLine}
 use Rattle.frame_core.specs.Outcome.{◌>>=◌}
-use Rattle.control_lines.specs.Numbers.{fits, long_of, int_of, decoded, bytes_of}
+use Rattle.control_lines.specs.Numbers.{fits, long_of, int_of, decoded, hex_bytes_of}
 use Rattle.control_lines.specs.Table.{Kind, int, long, hex, Value}
 use Rattle.control_lines.specs.Lines.{has_blank, word_at, value_of, value_at}
 use Rattle.control_lines.specs.LineText.{IsFit, word_of, IsWordOf}
@@ -197,9 +197,9 @@ some_bytes : (text : List ℕ) → 0 < length text → (length text == 0) ≡ fa
 some_bytes text some = ne_eqb (length text) 0 (λ e. absurd (omega (arith, e)))
 
 -- digits in either case that stand for bytes
-bytes_of-digits : (digits bytes : List ℕ) → 0 < length digits → decode_of digits ≡ Ok bytes → bytes_of digits ≡ Ok bytes
-unfolding bytes_of
-bytes_of-digits digits bytes some is = rw (some_bytes digits some, is)
+hex_bytes_of-digits : (digits bytes : List ℕ) → 0 < length digits → decode_of digits ≡ Ok bytes → hex_bytes_of digits ≡ Ok bytes
+unfolding hex_bytes_of
+hex_bytes_of-digits digits bytes some is = rw (some_bytes digits some, is)
 
 pub some_length : (n : ℕ) → (n == 0) ≡ false → 0 < n
 some_length zero e = absurd (cc e)
@@ -222,9 +222,9 @@ bytes_by false text bytes is h =
     let some = some_length (length text) is in
     record { some = omega (arith, shape.2); fit = shape.3; lowered = decode_of-lowered text bytes read }
 
-bytes_of-ok : (text bytes : List ℕ) → bytes_of text ≡ Ok bytes → AreBytes text bytes
-unfolding bytes_of
-bytes_of-ok text bytes h = bytes_by (length text == 0) text bytes refl h
+hex_bytes_of-ok : (text bytes : List ℕ) → hex_bytes_of text ≡ Ok bytes → AreBytes text bytes
+unfolding hex_bytes_of
+hex_bytes_of-ok text bytes h = bytes_by (length text == 0) text bytes refl h
 
 pub lowered_self : (bytes : List ℕ) → IsBytes bytes → map to_ascii_lowercase (encode_lower bytes) ≡ encode_lower bytes
 lowered_self bytes fit = decode_of-lowered (encode_lower bytes) bytes (decode_of-encode_lower bytes fit)
@@ -234,7 +234,7 @@ lowered_self bytes fit = decode_of-lowered (encode_lower bytes) bytes (decode_of
 pub value_of-ok : (k : Kind) (word : List ℕ) (v : Value k) → value_of k word ≡ Ok v → IsFit k v × IsWordOf k v word
 value_of-ok int word v h = let is = int_of-ok word v h in (is.fit, is.spelled)
 value_of-ok long word v h = let is = long_of-ok word v h in (is.fit, is.spelled)
-value_of-ok hex word v h = let is = bytes_of-ok word v h in ((is.some, is.fit), is.lowered)
+value_of-ok hex word v h = let is = hex_bytes_of-ok word v h in ((is.some, is.fit), is.lowered)
 
 value_of-word : (k : Kind) (v : Value k) (word : List ℕ) → IsFit k v → IsWordOf k v word → value_of k word ≡ Ok v
 value_of-word int v word fit is = ap int_of is ∙ int_of-text v fit
@@ -243,7 +243,7 @@ value_of-word hex v word fit is =
     let read = decode_of-either word v fit.1 is in
     let shape = decode_of-ok word v read in
     let some = fit.0 in
-    bytes_of-digits word v (omega (arith, shape.2)) read
+    hex_bytes_of-digits word v (omega (arith, shape.2)) read
 
 -- no blank is in a field's word
 word_without : (k : Kind) (v : Value k) (word : List ℕ) → IsFit k v → IsWordOf k v word → HasNoBlank word

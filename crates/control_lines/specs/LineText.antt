@@ -5,7 +5,7 @@ use Rattle.std.specs.Char.{to_ascii_lowercase}
 use Rattle.hex.specs.Hex.{encode_lower, IsBytes}
 use Rattle.control_lines.specs.declared.line.Line.{Line}
 use Rattle.control_lines.specs.Numbers.{fits}
-use Rattle.control_lines.specs.Table.{Kind, int, long, hex, Value, Fields, none, text, ◌&◌, Makes, Row, rows, is_served}
+use Rattle.control_lines.specs.Table.{Kind, int, long, hex, Value, Fields, none, text, ◌&◌, MakesLine, Row, rows, is_served}
 
 -- a value for each field
 abbrev pub Values : Fields → Type 0
@@ -14,7 +14,7 @@ Values text = List ℕ
 Values (k & fields) = Value k × Values fields
 
 -- the line of these values
-abbrev pub line_with : (fields : Fields) → Makes fields → Values fields → Line
+abbrev pub line_with : (fields : Fields) → MakesLine fields → Values fields → Line
 line_with none line values = line
 line_with text make values = make values
 line_with (k & fields) make values = line_with fields (make values.0) values.1

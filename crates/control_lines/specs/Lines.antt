@@ -6,8 +6,8 @@ use Rattle.frame_core.specs.declared.refusal.Refusal.{Refusal}
 use Rattle.frame_core.specs.declared.refusal.Refusal.TheVariants.{BadLine, NoMemory}
 use Rattle.frame_core.specs.Outcome.{◌>>=◌}
 use Rattle.control_lines.specs.declared.line.Line.{Line}
-use Rattle.control_lines.specs.Table.{Kind, int, long, hex, Value, Fields, none, text, ◌&◌, Makes, Row, copies, rows, is_served}
-use Rattle.control_lines.specs.Numbers.{long_of, int_of, bytes_of}
+use Rattle.control_lines.specs.Table.{Kind, int, long, hex, Value, Fields, none, text, ◌&◌, MakesLine, Row, copies, rows, is_served}
+use Rattle.control_lines.specs.Numbers.{long_of, int_of, hex_bytes_of}
 
 -- a blank is U+0020 alone
 abbrev pub has_blank : List ℕ → Bool
@@ -23,7 +23,7 @@ word_at (Some s) =
 abbrev pub value_of : (k : Kind) → List ℕ → Result (Value k) Refusal
 value_of int word = int_of word
 value_of long word = long_of word
-value_of hex word = bytes_of word
+value_of hex word = hex_bytes_of word
 
 -- the first word as that value, and what stands behind it
 abbrev pub value_at : (k : Kind) → Option (List ℕ) → Result (Value k × Option (List ℕ)) Refusal
@@ -38,7 +38,7 @@ text_at None = Err BadLine
 text_at (Some s) = if length s == 0 then Err BadLine else Ok (s, None)
 
 -- the line of the fields that stand at the front of what is left of it, and what is then left
-abbrev pub read : (fields : Fields) → Makes fields → Option (List ℕ) → Result (Line × Option (List ℕ)) Refusal
+abbrev pub read : (fields : Fields) → MakesLine fields → Option (List ℕ) → Result (Line × Option (List ℕ)) Refusal
 read none line rest = Ok (line, rest)
 read text make rest = do
   last ← text_at rest

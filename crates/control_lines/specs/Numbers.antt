@@ -31,5 +31,5 @@ decoded (Ok bytes) = Ok bytes
 decoded (Err fault) = Err BadLine
 
 -- pairs of hex digits in either case, at least one pair
-unfoldable pub bytes_of : List ℕ → Result (List ℕ) Refusal
-bytes_of text = if length text == 0 then Err BadLine else decoded (decode_of text)
+unfoldable pub hex_bytes_of : List ℕ → Result (List ℕ) Refusal
+hex_bytes_of text = if length text == 0 then Err BadLine else decoded (decode_of text)

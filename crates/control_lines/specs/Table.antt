@@ -38,18 +38,18 @@ copies text = true
 copies (k & fields) = is_copied k || copies fields
 
 -- a line, as soon as its fields are known
-abbrev pub Makes : Fields → Type 0
-Makes none = Line
-Makes text = List ℕ → Line
-Makes (k & fields) = Value k → Makes fields
+abbrev pub MakesLine : Fields → Type 0
+MakesLine none = Line
+MakesLine text = List ℕ → Line
+MakesLine (k & fields) = Value k → MakesLine fields
 
 -- the lines of a first word
 pub record Row : Type 0 where
   pub word : List ℕ
   pub fields : Fields
-  pub line : Makes fields
+  pub line : MakesLine fields
 
-abbrev pub row : List ℕ → (fields : Fields) → Makes fields → Row
+abbrev pub row : List ℕ → (fields : Fields) → MakesLine fields → Row
 row word fields line = record { word = word; fields = fields; line = line }
 
 abbrev pub start_row : Row

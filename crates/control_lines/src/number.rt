@@ -2,7 +2,7 @@
 
 ghost use Rattle.std.specs.Prelude.{false, true};
 ghost use Rattle.control_lines.specs.Lines.{Reads};
-ghost use Rattle.control_lines.specs.Numbers.{long_of, int_of, bytes_of};
+ghost use Rattle.control_lines.specs.Numbers.{long_of, int_of, hex_bytes_of};
 
 use crate::hex_digits::decode_over;
 use frame_core::{Items, Refusal};
@@ -32,9 +32,9 @@ pub(crate) fn int(word: &str) -> Result<i32, Refusal>
 }
 
 /// The bytes whose hex digits a text is: `BadLine` where it is empty or no hex, or `NoMemory`.
-#[tactic(auto, unfolding(crate::specs::Numbers::bytes_of))]
+#[tactic(auto, unfolding(crate::specs::Numbers::hex_bytes_of))]
 pub(crate) fn bytes(alloc: Global, text: &str) -> Result<Items<u8>, Refusal>
-    ensures { Reads true (λ x. x) result (bytes_of text.now) }
+    ensures { Reads true (λ x. x) result (hex_bytes_of text.now) }
 {
     if text.is_empty() {
         return Err(Refusal::BadLine);

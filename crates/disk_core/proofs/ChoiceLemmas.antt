@@ -10,7 +10,7 @@ use Rattle.disk_core.specs.FileNames.{file_cmp}
 use Rattle.disk_core.specs.DiskImage.{DiskImage, FileState, Files, LeavesFile, MayLeave, bytes_of, durable}
 use Rattle.disk_core.specs.Calls.{write_to, cut_to, removed}
 use Rattle.disk_core.specs.CrashChoice.{pick, IsFilledFile, or_else, reads_or_synced, IsLeftBy, IsChosen}
-use Rattle.disk_core.specs.Memory.{file_of, changed_state, changed, after, nothing, IsWell, AreWell, well_stays}
+use Rattle.disk_core.specs.Memory.{changed_file, changed_state, changed, after, nothing, IsWell, AreWell, well_stays}
 use Rattle.disk_core.proofs.OverwriteLemmas.{write_is_written}
 use Rattle.disk_core.proofs.DiskImageLemmas.{written_keeps, cut_keeps, cut_is_cut, removed_keeps}
 use Rattle.disk_core.proofs.EntryLemmas.{write_keeps_last}
@@ -92,7 +92,7 @@ after_was : (files : Files) (log : List Change) → ((file : FileId) → LeavesF
 after_was files [] was = was
 after_was files (change ∷ log) was =
     after_was (changed change files) log
-    (λ file. either_was (is_eq (file_cmp (file_of change) file)) (changed_state change (files file)) (files file) (changed_was change (files file) (was file)) (was file))
+    (λ file. either_was (is_eq (file_cmp (changed_file change) file)) (changed_state change (files file)) (files file) (changed_was change (files file) (was file)) (was file))
 
 touched_or_not : (b : Bool) → (b ≡ true) ⊎ (b ≡ false)
 touched_or_not true = inl refl

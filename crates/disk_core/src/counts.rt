@@ -1,7 +1,7 @@
 //! What a disk in memory counts, and when it stops or fails.
 ghost use Rattle.std.specs.Prelude.{◌≡◌, ◌≤◌, ◌↔◌, is_ok, if◌then◌else◌, IsOk};
 ghost use Rattle.disk_core.specs.declared.counts.Injected.TheVariants.{Goes};
-ghost use Rattle.disk_core.specs.Counts.{fresh, next_injected, counted, with_fault};
+ghost use Rattle.disk_core.specs.Counts.{no_counts, next_injected, counted_call, with_fault};
 
 use crate::Fault;
 use std::alloc::AllocError;
@@ -30,7 +30,7 @@ pub(crate) struct Counts {
 
 impl Counts {
     pub(crate) fn new() -> Self
-        ensures { result ≡ fresh }
+        ensures { result ≡ no_counts }
     {
         Counts {
             calls: 0,
@@ -44,7 +44,7 @@ impl Counts {
     /// Counts a call, and answers what becomes of it.
     pub(crate) fn begin(&mut self, changes: bool) -> Injected
         ensures injected { result ≡ next_injected self.old }
-        ensures counted { self.new ≡ counted changes self.old }
+        ensures counted { self.new ≡ counted_call changes self.old }
     {
         let injected = if self.left == Some(0) {
             Injected::Stops

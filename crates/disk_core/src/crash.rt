@@ -3,7 +3,7 @@ ghost use Rattle.std.specs.Prelude.{◌≡◌, [], IfOk, IfErr};
 ghost use Rattle.frame_core.specs.declared.refusal.Refusal.TheVariants.{NoMemory};
 ghost use Rattle.disk_core.specs.CrashChoice.{IsCrash};
 ghost use Rattle.disk_core.specs.DiskImage.{MayLeave, reads};
-ghost use Rattle.disk_core.specs.Counts.{fresh};
+ghost use Rattle.disk_core.specs.Counts.{no_counts};
 
 use crate::MemoryDisk;
 use crate::counts::Counts;
@@ -25,7 +25,7 @@ impl MemoryDisk {
         ensures may_leave { IfOk result (λ disk.
             MayLeave (life_of self.now).now (reads (life_of disk).now)) }
         ensures past { IfOk result (λ disk. (life_of disk).past ≡ []) }
-        ensures counts { IfOk result (λ disk. counts_of disk ≡ fresh) }
+        ensures counts { IfOk result (λ disk. counts_of disk ≡ no_counts) }
         ensures refusal { IfErr result (λ refusal. refusal ≡ NoMemory) }
     {
         let change_log = self.change_log.crashed(choice)?;

@@ -4,7 +4,7 @@ ghost use Rattle.disk_core.specs.FileNames.{AreFilesWith};
 ghost use Rattle.disk_core.specs.DiskImage.{reads, begun, bytes_of};
 ghost use Rattle.disk_core.specs.Calls.{write_to, cut_to, removed, synced, IsWritten, IsCut, IsRemoved, IsSynced, IsRead};
 ghost use Rattle.disk_core.specs.Life.{bytes_now, IsQuiet, Steps, Makes, HasCause, HasListCause, IsSteady};
-ghost use Rattle.disk_core.specs.Counts.{after_call, after_list, next_injected, fresh};
+ghost use Rattle.disk_core.specs.Counts.{after_call, after_list, next_injected, no_counts};
 ghost use Rattle.disk_core.specs.declared.counts.Injected.TheVariants.{Goes};
 ghost use Rattle.disk_core.specs.declared.fault.ListFault.TheVariants.{Device};
 
@@ -30,7 +30,7 @@ impl MemoryDisk {
     pub fn new(alloc: Global) -> Self
         ensures now { (life_of result).now ≡ begun (λ _. None) }
         ensures past { (life_of result).past ≡ [] }
-        ensures counts { counts_of result ≡ fresh }
+        ensures counts { counts_of result ≡ no_counts }
     {
         MemoryDisk {
             change_log: ChangeLog::new(alloc),

@@ -26,7 +26,7 @@ use Rattle.control_core.specs.declared.request.Request.TheVariants as requests
 use Rattle.control_core.specs.Agreement.{Agrees}
 use Rattle.control_core.specs.Changes.{reply_after}
 use Rattle.control_core.specs.Consistent.{is_asked}
-use Rattle.control_core.specs.Decisions.{Allows, Decides, accepted, answered, command_in, command_tests, decided, decision_of, extend_tests, find_tests, greatest, if_boundary, list_tests, listed, on_truncate, positions_of, positions_tests, purge_segments_tests, purge_tests, start_tests, stop_tests, takes_memory, truncate_tests}
+use Rattle.control_core.specs.Decisions.{Allows, Decides, accepted, answered, command_in, command_tests, decided, decision_of, extend_tests, find_tests, greatest, if_boundary, list_tests, listed, on_truncate, positions_reply, positions_tests, purge_segments_tests, purge_tests, start_tests, stop_tests, takes_memory, truncate_tests}
 use Rattle.control_core.specs.Desk.{DeskState}
 use Rattle.control_core.specs.Exact.{Archive, ArchiveEnds, CallEnds, DecisionEnds, archive_after, asked_frames, book_of, plain, reads_files, recording_at, waits_for_frames, writes_files}
 use Rattle.control_core.specs.Machine.{Decided, OrOutside, Outcome, Outside, Stepped}
@@ -35,7 +35,7 @@ use Rattle.control_core.proofs.CallLemmas.{asked_works}
 use Rattle.control_core.proofs.DecidedLemmas.{decided_accepted}
 use Rattle.engine_core.specs.Calls.{AnswersEvent, CommitEnds, EndsAs, is_cut}
 use Rattle.engine_core.specs.Engine.{Content, EngineState, archive_of}
-use Rattle.engine_core.specs.Making.{BegunEnds, Commits, InsideEnds, MakesInside}
+use Rattle.engine_core.specs.Making.{BegunEnds, CommitsEntry, InsideEnds, MakesInside}
 use Rattle.engine_core.proofs.EndedLemmas.{ended_as, spared_by}
 use Rattle.engine_core.proofs.InsideLemmas.{commit_cause, commit_step, some_content}
 use Rattle.engine_core.proofs.KnownLemmas.{known_recording}
@@ -115,7 +115,7 @@ request_other d (requests.PurgeSegments id position) = checked_command (purge_se
 request_other d (requests.PurgeRecording id) = checked_command (purge_tests d id) (commands.PurgeRecording id)
 request_other d (requests.List from count) = checked_reply (list_tests from count) (replies.Recordings (listed from count d.register.recordings))
 request_other d (requests.Find f) = checked_reply (find_tests f) (replies.Found (greatest f d.register.recordings))
-request_other d (requests.Positions id) = checked_reply (positions_tests d id) (positions_of (registration_in d.register id))
+request_other d (requests.Positions id) = checked_reply (positions_tests d id) (positions_reply (registration_in d.register id))
 
 refused_other : (takes : Bool) (d : DeskState) (request : Request) (refusal : Refusal) → Decides takes (decisions.Refused refusal) (decision_of d request) → refusal ≡ DeviceFault → ⊥
 refused_other takes d request refusal decides is =
@@ -315,7 +315,7 @@ ask_answered old request reply decides =
 
 -- a command
 pub ask_made : (old new : EngineState) (request : Request) (command : Command) (outcome : Result Reply Refusal) → decision_of old.desk request ≡ decisions.Accepted command
-    → Commits old new (λ a. Accepts (book_of a) command) (reply_after old.desk command) (λ a. archive_after a command) outcome → AnswersEvent old new (events.Ask request) outcome
+    → CommitsEntry old new (λ a. Accepts (book_of a) command) (reply_after old.desk command) (λ a. archive_after a command) outcome → AnswersEvent old new (events.Ask request) outcome
 ask_made old new request command outcome is commits = record {
   goes_on = commits.goes_on;
   cause = λ fault. commit_cause (archive_of old some_content) (archive_after (archive_of old some_content) command) (reply_after old.desk command) (HasFailed old.life new.life) outcome (archive_of new some.0) some.1 fault;

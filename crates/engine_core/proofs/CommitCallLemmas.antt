@@ -22,11 +22,11 @@ use Rattle.control_core.specs.Decisions.{Allows}
 use Rattle.control_core.specs.Desk.{DeskState}
 use Rattle.control_core.specs.Exact.{Archive, broken}
 use Rattle.control_core.proofs.AllowedLemmas.{room_of}
-use Rattle.engine_core.specs.Calls.{CommitEnds, Ended}
+use Rattle.engine_core.specs.Calls.{CommitEnds, CallEnded}
 use Rattle.engine_core.specs.Consistent.{IsCrashConsistent, StandsBehind}
 use Rattle.engine_core.specs.Engine.{Content, EngineState, IsTied, archive_of, content_of}
 use Rattle.engine_core.specs.Making.{after_failure}
-use Rattle.engine_core.specs.Moves.{HasRoom, KeepsSegments, Moves}
+use Rattle.engine_core.specs.Moves.{HasEntryRoom, KeepsSegments, Moves}
 use Rattle.engine_core.specs.Recovery.{IsEither, RecoversTo}
 use Rattle.engine_core.proofs.EndedLemmas.{done, failed, recovers_as, sound_consistent}
 use Rattle.engine_core.proofs.StandLemmas.{stand_on}
@@ -48,7 +48,7 @@ tied_refused log new_log d DeviceFault tied same = record { works = λ is_yes. a
 tied_refused log new_log d refusal tied same = subst (λ (l : LogState). IsTied l d) (sym (same (λ is. absurd cc))) tied
 
 -- the log has room for the entry of a command that the desk allows
-pub room_for : (log : LogState) (d : DeskState) (c : Command) (e : Entry) → IsTied log d → d.is_broken ≡ false → Allows d c → counts e ≡ acceptance.counts c → HasRoom log e
+pub room_for : (log : LogState) (d : DeskState) (c : Command) (e : Entry) → IsTied log d → d.is_broken ≡ false → Allows d c → counts e ≡ acceptance.counts c → HasEntryRoom log e
 room_for log d c e tied works allows alike counted = by c allows (sym alike ∙ counted)
   where
     low : d.counted < d.limit → log.counted < log.header.history_limit
@@ -102,13 +102,13 @@ module _ (old new : EngineState) (c : Content) (was : IsCrashConsistent old.life
   stand_here x ss all = stand_on (reads old.life.now) (reads new.life.now) x ss (λ id base. keeps.same (Segment id base) (λ is. absurd cc)) all
 
   pub commit_done : StaysConsistent a b → Each (StandsBehind (reads old.life.now) b) b.desk.callers.sessions → new.desk ≡ b.desk → Moves old.life new.life new.log a.state b.state (Ok tt)
-      → Ended old new a (CommitEnds a reply b (HasFailed old.life new.life) (Ok reply))
+      → CallEnded old new a (CommitEnds a reply b (HasFailed old.life new.life) (Ok reply))
   commit_done stays stand desk moves =
       done old new a b _ moves.any_moment
       (sound_consistent new.life new.log b moves.rests stays.consistent (stand_here b b.desk.callers.sessions stand) (λ obeys. stays.boundaries (was.boundaries (keeps.obeyed obeys)))) desk (refl, refl)
 
   pub commit_refused : (refusal : Refusal) → (refusal ≡ DeviceFault → HasFailed old.life new.life) → new.desk ≡ after_failure refusal old.desk → Moves old.life new.life new.log a.state b.state (Err refusal)
-      → Ended old new a (CommitEnds a reply b (HasFailed old.life new.life) (Err refusal))
+      → CallEnded old new a (CommitEnds a reply b (HasFailed old.life new.life) (Err refusal))
   commit_refused NoMemory cause desk moves =
       done old new a a _
       (weaker old.life new.life (RecoversTo (IsEither a.state a.state)) (RecoversTo (λ x. x ≡ a.state)) moves.rests.1 (λ image. recovers_as (λ x. x ≡ a.state) (IsEither a.state a.state) image (λ s same. inl same)))

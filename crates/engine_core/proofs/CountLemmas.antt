@@ -13,7 +13,7 @@ use Rattle.segment_store.specs.DamagedFrame.{IsDamaged, RefusesFrame, ShowsFrame
 use Rattle.replay_core.proofs.PollLemmas.{chain_more}
 use Rattle.archive_model.specs.declared.registration.Registration.{Registration}
 use Rattle.archive_model.specs.State.{Recording, geometry_of}
-use Rattle.engine_core.specs.Reading.{IsRead, RefusesCount}
+use Rattle.engine_core.specs.Reading.{RecordingIsRead, RefusesCount}
 use Rattle.engine_core.specs.Recovery.{layout_of}
 use Rattle.engine_core.proofs.ReadLemmas.{counted_all}
 
@@ -65,7 +65,7 @@ pub less_left : (at end recorded recorded' : ℤ) (size : ℕ) → recorded' ≡
 less_left at end recorded recorded' size same is covers low within = omega (arith, ints)
 
 -- once the recorded position is reached, all are counted
-pub all_counted : (old new : Life) (g : Registration) (r : Recording) (at count : ℤ) → HasCounted old new g at count → g.recorded ≤ℤ at → IsRead old new g r → count ≡ pos (length r.frames)
+pub all_counted : (old new : Life) (g : Registration) (r : Recording) (at count : ℤ) → HasCounted old new g at count → g.recorded ≤ℤ at → RecordingIsRead old new g r → count ≡ pos (length r.frames)
 all_counted old new g r at count counted past read =
     let before = counted.stand read.obeys in
     let start = read.kept.start in

@@ -16,9 +16,9 @@ use Rattle.control_core.specs.Desk.{DeskState}
 use Rattle.control_core.specs.Exact.{Archive, broken}
 use Rattle.control_core.specs.Runs.{MayStand}
 use Rattle.control_core.proofs.ConsistentLemmas.{breaks}
-use Rattle.engine_core.specs.Calls.{Ended}
+use Rattle.engine_core.specs.Calls.{CallEnded}
 use Rattle.engine_core.specs.Consistent.{IsCrashConsistent, MayStandIn, StandsBehind}
-use Rattle.engine_core.specs.Engine.{EngineState, GoesOn, IsAsBefore, IsSpared, content_of}
+use Rattle.engine_core.specs.Engine.{EngineState, DiskGoesOn, IsAsBefore, IsSpared, content_of}
 use Rattle.engine_core.specs.Making.{after_failure}
 use Rattle.engine_core.specs.Recovery.{IsDurable, IsEither, IsSound, RecoversTo}
 use Rattle.engine_core.proofs.RecoveryLemmas.{sound_recovers}
@@ -35,14 +35,14 @@ no_doubt a consistent works = by a.doubt (sym works ∙ consistent.broken)
     by (Some u) e = absurd (true≢false (sym e))
 
 -- the archive that a call leaves, whose desk the engine has
-pub ended_at : (old new : EngineState) (a b : Archive) (Ends : Archive → Type 0) → new.desk ≡ b.desk → Ends b → IsCrashConsistent new.life new.log b → LeavesOnly old.life new.life (RecoversTo (MayStandIn a b)) → Ended old new a Ends
+pub ended_at : (old new : EngineState) (a b : Archive) (Ends : Archive → Type 0) → new.desk ≡ b.desk → Ends b → IsCrashConsistent new.life new.log b → LeavesOnly old.life new.life (RecoversTo (MayStandIn a b)) → CallEnded old new a Ends
 ended_at old new a b Ends desk ends consistent any =
-    let E : DeskState → Type 0 = λ d. Ended old (record { life = new.life; log = new.log; desk = d }) a Ends in
+    let E : DeskState → Type 0 = λ d. CallEnded old (record { life = new.life; log = new.log; desk = d }) a Ends in
     let made : E b.desk = record { after = content_of b; ends = ends; consistent = consistent; any_moment = any } in
     subst E (sym desk) made
 
 -- a call that ends in a narrower way
-pub ended_as : (old new : EngineState) (a : Archive) (P Q : Archive → Type 0) → ((b : Archive) → P b → Q b) → Ended old new a P → Ended old new a Q
+pub ended_as : (old new : EngineState) (a : Archive) (P Q : Archive → Type 0) → ((b : Archive) → P b → Q b) → CallEnded old new a P → CallEnded old new a Q
 ended_as old new a P Q to ended = record { after = ended.after; ends = to _ ended.ends; consistent = ended.consistent; any_moment = ended.any_moment }
 
 -- ---- the disk's calls
@@ -50,10 +50,10 @@ ended_as old new a P Q to ended = record { after = ended.after; ends = to _ ende
 pub quiet_life : (life : Life) → IsQuiet life life
 quiet_life life = record { obeyed = λ obeys. obeys; past = refl; now = refl; faults = omega arith }
 
-pub quiet_goes_on : (old new : Life) → IsQuiet old new → GoesOn old new
+pub quiet_goes_on : (old new : Life) → IsQuiet old new → DiskGoesOn old new
 quiet_goes_on old new quiet = record { obeyed = quiet.obeyed; faults = quiet.faults }
 
-pub goes_on_here : (life : Life) → GoesOn life life
+pub goes_on_here : (life : Life) → DiskGoesOn life life
 goes_on_here life = record { obeyed = λ obeys. obeys; faults = omega arith }
 
 -- ---- what a refusal left
@@ -111,14 +111,14 @@ quiet_moments old new log a b quiet was =
 -- ---- nothing but the count of faults has changed
 
 -- a call that leaves the archive as it was
-pub still : (old new : EngineState) (a : Archive) (Ends : Archive → Type 0) → IsQuiet old.life new.life → new.log ≡ old.log → new.desk ≡ a.desk → IsCrashConsistent old.life old.log a → Ends a → Ended old new a Ends
+pub still : (old new : EngineState) (a : Archive) (Ends : Archive → Type 0) → IsQuiet old.life new.life → new.log ≡ old.log → new.desk ≡ a.desk → IsCrashConsistent old.life old.log a → Ends a → CallEnded old new a Ends
 still old new a Ends quiet log desk was ends =
     ended_at old new a a Ends desk ends (subst (λ (l : LogState). IsCrashConsistent new.life l a) (sym log) (quiet_consistent old.life new.life old.log a quiet was))
     (quiet_moments old.life new.life old.log a a quiet was)
 
 -- a call that only reads, and changes the desk, but not what sessions wrote
 pub reread : (old new : EngineState) (a b : Archive) (Ends : Archive → Type 0) → IsQuiet old.life new.life → new.log ≡ old.log → new.desk ≡ b.desk → b.state ≡ a.state → b.doubt ≡ a.doubt
-    → Each (StandsBehind (reads old.life.now) b) b.desk.callers.sessions → IsConsistent b → (IsTrue new.life.obeys → AreAtBoundaries b) → IsCrashConsistent old.life old.log a → Ends b → Ended old new a Ends
+    → Each (StandsBehind (reads old.life.now) b) b.desk.callers.sessions → IsConsistent b → (IsTrue new.life.obeys → AreAtBoundaries b) → IsCrashConsistent old.life old.log a → Ends b → CallEnded old new a Ends
 reread old new a b Ends quiet log desk state doubt stand archive boundaries was ends =
     ended_at old new a b Ends desk ends (subst (λ (l : LogState). IsCrashConsistent new.life l b) (sym log) (record {
       archive = archive;
@@ -138,7 +138,7 @@ reread old new a b Ends quiet log desk state doubt stand archive boundaries was 
 either_stands : (a b : Archive) (s : State) → IsEither a.state b.state s → MayStandIn a b s
 either_stands a b s is = elim is [ inl this ↦ inl (inl this) | inr that ↦ inr (inl that) ]
 
-pub done : (old new : EngineState) (a b : Archive) (Ends : Archive → Type 0) → LeavesOnly old.life new.life (RecoversTo (IsEither a.state b.state)) → IsCrashConsistent new.life new.log b → new.desk ≡ b.desk → Ends b → Ended old new a Ends
+pub done : (old new : EngineState) (a b : Archive) (Ends : Archive → Type 0) → LeavesOnly old.life new.life (RecoversTo (IsEither a.state b.state)) → IsCrashConsistent new.life new.log b → new.desk ≡ b.desk → Ends b → CallEnded old new a Ends
 done old new a b Ends any consistent desk ends =
     ended_at old new a b Ends desk ends consistent
     (weaker old.life new.life (RecoversTo (MayStandIn a b)) (RecoversTo (IsEither a.state b.state)) any (λ image. recovers_as (IsEither a.state b.state) (MayStandIn a b) image (either_stands a b)))
@@ -146,7 +146,7 @@ done old new a b Ends any consistent desk ends =
 -- ---- it has failed, and the archive is broken
 
 pub failed : (old new : EngineState) (a : Archive) (u : State) (Ends : Archive → Type 0) → IsConsistent a → LeavesOnly old.life new.life (RecoversTo (IsEither a.state u)) → Each (IsDurable new.life.now) a.state.recordings
-    → Each (StandsBehind (reads new.life.now) a) a.desk.callers.sessions → (IsTrue new.life.obeys → AreAtBoundaries a) → new.desk ≡ broken_desk a.desk → Ends (broken u a) → Ended old new a Ends
+    → Each (StandsBehind (reads new.life.now) a) a.desk.callers.sessions → (IsTrue new.life.obeys → AreAtBoundaries a) → new.desk ≡ broken_desk a.desk → Ends (broken u a) → CallEnded old new a Ends
 failed old new a u Ends archive any frames stand boundaries desk ends =
     ended_at old new a (broken u a) Ends desk ends (record {
       archive = (breaks a u archive).consistent;

@@ -23,11 +23,11 @@ use Rattle.control_core.specs.Desk.{DeskState}
 use Rattle.control_core.specs.Exact.{Archive, archive_after, book_of, plain, recording_at}
 use Rattle.control_core.specs.Machine as machine
 use Rattle.control_core.specs.Machine.{Does, Ends, OrOutside, Outcome, UnlessBoundary, Unread}
-use Rattle.engine_core.specs.Calls.{CommitEnds, Ended}
+use Rattle.engine_core.specs.Calls.{CommitEnds, CallEnded}
 use Rattle.engine_core.specs.Consistent.{IsCrashConsistent, MayStandIn}
 use Rattle.engine_core.specs.Engine.{Content, EngineState, IsAsBefore, IsSpared, archive_of}
-use Rattle.engine_core.specs.Making.{Commits, InsideEnds, MakesInside}
-use Rattle.engine_core.specs.Reading.{IsRead}
+use Rattle.engine_core.specs.Making.{CommitsEntry, InsideEnds, MakesInside}
+use Rattle.engine_core.specs.Reading.{RecordingIsRead}
 use Rattle.engine_core.specs.Recovery.{RecoversTo}
 use Rattle.engine_core.proofs.EndedLemmas.{ended_as, quiet_consistent, quiet_goes_on, quiet_moments, still}
 use Rattle.engine_core.proofs.KnownLemmas.{is_read}
@@ -85,7 +85,7 @@ abbrev pub behind_read : EngineState → Life → EngineState
 behind_read old life = record old { life = life }
 
 -- a call behind a read
-behind_quiet : (old new : EngineState) (mid : Life) (a : Archive) (P : Archive → Type 0) → IsQuiet old.life mid → IsCrashConsistent old.life old.log a → Ended (behind_read old mid) new a P → Ended old new a P
+behind_quiet : (old new : EngineState) (mid : Life) (a : Archive) (P : Archive → Type 0) → IsQuiet old.life mid → IsCrashConsistent old.life old.log a → CallEnded (behind_read old mid) new a P → CallEnded old new a P
 behind_quiet old new mid a P quiet was ended = record {
   after = ended.after;
   ends = ended.ends;
@@ -96,7 +96,7 @@ behind_quiet old new mid a P quiet was ended = record {
 
 -- what a position and a read say of one another
 abbrev pub Tells : Life → Life → Registration → ℤ → Bool → Type 0
-Tells old new g position begins = (r : Recording) → IsRead old new g r → is_end position g ≡ false → begins ≡ begins_frame position r
+Tells old new g position begins = (r : Recording) → RecordingIsRead old new g r → is_end position g ≡ false → begins ≡ begins_frame position r
 
 -- what was read of a recording that is there
 pub record HasAsked (old : EngineState) (mid : Life) (id : ℤ) (g : Registration) : Type 0 where
@@ -105,10 +105,10 @@ pub record HasAsked (old : EngineState) (mid : Life) (id : ℤ) (g : Registratio
   pub quiet : IsQuiet old.life mid
 
 module _ (old : EngineState) (mid : Life) (id position : ℤ) (g : Registration) (decided : Result Command Refusal) (asked : HasAsked old mid id g) where
-  read_of : (c : Content) (r : Recording) → IsCrashConsistent old.life old.log (archive_of old c) → recording_at (archive_of old c) id ≡ Some r → IsTrue mid.obeys → IsRead old.life mid g r
+  read_of : (c : Content) (r : Recording) → IsCrashConsistent old.life old.log (archive_of old c) → recording_at (archive_of old c) id ≡ Some r → IsTrue mid.obeys → RecordingIsRead old.life mid g r
   read_of c r was found obeys = is_read old.life mid old.log (archive_of old c) id g r asked.stays was asked.found found obeys
 
-  begins_is : (begins : Bool) (r : Recording) → Tells old.life mid g position begins → IsRead old.life mid g r → is_end position (registration_of r) ≡ false → begins_frame position r ≡ begins
+  begins_is : (begins : Bool) (r : Recording) → Tells old.life mid g position begins → RecordingIsRead old.life mid g r → is_end position (registration_of r) ≡ false → begins_frame position r ≡ begins
   begins_is begins r tells read inside = sym (tells r read (subst (λ (x : Registration). is_end position x ≡ false) (sym read.is) inside))
 
   read_before : IsAsBefore old (behind_read old mid)
@@ -116,7 +116,7 @@ module _ (old : EngineState) (mid : Life) (id position : ℤ) (g : Registration)
 
   -- the frames could not be read
   pub inside_unread : (outcome : Result Reply Refusal) (refusal : Refusal) (obeys : Bool) (image : DiskImage) (l : Layout) (geometry : Geometry) (recorded at : ℤ) → outcome ≡ Err refusal → RefusesBoundary obeys image l geometry recorded at refusal
-      → ((r : Recording) → IsRead old.life mid g r → refusal ≡ DeviceFault) → (refusal ≡ DeviceFault → HasFailed old.life mid) → MakesInside old (behind_read old mid) id position decided outcome
+      → ((r : Recording) → RecordingIsRead old.life mid g r → refusal ≡ DeviceFault) → (refusal ≡ DeviceFault → HasFailed old.life mid) → MakesInside old (behind_read old mid) id position decided outcome
   inside_unread outcome refusal obeys image l geometry recorded at is refuses fault cause = subst (MakesInside old (behind_read old mid) id position decided) (sym is) (record {
     goes_on = quiet_goes_on old.life mid asked.quiet;
     kept = λ harmless. read_before;
@@ -163,7 +163,7 @@ module _ (old : EngineState) (mid : Life) (id position : ℤ) (g : Registration)
 
   -- or a command, which was made
   pub inside_made : (new : EngineState) (command : Command) (outcome : Result Reply Refusal) → decided ≡ Ok command → Tells old.life mid g position true
-      → Commits (behind_read old mid) new (λ a. Accepts (book_of a) command) (reply_after old.desk command) (λ a. archive_after a command) outcome → MakesInside old new id position decided outcome
+      → CommitsEntry (behind_read old mid) new (λ a. Accepts (book_of a) command) (reply_after old.desk command) (λ a. archive_after a command) outcome → MakesInside old new id position decided outcome
   inside_made new command outcome is tells commits = record {
     goes_on = record { obeyed = λ obeys. asked.quiet.obeyed (commits.goes_on.obeyed obeys); faults = omega (arith, asked.quiet.faults, commits.goes_on.faults) };
     kept = spared_behind new outcome commits.kept;

@@ -29,10 +29,10 @@ use Rattle.control_core.specs.Desk.{DeskState}
 use Rattle.control_core.specs.Exact.{Archive, recording_at}
 use Rattle.control_core.specs.Orderly.{IsLaid, IsLaidOut, KeepsDesk, LiesBehind, ReadsFromStart, WroteBehind}
 use Rattle.control_core.specs.Seats.{IsWriting, KeepsSeats}
-use Rattle.control_core.specs.Turns.{continues, replay_in, session_in}
+use Rattle.control_core.specs.Turns.{continues, open_replay_in, session_in}
 use Rattle.engine_core.specs.Consistent.{IsCrashConsistent}
 use Rattle.engine_core.specs.Moves.{keeps_of, registered_keep, registered_keeps}
-use Rattle.engine_core.specs.Reading.{IsRead}
+use Rattle.engine_core.specs.Reading.{RecordingIsRead}
 use Rattle.engine_core.specs.Recovery.{HoldsRecording, layout_of}
 use Rattle.engine_core.proofs.RecoveryLemmas.{durable_hold}
 use Rattle.std.proofs.lemmas.Bool.Decides.{Decides-int_eq}
@@ -63,7 +63,7 @@ one_known g h is = cc
 
 -- a recording of a crash-consistent archive is read as it is recorded
 pub is_read : (old new : Life) (log : LogState) (a : Archive) (id : ℤ) (g : Registration) (r : Recording) → MayLeave old.now (reads old.now) → IsCrashConsistent old log a → Some g ≡ registration_in a.desk.register id
-    → recording_at a id ≡ Some r → IsTrue new.obeys → IsRead old new g r
+    → recording_at a id ≡ Some r → IsTrue new.obeys → RecordingIsRead old new g r
 is_read old new log a id g r stays was known found obeys = record {
   obeys = obeys;
   is = one_known g (registration_of r) (known ∙ registered_of a id r was.archive.agrees found);
@@ -72,7 +72,7 @@ is_read old new log a id g r stays was known found obeys = record {
 }
 
 pub read_known : (old new : Life) (log : LogState) (a : Archive) (id : ℤ) (g : Registration) → MayLeave old.now (reads old.now) → IsCrashConsistent old log a → Some g ≡ registration_in a.desk.register id → IsTrue new.obeys
-    → (r : Recording) × (recording_at a id ≡ Some r) × IsRead old new g r
+    → (r : Recording) × (recording_at a id ≡ Some r) × RecordingIsRead old new g r
 read_known old new log a id g stays was found obeys =
     let same = known_recording a id g was.archive.agrees (sym found) in
     (same.recording, same.found, is_read old new log a id g same.recording stays was found same.found obeys)
@@ -174,7 +174,7 @@ found_some None P has = absurd has
 found_some (Some r) P has = (r, refl, has)
 
 -- the recording that an open replay gives is there, and it goes on at its start or behind it
-pub replay_recording : (d : DeskState) (number : ℤ) (replay : OpenReplay) → KeepsDesk d.register d.callers → replay_in d number ≡ Some replay → (r : Registration) × (registration_in d.register replay.recording ≡ Some r) × IsFromStart (layout_of r.descriptor) replay.next
+pub replay_recording : (d : DeskState) (number : ℤ) (replay : OpenReplay) → KeepsDesk d.register d.callers → open_replay_in d number ≡ Some replay → (r : Registration) × (registration_in d.register replay.recording ≡ Some r) × IsFromStart (layout_of r.descriptor) replay.next
 replay_recording d number replay keeps found =
     let reads : ReadsFromStart d.register replay = each_found replay_number (ReadsFromStart d.register) number d.callers.replays replay keeps.orderly.replays found in
     found_some (registration_in d.register replay.recording) (λ known. known.descriptor.start_position ≤ℤ replay.next) reads

@@ -32,11 +32,11 @@ use Rattle.control_core.proofs.AllowedLemmas.{start_short}
 use Rattle.control_core.proofs.CommandLemmas.{consistent_after, sessions_stay}
 use Rattle.control_core.proofs.FoundLemmas.{each_both}
 use Rattle.control_core.proofs.StayLemmas.{each_itself, open_blocks}
-use Rattle.engine_core.specs.Calls.{CommitEnds, Ended}
+use Rattle.engine_core.specs.Calls.{CommitEnds, CallEnded}
 use Rattle.engine_core.specs.Consistent.{IsCrashConsistent, StandsBehind}
 use Rattle.engine_core.specs.Engine.{Content, EngineState, IsTied, archive_of}
-use Rattle.engine_core.specs.Making.{Commits, after_failure}
-use Rattle.engine_core.specs.Moves.{AddsEntry, HasRoom, KeepsSegments, Leads, Moves}
+use Rattle.engine_core.specs.Making.{CommitsEntry, after_failure}
+use Rattle.engine_core.specs.Moves.{AddsEntry, HasEntryRoom, KeepsSegments, EntryLeads, Moves}
 use Rattle.engine_core.specs.Recovery.{IsSound}
 use Rattle.engine_core.proofs.CommitCallLemmas.{commit_done, commit_refused, exact_commit, room_for, tied_behind}
 use Rattle.engine_core.proofs.EndedLemmas.{as_before, goes_on_here, no_doubt, quiet_life, spared, spared_unbroken, still}
@@ -127,7 +127,7 @@ short_for d c e allows for =
 
 -- ---- log and desk
 
-pub has_room : (log : LogState) (d : DeskState) (c : Command) (e : Entry) → IsTied log d → IsFalse d.is_broken → Allows d c → IsEntryFor d c e → HasRoom log e
+pub has_room : (log : LogState) (d : DeskState) (c : Command) (e : Entry) → IsTied log d → IsFalse d.is_broken → Allows d c → IsEntryFor d c e → HasEntryRoom log e
 has_room log d c e tied works allows for = room_for log d c e tied works allows (entry_counted d c e for)
 
 pub made_tied : (log new_log : LogState) (d : DeskState) (c : Command) (e : Entry) → IsTied log d → IsFalse d.is_broken → IsRequested c → IsEntryFor d c e → new_log.header ≡ log.header → new_log.is_broken ≡ log.is_broken
@@ -173,21 +173,21 @@ module _ (old new : EngineState) (content : Content) (c : Command) (e : Entry) (
   stays = consistent_after a c (made_no_append c may.made) may.was.archive acceptable
 
   -- what the commit of its entry did
-  entered : (result : Result (Unit {0}) Refusal) → ((s u : State) → IsSound old.life.now old.log s → Leads old.life.now s u e → Moves old.life new.life new.log s u result) → Moves old.life new.life new.log a.state (after a.state c) result
+  entered : (result : Result (Unit {0}) Refusal) → ((s u : State) → IsSound old.life.now old.log s → EntryLeads old.life.now s u e → Moves old.life new.life new.log s u result) → Moves old.life new.life new.log a.state (after a.state c) result
   entered result moves =
       let next : a.state.next ≡ old.desk.register.next = ap (λ g. g.next) (sym may.was.archive.agrees) in
-      let led : Leads old.life.now a.state (after a.state c) (entry_of a.state c) = leads old.life.now (book_of a) c may.was.archive.well may.accepts may.made may.was.frames in
-      moves a.state (after a.state c) (may.was.sound (no_doubt a may.was.archive may.works)) (subst (Leads old.life.now a.state (after a.state c)) (sym (may.for.is a.state next)) led)
+      let led : EntryLeads old.life.now a.state (after a.state c) (entry_of a.state c) = leads old.life.now (book_of a) c may.was.archive.well may.accepts may.made may.was.frames in
+      moves a.state (after a.state c) (may.was.sound (no_doubt a may.was.archive may.works)) (subst (EntryLeads old.life.now a.state (after a.state c)) (sym (may.for.is a.state next)) led)
 
-  pub made_done : new.desk ≡ desk_after old.desk c → ((s u : State) → IsSound old.life.now old.log s → Leads old.life.now s u e → Moves old.life new.life new.log s u (Ok tt))
-      → Ended old new a (CommitEnds a reply (archive_after a c) (HasFailed old.life new.life) (Ok reply))
+  pub made_done : new.desk ≡ desk_after old.desk c → ((s u : State) → IsSound old.life.now old.log s → EntryLeads old.life.now s u e → Moves old.life new.life new.log s u (Ok tt))
+      → CallEnded old new a (CommitEnds a reply (archive_after a c) (HasFailed old.life new.life) (Ok reply))
   made_done desk moves =
       commit_done old new content may.was (archive_after a c) reply (bank_keeps old.life new.life changes) stays
       (stands_after (reads old.life.now) a c (made_no_append c may.made) may.was.archive stays acceptable may.was.stand) desk (entered (Ok tt) moves)
 
   pub made_refused : (refusal : Refusal) → (refusal ≡ DeviceFault → HasFailed old.life new.life) → new.desk ≡ after_failure refusal old.desk
-      → ((s u : State) → IsSound old.life.now old.log s → Leads old.life.now s u e → Moves old.life new.life new.log s u (Err refusal))
-      → Ended old new a (CommitEnds a reply (archive_after a c) (HasFailed old.life new.life) (Err refusal))
+      → ((s u : State) → IsSound old.life.now old.log s → EntryLeads old.life.now s u e → Moves old.life new.life new.log s u (Err refusal))
+      → CallEnded old new a (CommitEnds a reply (archive_after a c) (HasFailed old.life new.life) (Err refusal))
   made_refused refusal cause desk moves = commit_refused old new content may.was (archive_after a c) reply (bank_keeps old.life new.life changes) refusal cause desk (entered (Err refusal) moves)
 
 -- ---- what was made, whatever the archive is
@@ -200,15 +200,15 @@ one_refusal x y is = cc
 
 module _ (old new : EngineState) (c : Command) (e : Entry) (tied : IsTied old.log old.desk) (works : IsFalse old.desk.is_broken) (allows : Allows old.desk c) (made : IsRequested c) (entry : IsEntryFor old.desk c e) (changes : ChangesBank old.life new.life) where
   abbrev MovesBy : Result (Unit {0}) Refusal → Type 0
-  MovesBy result = (s u : State) → IsSound old.life.now old.log s → Leads old.life.now s u e → Moves old.life new.life new.log s u result
+  MovesBy result = (s u : State) → IsSound old.life.now old.log s → EntryLeads old.life.now s u e → Moves old.life new.life new.log s u result
 
   may : (content : Content) → IsCrashConsistent old.life old.log (archive_of old content) → Accepts (book_of (archive_of old content)) c → MayMake old content c e
   may content was accepts = record { was = was; tied = tied; works = works; allows = allows; accepts = accepts; made = made; for = entry }
 
   pub commits_done : (reply : Reply) → reply ≡ reply_after old.desk c → new.desk ≡ desk_after old.desk c → AddsEntry old.life new.life old.log new.log e (Ok tt) → MovesBy (Ok tt)
-      → Commits old new (λ a. Accepts (book_of a) c) (reply_after old.desk c) (λ a. archive_after a c) (Ok reply)
+      → CommitsEntry old new (λ a. Accepts (book_of a) c) (reply_after old.desk c) (λ a. archive_after a c) (Ok reply)
   commits_done reply told desk adds moves =
-      subst (λ (r : Reply). Commits old new (λ a. Accepts (book_of a) c) (reply_after old.desk c) (λ a. archive_after a c) (Ok r)) (sym told) (record {
+      subst (λ (r : Reply). CommitsEntry old new (λ a. Accepts (book_of a) c) (reply_after old.desk c) (λ a. archive_after a c) (Ok r)) (sym told) (record {
         goes_on = adds.goes_on;
         kept = tt;
         exact = λ content. exact_commit old new (reply_after old.desk c) (λ a. archive_after a c) (Ok tt) (Ok (reply_after old.desk c)) content (λ done is. (refl, desk)) (λ refusal is. absurd cc);
@@ -216,7 +216,7 @@ module _ (old new : EngineState) (c : Command) (e : Entry) (tied : IsTied old.lo
       })
 
   pub commits_refused : (refusal : Refusal) → new.desk ≡ after_failure refusal old.desk → (refusal ≢ DeviceFault → new.life ≡ old.life) → AddsEntry old.life new.life old.log new.log e (Err refusal) → MovesBy (Err refusal)
-      → Commits old new (λ a. Accepts (book_of a) c) (reply_after old.desk c) (λ a. archive_after a c) (Err refusal)
+      → CommitsEntry old new (λ a. Accepts (book_of a) c) (reply_after old.desk c) (λ a. archive_after a c) (Err refusal)
   commits_refused refusal desk quiet adds moves =
       let outside = adds.outside in
       let cause : refusal ≡ DeviceFault → HasFailed old.life new.life = λ is. adds.cause (ap Err is) in
@@ -228,10 +228,10 @@ module _ (old new : EngineState) (c : Command) (e : Entry) (tied : IsTied old.lo
       }
 
 -- there was no memory, and nothing has changed
-pub unmade : (old new : EngineState) (Fits : Archive → Type 0) (reply : Reply) (to : Archive → Archive) (outcome : Result Reply Refusal) → new.life ≡ old.life → new.log ≡ old.log → new.desk ≡ old.desk → outcome ≡ Err NoMemory → Commits old new Fits reply to outcome
+pub unmade : (old new : EngineState) (Fits : Archive → Type 0) (reply : Reply) (to : Archive → Archive) (outcome : Result Reply Refusal) → new.life ≡ old.life → new.log ≡ old.log → new.desk ≡ old.desk → outcome ≡ Err NoMemory → CommitsEntry old new Fits reply to outcome
 unmade old new Fits reply to outcome life log desk is =
     let same : new ≡ old = same_state old new life log desk in
-    subst (λ (x : EngineState). Commits old x Fits reply to outcome) (sym same) (subst (λ (o : Result Reply Refusal). Commits old old Fits reply to o) (sym is) (record {
+    subst (λ (x : EngineState). CommitsEntry old x Fits reply to outcome) (sym same) (subst (λ (o : Result Reply Refusal). CommitsEntry old old Fits reply to o) (sym is) (record {
       goes_on = goes_on_here old.life;
       kept = spared _ old old (Err NoMemory) (as_before old);
       exact = λ c. (c, refl);

@@ -18,7 +18,7 @@ use Rattle.segment_store.specs.Boundary.{BreaksAt, IsBoundary, IsChain, RefusesB
 use Rattle.segment_store.specs.DamagedFrame.{IsDamaged}
 use Rattle.segment_store.proofs.DurableLemmas.{one_shown}
 use Rattle.segment_store.proofs.ReadLemmas.{belongs_ends}
-use Rattle.replay_core.specs.Poll.{Polls, RefusesPoll, before}
+use Rattle.replay_core.specs.Poll.{ArePolled, RefusesPoll, before}
 use Rattle.replay_core.proofs.GivenLemmas.{covers, given, goes_on}
 use Rattle.archive_model.specs.declared.reply.PolledFrame.{PolledFrame}
 use Rattle.archive_model.specs.declared.registration.Registration.{Registration}
@@ -30,7 +30,7 @@ use Rattle.archive_model.specs.WellFormed.{IsKept}
 use Rattle.archive_model.proofs.CutLemmas.{IsEdge, edge_begins, edge_end, edge_start}
 use Rattle.archive_model.proofs.ReplayLemmas.{begins_at, past_bound}
 use Rattle.control_core.specs.Exact.{frames_end}
-use Rattle.engine_core.specs.Reading.{IsOutside, IsRead, RefusesCount}
+use Rattle.engine_core.specs.Reading.{IsOutside, RecordingIsRead, RefusesCount}
 use Rattle.engine_core.specs.Recovery.{HoldsRecording, first_of, last_of, layout_of}
 use Rattle.engine_core.proofs.RecoveryLemmas.{one_chain, shown}
 
@@ -306,21 +306,21 @@ module _ (image : DiskImage) (r : Recording) (kept : IsKept r) (stands : HoldsRe
       all_cover image lay geo (recorded_position r) parts.front (first_of r) (first_of r + covered parts.front)
       (chain_front image lay geo (recorded_position r) parts.front parts.back (first_of r) (last_of r) chain)
 
-  given_back : (q end most : ℕ) (bound : ℤ) (frames : List Frame) (parts : SplitsAt q (first_of r) r.frames) → Polls image lay geo (recorded_position r) bound most q frames end
+  given_back : (q end most : ℕ) (bound : ℤ) (frames : List Frame) (parts : SplitsAt q (first_of r) r.frames) → ArePolled image lay geo (recorded_position r) bound most q frames end
       → frames ≡ take most (before bound q parts.back)
   given_back q end most bound frames parts polls =
       let back = subst (λ (z : ℤ). IsChain image lay geo z q parts.back (last_of r)) last_is (back_shown q parts) in
-      let these = subst (λ (z : ℤ). Polls image lay geo z bound most q frames end) last_is polls in
+      let these = subst (λ (z : ℤ). ArePolled image lay geo z bound most q frames end) last_is polls in
       given image lay geo bound frames parts.back most q end (last_of r) back these.stand these.before these.few these.all
 
-  pub polled_frames : (next bound : ℤ) (most end : ℕ) (frames : List Frame) → is_boundary next r ≡ true → Polls image lay geo (recorded_position r) bound most (unsigned_abs next) frames end
+  pub polled_frames : (next bound : ℤ) (most end : ℕ) (frames : List Frame) → is_boundary next r ≡ true → ArePolled image lay geo (recorded_position r) bound most (unsigned_abs next) frames end
       → placed next frames ≡ polled next bound most r
   polled_frames next bound most end frames at polls =
       let edge = boundary_edge next at in
       let q : ℕ = edge.0 in
       let from : unsigned_abs next ≡ q = ap unsigned_abs edge.1 in
       let parts = splits_at q (first_of r) r.frames edge.2 in
-      let these : frames ≡ take most (before bound q parts.back) = given_back q end most bound frames parts (subst (λ (n : ℕ). Polls image lay geo (recorded_position r) bound most n frames end) from polls) in
+      let these : frames ≡ take most (before bound q parts.back) = given_back q end most bound frames parts (subst (λ (n : ℕ). ArePolled image lay geo (recorded_position r) bound most n frames end) from polls) in
       let between : filter (is_between (pos q) bound) (placed (pos (first_of r)) (parts.front ++ parts.back)) ≡ placed (pos q) (before bound q parts.back) =
       between_parts bound parts.front parts.back (first_of r) q parts.ends (front_covers q parts) in
       let all : filter (is_between (pos q) bound) (placed r.descriptor.start_position r.frames) ≡ placed (pos q) (before bound q parts.back) =
@@ -331,7 +331,7 @@ module _ (image : DiskImage) (r : Recording) (kept : IsKept r) (stands : HoldsRe
       subst (λ (z : ℤ). placed z frames ≡ polled z bound most r) (sym edge.1) (sym some)
 
   -- a replay goes on at a boundary
-  pub goes_on_boundary : (next bound : ℤ) (most end : ℕ) (frames : List Frame) → is_boundary next r ≡ true → Polls image lay geo (recorded_position r) bound most (unsigned_abs next) frames end
+  pub goes_on_boundary : (next bound : ℤ) (most end : ℕ) (frames : List Frame) → is_boundary next r ≡ true → ArePolled image lay geo (recorded_position r) bound most (unsigned_abs next) frames end
       → is_boundary (pos end) r ≡ true
   goes_on_boundary next bound most end frames at polls =
       let edge = boundary_edge next at in
@@ -365,7 +365,7 @@ module _ (image : DiskImage) (r : Recording) (kept : IsKept r) (stands : HoldsRe
 
 -- ---- the same of what a register has
 
-module _ (old new : Life) (g : Registration) (r : Recording) (read : IsRead old new g r) where
+module _ (old new : Life) (g : Registration) (r : Recording) (read : RecordingIsRead old new g r) where
   pub told_read : (p : ℤ) (told : Bool) → is_end p g ≡ false → TellsBoundary (reads old.now) (layout_of g.descriptor) (geometry_of g.descriptor) g.recorded p told → told ≡ begins_frame p r
   told_read p told inside tells =
       beginning_told (reads old.now) r read.kept read.stands p told (subst (λ (x : Registration). is_end p x ≡ false) read.is inside)
@@ -381,16 +381,16 @@ module _ (old new : Life) (g : Registration) (r : Recording) (read : IsRead old 
       count_outside (reads old.now) r read.kept read.stands new.obeys refusal read.obeys (subst (λ (x : Registration). RefusesCount new.obeys (reads old.now) x refusal) read.is refuses)
 
   pub frames_read : (next bound : ℤ) (most end : ℕ) (frames : List Frame) → is_boundary next r ≡ true
-      → Polls (reads old.now) (layout_of g.descriptor) (geometry_of g.descriptor) g.recorded bound most (unsigned_abs next) frames end → placed next frames ≡ polled next bound most r
+      → ArePolled (reads old.now) (layout_of g.descriptor) (geometry_of g.descriptor) g.recorded bound most (unsigned_abs next) frames end → placed next frames ≡ polled next bound most r
   frames_read next bound most end frames at polls =
       polled_frames (reads old.now) r read.kept read.stands next bound most end frames at
-      (subst (λ (x : Registration). Polls (reads old.now) (layout_of x.descriptor) (geometry_of x.descriptor) x.recorded bound most (unsigned_abs next) frames end) read.is polls)
+      (subst (λ (x : Registration). ArePolled (reads old.now) (layout_of x.descriptor) (geometry_of x.descriptor) x.recorded bound most (unsigned_abs next) frames end) read.is polls)
 
   pub boundary_read : (next bound : ℤ) (most end : ℕ) (frames : List Frame) → is_boundary next r ≡ true
-      → Polls (reads old.now) (layout_of g.descriptor) (geometry_of g.descriptor) g.recorded bound most (unsigned_abs next) frames end → is_boundary (pos end) r ≡ true
+      → ArePolled (reads old.now) (layout_of g.descriptor) (geometry_of g.descriptor) g.recorded bound most (unsigned_abs next) frames end → is_boundary (pos end) r ≡ true
   boundary_read next bound most end frames at polls =
       goes_on_boundary (reads old.now) r read.kept read.stands next bound most end frames at
-      (subst (λ (x : Registration). Polls (reads old.now) (layout_of x.descriptor) (geometry_of x.descriptor) x.recorded bound most (unsigned_abs next) frames end) read.is polls)
+      (subst (λ (x : Registration). ArePolled (reads old.now) (layout_of x.descriptor) (geometry_of x.descriptor) x.recorded bound most (unsigned_abs next) frames end) read.is polls)
 
   pub poll_read : (next bound : ℤ) (most : ℕ) (refusal : Refusal) → is_boundary next r ≡ true
       → RefusesPoll new.obeys (reads old.now) (layout_of g.descriptor) (geometry_of g.descriptor) g.recorded bound most (unsigned_abs next) refusal → IsOutside refusal

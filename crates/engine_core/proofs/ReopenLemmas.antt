@@ -21,7 +21,7 @@ use Rattle.catalogue_log.specs.LogState.{IsLogOf, LogState}
 use Rattle.catalogue_log.proofs.AppendLemmas.{rest_left}
 use Rattle.control_core.specs.Desk.{DeskState, opened_desk}
 use Rattle.control_core.specs.Exact.{opened_archive}
-use Rattle.engine_core.specs.Engine.{EngineState, GoesOn}
+use Rattle.engine_core.specs.Engine.{EngineState, DiskGoesOn}
 use Rattle.engine_core.specs.Making.{HasNotStarted, Restarts}
 use Rattle.engine_core.specs.Opened.{IsDeskOf, IsNear, IsNotOpened, IsOpened, LeavesEither}
 use Rattle.engine_core.specs.Opening.{ReadsAsBefore, RefusesOpening}
@@ -138,7 +138,7 @@ kept_reads old mid new refusal before (inr same) = inr (subst (λ (life : Life).
 
 -- ---- whatever the disk holds
 
-pub goes_later : (old mid new : Life) → ReadsAsBefore old mid → ChangesBank mid new → GoesOn old new
+pub goes_later : (old mid new : Life) → ReadsAsBefore old mid → ChangesBank mid new → DiskGoesOn old new
 goes_later old mid new before changes = let first = before.faults in let then = changes.faults in record { obeyed = λ obeys. before.obeyed (changes.obeyed obeys); faults = omega (arith, first, then) }
 
 -- the bank of a disk that a restart was refused on

@@ -31,8 +31,8 @@ use Rattle.control_core.specs.Changes.{after_close, after_poll}
 use Rattle.control_core.specs.Consistent.{IsAtBoundary}
 use Rattle.control_core.specs.Desk.{DeskState}
 use Rattle.control_core.specs.Exact.{frames_end, frames_of_one, from_position, goes_on, plain_poll, recording_at, with_desk}
-use Rattle.control_core.specs.Machine.{Gives, Moves, Outcome, Stepped}
-use Rattle.control_core.specs.Turns.{close_decision, close_tests, is_done_at, poll_decision, replay_in, verify_tests}
+use Rattle.control_core.specs.Machine.{GivesFrames, MovesReplay, Outcome, Stepped}
+use Rattle.control_core.specs.Turns.{close_decision, close_tests, is_done_at, poll_decision, open_replay_in, verify_tests}
 use Rattle.control_core.proofs.ConsistentLemmas.{polled_open}
 use Rattle.control_core.proofs.DecidedLemmas.{held}
 use Rattle.control_core.proofs.DeskLemmas.{keeps_closed, keeps_moved}
@@ -40,7 +40,7 @@ use Rattle.control_core.proofs.FaultLemmas.{call_is_allowed}
 use Rattle.control_core.proofs.StepLemmas.{poll_step, verify_step}
 use Rattle.engine_core.specs.Calls.{AnswersEvent}
 use Rattle.engine_core.specs.Engine.{Content, EngineState, archive_of}
-use Rattle.engine_core.specs.Reading.{IsOutside, IsRead, RefusesCount}
+use Rattle.engine_core.specs.Reading.{IsOutside, RecordingIsRead, RefusesCount}
 use Rattle.engine_core.proofs.EndedLemmas.{quiet_life}
 use Rattle.engine_core.proofs.KnownLemmas.{read_known}
 use Rattle.engine_core.proofs.ReplayLemmas.{answer_no_fault, leaves_refused, leaves_told, moved_at, no_content, open_at, outside_read, poll_no_fault, poll_passes, polled_ends, polling_refused, reads_on, reads_only, checked_err, checked_ok}
@@ -91,7 +91,7 @@ verify_stepped d id obeys image g refusal decided refuses = by refusal refuses
     by r refuses = absurd refuses
 
 pub verify_unread : (old new : EngineState) (id : ℤ) (g : Registration) (refusal : Refusal) → IsQuiet old.life new.life → new.log ≡ old.log → new.desk ≡ old.desk → MayLeave old.life.now (reads old.life.now) → decided_verify old.desk id ≡ Ok tt
-    → Some g ≡ registration_in old.desk.register id → (IsErrOf {T = Reply} (Err refusal) DeviceFault → HasFailed old.life new.life) → RefusesCount new.life.obeys (reads old.life.now) g refusal → ((r : Recording) → IsRead old.life new.life g r → IsOutside refusal)
+    → Some g ≡ registration_in old.desk.register id → (IsErrOf {T = Reply} (Err refusal) DeviceFault → HasFailed old.life new.life) → RefusesCount new.life.obeys (reads old.life.now) g refusal → ((r : Recording) → RecordingIsRead old.life new.life g r → IsOutside refusal)
     → AnswersEvent old new (events.Verify id) (Err refusal)
 verify_unread old new id g refusal quiet log desk stays decided known cause refuses outside =
     let passed : passes (verify_tests old.desk id) checks ≡ true = (held (verify_tests old.desk id) checks tt tt decided).0 in
@@ -104,7 +104,7 @@ verify_unread old new id g refusal quiet log desk stays decided known cause refu
     ))
 
 pub verified : (old new : EngineState) (id : ℤ) (g : Registration) (count : ℤ) → IsQuiet old.life new.life → new.log ≡ old.log → new.desk ≡ old.desk → MayLeave old.life.now (reads old.life.now) → decided_verify old.desk id ≡ Ok tt → Some g ≡ registration_in old.desk.register id
-    → ((r : Recording) → IsRead old.life new.life g r → count ≡ pos (length r.frames)) → AnswersEvent old new (events.Verify id) (Ok (replies.Verified count))
+    → ((r : Recording) → RecordingIsRead old.life new.life g r → count ≡ pos (length r.frames)) → AnswersEvent old new (events.Verify id) (Ok (replies.Verified count))
 verified old new id g count quiet log desk stays decided known counts =
     let reply = replies.Verified count in
     let passed : passes (verify_tests old.desk id) checks ≡ true = (held (verify_tests old.desk id) checks tt tt decided).0 in
@@ -143,7 +143,7 @@ poll_stepped d number most replay obeys image l g recorded asked from refusal de
 
 pub poll_unread : (old new : EngineState) (number most : ℤ) (replay : OpenReplay) (g : Registration) (l : Layout) (geometry : Geometry) (recorded : ℤ) (asked from : ℕ) (refusal : Refusal) → IsQuiet old.life new.life → new.log ≡ old.log → new.desk ≡ old.desk
     → MayLeave old.life.now (reads old.life.now) → poll_decision old.desk number most ≡ Ok replay → Some g ≡ registration_in old.desk.register replay.recording → (IsErrOf {T = Reply} (Err refusal) DeviceFault → HasFailed old.life new.life)
-    → RefusesPoll new.life.obeys (reads old.life.now) l geometry recorded replay.bound asked from refusal → ((r : Recording) → IsRead old.life new.life g r → IsTrue (is_boundary replay.next r) → IsOutside refusal)
+    → RefusesPoll new.life.obeys (reads old.life.now) l geometry recorded replay.bound asked from refusal → ((r : Recording) → RecordingIsRead old.life new.life g r → IsTrue (is_boundary replay.next r) → IsOutside refusal)
     → AnswersEvent old new (events.ReplayPoll number most) (Err refusal)
 poll_unread old new number most replay g l geometry recorded asked from refusal quiet log desk stays decided known cause refuses outside =
     let passed = poll_passes old.desk number most replay decided in
@@ -175,27 +175,27 @@ asks_some d number most replay decided =
 -- whatever the files hold
 poll_gives : (d : DeskState) (number most next : ℤ) (replay : OpenReplay) (g : Registration) (frames : List PolledFrame) (goes : Option ℤ) → poll_decision d number most ≡ Ok replay → registration_in d.register replay.recording ≡ Some g → next ≡ frames_end replay.next frames
     → MovesTo g.recorded replay.bound replay.next next → goes ≡ (if is_done_at g replay.bound next then None else Some next)
-    → Stepped d (calls.ReplayPoll number most) (plain_poll (from_position (replay_in d number)) (Ok (replies.Polled frames goes))) (after_poll number next d)
+    → Stepped d (calls.ReplayPoll number most) (plain_poll (from_position (open_replay_in d number)) (Ok (replies.Polled frames goes))) (after_poll number next d)
 poll_gives d number most next replay g frames goes decided known ends moves on =
     let opened = polled_open d number most replay decided in
-    let first : ℤ = from_position (replay_in d number) in
+    let first : ℤ = from_position (open_replay_in d number) in
     let at : first ≡ replay.next = ap from_position opened in
     let last : frames_end first frames ≡ next = ap (λ (p : ℤ). frames_end p frames) at ∙ sym ends in
     let written : Written = record { first = first; last = frames_end first frames } in
     let named : number ≡ replay.number = sym (found_number replay_number number d.callers.replays replay opened) in
-    let goes_there : Moves g replay written = (at, subst (MovesTo g.recorded replay.bound replay.next) (sym last) moves) in
+    let goes_there : MovesReplay g replay written = (at, subst (MovesTo g.recorded replay.bound replay.next) (sym last) moves) in
     let done : is_none goes ≡ is_done_at g replay.bound written.last = ap is_none on ∙ none_where (is_done_at g replay.bound next) next ∙ ap (is_done_at g replay.bound) (sym last) in
     let outcome : Outcome = Ok (told.Polled written (is_none goes)) in
     let new : DeskState = after_poll number next d in
     let same : new ≡ after_poll replay.number written.last d = ap (λ (n : ℤ). after_poll n next d) named ∙ ap (λ (n : ℤ). after_poll replay.number n d) (sym last) in
-    let gives : Gives d (Some replay) (registration_in d.register replay.recording) outcome new = subst (λ (o : Option Registration). Gives d (Some replay) o outcome new) (sym known)
+    let gives : GivesFrames d (Some replay) (registration_in d.register replay.recording) outcome new = subst (λ (o : Option Registration). GivesFrames d (Some replay) o outcome new) (sym known)
     (written, goes_there, (ap (λ (b : Bool). Ok (told.Polled written b)) done, same)) in
     poll_step d number most outcome new (subst (λ (x : Result OpenReplay Refusal). PollsBy d x outcome new) (sym decided) (inr gives))
 
 pub polled_on : (old new : EngineState) (number most next : ℤ) (replay : OpenReplay) (g : Registration) (frames : List PolledFrame) (goes : Option ℤ) → IsQuiet old.life new.life → new.log ≡ old.log → new.desk ≡ after_poll number next old.desk
     → MayLeave old.life.now (reads old.life.now) → poll_decision old.desk number most ≡ Ok replay → Some g ≡ registration_in old.desk.register replay.recording → next ≡ frames_end replay.next frames
     → (0 < unsigned_abs most → MovesTo g.recorded replay.bound replay.next next) → goes ≡ (if is_done_at g replay.bound next then None else Some next)
-    → ((r : Recording) → IsRead old.life new.life g r → IsTrue (is_boundary replay.next r) → IsTrue (is_boundary next r) × (frames ≡ polled replay.next replay.bound (unsigned_abs most) r))
+    → ((r : Recording) → RecordingIsRead old.life new.life g r → IsTrue (is_boundary replay.next r) → IsTrue (is_boundary next r) × (frames ≡ polled replay.next replay.bound (unsigned_abs most) r))
     → AnswersEvent old new (events.ReplayPoll number most) (Ok (replies.Polled frames goes))
 polled_on old new number most next replay g frames goes quiet log desk stays decided known ends moves on given =
     let passed = poll_passes old.desk number most replay decided in

@@ -25,7 +25,7 @@ use Rattle.control_core.specs.Desk.{DeskState}
 use Rattle.control_core.specs.Exact.{Archive, ArchiveEnds, CallEnds, Leaves, PolledEnds, PollingEnds, asked_of, frames_end, goes_on, reads_files, recording_at, told_of, with_desk}
 use Rattle.control_core.specs.Machine.{Stepped}
 use Rattle.control_core.specs.Seats.{KeepsSeats}
-use Rattle.control_core.specs.Turns.{poll_decision, poll_tests, replay_in, replay_of}
+use Rattle.control_core.specs.Turns.{poll_decision, poll_tests, open_replay_in, open_replay_of}
 use Rattle.control_core.proofs.ConsistentLemmas.{polled_open}
 use Rattle.control_core.proofs.FoundLemmas.{each_weaker}
 use Rattle.control_core.proofs.StayLemmas.{blocks_stay, same_recording}
@@ -173,14 +173,14 @@ unkept a event faulted refusal memory = outside_read a event faulted refusal (in
 
 -- each test of it holds
 pub poll_passes : (d : DeskState) (number most : ℤ) (replay : OpenReplay) → poll_decision d number most ≡ Ok replay → passes (poll_tests d number most) checks ≡ true
-poll_passes d number most replay is = (all_hold (poll_tests d number most) checks (replay_of (replay_in d number)) replay is).0
+poll_passes d number most replay is = (all_hold (poll_tests d number most) checks (open_replay_of (open_replay_in d number)) replay is).0
 
 pub poll_no_fault : (d : DeskState) (number most : ℤ) (refusal : Refusal) → poll_decision d number most ≡ Err refusal → IsErrOf {T = Reply} (Err refusal) DeviceFault → ⊥
 poll_no_fault d number most refusal is fault =
     let same : refusal ≡ DeviceFault = cc in
-    by (replay_in d number) (checked_fault (poll_tests d number most) checks (replay_of (replay_in d number)) refl (is ∙ ap Err same))
+    by (open_replay_in d number) (checked_fault (poll_tests d number most) checks (open_replay_of (open_replay_in d number)) refl (is ∙ ap Err same))
   where
-    by : (o : Option OpenReplay) → replay_of o ≡ Err DeviceFault → ⊥
+    by : (o : Option OpenReplay) → open_replay_of o ≡ Err DeviceFault → ⊥
     by None e = cc
     by (Some replay) e = cc
 
@@ -188,12 +188,12 @@ pub polling_refused : (a : Archive) (number most : ℤ) (refusal : Refusal) → 
 polling_refused a number most refusal is = subst (λ (d : Result OpenReplay Refusal). PollingEnds a most d (Err refusal) a) (sym is) (refl, refl)
 
 -- it is at a boundary
-pub open_at : (a : Archive) (number : ℤ) (replay : OpenReplay) (r : Recording) → replay_in a.desk number ≡ Some replay → recording_at a replay.recording ≡ Some r → Each (IsAtBoundary a.state) a.desk.callers.replays → is_boundary replay.next r ≡ true
+pub open_at : (a : Archive) (number : ℤ) (replay : OpenReplay) (r : Recording) → open_replay_in a.desk number ≡ Some replay → recording_at a replay.recording ≡ Some r → Each (IsAtBoundary a.state) a.desk.callers.replays → is_boundary replay.next r ≡ true
 open_at a number replay r found there all =
     subst (λ (o : Option Recording). IsSomeAnd o (λ (v : Recording). IsTrue (is_boundary replay.next v))) there (each_found replay_number (IsAtBoundary a.state) number a.desk.callers.replays replay all found)
 
 -- and at one again where it goes on
-pub moved_at : (a : Archive) (number next : ℤ) (replay : OpenReplay) (r : Recording) → replay_in a.desk number ≡ Some replay → recording_at a replay.recording ≡ Some r → is_boundary next r ≡ true → Each (IsAtBoundary a.state) a.desk.callers.replays
+pub moved_at : (a : Archive) (number next : ℤ) (replay : OpenReplay) (r : Recording) → open_replay_in a.desk number ≡ Some replay → recording_at a replay.recording ≡ Some r → is_boundary next r ≡ true → Each (IsAtBoundary a.state) a.desk.callers.replays
     → Each (IsAtBoundary a.state) (change replay_number number (moved_to next) a.desk.callers.replays)
 moved_at a number next replay r found there boundary all = each_change replay_number (IsAtBoundary a.state) number (moved_to next) a.desk.callers.replays all
     (λ x known has.

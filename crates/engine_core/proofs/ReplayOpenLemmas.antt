@@ -35,7 +35,7 @@ use Rattle.control_core.proofs.StepLemmas.{open_step}
 use Rattle.engine_core.specs.Calls.{AnswersEvent, IfRead}
 use Rattle.engine_core.specs.Consistent.{IsCrashConsistent}
 use Rattle.engine_core.specs.Engine.{Content, EngineState, archive_of}
-use Rattle.engine_core.specs.Reading.{IsRead}
+use Rattle.engine_core.specs.Reading.{RecordingIsRead}
 use Rattle.engine_core.specs.Replaying.{IsDecided}
 use Rattle.engine_core.proofs.KnownLemmas.{one_known, read_known}
 use Rattle.engine_core.proofs.ReplayLemmas.{checked_fault, has_fault, reads_on, reads_only, unkept}
@@ -160,7 +160,7 @@ opens_by d (opening.IfBoundary position (Err refusal)) o e = absurd cc
 
 -- what is told of a position strictly inside it decides
 pub asked_read : (old new : Life) (log : LogState) (desk : DeskState) (a : Archive) (id position size place at : ℤ) (decided : Result Opening Refusal) (known : Registration) (told : Bool) → MayLeave old.now (reads old.now) → desk ≡ a.desk → IsCrashConsistent old log a
-    → Some known ≡ registration_in desk.register id → opening.IfBoundary place decided ≡ open_decision desk id position size → place ≡ at → IsTrue new.obeys → ((r : Recording) → IsRead old new known r → is_end at known ≡ false → told ≡ begins_frame at r)
+    → Some known ≡ registration_in desk.register id → opening.IfBoundary place decided ≡ open_decision desk id position size → place ≡ at → IsTrue new.obeys → ((r : Recording) → RecordingIsRead old new known r → is_end at known ≡ false → told ≡ begins_frame at r)
     → asked_opening a id (open_decision a.desk id position size) ≡ cond told decided (Err BadPosition)
 asked_read old new log desk a id position size place at decided known told stays desk_is was found is same obeys tells =
     let inside = opens_inside desk id position size place decided (sym is) in

@@ -25,10 +25,10 @@ use Rattle.control_core.specs.Changes.{reply_after}
 use Rattle.control_core.specs.Desk.{DeskState, opened_desk}
 use Rattle.control_core.specs.Exact.{Archive, archive_after, book_of, broken, opened_archive}
 use Rattle.control_core.proofs.ConsistentLemmas.{consistent_opened}
-use Rattle.engine_core.specs.Calls.{CommitEnds, Ended}
+use Rattle.engine_core.specs.Calls.{CommitEnds, CallEnded}
 use Rattle.engine_core.specs.Consistent.{IsCrashConsistent, MayStandIn}
 use Rattle.engine_core.specs.Engine.{Content, EngineState, archive_of, content_of}
-use Rattle.engine_core.specs.Making.{Commits, Restarts}
+use Rattle.engine_core.specs.Making.{CommitsEntry, Restarts}
 use Rattle.engine_core.specs.Recovery.{IsEither, IsSound, RecoversTo}
 use Rattle.engine_core.proofs.EndedLemmas.{recovers_as, sound_consistent}
 
@@ -101,7 +101,7 @@ moments_of old new x y a b c is stands any =
     weaker old new (RecoversTo (IsEither x y)) (RecoversTo (MayStandIn a b)) any_of (λ image. recovers_as (MayStandIn a b) (IsEither x y) image stands)
 
 refused_moments : (refusal : Refusal) (old new : EngineState) (s : State) (counted limit : ℕ) (reply : Reply) (faulted : Type 0)
-    → Ended old new (opened_archive s counted limit) (CommitEnds (opened_archive s counted limit) reply (opened_archive (after s Restart) counted limit) faulted (Err refusal)) → LeavesOnly old.life new.life (RecoversTo (IsEither s (after s Restart)))
+    → CallEnded old new (opened_archive s counted limit) (CommitEnds (opened_archive s counted limit) reply (opened_archive (after s Restart) counted limit) faulted (Err refusal)) → LeavesOnly old.life new.life (RecoversTo (IsEither s (after s Restart)))
 refused_moments NoMemory old new s counted limit reply faulted ended =
     moments_of old.life new.life s (after s Restart) (opened_archive s counted limit) (opened_archive s counted limit) (archive_of new ended.after) ended.ends
     (λ x stands. elim (stands_either s s counted limit x stands) [ inl is ↦ inl is | inr is ↦ inl is ]) ended.any_moment
@@ -117,16 +117,16 @@ with_desk d e = record { life = e.life; log = e.log; desk = d }
 
 -- what a commit of a restart leads to
 abbrev RestartsBy : EngineState → EngineState → Result Reply Refusal → Type 0
-RestartsBy old new result = Commits old new (λ a. Accepts (book_of a) Restart) (reply_after old.desk Restart) (λ a. archive_after a Restart) result
+RestartsBy old new result = CommitsEntry old new (λ a. Accepts (book_of a) Restart) (reply_after old.desk Restart) (λ a. archive_after a Restart) result
 
 -- of an archive at which nobody calls yet
 ended_restart : (old new : EngineState) (s : State) (counted limit : ℕ) (result : Result Reply Refusal) → RestartsBy old new result → old.desk ≡ opened_desk (register_of s) counted limit → IsCrashConsistent old.life old.log (opened_archive s counted limit)
-    → Ended old new (opened_archive s counted limit) (CommitEnds (opened_archive s counted limit) (reply_after (opened_desk (register_of s) counted limit) Restart) (opened_archive (after s Restart) counted limit) (HasFailed old.life new.life) result)
+    → CallEnded old new (opened_archive s counted limit) (CommitEnds (opened_archive s counted limit) (reply_after (opened_desk (register_of s) counted limit) Restart) (opened_archive (after s Restart) counted limit) (HasFailed old.life new.life) result)
 ended_restart old new s counted limit result made is was =
     let a : Archive = opened_archive s counted limit in
     let made_here : RestartsBy (with_desk a.desk old) new result = subst (λ (d : DeskState). RestartsBy (with_desk d old) new result) is made in
     let ended = made_here.ended (content_of a) was (accepts_restart (book_of a)) in
-    let Goes : EngineState → Archive → Type 0 = λ e b. Ended e new a (CommitEnds a (reply_after a.desk Restart) b (HasFailed old.life new.life) result) in
+    let Goes : EngineState → Archive → Type 0 = λ e b. CallEnded e new a (CommitEnds a (reply_after a.desk Restart) b (HasFailed old.life new.life) result) in
     let same : with_desk a.desk old ≡ old = ap (λ (d : DeskState). with_desk d old) (sym is) in
     subst (Goes old) (restart_of s counted limit was.archive.well) (subst (λ (e : EngineState). Goes e (archive_after a Restart)) same ended)
 

@@ -20,18 +20,18 @@ use Rattle.control_core.proofs.CallLemmas.{refused_unchanged}
 use Rattle.control_core.proofs.FaultLemmas.{other_cause}
 use Rattle.engine_core.specs.Calls.{AnswersEvent, HasFailedOften, IsRun, LeavesAlone, Ran, faults_in, is_fault}
 use Rattle.engine_core.specs.Consistent.{IsCrashConsistent, MayStandIn}
-use Rattle.engine_core.specs.Engine.{Content, EngineState, GoesOn, archive_of}
+use Rattle.engine_core.specs.Engine.{Content, EngineState, DiskGoesOn, archive_of}
 use Rattle.engine_core.specs.Opened.{LeavesEither}
 use Rattle.engine_core.specs.Recovery.{Recovers, RecoversTo}
 use Rattle.engine_core.proofs.EndedLemmas.{goes_on_here, no_doubt, recovers_as}
 
 -- ---- whatever the archive is
 
-goes_further : (old mid new : Life) → GoesOn old mid → GoesOn mid new → GoesOn old new
+goes_further : (old mid new : Life) → DiskGoesOn old mid → DiskGoesOn mid new → DiskGoesOn old new
 goes_further old mid new first then = let one = first.faults in let two = then.faults in record { obeyed = λ obeys. first.obeyed (then.obeyed obeys); faults = omega (arith, one, two) }
 
-pub run_goes_on : (old new : EngineState) (events : List Event) (outcomes : List (Result Reply Refusal)) → IsRun old events outcomes new → GoesOn old.life new.life
-run_goes_on old new [] [] run = subst (λ (e : EngineState). GoesOn old.life e.life) (sym run) (goes_on_here old.life)
+pub run_goes_on : (old new : EngineState) (events : List Event) (outcomes : List (Result Reply Refusal)) → IsRun old events outcomes new → DiskGoesOn old.life new.life
+run_goes_on old new [] [] run = subst (λ (e : EngineState). DiskGoesOn old.life e.life) (sym run) (goes_on_here old.life)
 run_goes_on old new (event ∷ events) (outcome ∷ outcomes) (mid, answers, run) = goes_further old.life mid.life new.life answers.goes_on (run_goes_on mid new events outcomes run)
 run_goes_on old new [] (outcome ∷ outcomes) run = absurd run
 run_goes_on old new (event ∷ events) [] run = absurd run
@@ -40,7 +40,7 @@ one_fault : Result Reply Refusal → ℕ
 one_fault o = cond (is_fault o) 1 0
 
 -- a fault more, where one is answered
-fault_first : (old mid new : Life) (n : ℕ) (outcome : Result Reply Refusal) → GoesOn old mid → (outcome ≡ Err DeviceFault → HasFailed old mid) → HasFailedOften n mid new → HasFailedOften (cond (is_fault outcome) 1 0 + n) old new
+fault_first : (old mid new : Life) (n : ℕ) (outcome : Result Reply Refusal) → DiskGoesOn old mid → (outcome ≡ Err DeviceFault → HasFailed old mid) → HasFailedOften n mid new → HasFailedOften (cond (is_fault outcome) 1 0 + n) old new
 fault_first old mid new n (Err DeviceFault) goes cause often = let more = cause refl in omega (arith, more, often)
 fault_first old mid new n outcome goes cause often = let more = goes.faults in omega (arith, more, often)
 

@@ -45,11 +45,11 @@ use Rattle.control_core.specs.Turns.{has_written, session_in, settle_decision, s
 use Rattle.control_core.proofs.ConsistentLemmas.{consistent_call, settling_sessions}
 use Rattle.control_core.proofs.DecidedLemmas.{IsSettled, held, settling_accepted, settling_session}
 use Rattle.control_core.proofs.FaultLemmas.{call_is_allowed, other_cause}
-use Rattle.engine_core.specs.Calls.{AnswersEvent, CommitEnds, Ended, EndsAs, Keeps}
+use Rattle.engine_core.specs.Calls.{AnswersEvent, CommitEnds, CallEnded, EndsAs, Keeps}
 use Rattle.engine_core.specs.Consistent.{IsCrashConsistent, Stands, StandsBehind}
 use Rattle.engine_core.specs.Engine.{Content, EngineState, IsTied, archive_of, content_of}
-use Rattle.engine_core.specs.Making.{Commits, after_failure}
-use Rattle.engine_core.specs.Moves.{AddsEntry, Enters, HasRoom, KeepsSegments, Moves}
+use Rattle.engine_core.specs.Making.{CommitsEntry, after_failure}
+use Rattle.engine_core.specs.Moves.{AddsEntry, Enters, HasEntryRoom, KeepsSegments, Moves}
 use Rattle.engine_core.specs.Recovery.{IsSound, last_of, layout_of}
 use Rattle.engine_core.proofs.CommitCallLemmas.{commit_done, commit_refused, exact_commit, tied_behind}
 use Rattle.engine_core.proofs.EndedLemmas.{as_before, ended_as, goes_on_here, no_doubt, quiet_life, spared, spared_by, spared_unbroken, still}
@@ -108,7 +108,7 @@ module _ (d : DeskState) (n id : ℤ) (w : Written) (r : Registration) (keeps : 
 pub settling_works : (log : LogState) (d : DeskState) (n id : ℤ) (w : Written) → IsTied log d → settle_decision d n ≡ Ok (settling.Blocks id w) → IsFalse log.is_broken
 settling_works log d n id w tied told = tied.works (settles d n id w told).works
 
-pub settling_room : (log : LogState) (d : DeskState) (n id : ℤ) (w : Written) (e : Entry) → IsTied log d → settle_decision d n ≡ Ok (settling.Blocks id w) → HasRoom log e
+pub settling_room : (log : LogState) (d : DeskState) (n id : ℤ) (w : Written) (e : Entry) → IsTied log d → settle_decision d n ≡ Ok (settling.Blocks id w) → HasEntryRoom log e
 settling_room log d n id w e tied told = λ is_yes.
     let decided = settles d n id w told in
     let less = decided.room in
@@ -243,19 +243,19 @@ module _ (old new : EngineState) (content : Content) (n id : ℤ) (w : Written) 
         subst (λ (o : Result Settling Refusal). SettlingEnds a n o (Ok (replies.Settled w.last)) (settled_archive a n id)) (sym asks.told) (refl, refl) in
         consistent_call a (events.Settle n) (Ok (replies.Settled w.last)) (settled_archive a n id) was.archive ends
 
-    settle_done : (reply : Reply) → new.desk ≡ settled (session_in old.desk n) old.desk → SettlesFiles old new layout position entry (Ok tt) → Ended old new a (CommitEnds a reply (settled_archive a n id) (HasFailed old.life new.life) (Ok reply))
+    settle_done : (reply : Reply) → new.desk ≡ settled (session_in old.desk n) old.desk → SettlesFiles old new layout position entry (Ok tt) → CallEnded old new a (CommitEnds a reply (settled_archive a n id) (HasFailed old.life new.life) (Ok reply))
     settle_done reply desk does =
         commit_done old new content was (settled_archive a n id) reply keeps settled_stays (stands_settled (reads old.life.now) a n id w was.archive was.stand asks.told) desk (settled_moves (Ok tt) does)
 
     settle_refused : (reply : Reply) (refusal : Refusal) → (refusal ≡ DeviceFault → HasFailed old.life new.life) → new.desk ≡ after_failure refusal old.desk → SettlesFiles old new layout position entry (Err refusal)
-        → Ended old new a (CommitEnds a reply (settled_archive a n id) (HasFailed old.life new.life) (Err refusal))
+        → CallEnded old new a (CommitEnds a reply (settled_archive a n id) (HasFailed old.life new.life) (Err refusal))
     settle_refused reply refusal cause desk does = commit_refused old new content was (settled_archive a n id) reply keeps refusal cause desk (settled_moves (Err refusal) does)
 
 -- ---- whatever the archive is
 
 module _ (old new : EngineState) (n id : ℤ) (w : Written) (layout : Layout) (position : ℤ) (entry : Entry) (tied : IsTied old.log old.desk) (asks : IsAsked old.desk n id w layout position entry) (keeps : KeepsSegments old.life new.life) where
   abbrev pub SettlesTo : Result Reply Refusal → Type 0
-  SettlesTo outcome = Commits old new (λ a. settle_decision a.desk n ≡ Ok (settling.Blocks id w)) (replies.Settled w.last) (λ a. settled_archive a n id) outcome
+  SettlesTo outcome = CommitsEntry old new (λ a. settle_decision a.desk n ≡ Ok (settling.Blocks id w)) (replies.Settled w.last) (λ a. settled_archive a n id) outcome
 
   pub settling_done : AddsEntry old.life new.life old.log new.log entry (Ok tt) → new.desk ≡ settled (session_in old.desk n) old.desk → SettlesFiles old new layout position entry (Ok tt) → SettlesTo (Ok (replies.Settled w.last))
   settling_done adds desk does = record {
@@ -346,7 +346,7 @@ settle_nothing e n position is = answered_still e (events.Settle n) (Ok (replies
 
 -- blocks are settled
 pub settle_blocks : (old new : EngineState) (n id : ℤ) (w : Written) (outcome : Result Reply Refusal) → settle_decision old.desk n ≡ Ok (settling.Blocks id w)
-    → Commits old new (λ a. settle_decision a.desk n ≡ Ok (settling.Blocks id w)) (replies.Settled w.last) (λ a. settled_archive a n id) outcome → AnswersEvent old new (events.Settle n) outcome
+    → CommitsEntry old new (λ a. settle_decision a.desk n ≡ Ok (settling.Blocks id w)) (replies.Settled w.last) (λ a. settled_archive a n id) outcome → AnswersEvent old new (events.Settle n) outcome
 settle_blocks old new n id w outcome told commits =
     let event : Event = events.Settle n in
     let made = commits.exact blank in

@@ -33,7 +33,7 @@ use Rattle.archive_model.proofs.StateLemmas.{base_of_purge, each_change, each_fo
 use Rattle.archive_model.proofs.WellLemmas.{base_is_term, both}
 use Rattle.catalogue_log.specs.History.{IsRequested, entry_of}
 use Rattle.catalogue_log.proofs.HistoryLemmas.{entry_admitted, register_kept}
-use Rattle.engine_core.specs.Moves.{Enters, Leads}
+use Rattle.engine_core.specs.Moves.{Enters, EntryLeads}
 use Rattle.engine_core.specs.Recovery.{IsDurable, first_of, last_of, layout_of}
 
 -- where frames end, written in another way
@@ -217,5 +217,5 @@ pub enters : (b : BookState) (c : Command) → IsWell b.state → Accepts b c �
 enters b c well accepted = record { admitted = entry_admitted b c well accepted; makes = register_kept b c well accepted; well = well_after b c well accepted }
 
 -- so its entry leads from the state before it to the one after it
-pub leads : (files : Files) (b : BookState) (c : Command) → IsWell b.state → Accepts b c → IsRequested c → Each (IsDurable files) b.state.recordings → Leads files b.state (after b.state c) (entry_of b.state c)
+pub leads : (files : Files) (b : BookState) (c : Command) → IsWell b.state → Accepts b c → IsRequested c → Each (IsDurable files) b.state.recordings → EntryLeads files b.state (after b.state c) (entry_of b.state c)
 leads files b c well accepted requested stand = record { enters = enters b c well accepted; frames = frames_stay files b c well accepted requested stand }

@@ -35,10 +35,10 @@ use Rattle.control_core.specs.Seats.{IsWriting}
 use Rattle.control_core.specs.Turns.{sweep_tests}
 use Rattle.control_core.proofs.DecidedLemmas.{held}
 use Rattle.control_core.proofs.StepLemmas.{sweep_step}
-use Rattle.engine_core.specs.Calls.{AnswersEvent, Ended, EndsAs}
+use Rattle.engine_core.specs.Calls.{AnswersEvent, CallEnded, EndsAs}
 use Rattle.engine_core.specs.Consistent.{IsCrashConsistent, StandsBehind}
 use Rattle.engine_core.specs.Engine.{Content, EngineState, archive_of}
-use Rattle.engine_core.specs.Moves.{SparesKept, Stays, keeps_of, registered_keeps}
+use Rattle.engine_core.specs.Moves.{SparesKept, StaysSound, keeps_of, registered_keeps}
 use Rattle.engine_core.specs.Reading.{IsOutside}
 use Rattle.engine_core.specs.Recovery.{IsEither, IsSound, RecoversTo, first_of, last_of, layout_of}
 use Rattle.engine_core.proofs.EndedLemmas.{as_before, done, no_doubt, quiet_goes_on, quiet_life, recovers_as, sound_consistent, spared, still}
@@ -117,7 +117,7 @@ module _ (old new : EngineState) (c : Content) (was : IsCrashConsistent old.life
       (λ s both. session_stands s both.0 both.1)
 
   -- the files that are needed, and so the archive, are as before
-  archive_stays : (Ends : Archive → Type 0) → new.desk ≡ old.desk → (IsTrue new.life.obeys → IsTrue old.life.obeys) → Stays old.life new.life new.log c.state → Ends a → Ended old new a Ends
+  archive_stays : (Ends : Archive → Type 0) → new.desk ≡ old.desk → (IsTrue new.life.obeys → IsTrue old.life.obeys) → StaysSound old.life new.life new.log c.state → Ends a → CallEnded old new a Ends
   archive_stays Ends desk obeyed stays ends =
       done old new a a Ends
       (weaker old.life new.life (RecoversTo (IsEither a.state a.state)) (RecoversTo (λ x. x ≡ a.state)) stays.1 (λ image. recovers_as (λ x. x ≡ a.state) (IsEither a.state a.state) image (λ s is. inl is)))
@@ -130,12 +130,12 @@ pub record SweepsFiles (old new : EngineState) (keeps : List Keep) : Type 0 wher
   pub asked : keeps ≡ registered_keeps old.desk.register
   pub decided : (x : Unit {0}) × (Ok x ≡ sweep_decision old.desk)
   pub active : (s : State) (id : ℤ) (r : Recording) (p : ℕ) → IsWell s → keeps ≡ keeps_of s → find id_of id s.recordings ≡ Some r → is_active r ≡ true → first_of r ≤ p → new.life.now (file_of (layout_of r.descriptor) p) ≡ old.life.now (file_of (layout_of r.descriptor) p)
-  pub stays : (s : State) → IsSound old.life.now old.log s → keeps ≡ keeps_of s → Stays old.life new.life new.log s
+  pub stays : (s : State) → IsSound old.life.now old.log s → keeps ≡ keeps_of s → StaysSound old.life new.life new.log s
   pub spares : SparesKept keeps old.life new.life
   pub desk : new.desk ≡ old.desk
 
 -- so the archive stays as it is, however the sweep ends
-sweep_ended : (old new : EngineState) (keeps : List Keep) (c : Content) (Ends : Archive → Type 0) → SweepsFiles old new keeps → IsCrashConsistent old.life old.log (archive_of old c) → Ends (archive_of old c) → Ended old new (archive_of old c) Ends
+sweep_ended : (old new : EngineState) (keeps : List Keep) (c : Content) (Ends : Archive → Type 0) → SweepsFiles old new keeps → IsCrashConsistent old.life old.log (archive_of old c) → Ends (archive_of old c) → CallEnded old new (archive_of old c) Ends
 sweep_ended old new keeps c Ends did was ends =
     let works : old.desk.is_broken ≡ false = sweep_works old.desk did.decided.0 did.decided.1 in
     let same : keeps ≡ keeps_of c.state = did.asked ∙ ap registered_keeps was.archive.agrees ∙ keeps_same c.state in

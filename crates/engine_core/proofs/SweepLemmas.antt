@@ -33,7 +33,7 @@ use Rattle.archive_model.specs.WellFormed.{IsKept, IsOfStream, IsWell}
 use Rattle.archive_model.proofs.StateLemmas.{each_found}
 use Rattle.catalogue_log.specs.LogState.{LogState}
 use Rattle.catalogue_log.proofs.AppendLemmas.{other_files}
-use Rattle.engine_core.specs.Moves.{SparesKept, Stays, keep_of, keeps_of}
+use Rattle.engine_core.specs.Moves.{SparesKept, StaysSound, keep_of, keeps_of}
 use Rattle.engine_core.specs.Consistent.{Lie}
 use Rattle.engine_core.specs.Recovery.{HoldsRecording, IsDurable, IsSound, RecoversTo, first_of, last_of, layout_of}
 use Rattle.engine_core.proofs.FrameLemmas.{bank_left, each_both, each_then, frames_left, frames_same, lie_then}
@@ -201,7 +201,7 @@ moments_kept old new log s sound (inl quiet) =
 moments_kept old new log s sound (inr swept) =
     weaker old new (RecoversTo (λ x. x ≡ s)) _ swept.1.touches.any_moment (λ image left. kept_recovers old.now log s image sound (λ file fresh. left file (other_than (keeps_of s) swept.0 file swept.1.stale fresh)))
 
-pub sweep_stays : (keeps : List Keep) (old new : Life) (log : LogState) (s : State) → IsSound old.now log s → keeps ≡ keeps_of s → IsQuiet old new ⊎ ((file : FileId) × SweepsAtMost keeps file old new) → Stays old new log s
+pub sweep_stays : (keeps : List Keep) (old new : Life) (log : LogState) (s : State) → IsSound old.now log s → keeps ≡ keeps_of s → IsQuiet old new ⊎ ((file : FileId) × SweepsAtMost keeps file old new) → StaysSound old new log s
 sweep_stays keeps old new log s sound same bounded =
     let mine : IsQuiet old new ⊎ ((file : FileId) × SweepsAtMost (keeps_of s) file old new) = subst (λ (ks : List Keep). IsQuiet old new ⊎ ((file : FileId) × SweepsAtMost ks file old new)) same bounded in
     (sound_kept old new log s sound (fresh_kept (keeps_of s) old new mine), moments_kept old new log s sound mine)

@@ -41,7 +41,7 @@ use Rattle.control_core.proofs.ConsistentLemmas.{consistent_call}
 use Rattle.control_core.proofs.DeskLemmas.{not_same}
 use Rattle.control_core.proofs.FaultLemmas.{call_is_allowed}
 use Rattle.control_core.proofs.WriteLemmas.{blocks_follow, other_blocks, this_session, written_end}
-use Rattle.engine_core.specs.Calls.{AnswersEvent, Ended, EndsAs}
+use Rattle.engine_core.specs.Calls.{AnswersEvent, CallEnded, EndsAs}
 use Rattle.engine_core.specs.Consistent.{IsCrashConsistent, Stands, StandsBehind}
 use Rattle.engine_core.specs.Engine.{Content, EngineState, archive_of}
 use Rattle.engine_core.specs.Moves.{Moves}
@@ -231,7 +231,7 @@ module _ (old : EngineState) (n : ℤ) (block : Block) (layout : Layout) (end : 
             the_same : (x y : Recording) → Some x ≡ Some y → x ≡ y
             the_same x y e = cc
 
-        failing : new.desk ≡ broken_desk old.desk → HasFailed old.life new.life → Ended old new a (EndsAs old.life new.life event a (Err DeviceFault))
+        failing : new.desk ≡ broken_desk old.desk → HasFailed old.life new.life → CallEnded old new a (EndsAs old.life new.life event a (Err DeviceFault))
         failing desk cause =
             failed old new a a.state (EndsAs old.life new.life event a (Err DeviceFault)) was.archive moves.any_moment moves.frames stand_failing (λ obeys. was.boundaries (changes.obeyed obeys)) desk
             ((λ reading. fault_ends c reply (HasFailed old.life new.life) block_of is cause), tt)
@@ -269,7 +269,7 @@ module _ (old : EngineState) (n : ℤ) (block : Block) (layout : Layout) (end : 
             the_same x y e = cc
 
         going : result ≡ Ok tt → new.desk ≡ after_write n (span_of block) old.desk → HoldsFrames (reads new.life.now) layout (unsigned_abs block.position) block.frames (unsigned_abs block.position + covered block.frames)
-            → Ended old new a (EndsAs old.life new.life event a (Ok reply))
+            → CallEnded old new a (EndsAs old.life new.life event a (Ok reply))
         going went desk holds =
             let b : Archive = written a n block in
             let rested : Moves old.life new.life new.log a.state a.state (Ok tt) = subst (Moves old.life new.life new.log a.state a.state) went moves in

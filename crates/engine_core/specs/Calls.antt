@@ -15,7 +15,7 @@ use Rattle.control_core.specs.Exact.{Archive, ArchiveEnd, CallEnds, asked_of, br
 use Rattle.control_core.specs.Machine.{Stepped}
 use Rattle.control_core.specs.Runs.{Leave, StoodAmong, last_left}
 use Rattle.engine_core.specs.Recovery.{Recovers, RecoversTo}
-use Rattle.engine_core.specs.Engine.{Content, EngineState, GoesOn, IsSpared, archive_of}
+use Rattle.engine_core.specs.Engine.{Content, EngineState, DiskGoesOn, IsSpared, archive_of}
 use Rattle.engine_core.specs.Consistent.{IsCrashConsistent, MayStandIn}
 use Rattle.engine_core.specs.Moves.{registered_keeps}
 
@@ -23,7 +23,7 @@ use Rattle.engine_core.specs.Moves.{registered_keeps}
 
 -- A call ends as it may and leaves a crash-consistent archive; a crash at any moment of it leaves the state before it,
 -- the one after it, or the one in doubt.
-pub record Ended (old new : EngineState) (a : Archive) (Ends : Archive → Type 0) : Type 0 where
+pub record CallEnded (old new : EngineState) (a : Archive) (Ends : Archive → Type 0) : Type 0 where
   pub after : Content
   pub ends : Ends (archive_of new after)
   pub consistent : IsCrashConsistent new.life new.log (archive_of new after)
@@ -53,7 +53,7 @@ EndsAs old new event a outcome b = IfRead (reads_files a.desk event) new (CallEn
 -- What an engine did to answer an event.
 pub record AnswersEvent (old new : EngineState) (event : Event) (result : Result Reply Refusal) : Type 0 where
   -- Whatever the archive is: the disk's calls went on, and a fault has its cause.
-  pub goes_on : GoesOn old.life new.life
+  pub goes_on : DiskGoesOn old.life new.life
   pub cause : IsErrOf result DeviceFault → HasFailed old.life new.life
   -- The desk made a step of its machine.
   pub machine : Stepped old.desk (asked_of event) (told_of old.desk event result) new.desk
@@ -64,7 +64,7 @@ pub record AnswersEvent (old new : EngineState) (event : Event) (result : Result
       HasSwept (registered_keeps old.desk.register) old.life new.life removed
   -- Of a crash-consistent archive: the exact answer, and what a crash leaves. A truncation rests on what it reads.
   pub ended : (c : Content) → IsCrashConsistent old.life old.log (archive_of old c) → (IsTrue (is_cut event) → IsTrue new.life.obeys) →
-      Ended old new (archive_of old c) (EndsAs old.life new.life event (archive_of old c) result)
+      CallEnded old new (archive_of old c) (EndsAs old.life new.life event (archive_of old c) result)
 
 -- every image that a crash now may leave recovers to this state
 abbrev pub LeavesAlone : Life → State → Type 0

@@ -40,7 +40,7 @@ pub record IsTied (log : LogState) (desk : DeskState) : Type 0 where
   pub limit : IsFalse desk.is_broken → log.header.history_limit ≡ desk.limit
 
 -- what holds of every stretch of a disk's calls: what was obeyed at its end was at its start, and faults are not uncounted
-pub record GoesOn (old new : Life) : Type 0 where
+pub record DiskGoesOn (old new : Life) : Type 0 where
   pub obeyed : IsTrue new.obeys → IsTrue old.obeys
   pub faults : old.faults ≤ new.faults
 

@@ -17,9 +17,9 @@ use Rattle.control_core.specs.Desk.{DeskState, opened_desk}
 use Rattle.control_core.specs.Exact.{Archive, ArchiveEnd, Is, archive_after, book_of, opened_archive, plain, recording_at}
 use Rattle.control_core.specs.Machine.{Does, OrOutside, UnlessBoundary}
 use Rattle.engine_core.specs.Recovery.{IsEither, RecoversTo}
-use Rattle.engine_core.specs.Engine.{Content, EngineState, GoesOn, IsSpared, archive_of}
+use Rattle.engine_core.specs.Engine.{Content, EngineState, DiskGoesOn, IsSpared, archive_of}
 use Rattle.engine_core.specs.Consistent.{IsCrashConsistent}
-use Rattle.engine_core.specs.Calls.{CommitEnds, Ended}
+use Rattle.engine_core.specs.Calls.{CommitEnds, CallEnded}
 
 -- a device fault breaks the archive
 abbrev pub after_failure : Refusal → DeskState → DeskState
@@ -27,15 +27,15 @@ after_failure DeviceFault d = broken_desk d
 after_failure _ d = d
 
 -- What an operation did that adds an entry, and so leads archives that fit to others.
-pub record Commits (old new : EngineState) (Fits : Archive → Type 0) (reply : Reply) (to : Archive → Archive) (result : Result Reply Refusal) : Type 0 where
-  pub goes_on : GoesOn old.life new.life
+pub record CommitsEntry (old new : EngineState) (Fits : Archive → Type 0) (reply : Reply) (to : Archive → Archive) (result : Result Reply Refusal) : Type 0 where
+  pub goes_on : DiskGoesOn old.life new.life
   -- refused it has changed nothing, unless a fault broke the archive
   pub kept : IsSpared (new.desk.is_broken ≡ old.desk.is_broken) old new result
   -- whatever the archive is
   pub exact : (c : Content) → (after : Content) × CommitEnds (archive_of old c) reply (to (archive_of old c)) (HasFailed old.life new.life) result (archive_of new after)
   -- of a crash-consistent one
   pub ended : (c : Content) → IsCrashConsistent old.life old.log (archive_of old c) → Fits (archive_of old c) →
-      Ended old new (archive_of old c) (CommitEnds (archive_of old c) reply (to (archive_of old c)) (HasFailed old.life new.life) result)
+      CallEnded old new (archive_of old c) (CommitEnds (archive_of old c) reply (to (archive_of old c)) (HasFailed old.life new.life) result)
 
 -- what is decided where a frame begins at a position: the command is made, or refused
 abbrev pub BegunEnds : Archive → Result Command Refusal → Type 0 → ArchiveEnd
@@ -49,14 +49,14 @@ InsideEnds a false decided faulted = OrOutside a faulted (λ b. b ≡ a) (Is (Er
 
 -- What was done with what is decided where a frame begins at a position strictly inside a recording.
 pub record MakesInside (old new : EngineState) (id position : ℤ) (decided : Result Command Refusal) (result : Result Reply Refusal) : Type 0 where
-  pub goes_on : GoesOn old.life new.life
+  pub goes_on : DiskGoesOn old.life new.life
   pub kept : IsSpared (new.desk.is_broken ≡ old.desk.is_broken) old new result
   -- a fault has its cause, unless it is what was decided
   pub cause : IsErrOf result DeviceFault → IsErrOf decided DeviceFault ⊎ HasFailed old.life new.life
   pub machine : OrOutside old.desk ⊥ (λ d. ⊥) (UnlessBoundary old.desk (Does old.desk decided)) (plain result) new.desk
   pub ended : (c : Content) (r : Recording) → IsCrashConsistent old.life old.log (archive_of old c) → recording_at (archive_of old c) id ≡ Some r → is_end position (registration_of r) ≡ false →
       (begins_frame position r ≡ true → IfOk decided (λ command. Accepts (book_of (archive_of old c)) command)) → IsTrue new.life.obeys →
-      Ended old new (archive_of old c) (InsideEnds (archive_of old c) (begins_frame position r) decided (HasFailed old.life new.life) result)
+      CallEnded old new (archive_of old c) (InsideEnds (archive_of old c) (begins_frame position r) decided (HasFailed old.life new.life) result)
 
 -- What a restart of an archive did that is opened.
 pub record Restarts (old new : EngineState) (result : Result ℤ Refusal) : Type 0 where

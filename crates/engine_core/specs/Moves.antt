@@ -19,7 +19,7 @@ use Rattle.catalogue_log.specs.declared.entry.Entry.{Entry}
 use Rattle.catalogue_log.specs.Fold.{admits, after_entry, counts}
 use Rattle.catalogue_log.specs.LogState.{LogState}
 use Rattle.engine_core.specs.Recovery.{IsDurable, IsEither, IsSound, RecoversTo, layout_of}
-use Rattle.engine_core.specs.Engine.{GoesOn}
+use Rattle.engine_core.specs.Engine.{DiskGoesOn}
 
 -- An entry may follow those of a state, and makes of all but the frames what another state has.
 pub record Enters (s u : State) (e : Entry) : Type 0 where
@@ -28,7 +28,7 @@ pub record Enters (s u : State) (e : Entry) : Type 0 where
   pub well : IsWell u
 
 -- An entry leads from a state to another, whose frames are durable.
-pub record Leads (files : Files) (s u : State) (e : Entry) : Type 0 where
+pub record EntryLeads (files : Files) (s u : State) (e : Entry) : Type 0 where
   pub enters : Enters s u e
   pub frames : Each (IsDurable files) u.recordings
 
@@ -39,12 +39,12 @@ pub record KeepsSegments (old new : Life) : Type 0 where
   pub faults : old.faults ≤ new.faults
 
 -- the log has room for an entry more
-abbrev pub HasRoom : LogState → Entry → Type 0
-HasRoom log e = IsTrue (counts e) → log.counted < log.header.history_limit
+abbrev pub HasEntryRoom : LogState → Entry → Type 0
+HasEntryRoom log e = IsTrue (counts e) → log.counted < log.header.history_limit
 
 -- what adding an entry did to the disk's count of faults and to the log, and how it may have been refused
 pub record AddsEntry (old new : Life) (log new_log : LogState) (e : Entry) (result : Result (Unit {0}) Refusal) : Type 0 where
-  pub goes_on : GoesOn old new
+  pub goes_on : DiskGoesOn old new
   pub cause : IsErrOf result DeviceFault → HasFailed old new
   pub header : new_log.header ≡ log.header
   pub counted : OnOk result (new_log.counted ≡ log.counted + (if counts e then 1 else 0))
@@ -53,13 +53,13 @@ pub record AddsEntry (old new : Life) (log new_log : LogState) (e : Entry) (resu
   pub outside : IfErr result (λ refusal. (refusal ≡ DeviceFault) ⊎ (refusal ≡ NoMemory))
 
 -- the archive is sound for this state, and no crash leaves another
-abbrev pub Stays : Life → Life → LogState → State → Type 0
-Stays old new log s = IsSound new.now log s × LeavesOnly old new (RecoversTo (λ x. x ≡ s))
+abbrev pub StaysSound : Life → Life → LogState → State → Type 0
+StaysSound old new log s = IsSound new.now log s × LeavesOnly old new (RecoversTo (λ x. x ≡ s))
 
 -- after success the archive is sound for the new state; where memory was refused it stays with the old one
 abbrev pub RestsAfter : Result (Unit {0}) Refusal → Life → Life → LogState → State → State → Type 0
 RestsAfter (Ok done) old new log s u = IsSound new.now log u
-RestsAfter (Err NoMemory) old new log s u = Stays old new log s
+RestsAfter (Err NoMemory) old new log s u = StaysSound old new log s
 RestsAfter (Err DeviceFault) old new log s u = Unit {0}
 RestsAfter (Err _) old new log s u = ⊥
 

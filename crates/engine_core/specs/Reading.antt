@@ -11,7 +11,7 @@ use Rattle.archive_model.specs.WellFormed.{IsKept}
 use Rattle.engine_core.specs.Recovery.{HoldsRecording, layout_of}
 
 -- The disk obeys, the frames of a recording stand in what it reads as before a call, and a register has this of it.
-pub record IsRead (old new : Life) (g : Registration) (r : Recording) : Type 0 where
+pub record RecordingIsRead (old new : Life) (g : Registration) (r : Recording) : Type 0 where
   pub obeys : IsTrue new.obeys
   pub is : g ≡ registration_of r
   pub kept : IsKept r

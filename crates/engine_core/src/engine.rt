@@ -35,7 +35,7 @@ impl<D: Disk> Engine<D> {
     ghost use Rattle.disk_core.specs.declared.file_id.FileId.TheVariants.{BankA};
     ghost use Rattle.disk_core.specs.DiskImage.{reads};
     ghost use Rattle.archive_model.specs.State.{State};
-    ghost use Rattle.engine_core.specs.Engine.{GoesOn, new_archive};
+    ghost use Rattle.engine_core.specs.Engine.{DiskGoesOn, new_archive};
     ghost use Rattle.engine_core.specs.Opened.{IsDeskOf, IsNotOpened, IsOpened, LeavesEither};
     ghost use Rattle.engine_core.specs.Opening.{IsMadeIn, ReadsAsBefore, RefusesNew, RefusesOpening};
     ghost use Rattle.engine_core.specs.Seen.{KeepsArchive, seen};
@@ -117,8 +117,8 @@ impl<D: Disk> Engine<D> {
         ensures desk { IfOk result (λ engine. IsTrue (D.life engine.storage.disk).obeys →
             IsDeskOf (reads (D.life disk).now) engine.desk.state engine.restarted) }
         ensures goes_on { MatchResult result
-            (λ engine. GoesOn (D.life disk) (D.life engine.storage.disk))
-            (λ refused. GoesOn (D.life disk) (D.life refused.disk)) }
+            (λ engine. DiskGoesOn (D.life disk) (D.life engine.storage.disk))
+            (λ refused. DiskGoesOn (D.life disk) (D.life refused.disk)) }
         // Only the bank in use may read otherwise.
         ensures others { MatchResult result
             (λ engine. (file : FileId) → file ≢ BankA →

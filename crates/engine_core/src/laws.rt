@@ -23,8 +23,8 @@ ghost use Rattle.control_core.specs.Exact.{Archive, ArchiveEnds};
 ghost use Rattle.control_core.specs.Runs.{MayStand, StoodAmong};
 ghost use Rattle.engine_core.specs.Calls.{AnswersEvent, HasFailedOften, IsRun, LeavesAlone, Ran, faults_in};
 ghost use Rattle.engine_core.specs.Consistent.{IsCrashConsistent, Stands};
-ghost use Rattle.engine_core.specs.Engine.{Content, EngineState, GoesOn, archive_of};
-ghost use Rattle.engine_core.specs.Moves.{Enters, Leads};
+ghost use Rattle.engine_core.specs.Engine.{Content, EngineState, DiskGoesOn, archive_of};
+ghost use Rattle.engine_core.specs.Moves.{Enters, EntryLeads};
 ghost use Rattle.engine_core.specs.Opened.{LeavesEither};
 ghost use Rattle.engine_core.specs.Recovery.{IsDurable, IsSound, Recovers, last_of, layout_of};
 
@@ -47,7 +47,7 @@ pub fn frames_stay_durable_where_none_is_recorded()
         Each (IsDurable files) (after b.state c).recordings }
     ensures leads { (files : Files) (b : BookState) (c : Command) → IsWell b.state → Accepts b c →
         IsRequested c → Each (IsDurable files) b.state.recordings →
-        Leads files b.state (after b.state c) (entry_of b.state c) }
+        EntryLeads files b.state (after b.state c) (entry_of b.state c) }
 {}
 
 /// The entry of any accepted command enters the state after it.
@@ -76,7 +76,7 @@ pub fn blocks_stand_together()
 pub fn a_run_goes_on()
     ensures goes_on { (old new : EngineState) (events : List Event) (outcomes : List
         (Result Reply Refusal)) →
-        IsRun old events outcomes new → GoesOn old.life new.life }
+        IsRun old events outcomes new → DiskGoesOn old.life new.life }
     ensures cause { (old new : EngineState) (events : List Event) (outcomes : List
         (Result Reply Refusal)) →
         IsRun old events outcomes new → HasFailedOften (faults_in outcomes) old.life new.life }

@@ -8,7 +8,7 @@ ghost use Rattle.catalogue_log.specs.History.{IsRequested};
 ghost use Rattle.control_core.specs.Changes.{reply_after};
 ghost use Rattle.control_core.specs.Decisions.{Allows};
 ghost use Rattle.control_core.specs.Exact.{archive_after, book_of};
-ghost use Rattle.engine_core.specs.Making.{Commits, Restarts, after_failure};
+ghost use Rattle.engine_core.specs.Making.{CommitsEntry, Restarts, after_failure};
 
 use crate::Engine;
 use archive_model::{Command, Reply};
@@ -28,7 +28,7 @@ impl<D: Disk> Engine<D> {
         requires requested { IsRequested command }
         requires allowed { Allows self.old.desk.state command }
         requires works { IsFalse self.old.desk.state.is_broken }
-        ensures made { Commits (seen D.life self.old) (seen D.life self.new) (λ a. Accepts
+        ensures made { CommitsEntry (seen D.life self.old) (seen D.life self.new) (λ a. Accepts
             (book_of a) command)
             (reply_after self.old.desk.state command) (λ a. archive_after a command) result }
         ensures quiet { IfErr result (λ refusal. refusal ≢ DeviceFault →

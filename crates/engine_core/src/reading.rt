@@ -13,7 +13,7 @@ ghost use Rattle.archive_model.specs.Replay.{begins_frame, is_boundary, placed, 
 ghost use Rattle.archive_model.specs.State.{Recording, geometry_of};
 ghost use Rattle.control_core.specs.Exact.{frames_end};
 ghost use Rattle.control_core.specs.Orderly.{IsLaidOut};
-ghost use Rattle.engine_core.specs.Reading.{IsOutside, IsRead, RefusesCount};
+ghost use Rattle.engine_core.specs.Reading.{IsOutside, RecordingIsRead, RefusesCount};
 ghost use Rattle.engine_core.specs.Recovery.{layout_of};
 
 use archive_model::{Descriptor, PolledFrame, Registration};
@@ -56,9 +56,9 @@ pub(crate) fn begins_at<D: Disk>(
     position: i64,
 ) -> Result<bool, Refusal>
     requires { IsLaidOut registration.now }
-    ensures told { (r : Recording) → IsRead (D.life disk.old) (D.life disk.new) registration.now r →
+    ensures told { (r : Recording) → RecordingIsRead (D.life disk.old) (D.life disk.new) registration.now r →
         is_end position registration.now ≡ false → IfOk result (λ told. told ≡ begins_frame position r) }
-    ensures fault { (r : Recording) → IsRead (D.life disk.old)
+    ensures fault { (r : Recording) → RecordingIsRead (D.life disk.old)
         (D.life disk.new) registration.now r →
         IfErr result (λ refusal. refusal ≡ DeviceFault) }
     ensures refused { IfErr result (RefusesBoundary (D.life disk.new).obeys (reads
@@ -91,7 +91,7 @@ pub(crate) fn poll<D: Disk>(
 ) -> Result<Given, Refusal>
     requires laid_out { IsLaidOut registration.now }
     requires from_start { IsFromStart (layout_of registration.now.descriptor) replay.now.next }
-    ensures frames { (r : Recording) → IsRead (D.life disk.old)
+    ensures frames { (r : Recording) → RecordingIsRead (D.life disk.old)
         (D.life disk.new) registration.now r →
         IsTrue (is_boundary replay.now.next r) → IfOk result (λ given. IsTrue (is_boundary given.next r)
         × (given.frames ≡ polled replay.now.next replay.now.bound (unsigned_abs most) r)) }
@@ -99,7 +99,7 @@ pub(crate) fn poll<D: Disk>(
     // Whatever the disk answers: where frames are due it goes further, else it stays.
     ensures moves { IfOk result (λ given. (replay.now.next ≤ℤ given.next) × (0 < unsigned_abs most →
         MovesTo registration.now.recorded replay.now.bound replay.now.next given.next)) }
-    ensures outside { (r : Recording) → IsRead (D.life disk.old)
+    ensures outside { (r : Recording) → RecordingIsRead (D.life disk.old)
         (D.life disk.new) registration.now r →
         IsTrue (is_boundary replay.now.next r) → IfErr result IsOutside }
     ensures refused { IfErr result (RefusesPoll (D.life disk.new).obeys (reads
@@ -161,10 +161,10 @@ pub(crate) fn count_frames<D: Disk>(
     registration: &Registration,
 ) -> Result<i64, Refusal>
     requires { IsLaidOut registration.now }
-    ensures count { (r : Recording) → IsRead (D.life disk.old)
+    ensures count { (r : Recording) → RecordingIsRead (D.life disk.old)
         (D.life disk.new) registration.now r →
         IfOk result (λ count. count ≡ pos (length r.frames)) }
-    ensures outside { (r : Recording) → IsRead (D.life disk.old)
+    ensures outside { (r : Recording) → RecordingIsRead (D.life disk.old)
         (D.life disk.new) registration.now r →
         IfErr result IsOutside }
     ensures refused { IfErr result (RefusesCount (D.life disk.new).obeys (reads

@@ -10,7 +10,7 @@ ghost use Rattle.control_core.specs.Exact.{settled_archive};
 ghost use Rattle.control_core.specs.Orderly.{KeepsDesk};
 ghost use Rattle.control_core.specs.Seats.{IsFoundSession};
 ghost use Rattle.control_core.specs.Turns.{settle_decision};
-ghost use Rattle.engine_core.specs.Making.{Commits};
+ghost use Rattle.engine_core.specs.Making.{CommitsEntry};
 ghost use Rattle.engine_core.specs.Recovery.{layout_of};
 
 use crate::Engine;
@@ -62,7 +62,7 @@ impl<D: Disk> Engine<D> {
         requires found { IsFoundSession session.now self.old.desk.state.callers.sessions found.now }
         requires decided { settle_decision self.old.desk.state session.now
             ≡ Ok (Blocks recording.now written.now) }
-        ensures settled { Commits (seen D.life self.old) (seen D.life self.new)
+        ensures settled { CommitsEntry (seen D.life self.old) (seen D.life self.new)
             (λ a. settle_decision a.desk session.now ≡ Ok (Blocks recording.now written.now))
             (replies.Settled written.now.last) (λ a. settled_archive a session.now recording.now) result }
         ensures restarted { self.new.restarted ≡ self.old.restarted }

@@ -14,5 +14,5 @@ abbrev pub host_life : FolderDisk HostFolder folder.ghosts → Life
 host_life disk = life_at (events_of disk.folder) disk.faults
 
 -- it begins with the files that are given, all of them durable
-abbrev pub IsBegun : Given → FolderDisk HostFolder folder.ghosts → Type 0
-IsBegun given disk = host_life disk ≡ record { obeys = true; past = []; now = begun (image_of given.held); faults = 0 }
+abbrev pub BeginsWithGiven : Given → FolderDisk HostFolder folder.ghosts → Type 0
+BeginsWithGiven given disk = host_life disk ≡ record { obeys = true; past = []; now = begun (image_of given.held); faults = 0 }

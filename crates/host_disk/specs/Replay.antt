@@ -82,8 +82,8 @@ abbrev pub with_change : FileId → (FileState → FileState) → Files → File
 with_change this change files file = if is_eq (file_cmp file this) then change (files file) else files file
 
 -- a moment later
-abbrev pub changed : FileId → (FileState → FileState) → Replayed → Replayed
-changed file change m = record m { past = m.past ++ m.now ∷ []; now = with_change file change m.now }
+abbrev pub next_moment : FileId → (FileState → FileState) → Replayed → Replayed
+next_moment file change m = record m { past = m.past ++ m.now ∷ []; now = with_change file change m.now }
 
 -- the model after a call
 abbrev pub after_event : Event → Replayed → Replayed
@@ -103,28 +103,28 @@ after_event (gave file at n bytes) m =
     record m { obeys = m.obeys && agrees (bytes_of (m.now file).reads) at n m.asked bytes }
 after_event (read_failed file at) m = m
 after_event (touched file) m = m
-after_event (wrote file at bytes) m = record (changed file (write_to at bytes) m) { known = file ∷ m.known }
+after_event (wrote file at bytes) m = record (next_moment file (write_to at bytes) m) { known = file ∷ m.known }
 after_event (write_failed file at n) m =
-    record (changed file (written_in_part at n (next_left m.left)) m) { known = file ∷ m.known; left = drop 1 m.left }
-after_event (cut file len) m = changed file (cut_to len) m
+    record (next_moment file (written_in_part at n (next_left m.left)) m) { known = file ∷ m.known; left = drop 1 m.left }
+after_event (cut file len) m = next_moment file (cut_to len) m
 after_event (cut_failed file len) m =
-    record (changed file (cut_in_part len (next_left m.left)) m) { left = drop 1 m.left }
-after_event (gone file) m = changed file removed m
+    record (next_moment file (cut_in_part len (next_left m.left)) m) { left = drop 1 m.left }
+after_event (gone file) m = next_moment file removed m
 after_event (remove_failed file) m =
-    record (changed file (removed_or_not (next_left m.left)) m) { left = drop 1 m.left }
-after_event (flushed file) m = changed file synced m
+    record (next_moment file (removed_or_not (next_left m.left)) m) { left = drop 1 m.left }
+after_event (flushed file) m = next_moment file synced m
 after_event (flush_failed file) m = m
 after_event (listed files) m = record m { obeys = m.obeys && are_there m.now m.known files }
 after_event list_failed m = m
 after_event (refused file at) m = m
 
 -- an empty folder, of which nothing was asked
-abbrev pub empty : Replayed
-empty = record { obeys = true; past = []; now = begun (λ _. None); known = []; asked = []; left = [] }
+abbrev pub empty_folder : Replayed
+empty_folder = record { obeys = true; past = []; now = begun (λ _. None); known = []; asked = []; left = [] }
 
 -- the model after these calls, the newest of which comes first
 abbrev pub replay : List Event → Replayed
-replay [] = empty
+replay [] = empty_folder
 replay (event ∷ earlier) = after_event event (replay earlier)
 
 -- the life of a disk over a folder

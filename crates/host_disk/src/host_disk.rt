@@ -11,7 +11,7 @@ pub type HostDisk = FolderDisk<HostFolder>;
 
 impl FolderDisk<HostFolder> {
     ghost use Rattle.host_disk.specs.FolderDisk.{faults_of};
-    ghost use Rattle.host_disk.specs.HostDisk.{IsBegun};
+    ghost use Rattle.host_disk.specs.HostDisk.{BeginsWithGiven};
 
     /// Opens a folder as a disk, and locks it. Whatever files the folder holds, and whatever calls that fail
     /// will leave of them, the disk begins with these files, and all of them count as durable: docs/STORAGE.md, "Folders", says why that is right once a new disk has
@@ -19,7 +19,7 @@ impl FolderDisk<HostFolder> {
     /// `Device` where the system refuses; nothing is made or changed then.
     pub fn open(rt: HostRuntime, alloc: Global, path: Path<'_>) -> Result<HostDisk, OpenFault>
         ghost given: { Given }
-        ensures begun { IfOk result (IsBegun given) }
+        ensures begun { IfOk result (BeginsWithGiven given) }
     {
         Ok(FolderDisk::new(HostFolder::open(rt, alloc, path)?))
     }

@@ -13,8 +13,8 @@ use Rattle.frame_core.specs.FrameEncoding.{HasLength, IsEncodable, aligned, alig
 use Rattle.frame_core.specs.Position.{frame_position}
 use Rattle.image_core.specs.declared.fate.Fate.TheVariants.{Joins}
 use Rattle.image_core.specs.Rebuild.{chain_end}
-use Rattle.image_core.specs.Received.{Received, after, is_free, is_inside, is_of, is_open, is_within, joining_position, rebuilt, window}
-use Rattle.image_core.specs.Kept.{AreSpaced, IsJoining, IsKept, undone, without}
+use Rattle.image_core.specs.Received.{Received, after_frame, is_free, is_inside, is_of, is_open, is_within, joining_position, rebuilt, window}
+use Rattle.image_core.specs.Kept.{AreSpaced, IsJoining, IsKeptImage, undone, without_positions}
 use Rattle.image_core.proofs.ChainLemmas.{chain_high, chain_low, chain_more, spaced_wider}
 use Rattle.image_core.proofs.JoinLemmas.{members_insert, remove_inserted, spaced_insert}
 use Rattle.image_core.proofs.UndoLemmas.{without_push}
@@ -56,7 +56,7 @@ pub record IsSmall (r : Received) (at : ℕ) : Type 0 where
   pub spaced : AreSpaced 0 (2 ^ 62) r.joined
   pub from : AreSpaced r.from (2 ^ 62) r.joined
 
-pub kept_small : (r : Received) (at : ℕ) → IsKept r at → IsSmall r at
+pub kept_small : (r : Received) (at : ℕ) → IsKeptImage r at → IsSmall r at
 kept_small r at kept =
     let terms = kept.terms in
     let high : r.high ≤ 2 ^ 61 = omega (arith, ints, kept.limit, terms.most, terms.least) in
@@ -67,7 +67,7 @@ kept_small r at kept =
       from = spaced_wider r.from r.high r.from (2 ^ 62) r.joined (omega arith) (omega arith) kept.spaced;
     }
 
-pub kept_hear : (r : Received) (at p : ℕ) → IsKept r at → p ≤ 2 ^ 31 * unsigned_abs r.geometry.term_length → IsKept (record r { high = max r.high p }) at
+pub kept_hear : (r : Received) (at p : ℕ) → IsKeptImage r at → p ≤ 2 ^ 31 * unsigned_abs r.geometry.term_length → IsKeptImage (record r { high = max r.high p }) at
 kept_hear r at p kept room = record {
   terms = kept.terms;
   spaced = spaced_wider r.from r.high r.from (max r.high p) r.joined (omega arith) (omega arith) kept.spaced;
@@ -90,8 +90,8 @@ spaced_join r p f spaced encodable lies opens =
     (omega arith)
     parts.free
 
-pub kept_join : (r : Received) (at p : ℕ) (f : Frame) → IsKept r at → IsEncodable f → IsJoining r f p
-    → IsKept (after r f (Joins p)) (chain_end at (insert_entry nat_cmp r.joined p f))
+pub kept_join : (r : Received) (at p : ℕ) (f : Frame) → IsKeptImage r at → IsEncodable f → IsJoining r f p
+    → IsKeptImage (after_frame r f (Joins p)) (chain_end at (insert_entry nat_cmp r.joined p f))
 kept_join r at p f kept encodable joining =
     let parts = open_parts r p (p + aligned_length f) joining.opens in
     record {
@@ -104,7 +104,7 @@ kept_join r at p f kept encodable joining =
     }
 
 -- the map in which it was put is wide enough to follow
-pub wide_join : (r : Received) (at p : ℕ) (f : Frame) → IsKept r at → IsEncodable f → IsJoining r f p → AreSpaced 0 (2 ^ 62) (insert_entry nat_cmp r.joined p f)
+pub wide_join : (r : Received) (at p : ℕ) (f : Frame) → IsKeptImage r at → IsEncodable f → IsJoining r f p → AreSpaced 0 (2 ^ 62) (insert_entry nat_cmp r.joined p f)
 wide_join r at p f kept encodable joining =
     let terms = kept.terms in
     spaced_wider r.from (max r.high (p + aligned_length f)) 0 (2 ^ 62) (insert_entry nat_cmp r.joined p f) (omega arith)
@@ -112,13 +112,13 @@ wide_join r at p f kept encodable joining =
     (spaced_join r p f kept.spaced encodable joining.lies joining.opens)
 
 -- a frame that joined and was noted goes out as it came in
-pub undone_join : (ps noted : List ℕ) (high : ℕ) (r : Received) (at p : ℕ) (f : Frame) → IsKept r at → IsEncodable f → IsJoining r f p → noted ≡ ps ++ p ∷ []
-    → undone noted high (after r f (Joins p)) ≡ undone ps high r
+pub undone_join : (ps noted : List ℕ) (high : ℕ) (r : Received) (at p : ℕ) (f : Frame) → IsKeptImage r at → IsEncodable f → IsJoining r f p → noted ≡ ps ++ p ∷ []
+    → undone noted high (after_frame r f (Joins p)) ≡ undone ps high r
 undone_join ps noted high r at p f kept encodable joining is =
     let parts = open_parts r p (p + aligned_length f) joining.opens in
     let size = has_size r.geometry r.publication f p encodable joining.lies in
-    let goes : without noted (insert_entry nat_cmp r.joined p f) ≡ without ps r.joined =
-    ap (λ (qs : List ℕ). without qs (insert_entry nat_cmp r.joined p f)) is
+    let goes : without_positions noted (insert_entry nat_cmp r.joined p f) ≡ without_positions ps r.joined =
+    ap (λ (qs : List ℕ). without_positions qs (insert_entry nat_cmp r.joined p f)) is
     ∙ without_push ps p (insert_entry nat_cmp r.joined p f)
-    ∙ ap (without ps) (remove_inserted r.from r.high p f r.joined kept.spaced size parts.free) in
+    ∙ ap (without_positions ps) (remove_inserted r.from r.high p f r.joined kept.spaced size parts.free) in
     ap (λ (ms : List (ℕ × Frame)). record r { joined = ms; high = high }) goes

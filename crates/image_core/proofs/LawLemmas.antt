@@ -17,9 +17,9 @@ use Rattle.frame_core.specs.FrameEncoding.{IsEncodable, aligned_length}
 use Rattle.frame_core.specs.Position.{frame_position}
 use Rattle.image_core.specs.declared.fate.Fate.{Fate}
 use Rattle.image_core.specs.Rebuild.{end_of, chain_end}
-use Rattle.image_core.specs.Received.{IsChain, Received, after, begun, fate_of, frame_fate, heartbeat_fate, is_free, is_of, joining_position, received, received_all}
+use Rattle.image_core.specs.Received.{IsChain, Received, after_frame, begun, fate_of, frame_fate, heartbeat_fate, is_free, is_of, joining_position, received, received_all}
 use Rattle.image_core.specs.Kept.{AreMembers, AreSpaced}
-use Rattle.image_core.specs.Laws.{HasHighWaterMark, HasLongestChain, LieApart, greatest, heard, heartbeat_at}
+use Rattle.image_core.specs.Laws.{HasHighWaterMark, HasLongestChain, LieApart, greatest_of, heard, heartbeat_at}
 use Rattle.image_core.proofs.ChainLemmas.{chain_low, spaced_wider}
 use Rattle.image_core.proofs.FateLemmas.{by_joining_position}
 use Rattle.image_core.proofs.JoinLemmas.{members_insert}
@@ -69,13 +69,13 @@ run low high p (m ∷ ms) spaced =
     (λ apart. record { chain = (rest p).chain; among = among_more m (rest p).chain ms (rest p).among; follows = (rest p).follows })
 
 -- the greatest of two lists of numbers
-greatest-append : (xs ys : List ℕ) → greatest (xs ++ ys) ≡ max (greatest xs) (greatest ys)
-greatest-append [] ys = omega arith
-greatest-append (x ∷ xs) ys = let rest = greatest-append xs ys in omega arith
+greatest_of-append : (xs ys : List ℕ) → greatest_of (xs ++ ys) ≡ max (greatest_of xs) (greatest_of ys)
+greatest_of-append [] ys = omega arith
+greatest_of-append (x ∷ xs) ys = let rest = greatest_of-append xs ys in omega arith
 
 -- a frame that joined has an end among the others
 ends_insert : (high p : ℕ) (f : Frame) (low : ℕ) (ms : List (ℕ × Frame)) → AreSpaced low high ms → 0 < aligned_length f → is_free p (p + aligned_length f) ms ≡ true
-    → greatest (map end_of (insert_entry nat_cmp ms p f)) ≡ max (p + aligned_length f) (greatest (map end_of ms))
+    → greatest_of (map end_of (insert_entry nat_cmp ms p f)) ≡ max (p + aligned_length f) (greatest_of (map end_of ms))
 ends_insert high p f low [] spaced some free = omega arith
 ends_insert high p f low (m ∷ ms) spaced some free = grind (arith, nat_tests, ends_insert high p f (end_of m) ms spaced.3)
 
@@ -86,12 +86,12 @@ record HasGrown (g : Geometry) (u : Publication) (join : ℕ) (told : List ℕ) 
   from : r.from ≡ join
   spaced : AreSpaced r.from r.high r.joined
   members : AreMembers r.geometry r.publication r.joined
-  high : r.high ≡ max join (max (greatest (map end_of r.joined)) (greatest told))
+  high : r.high ≡ max join (max (greatest_of (map end_of r.joined)) (greatest_of told))
 
 grown_place : (g : Geometry) (publication : Publication) (join : ℕ) (told : List ℕ) (r : Received) (f : Frame) → IsEncodable f → HasGrown g publication join told r
-    → HasGrown g publication join told (after r f (frame_fate r f (joining_position r.geometry r.publication f)))
+    → HasGrown g publication join told (after_frame r f (frame_fate r f (joining_position r.geometry r.publication f)))
 grown_place g publication join told r f encodable so =
-    by_joining_position (λ (it : Fate). HasGrown g publication join told (after r f it)) r f (joining_position r.geometry r.publication f) refl
+    by_joining_position (λ (it : Fate). HasGrown g publication join told (after_frame r f it)) r f (joining_position r.geometry r.publication f) refl
     (λ p lies opens.
     let ends = ends_insert r.high p f r.from r.joined so.spaced (has_size r.geometry r.publication f p encodable lies) (open_parts r p (p + aligned_length f) opens).free in
     record {
@@ -105,7 +105,7 @@ grown_place g publication join told r f encodable so =
     so
 
 grown_heartbeat : (g : Geometry) (publication : Publication) (join : ℕ) (told : List ℕ) (r : Received) (f : Frame) (o : Option ℕ) → HasGrown g publication join told r
-    → HasGrown g publication join (told ++ heartbeat_at Heartbeat o) (after r f (heartbeat_fate o))
+    → HasGrown g publication join (told ++ heartbeat_at Heartbeat o) (after_frame r f (heartbeat_fate o))
 grown_heartbeat g publication join told r f None so = rw (append-nil told) so
 grown_heartbeat g publication join told r f (Some p) so = record {
   geometry = so.geometry;
@@ -113,11 +113,11 @@ grown_heartbeat g publication join told r f (Some p) so = record {
   from = so.from;
   spaced = spaced_wider r.from r.high r.from (max r.high p) r.joined (omega arith) (omega arith) so.spaced;
   members = so.members;
-  high = omega (arith, so.high, greatest-append told (p ∷ []));
+  high = omega (arith, so.high, greatest_of-append told (p ∷ []));
 }
 
 grown_kind : (g : Geometry) (publication : Publication) (join : ℕ) (told : List ℕ) (r : Received) (f : Frame) (kind : FrameKind) → IsEncodable f → HasGrown g publication join told r
-    → HasGrown g publication join (told ++ heartbeat_at kind (if is_of publication f then frame_position g f else None)) (after r f (fate_of kind r f))
+    → HasGrown g publication join (told ++ heartbeat_at kind (if is_of publication f then frame_position g f else None)) (after_frame r f (fate_of kind r f))
 grown_kind g publication join told r f Pad encodable so = rw (append-nil told) (grown_place g publication join told r f encodable so)
 grown_kind g publication join told r f Message encodable so = rw (append-nil told) (grown_place g publication join told r f encodable so)
 grown_kind g publication join told r f Heartbeat encodable so =
@@ -147,7 +147,7 @@ pub high_water_mark : (g : Geometry) (publication : Publication) (join : ℕ) (f
 high_water_mark g publication join fs encodable =
     let r : Received = received_all (begun g publication join) fs in
     let so = grown g publication join fs encodable in
-    rw (so.geometry, so.publication) (omega (arith, so.high, greatest-append (map end_of r.joined) (heard g publication fs)))
+    rw (so.geometry, so.publication) (omega (arith, so.high, greatest_of-append (map end_of r.joined) (heard g publication fs)))
 
 pub lie_apart : (g : Geometry) (publication : Publication) (join : ℕ) (fs : List Frame) → AreEncodable fs → LieApart join (received_all (begun g publication join) fs)
 lie_apart g publication join fs encodable =

@@ -10,7 +10,7 @@ use Rattle.frame_core.specs.FrameEncoding.{aligned_length}
 use Rattle.image_core.specs.declared.fate.Fate.{Fate}
 use Rattle.image_core.specs.declared.fate.Fate.TheVariants.{Joins, Tells, Drops}
 use Rattle.image_core.specs.Rebuild.{end_of, chain_end, next_start}
-use Rattle.image_core.specs.Received.{Received, after, fate, fate_of, frame_fate, gap_end, heartbeat_fate, is_free, is_open, rebuilt, received, received_all, window}
+use Rattle.image_core.specs.Received.{Received, after_frame, fate, fate_of, frame_fate, gap_end, heartbeat_fate, is_free, is_open, rebuilt, received, received_all, window}
 use Rattle.image_core.specs.Received.{IsChain, IsUnseen, StandsFor}
 use Rattle.image_core.specs.Take.{IsGap}
 use Rattle.frame_core.specs.declared.nak.Nak.{Nak}
@@ -63,7 +63,7 @@ joins_past r f p kind =
     (λ q is. absurd cc)
     (λ is. absurd cc)
 
-after_stands : (all r : Received) → StandsFor all r → (f : Frame) (it : Fate) → ((p : ℕ) → it ≡ Joins p → rebuilt r ≤ p) → StandsFor (after all f it) (after r f it)
+after_stands : (all r : Received) → StandsFor all r → (f : Frame) (it : Fate) → ((p : ℕ) → it ≡ Joins p → rebuilt r ≤ p) → StandsFor (after_frame all f it) (after_frame r f it)
 after_stands all r s f (Joins p) past =
     let beyond = past p refl in
     let low = chain_low r.from r.joined in

@@ -17,7 +17,7 @@ use Rattle.frame_core.specs.FrameEncoding.{HasLength, aligned, aligned_length}
 use Rattle.frame_core.proofs.PositionLemmas.{given}
 use Rattle.image_core.specs.Rebuild.{chain_end, end_of}
 use Rattle.image_core.specs.Received.{IsChain, Received, is_inside, is_of, is_within}
-use Rattle.image_core.specs.Kept.{AreMembers, AreSpaced, HasTerms, IsKept, MovesFirst, TakesMessages, block_length, next_size, run_length}
+use Rattle.image_core.specs.Kept.{AreMembers, AreSpaced, HasTerms, IsKeptImage, MovesFirst, TakesMessages, block_length, next_size, run_length}
 use Rattle.image_core.specs.Take.{GivesBlock, IsLongest, TakesBlock}
 use Rattle.image_core.proofs.ChainLemmas.{chain_append, chain_below, chain_over}
 use Rattle.image_core.proofs.RunLemmas.{run_behind}
@@ -189,8 +189,8 @@ spaced_rest p q high [] after spaced chain low = rw (sym chain) (spaced, low)
 spaced_rest p q high (m ∷ taken) after spaced chain low = spaced_rest (end_of m) q high taken after spaced.3 chain.2 spaced.2
 
 -- what is kept when a block was taken
-pub kept_take : (r : Received) (at to : ℕ) (given : List Frame) (after : List (ℕ × Frame)) → IsKept r at → TakesBlock r.geometry r.publication r.from r.joined given to after
-    → IsKept (record r { from = to; joined = after }) at
+pub kept_take : (r : Received) (at to : ℕ) (given : List Frame) (after : List (ℕ × Frame)) → IsKeptImage r at → TakesBlock r.geometry r.publication r.from r.joined given to after
+    → IsKeptImage (record r { from = to; joined = after }) at
 kept_take r at to given after kept takes =
     let rest = spaced_rest r.from to r.high takes.taken after (rw takes.left at kept.spaced) takes.chain kept.begins in
     record {

@@ -33,7 +33,7 @@ pub record HasTerms (g : Geometry) : Type 0 where
   pub mtu : g.mtu ≤ℤ pos 65504
 
 -- what an image keeps, with its rebuild position at hand
-pub record IsKept (r : Received) (at : ℕ) : Type 0 where
+pub record IsKeptImage (r : Received) (at : ℕ) : Type 0 where
   pub terms : HasTerms r.geometry
   pub spaced : AreSpaced r.from r.high r.joined
   pub members : AreMembers r.geometry r.publication r.joined
@@ -42,13 +42,13 @@ pub record IsKept (r : Received) (at : ℕ) : Type 0 where
   pub limit : r.high ≤ 2 ^ 31 * unsigned_abs r.geometry.term_length
 
 -- the frames that are left, where those at some positions go, the last position first
-abbrev pub without : List ℕ → List (ℕ × Frame) → List (ℕ × Frame)
-without [] ms = ms
-without (p ∷ ps) ms = remove_entry (is_at (nat_cmp p)) (without ps ms)
+abbrev pub without_positions : List ℕ → List (ℕ × Frame) → List (ℕ × Frame)
+without_positions [] ms = ms
+without_positions (p ∷ ps) ms = remove_entry (is_at (nat_cmp p)) (without_positions ps ms)
 
 -- as it was before some frames joined, whose positions these are
 abbrev pub undone : List ℕ → ℕ → Received → Received
-undone ps high r = record r { joined = without ps r.joined; high = high }
+undone ps high r = record r { joined = without_positions ps r.joined; high = high }
 
 -- a frame joins at a position, inside the stream
 pub record IsJoining (r : Received) (f : Frame) (p : ℕ) : Type 0 where

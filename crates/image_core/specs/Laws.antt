@@ -24,9 +24,9 @@ pub record HasLongestChain (r : Received) : Type 0 where
   pub longest : (other : List (ℕ × Frame)) (end : ℕ) → AllByRecursion (Contains r.joined) other → IsChain r.from other end → end ≤ rebuilt r
 
 -- the greatest of some numbers
-abbrev pub greatest : List ℕ → ℕ
-greatest [] = 0
-greatest (n ∷ ns) = max n (greatest ns)
+abbrev pub greatest_of : List ℕ → ℕ
+greatest_of [] = 0
+greatest_of (n ∷ ns) = max n (greatest_of ns)
 
 -- the position of a heartbeat
 abbrev pub heartbeat_at : FrameKind → Option ℕ → List ℕ
@@ -42,4 +42,4 @@ heard g publication (f ∷ fs) = heartbeat_at f.kind (if is_of publication f the
 
 -- the high-water mark is the greatest of the join position, the ends of the received frames, and the positions of the publication's heartbeats among all frames
 abbrev pub HasHighWaterMark : ℕ → List Frame → Received → Type 0
-HasHighWaterMark join fs r = r.high ≡ greatest (join ∷ map end_of r.joined ++ heard r.geometry r.publication fs)
+HasHighWaterMark join fs r = r.high ≡ greatest_of (join ∷ map end_of r.joined ++ heard r.geometry r.publication fs)

@@ -89,13 +89,13 @@ abbrev pub fate : Received → Frame → Fate
 fate r f = fate_of f.kind r f
 
 -- after a frame that came so
-abbrev pub after : Received → Frame → Fate → Received
-after r f (Joins p) = record r { joined = insert_entry nat_cmp r.joined p f; high = max r.high (p + aligned_length f) }
-after r f (Tells p) = record r { high = max r.high p }
-after r f Drops = r
+abbrev pub after_frame : Received → Frame → Fate → Received
+after_frame r f (Joins p) = record r { joined = insert_entry nat_cmp r.joined p f; high = max r.high (p + aligned_length f) }
+after_frame r f (Tells p) = record r { high = max r.high p }
+after_frame r f Drops = r
 
 abbrev pub received : Received → Frame → Received
-received r f = after r f (fate r f)
+received r f = after_frame r f (fate r f)
 
 -- after some frames, in order
 abbrev pub received_all : Received → List Frame → Received

@@ -15,5 +15,5 @@ unfoldable pub is_in_range : Nak → Frame → Bool
 is_in_range n f = int_lt (int_max f.term_offset n.term_offset) (int_min (f.term_offset +ℤ pos (aligned_length f)) (n.term_offset +ℤ n.length))
 
 -- the request asks for the frame
-abbrev pub is_asked : Nak → Frame → Bool
-is_asked n f = is_of_request n f && is_in_range n f
+abbrev pub asks_for : Nak → Frame → Bool
+asks_for n f = is_of_request n f && is_in_range n f

@@ -4,7 +4,7 @@ ghost use Rattle.std.specs.Prelude.{◌≡◌, ◌<◌, ◌≤◌, ◌^◌, OnOk
 ghost use Rattle.std.specs.Ordering.{nat_cmp};
 ghost use Rattle.std.specs.BTreeMap.{insert_entry};
 ghost use Rattle.frame_core.specs.declared.refusal.Refusal.TheVariants.{NoMemory};
-ghost use Rattle.image_core.specs.Kept.{AreSpaced, without};
+ghost use Rattle.image_core.specs.Kept.{AreSpaced, without_positions};
 ghost use Rattle.image_core.specs.Rebuild.{chain_end, next_start};
 ghost use Rattle.image_core.specs.Received.{is_free};
 
@@ -63,7 +63,7 @@ pub fn put(held: &mut BTreeMap<u64, Frame>, position: u64, frame: Frame) -> Resu
 
 /// Takes frames out, the last position first.
 pub fn withdraw(held: &mut BTreeMap<u64, Frame>, mut positions: Vec<u64>)
-    ensures { held.new.entries ≡ without positions.items held.old.entries }
+    ensures { held.new.entries ≡ without_positions positions.items held.old.entries }
 {
     'each: while let Some(position) = positions.pop() {
         held.remove(&position);

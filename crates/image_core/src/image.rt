@@ -11,8 +11,8 @@ ghost use Rattle.frame_core.specs.Setup.{IsUsable};
 ghost use Rattle.image_core.specs.Take.{GivesBlock, IsGap};
 ghost use Rattle.image_core.specs.Received.{StandsFor};
 ghost use Rattle.image_core.specs.Insert.{Inserts, IsForeign, IsInsertRefusal, tally, uncounted};
-ghost use Rattle.image_core.specs.Kept.{HasTerms, IsComing, IsJoining, IsKept, undone};
-ghost use Rattle.image_core.specs.Received.{IsBegun, Received, after, begun, fate, frame_fate, gap_end, heartbeat_fate, is_of, is_open, joining_position, rebuilt, received, received_all};
+ghost use Rattle.image_core.specs.Kept.{HasTerms, IsComing, IsJoining, IsKeptImage, undone};
+ghost use Rattle.image_core.specs.Received.{IsBegun, Received, after_frame, begun, fate, frame_fate, gap_end, heartbeat_fate, is_of, is_open, joining_position, rebuilt, received, received_all};
 
 use crate::fate::Fate;
 use crate::gaps::{nak_over, term_end};
@@ -45,7 +45,7 @@ pub struct Image {
 
 impl Model for Image {
     ghost use Rattle.image_core.specs.Received.{Received};
-    ghost use Rattle.image_core.specs.Kept.{IsKept};
+    ghost use Rattle.image_core.specs.Kept.{IsKeptImage};
 
     ghost Value = { Received };
 
@@ -57,7 +57,7 @@ impl Model for Image {
       high = i.high;
     } };
 
-    ghost invariant = { λ i. IsKept (record {
+    ghost invariant = { λ i. IsKeptImage (record {
       geometry = i.geometry;
       publication = i.publication;
       from = i.from;
@@ -279,7 +279,7 @@ impl Image {
         requires encodable { IsEncodable (frame_of frame.now) }
         requires joins { IsJoining self.old (frame_of frame.now) position }
         ensures after { OnOk result
-            (self.new ≡ after self.old (frame_of frame.now) (Fate.Joins position)) }
+            (self.new ≡ after_frame self.old (frame_of frame.now) (Fate.Joins position)) }
         ensures back { OnOk result ((high : ℕ)
             → undone noted.new.items high self.new ≡ undone noted.old.items high self.old) }
         ensures memory { IfErr result (λ refusal. refusal ≡ NoMemory) }
@@ -306,7 +306,7 @@ impl Image {
 
     /// Takes frames out again that had joined.
     fn leave(&mut self, positions: Vec<u64>, rebuilt: u64, high: u64)
-        requires { IsKept (undone positions.items high self.old) rebuilt }
+        requires { IsKeptImage (undone positions.items high self.old) rebuilt }
         ensures { self.new ≡ undone positions.items high self.old }
     {
         withdraw(&mut self.held, positions);

@@ -6,7 +6,7 @@ ghost use Rattle.std.specs.List.{filter};
 ghost use Rattle.frame_core.specs.Block.{AreEncodable};
 ghost use Rattle.frame_core.specs.FrameEncoding.{IsEncodable, aligned_length, encoded};
 ghost use Rattle.frame_core.specs.declared.refusal.Refusal.TheVariants.{NoMemory};
-ghost use Rattle.image_core.specs.Repair.{is_asked, is_in_range, is_of_request};
+ghost use Rattle.image_core.specs.Repair.{asks_for, is_in_range, is_of_request};
 
 use frame_core::{Frame, Items, Nak, Refusal, encode_into};
 use std::alloc::Global;
@@ -17,7 +17,7 @@ use std::alloc::Global;
 pub fn repair(alloc: Global, frames: &[Frame], nak: &Nak) -> Result<Items<Items<u8>>, Refusal>
     requires { AreEncodable frames.now }
     ensures asked { IfOk result
-        (λ datagrams. datagrams ≡ map encoded (filter (is_asked nak.now) frames.now)) }
+        (λ datagrams. datagrams ≡ map encoded (filter (asks_for nak.now) frames.now)) }
     ensures memory { IfErr result (λ refusal. refusal ≡ NoMemory) }
 {
     let mut datagrams = Items::new(alloc);
@@ -42,7 +42,7 @@ fn datagram_of(alloc: Global, frame: &Frame) -> Result<Items<u8>, Refusal>
 
 /// Whether a request asks for a frame.
 fn is_asked_for(nak: &Nak, frame: &Frame) -> bool
-    ensures { result ≡ is_asked nak.now frame.now }
+    ensures { result ≡ asks_for nak.now frame.now }
 {
     is_of_request(nak, frame) && is_in_range(nak, frame)
 }

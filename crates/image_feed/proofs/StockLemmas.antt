@@ -22,9 +22,9 @@ use Rattle.image_core.specs.declared.fate.Fate.TheVariants.{Drops, Joins}
 use Rattle.image_core.specs.declared.inserted.Inserted.{Inserted}
 use Rattle.image_core.specs.Insert.{Inserts}
 use Rattle.image_core.specs.Rebuild.{end_of}
-use Rattle.image_core.specs.Received.{IsBegun, IsChain, Received, after, fate_of, frame_fate, gap_end, heartbeat_fate, is_open, joining_position, rebuilt, received, received_all}
+use Rattle.image_core.specs.Received.{IsBegun, IsChain, Received, after_frame, fate_of, frame_fate, gap_end, heartbeat_fate, is_open, joining_position, rebuilt, received, received_all}
 use Rattle.image_core.specs.Take.{GivesBlock, IsGap}
-use Rattle.image_feed.specs.Stock.{Asks, HoldsItsStock, are_near, ends_by, is_near, is_near_of, is_stocked, reach, stock_end}
+use Rattle.image_feed.specs.Stock.{Asks, HoldsItsStock, are_near, ends_within, is_near, is_near_of, is_stocked, reach, stock_end}
 
 -- nothing is held of what has just begun
 pub begun_stock : (s : Setup) (r : Received) → IsBegun s r → HoldsItsStock r
@@ -47,23 +47,23 @@ joins_at : (g : Geometry) (publication : Publication) (f : Frame) (p : ℕ) → 
 unfolding joining_position
 joins_at g publication f p is = grind arith
 
-keeps_joining : (r : Received) (f : Frame) (found : Option ℕ) → HoldsItsStock r → ((p : ℕ) → found ≡ Some p → p + aligned_length f ≤ stock_end r) → Keeps r (after r f (frame_fate r f found))
+keeps_joining : (r : Received) (f : Frame) (found : Option ℕ) → HoldsItsStock r → ((p : ℕ) → found ≡ Some p → p + aligned_length f ≤ stock_end r) → Keeps r (after_frame r f (frame_fate r f found))
 keeps_joining r f None stock fits = record { from = refl; geometry = refl; stock = stock }
 keeps_joining r f (Some p) stock fits = joined (is_open r p (p + aligned_length f))
   where
-    joined : (b : Bool) → Keeps r (after r f (cond b (Joins p) Drops))
+    joined : (b : Bool) → Keeps r (after_frame r f (cond b (Joins p) Drops))
     joined true = record { from = refl; geometry = refl; stock = stock_insert (stock_end r) p f r.joined stock (fits p refl) }
     joined false = record { from = refl; geometry = refl; stock = stock }
 
-near_ends : (limit p : ℕ) (f : Frame) (found : Option ℕ) → ends_by limit f found ≡ true → found ≡ Some p → p + aligned_length f ≤ limit
+near_ends : (limit p : ℕ) (f : Frame) (found : Option ℕ) → ends_within limit f found ≡ true → found ≡ Some p → p + aligned_length f ≤ limit
 near_ends limit p f None near is = absurd cc
 near_ends limit p f (Some q) near is = let same : q ≡ p = cc in grind (arith, nat_tests)
 
-keeps_told : (r : Received) (f : Frame) (found : Option ℕ) → HoldsItsStock r → Keeps r (after r f (heartbeat_fate found))
+keeps_told : (r : Received) (f : Frame) (found : Option ℕ) → HoldsItsStock r → Keeps r (after_frame r f (heartbeat_fate found))
 keeps_told r f None stock = record { from = refl; geometry = refl; stock = stock }
 keeps_told r f (Some p) stock = record { from = refl; geometry = refl; stock = stock }
 
-keeps_of : (kind : FrameKind) (r : Received) (f : Frame) → HoldsItsStock r → is_near_of kind r.geometry (stock_end r) f ≡ true → Keeps r (after r f (fate_of kind r f))
+keeps_of : (kind : FrameKind) (r : Received) (f : Frame) → HoldsItsStock r → is_near_of kind r.geometry (stock_end r) f ≡ true → Keeps r (after_frame r f (fate_of kind r f))
 keeps_of Pad r f stock near =
     keeps_joining r f (joining_position r.geometry r.publication f) stock (λ p is. near_ends (stock_end r) p f (frame_position r.geometry f) near (joins_at r.geometry r.publication f p is))
 keeps_of Message r f stock near =

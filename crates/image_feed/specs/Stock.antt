@@ -20,14 +20,14 @@ abbrev pub stock_end : Received → ℕ
 stock_end r = r.from + 1048576
 
 -- a frame that begins there, if it has a position, ends at a limit at most
-abbrev pub ends_by : ℕ → Frame → Option ℕ → Bool
-ends_by limit f None = true
-ends_by limit f (Some p) = nat_le (p + aligned_length f) limit
+abbrev pub ends_within : ℕ → Frame → Option ℕ → Bool
+ends_within limit f None = true
+ends_within limit f (Some p) = nat_le (p + aligned_length f) limit
 
 -- it is never held, or ends at a limit at most
 abbrev pub is_near_of : FrameKind → Geometry → ℕ → Frame → Bool
-is_near_of Pad g limit f = ends_by limit f (frame_position g f)
-is_near_of Message g limit f = ends_by limit f (frame_position g f)
+is_near_of Pad g limit f = ends_within limit f (frame_position g f)
+is_near_of Message g limit f = ends_within limit f (frame_position g f)
 is_near_of Heartbeat g limit f = true
 
 abbrev pub is_near : Geometry → ℕ → Frame → Bool

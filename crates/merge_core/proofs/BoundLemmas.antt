@@ -11,9 +11,9 @@ use Rattle.frame_core.specs.FrameEncoding.{aligned_length}
 use Rattle.frame_core.proofs.OrderLemmas.{by_cmp}
 use Rattle.merge_core.specs.declared.merge.Offered.{Offered}
 use Rattle.merge_core.specs.declared.merge.Offered.TheVariants.{Held, Ignored, Full}
-use Rattle.merge_core.specs.Merge.{Merging, opened, offer_position, offered_at, with_frame, with_live_end, joins_at, after_replay_at, after_live_at, held_at, next_frame, past}
-use Rattle.merge_core.specs.Runs.{Step, after_step, after}
-use Rattle.merge_core.specs.Runs.Step.{ReplayFrame, LiveFrame, Take}
+use Rattle.merge_core.specs.Merge.{Merging, opened_merge, offer_position, offered_at, with_frame, with_live_end, joins_at, after_replay_at, after_live_at, held_at, next_frame, past}
+use Rattle.merge_core.specs.Runs.{MergeStep, after_step, after_steps}
+use Rattle.merge_core.specs.Runs.MergeStep.{ReplayFrame, LiveFrame, Take}
 
 length_inserted : (es : List (ℕ × Frame)) (p : ℕ) (f : Frame) → length (insert_entry nat_cmp es p f) ≤ length es + 1
 length_inserted [] p f = omega arith
@@ -63,16 +63,16 @@ unfolding IsFew
 few_take m None few = few
 few_take m (Some f) few = omega (arith, few, length_removed m.held m.cursor)
 
-few_step : (step : Step) (m : Merging) → IsFew m → IsFew (after_step step m)
+few_step : (step : MergeStep) (m : Merging) → IsFew m → IsFew (after_step step m)
 few_step (ReplayFrame f) m few = few_replay m f (offer_position m.geometry f) few
 few_step (LiveFrame f) m few = few_live m f (offer_position m.geometry f) few
 few_step Take m few = few_take m (next_frame m) few
 
-few_after : (steps : List Step) (m : Merging) → IsFew m → IsFew (after steps m)
+few_after : (steps : List MergeStep) (m : Merging) → IsFew m → IsFew (after_steps steps m)
 few_after [] m few = few
 few_after (step ∷ steps) m few = few_after steps (after_step step m) (few_step step m few)
 
 -- at most 4,096 frames are held
-pub few_frames : (g : Geometry) (position : ℕ) (steps : List Step) → length (after steps (opened g position)).held ≤ 4096
+pub few_frames : (g : Geometry) (position : ℕ) (steps : List MergeStep) → length (after_steps steps (opened_merge g position)).held ≤ 4096
 unfolding IsFew
-few_frames g position steps = few_after steps (opened g position) (omega arith)
+few_frames g position steps = few_after steps (opened_merge g position) (omega arith)

@@ -11,9 +11,9 @@ use Rattle.frame_core.specs.declared.refusal.Refusal.{Refusal}
 use Rattle.frame_core.specs.FrameEncoding.{aligned_length}
 use Rattle.merge_core.specs.declared.merge.Offered.{Offered}
 use Rattle.merge_core.specs.declared.merge.Offered.TheVariants.{Held, Ignored, Full}
-use Rattle.merge_core.specs.Merge.{Merging, opened, offer_position, offered_at, is_among, with_frame, with_live_end, joins_at, after_replay_at, after_live_at, next_frame, past}
-use Rattle.merge_core.specs.Runs.{Step, after_step, after, live_end_at, live_end_of, live_ends_of, IsJoinedFrom, IsJoined}
-use Rattle.merge_core.specs.Runs.Step.{ReplayFrame, LiveFrame, Take}
+use Rattle.merge_core.specs.Merge.{Merging, opened_merge, offer_position, offered_at, is_among, with_frame, with_live_end, joins_at, after_replay_at, after_live_at, next_frame, past}
+use Rattle.merge_core.specs.Runs.{MergeStep, after_step, after_steps, live_end_at, live_end_of, live_ends_of, IsJoinedFrom, IsJoined}
+use Rattle.merge_core.specs.Runs.MergeStep.{ReplayFrame, LiveFrame, Take}
 use Rattle.merge_core.proofs.EndLemmas.{same_at, among_inserted}
 
 -- the live stream is joined if the cursor is one of these ends; until then these are the ends that are kept
@@ -82,7 +82,7 @@ take_stands ends m (Some f) s unjoined = record {
   kept = λ not_joined. s.kept unjoined;
 }
 
-step_stands : (step : Step) (ends : List ℕ) (m : Merging) → Stands ends m → m.is_merged ≡ false → Stands (ends ++ live_end_of step m) (after_step step m)
+step_stands : (step : MergeStep) (ends : List ℕ) (m : Merging) → Stands ends m → m.is_merged ≡ false → Stands (ends ++ live_end_of step m) (after_step step m)
 step_stands (ReplayFrame f) ends m s unjoined = none_more ends (after_step (ReplayFrame f) m) (replay_stands ends m f (offer_position m.geometry f) s)
 step_stands (LiveFrame f) ends m s unjoined = live_stands ends m f (offer_position m.geometry f) s unjoined
 step_stands Take ends m s unjoined = none_more ends (after_step Take m) (take_stands ends m (next_frame m) s unjoined)
@@ -108,12 +108,12 @@ take_merged : (m : Merging) (found : Option Frame) → m.is_merged ≡ true → 
 take_merged m None is = is
 take_merged m (Some f) is = ap (λ b. b || is_among (m.cursor + aligned_length f) m.live_ends) is
 
-step_merged : (step : Step) (m : Merging) → m.is_merged ≡ true → (after_step step m).is_merged ≡ true
+step_merged : (step : MergeStep) (m : Merging) → m.is_merged ≡ true → (after_step step m).is_merged ≡ true
 step_merged (ReplayFrame f) m is = replay_merged m f (offer_position m.geometry f) is
 step_merged (LiveFrame f) m is = live_merged m f (offer_position m.geometry f) is
 step_merged Take m is = take_merged m (next_frame m) is
 
-merged_stays : (steps : List Step) (m : Merging) → m.is_merged ≡ true → (after steps m).is_merged ≡ true
+merged_stays : (steps : List MergeStep) (m : Merging) → m.is_merged ≡ true → (after_steps steps m).is_merged ≡ true
 merged_stays [] m is = is
 merged_stays (step ∷ steps) m is = merged_stays steps (after_step step m) (step_merged step m is)
 
@@ -122,7 +122,7 @@ by_bool true joined unjoined = joined refl
 by_bool false joined unjoined = unjoined refl
 
 -- where the merge says that the live stream is joined, it is
-joined_on : (steps : List Step) (ends : List ℕ) (m : Merging) → Stands ends m → (after steps m).is_merged ≡ true → IsJoinedFrom ends steps m
+joined_on : (steps : List MergeStep) (ends : List ℕ) (m : Merging) → Stands ends m → (after_steps steps m).is_merged ≡ true → IsJoinedFrom ends steps m
 joined_on [] ends m s is = record { before = []; rest = []; whole = refl; reached = ap (is_among m.cursor) (append-nil ends) ∙ sym s.joined ∙ is }
 joined_on (step ∷ steps) ends m s is =
     by_bool m.is_merged
@@ -133,22 +133,22 @@ joined_on (step ∷ steps) ends m s is =
       before = step ∷ j.before;
       rest = j.rest;
       whole = ap (λ more. step ∷ more) j.whole;
-      reached = ap (is_among (after j.before (after_step step m)).cursor) (sym (append_assoc ends (live_end_of step m) (live_ends_of j.before (after_step step m)))) ∙ j.reached;
+      reached = ap (is_among (after_steps j.before (after_step step m)).cursor) (sym (append_assoc ends (live_end_of step m) (live_ends_of j.before (after_step step m)))) ∙ j.reached;
     })
 
 -- and where it is, the merge says so
-joined_back : (before rest : List Step) (ends : List ℕ) (m : Merging) → Stands ends m → is_among (after before m).cursor (ends ++ live_ends_of before m) ≡ true → (after (before ++ rest) m).is_merged ≡ true
+joined_back : (before rest : List MergeStep) (ends : List ℕ) (m : Merging) → Stands ends m → is_among (after_steps before m).cursor (ends ++ live_ends_of before m) ≡ true → (after_steps (before ++ rest) m).is_merged ≡ true
 joined_back [] rest ends m s reached = merged_stays rest m (s.joined ∙ ap (is_among m.cursor) (sym (append-nil ends)) ∙ reached)
 joined_back (step ∷ before) rest ends m s reached =
     by_bool m.is_merged (merged_stays (step ∷ before ++ rest) m)
     (λ unjoined. joined_back before rest (ends ++ live_end_of step m) (after_step step m) (step_stands step ends m s unjoined)
-    (ap (is_among (after before (after_step step m)).cursor) (append_assoc ends (live_end_of step m) (live_ends_of before (after_step step m))) ∙ reached))
+    (ap (is_among (after_steps before (after_step step m)).cursor) (append_assoc ends (live_end_of step m) (live_ends_of before (after_step step m))) ∙ reached))
 
 -- a merge says that the live stream is joined exactly where it is by the steps so far
-pub merged_is_joined : (g : Geometry) (position : ℕ) (steps : List Step)
-    → IsTrue (after steps (opened g position)).is_merged ↔ IsJoined steps (opened g position)
+pub merged_is_joined : (g : Geometry) (position : ℕ) (steps : List MergeStep)
+    → IsTrue (after_steps steps (opened_merge g position)).is_merged ↔ IsJoined steps (opened_merge g position)
 merged_is_joined g position steps =
-    let start : Stands [] (opened g position) = record { joined = refl; kept = λ unjoined e. refl } in (
-      joined_on steps [] (opened g position) start,
-      λ j. subst (λ all. (after all (opened g position)).is_merged ≡ true) (sym j.whole) (joined_back j.before j.rest [] (opened g position) start j.reached),
+    let start : Stands [] (opened_merge g position) = record { joined = refl; kept = λ unjoined e. refl } in (
+      joined_on steps [] (opened_merge g position) start,
+      λ j. subst (λ all. (after_steps all (opened_merge g position)).is_merged ≡ true) (sym j.whole) (joined_back j.before j.rest [] (opened_merge g position) start j.reached),
     )

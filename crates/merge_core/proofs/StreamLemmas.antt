@@ -13,9 +13,9 @@ use Rattle.frame_core.specs.FrameEncoding.{aligned_length}
 use Rattle.frame_core.specs.Position.{frame_position}
 use Rattle.merge_core.specs.declared.merge.Offered.{Offered}
 use Rattle.merge_core.specs.declared.merge.Offered.TheVariants.{Held, Ignored, Full}
-use Rattle.merge_core.specs.Merge.{Merging, opened, offer_of, offer_position, offered_at, with_frame, with_live_end, joins_at, after_replay_at, after_live_at, after_replay_frame, after_live_frame, next_frame, past}
-use Rattle.merge_core.specs.Runs.{Step, taken, output, Follow, AreOf, from, IsBeginning}
-use Rattle.merge_core.specs.Runs.Step.{ReplayFrame, LiveFrame, Take}
+use Rattle.merge_core.specs.Merge.{Merging, opened_merge, offer_of, offer_position, offered_at, with_frame, with_live_end, joins_at, after_replay_at, after_live_at, after_replay_frame, after_live_frame, next_frame, past}
+use Rattle.merge_core.specs.Runs.{MergeStep, taken, output, FramesFollow, AreOf, from, IsBeginning}
+use Rattle.merge_core.specs.Runs.MergeStep.{ReplayFrame, LiveFrame, Take}
 use Rattle.merge_core.proofs.HeldLemmas.{all_insert, all_remove, all_found}
 
 -- a frame of a stream is its first, or one of the others
@@ -26,7 +26,7 @@ of_cases x xs f of = elim (Contains-append_cases (x ∷ []) xs f of) [
 ]
 
 -- a frame of a stream begins at or behind the stream's start
-not_before : (g : Geometry) (stream : List Frame) (start p : ℕ) (f : Frame) → Follow g start stream → Contains stream f → frame_position g f ≡ Some p → start ≤ p
+not_before : (g : Geometry) (stream : List Frame) (start p : ℕ) (f : Frame) → FramesFollow g start stream → Contains stream f → frame_position g f ≡ Some p → start ≤ p
 not_before g [] start p f follow of at_position = absurd (omega (arith, of.1))
 not_before g (x ∷ xs) start p f follow of at_position = elim (of_cases x xs f of) [
   | inl same ↦ let here : start ≡ p = same_Some _ _ (sym follow.0 ∙ ap (frame_position g) (sym same) ∙ at_position) in omega arith
@@ -44,7 +44,7 @@ from_start p [] = refl
 from_start p (x ∷ xs) = rw (equal p) refl
 
 -- behind a frame of a stream, the stream goes on at that frame's end
-from_at : (g : Geometry) (stream : List Frame) (start p : ℕ) (f : Frame) → Follow g start stream → Contains stream f → frame_position g f ≡ Some p
+from_at : (g : Geometry) (stream : List Frame) (start p : ℕ) (f : Frame) → FramesFollow g start stream → Contains stream f → frame_position g f ≡ Some p
     → from p start stream ≡ f ∷ from (p + aligned_length f) start stream
 from_at g [] start p f follow of at_position = absurd (omega (arith, of.1))
 from_at g (x ∷ xs) start p f follow of at_position = elim (of_cases x xs f of) [
@@ -118,7 +118,7 @@ module _ (g : Geometry) (stream : List Frame) (cursor : ℕ) where
 begins_with : (f : Frame) (out rest : List Frame) → IsBeginning out rest → IsBeginning (f ∷ out) (f ∷ rest)
 begins_with f out rest b = (b.0, ap (λ y. f ∷ y) b.1)
 
-module _ (g : Geometry) (start : ℕ) (stream : List Frame) (follow : Follow g start stream) where
+module _ (g : Geometry) (start : ℕ) (stream : List Frame) (follow : FramesFollow g start stream) where
   -- what comes out where this frame is held at the cursor, where what comes out then is known
   take_gives : (m : Merging) (out : Merging → List Frame) → HoldsStream g stream m.cursor m
       → ((new : Merging) → HoldsStream g stream new.cursor new → IsBeginning (out new) (from new.cursor start stream))
@@ -138,7 +138,7 @@ module _ (g : Geometry) (start : ℕ) (stream : List Frame) (follow : Follow g s
       in
       rw (from_at g stream start m.cursor f follow of.1 of.0) begins
 
-  output_begins : (steps : List Step) (m : Merging) → HoldsStream g stream m.cursor m → AreOf stream steps
+  output_begins : (steps : List MergeStep) (m : Merging) → HoldsStream g stream m.cursor m → AreOf stream steps
       → IsBeginning (output steps m) (from m.cursor start stream)
   output_begins [] m h of = (from m.cursor start stream, refl)
   output_begins (ReplayFrame f ∷ steps) m h of =
@@ -154,7 +154,7 @@ module _ (g : Geometry) (start : ℕ) (stream : List Frame) (follow : Follow g s
   output_begins (Take ∷ steps) m h of = take_gives m (output steps) h (λ new. λ k. output_begins steps new k of) (next_frame m) refl
 
 -- whatever is offered of one stream, what comes out is a beginning of the stream from where the merge began
-pub gives_a_beginning : (g : Geometry) (opening start : ℕ) (stream : List Frame) (steps : List Step) → Follow g start stream → AreOf stream steps
-    → IsBeginning (output steps (opened g opening)) (from opening start stream)
+pub gives_a_beginning : (g : Geometry) (opening start : ℕ) (stream : List Frame) (steps : List MergeStep) → FramesFollow g start stream → AreOf stream steps
+    → IsBeginning (output steps (opened_merge g opening)) (from opening start stream)
 gives_a_beginning g opening start stream steps follow of =
-    output_begins g start stream follow steps (opened g opening) (record { same = refl; stands = refl; held = search rules }) of
+    output_begins g start stream follow steps (opened_merge g opening) (record { same = refl; stands = refl; held = search rules }) of

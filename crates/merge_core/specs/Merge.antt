@@ -26,8 +26,8 @@ pub record Merging : Type 0 where
   pub is_merged : Bool
 
 -- a merge begins at a position
-abbrev pub opened : Geometry → ℕ → Merging
-opened g position = record { geometry = g; cursor = position; held = []; live_ends = []; is_merged = false }
+abbrev pub opened_merge : Geometry → ℕ → Merging
+opened_merge g position = record { geometry = g; cursor = position; held = []; live_ends = []; is_merged = false }
 
 -- the frame that is held at a position
 abbrev pub held_at : ℕ → Merging → Option Frame

@@ -60,13 +60,13 @@ impl Model for Merge {
 }
 
 impl Merge {
-    ghost use Rattle.merge_core.specs.Merge.{opened, answer_to, after_replay_frame, after_live_frame, after_take, next_frame};
+    ghost use Rattle.merge_core.specs.Merge.{opened_merge, answer_to, after_replay_frame, after_live_frame, after_take, next_frame};
 
     /// A merge whose output begins at a position, in bytes of the stream. Does not allocate.
     pub fn new(alloc: Global, geometry: Geometry, position: i64) -> Merge
         requires low { pos 0 ≤ℤ position }
         requires high { position <ℤ (pos (2 ^ 31) *ℤ geometry.term_length) }
-        ensures { result ≡ opened geometry (unsigned_abs position) }
+        ensures { result ≡ opened_merge geometry (unsigned_abs position) }
     {
         Merge {
             geometry,

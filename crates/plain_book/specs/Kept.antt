@@ -16,7 +16,7 @@ use Rattle.archive_model.specs.Checks.{is_boundary_by}
 use Rattle.archive_model.specs.WellFormed.{IsKept}
 
 -- the recorded position is at hand, and the recording is as accepted commands leave it
-pub record Keeps (r : Recording) (recorded : ℤ) : Type 0 where
+pub record KeepsRecorded (r : Recording) (recorded : ℤ) : Type 0 where
   pub recorded_is : recorded ≡ recorded_position r
   pub kept : IsKept r
 
@@ -41,12 +41,12 @@ abbrev pub made_of : Change → Recording → Recording
 made_of c r = record { descriptor = (changed_by c (registration_of r)).descriptor; frames = left_by c r.descriptor.start_position r.frames }
 
 -- a change that adds no frame may be made of a recording
-abbrev pub Allows : Recording → Change → Type 0
-Allows r (Settle position) = ⊥
-Allows r (Stop timestamp) = Unit {0}
-Allows r (Extend session_id) = Unit {0}
-Allows r (Truncate position) = IsTrue (is_boundary_by (begins_frame position r) position (registration_of r))
-Allows r (PurgeSegments position) = IsTrue (is_later_base position (registration_of r))
+abbrev pub MayChange : Recording → Change → Type 0
+MayChange r (Settle position) = ⊥
+MayChange r (Stop timestamp) = Unit {0}
+MayChange r (Extend session_id) = Unit {0}
+MayChange r (Truncate position) = IsTrue (is_boundary_by (begins_frame position r) position (registration_of r))
+MayChange r (PurgeSegments position) = IsTrue (is_later_base position (registration_of r))
 
 -- an accepted append: its blocks join the recording of the id, which stands at the index, and end at the position
 pub record Joins (b : BookState) (id : ℤ) (blocks : List Block) (index : ℕ) (end : ℤ) : Type 0 where

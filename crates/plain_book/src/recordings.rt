@@ -3,7 +3,7 @@
 ghost use Rattle.std.specs.Prelude.{◌≡◌, IfSome, map};
 ghost use Rattle.archive_model.specs.Commands.{restarted};
 ghost use Rattle.archive_model.specs.Keyed.{change as changed_at, find, without};
-ghost use Rattle.plain_book.specs.Kept.{Allows, Rising, made_of};
+ghost use Rattle.plain_book.specs.Kept.{MayChange, Rising, made_of};
 ghost use Rattle.archive_model.specs.State.{id_of};
 
 use crate::recording::Recording;
@@ -11,7 +11,7 @@ use archive_model::{Change, index_of};
 
 /// Changes the recording of an id, if there is one. Does not allocate.
 pub(crate) fn change_one(recordings: &mut Vec<Recording>, id: &i64, change: &Change)
-    requires { IfSome (find id_of id.now recordings.old.items) (λ r. Allows r change.now) }
+    requires { IfSome (find id_of id.now recordings.old.items) (λ r. MayChange r change.now) }
     ensures { recordings.new.items
         ≡ changed_at id_of id.now (made_of change.now) recordings.old.items }
 {

@@ -12,14 +12,14 @@ use Rattle.position_board.specs.declared.rule.Maker.{Maker}
 use Rattle.position_board.specs.declared.rule.Raiser.{Raiser}
 use Rattle.position_board.specs.declared.rule.View.{View}
 use Rattle.position_board.specs.Positions.{position_at, last_position, NeverFall}
-use Rattle.position_board.specs.Rule.{making, writing, reading, no_part, with_reader, without_reader, reader_part, raised_to, Looked, Met, MakesFrom, RaisesIn, HasSeen, Fits, IsBoard}
+use Rattle.position_board.specs.Rule.{making, writing, reading, no_part, with_reader, without_reader, reader_part, raised_to, Looked, Met, MakesFrom, RaisesIn, HasSeen, KnowsRightly, IsBoard}
 use Rattle.position_board.proofs.PositionLemmas.{last_push, push_rises, one_rises, below_last, last_among, but_at, but_here, but_else, if_some}
 
 abbrev pub Holds : State (Unit {0}) View → Type 0
 Holds s = IsBoard s.words s.views
 
 abbrev Each : (ℕ → ℕ) → ℕ → (ℕ → List ℤ) → List View → Type 0
-Each seat slots lists views = (by : ℕ) (v : View) → get_elem? views by ≡ some v → Fits seat slots lists by v
+Each seat slots lists views = (by : ℕ) (v : View) → get_elem? views by ≡ some v → KnowsRightly seat slots lists by v
 
 -- the last one of a longer list is at its end
 at_end : (views : List View) (w : View) (by : ℕ) (v : View) → get_elem? (views ++ w ∷ []) by ≡ some v → (get_elem? views by ≡ some v) ⊎ ((by ≡ length views) × (w ≡ v))
@@ -29,20 +29,20 @@ at_end (x ∷ views) w zero v e = inl e
 at_end (x ∷ views) w (suc by) v e = ⊎_elim (λ t. inl t) (λ t. inr (ap suc t.0, t.1)) (at_end views w by v e)
 
 -- each is so where one has changed
-each_set : (seat : ℕ → ℕ) (slots : ℕ) (lists : ℕ → List ℤ) (views : List View) (id : ℕ) (w : View) → Fits seat slots lists id w
-    → ((by : ℕ) (v : View) → by ≢ id → get_elem? views by ≡ some v → Fits seat slots lists by v) → Each seat slots lists (set views id w)
+each_set : (seat : ℕ → ℕ) (slots : ℕ) (lists : ℕ → List ℤ) (views : List View) (id : ℕ) (w : View) → KnowsRightly seat slots lists id w
+    → ((by : ℕ) (v : View) → by ≢ id → get_elem? views by ≡ some v → KnowsRightly seat slots lists by v) → Each seat slots lists (set views id w)
 each_set seat slots lists views id w fits others by v at =
-    ⊎_elim (λ t. subst (λ (z : ℕ × View). Fits seat slots lists z.0 z.1) (λ i. (sym t.0 i, t.1 i)) fits) (λ t. others by v t.0 t.1) (at_set views id by w v at)
+    ⊎_elim (λ t. subst (λ (z : ℕ × View). KnowsRightly seat slots lists z.0 z.1) (λ i. (sym t.0 i, t.1 i)) fits) (λ t. others by v t.0 t.1) (at_set views id by w v at)
 
 -- and where one came
-each_push : (seat : ℕ → ℕ) (slots : ℕ) (lists : ℕ → List ℤ) (views : List View) (w : View) → Fits seat slots lists (length views) w
+each_push : (seat : ℕ → ℕ) (slots : ℕ) (lists : ℕ → List ℤ) (views : List View) (w : View) → KnowsRightly seat slots lists (length views) w
     → Each seat slots lists views → Each seat slots lists (views ++ w ∷ [])
 each_push seat slots lists views w fits each by v at =
-    ⊎_elim (λ t. each by v t) (λ t. subst (λ (z : ℕ × View). Fits seat slots lists z.0 z.1) (λ i. (sym t.0 i, t.1 i)) fits) (at_end views w by v at)
+    ⊎_elim (λ t. each by v t) (λ t. subst (λ (z : ℕ × View). KnowsRightly seat slots lists z.0 z.1) (λ i. (sym t.0 i, t.1 i)) fits) (at_end views w by v at)
 
 -- one seat knows something else
 module _ (words : List ℕ) (views : List View) (b : IsBoard words views) where
-  with_view : (id : ℕ) (w : View) → Fits b.seat (length words) b.lists id w → IsBoard words (set views id w)
+  with_view : (id : ℕ) (w : View) → KnowsRightly b.seat (length words) b.lists id w → IsBoard words (set views id w)
   with_view id w fits = record {
     seat = b.seat;
     lists = b.lists;
@@ -52,10 +52,10 @@ module _ (words : List ℕ) (views : List View) (b : IsBoard words views) where
     each = each_set b.seat (length words) b.lists views id w fits (λ by v _ at. b.each by v at);
   }
 
-  loaded : (slot id : ℕ) (w : View) → Fits b.seat (length words) b.lists id w → IsBoard (set words slot (get_or words slot 0)) (set views id w)
+  loaded : (slot id : ℕ) (w : View) → KnowsRightly b.seat (length words) b.lists id w → IsBoard (set words slot (get_or words slot 0)) (set views id w)
   loaded slot id w fits = subst (λ (ws : List ℕ). IsBoard ws (set views id w)) (sym (set-get_or words slot 0)) (with_view id w fits)
 
-  with_two : (id : ℕ) (w new : View) → Fits b.seat (length words) b.lists id w → Fits b.seat (length words) b.lists (length views) new → IsBoard words (set views id w ++ new ∷ [])
+  with_two : (id : ℕ) (w new : View) → KnowsRightly b.seat (length words) b.lists id w → KnowsRightly b.seat (length words) b.lists (length views) new → IsBoard words (set views id w ++ new ∷ [])
   with_two id w new fits fits_new =
       let one = with_view id w fits in record {
         seat = b.seat;
@@ -63,7 +63,7 @@ module _ (words : List ℕ) (views : List View) (b : IsBoard words views) where
         last = b.last;
         rising = b.rising;
         small = b.small;
-        each = each_push b.seat (length words) b.lists (set views id w) new (subst (λ (n : ℕ). Fits b.seat (length words) b.lists n new) (sym (length-set views id w)) fits_new) (each_set b.seat (length words) b.lists views id w fits (λ by v _ at. b.each by v at));
+        each = each_push b.seat (length words) b.lists (set views id w) new (subst (λ (n : ℕ). KnowsRightly b.seat (length words) b.lists n new) (sym (length-set views id w)) fits_new) (each_set b.seat (length words) b.lists views id w fits (λ by v _ at. b.each by v at));
       }
 
   -- what a reader knows once it has seen the word of a slot
@@ -86,7 +86,7 @@ module _ (words : List ℕ) (views : List View) (b : IsBoard words views) where
   not_below slot seen inside has = subst (λ (x : ℤ). position_at slot seen ≤ℤ x) (sym (b.last slot inside)) (below_last (b.lists slot) (position_at slot seen) (b.rising slot inside) (has.among slot inside))
 
 -- what others know stays so where a slot gets a new writer
-pub moved : (seat : ℕ → ℕ) (slots : ℕ) (lists : ℕ → List ℤ) (slot new by : ℕ) (v : View) → by ≢ seat slot → Fits seat slots lists by v → Fits (but_at slot new seat) slots lists by v
+pub moved : (seat : ℕ → ℕ) (slots : ℕ) (lists : ℕ → List ℤ) (slot new by : ℕ) (v : View) → by ≢ seat slot → KnowsRightly seat slots lists by v → KnowsRightly (but_at slot new seat) slots lists by v
 moved seat slots lists slot new by v other fits = record {
   maker = if_some v.maker (λ (m : Maker) (is : MakesFrom seat slots lists by m). record {
     wide = is.wide;
@@ -105,8 +105,8 @@ moved seat slots lists slot new by v other fits = record {
   still k own = but_else slot new seat k (λ same. other (sym own ∙ ap seat same)) ∙ own
 
 -- what others know stays so where a slot's list grows
-pub grown : (seat : ℕ → ℕ) (slots : ℕ) (lists : ℕ → List ℤ) (slot : ℕ) (x : ℤ) (by : ℕ) (v : View) → by ≢ seat slot → Fits seat slots lists by v
-    → Fits seat slots (but_at slot (lists slot ++ x ∷ []) lists) by v
+pub grown : (seat : ℕ → ℕ) (slots : ℕ) (lists : ℕ → List ℤ) (slot : ℕ) (x : ℤ) (by : ℕ) (v : View) → by ≢ seat slot → KnowsRightly seat slots lists by v
+    → KnowsRightly seat slots (but_at slot (lists slot ++ x ∷ []) lists) by v
 grown seat slots lists slot x by v other fits = record {
   maker = if_some v.maker (λ (m : Maker) (is : MakesFrom seat slots lists by m). record {
     wide = is.wide;
@@ -159,7 +159,7 @@ begins starts small = record {
   }
 
   only : Each (λ _. 0) (length starts) (λ k. pos (get_or starts k 0) ∷ []) (making 0 (map pos starts) ∷ [])
-  only zero v at = subst (Fits (λ _. 0) (length starts) (λ k. pos (get_or starts k 0) ∷ []) 0) (some-injective (making 0 (map pos starts)) v at) (record { maker = maker; raiser = tt; reader = tt })
+  only zero v at = subst (KnowsRightly (λ _. 0) (length starts) (λ k. pos (get_or starts k 0) ∷ []) 0) (some-injective (making 0 (map pos starts)) v at) (record { maker = maker; raiser = tt; reader = tt })
   only (suc by) v at = absurd (some-ne-none v (sym at))
 
 -- the maker makes the writer of the next slot

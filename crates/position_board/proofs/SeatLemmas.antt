@@ -6,27 +6,27 @@ use Rattle.atomic_table.specs.Seated.{TableId}
 use Rattle.atomic_table.specs.Table.{Allows, Splits, Joins}
 use Rattle.position_board.specs.declared.rule.View.{View}
 use Rattle.position_board.specs.Positions.{Published, position_at, last_position, new_writers}
-use Rattle.position_board.specs.Rule.{making, writing, reading, no_part, with_reader, reader_part, writer_made, next_writer, new_reader, raised_to, Looked, Met, Known, IsMaker, IsWriter, IsReader, positions_of, seen_of, starts_of, maker_next}
+use Rattle.position_board.specs.Rule.{making, writing, reading, no_part, with_reader, reader_part, writer_made, next_writer, new_reader, raised_to, Looked, Met, Known, IsMakerSeat, IsWriterSeat, IsReaderSeat, positions_of, seen_of, starts_of, maker_next}
 use Rattle.position_board.proofs.PositionLemmas.{last_push, push_rises, below_last}
 use Rattle.position_board.proofs.BoardLemmas.{Holds, makes_writer, makes_reader, raises, looks, joins, meets}
 
-pub looks_by : (table : TableId) (slots id slot : ℕ) (me : Known) → IsReader table me → slot < table.words
+pub looks_by : (table : TableId) (slots id slot : ℕ) (me : Known) → IsReaderSeat table me → slot < table.words
     → Allows Holds slots id me slot (λ word. word) (λ word m. Looked slot word me.0 m.0 × (m.1 ≡ me.1))
 looks_by table slots id slot me is inside =
     let wide = is.wide in
     subst (λ (k : Known). Allows Holds slots id k slot (λ word. word) (λ word m. Looked slot word k.0 m.0 × (m.1 ≡ k.1))) (sym is.known) (looks slots id slot (seen_of me.0) (omega arith))
 
-pub raises_by : (table : TableId) (slots id slot last word : ℕ) (me : Known) → IsWriter table slot last me → last_position (positions_of me.0) ≤ℤ pos word → word < 2 ^ 63
+pub raises_by : (table : TableId) (slots id slot last word : ℕ) (me : Known) → IsWriterSeat table slot last me → last_position (positions_of me.0) ≤ℤ pos word → word < 2 ^ 63
     → Allows Holds slots id me slot (λ _. word) (λ _ m. m ≡ (raised_to (pos word) me.0, me.1))
 raises_by table slots id slot last word me is above low =
     subst (λ (k : Known). Allows Holds slots id k slot (λ _. word) (λ _ m. m ≡ (raised_to (pos word) k.0, k.1))) (sym is.known) (raises slots id slot (positions_of me.0) word above low)
 
 -- a writer that has raised its slot's position
-pub raised_is : (table : TableId) (slot last word : ℕ) (me new : Known) → IsWriter table slot last me → last_position (positions_of me.0) ≤ℤ pos word → word < 2 ^ 63
-    → new ≡ (raised_to (pos word) me.0, me.1) → IsWriter table slot word new
+pub raised_is : (table : TableId) (slot last word : ℕ) (me new : Known) → IsWriterSeat table slot last me → last_position (positions_of me.0) ≤ℤ pos word → word < 2 ^ 63
+    → new ≡ (raised_to (pos word) me.0, me.1) → IsWriterSeat table slot word new
 raised_is table slot last word me new is above low e =
     let all : new ≡ (writing slot (positions_of me.0 ++ pos word ∷ []), []) = e ∙ ap (λ (k : Known). (raised_to (pos word) k.0, k.1)) is.known in
-    subst (IsWriter table slot word) (sym all) (record {
+    subst (IsWriterSeat table slot word) (sym all) (record {
       known = refl;
       inside = is.inside;
       last = sym (last_push (positions_of me.0) (pos word));
@@ -34,7 +34,7 @@ raised_is table slot last word me new is above low e =
       rising = push_rises (positions_of me.0) (pos word) is.rising above;
     })
 
-pub joins_by : (table also : TableId) (id other slot last : ℕ) (writer reader part : Known) → IsWriter table slot last writer → IsReader also reader → part ≡ (reader_part reader.0, [])
+pub joins_by : (table also : TableId) (id other slot last : ℕ) (writer reader part : Known) → IsWriterSeat table slot last writer → IsReaderSeat also reader → part ≡ (reader_part reader.0, [])
     → Joins Holds id writer.0 other part.0 (with_reader writer.0 part.0) no_part
 joins_by table also id other slot last writer reader part writes reads out =
     let is : part ≡ (reading (seen_of reader.0), []) = out ∙ ap (λ (k : Known). (reader_part k.0, [])) reads.known in
@@ -46,7 +46,7 @@ meets_by slots id slot positions seen me e =
     subst (λ (k : Known). Allows Holds slots id k slot (λ word. word) (λ word m. Met slot word k.0 m.0 × (m.1 ≡ k.1))) (sym e) (meets slots id slot positions seen)
 
 -- a writer's seat with a reader's part
-module _ (table also : TableId) (slot last : ℕ) (writer reader part joined : Known) (writes : IsWriter table slot last writer) (reads : IsReader also reader)
+module _ (table also : TableId) (slot last : ℕ) (writer reader part joined : Known) (writes : IsWriterSeat table slot last writer) (reads : IsReaderSeat also reader)
     (out : part ≡ (reader_part reader.0, [])) (both : joined ≡ (with_reader writer.0 part.0, writer.1)) where
   part_is : part ≡ (reading (seen_of reader.0), [])
   part_is = out ∙ ap (λ (k : Known). (reader_part k.0, [])) reads.known
@@ -67,7 +67,7 @@ module _ (table also : TableId) (slot last : ℕ) (writer reader part joined : K
 pub makes_writer_by : (id next : ℕ) (starts : List ℤ) (me : Known) → me ≡ (making next starts, []) → next < length starts → Splits Holds id me.0 (writer_made me.0) (next_writer me.0)
 makes_writer_by id next starts me e inside = subst (λ (k : Known). Splits Holds id k.0 (writer_made k.0) (next_writer k.0)) (sym e) (makes_writer id next starts inside)
 
-pub makes_reader_by : (table : TableId) (id : ℕ) (me : Known) → IsMaker table me → Splits Holds id me.0 me.0 (new_reader me.0)
+pub makes_reader_by : (table : TableId) (id : ℕ) (me : Known) → IsMakerSeat table me → Splits Holds id me.0 me.0 (new_reader me.0)
 makes_reader_by table id me is = subst (λ (k : Known). Splits Holds id k.0 k.0 (new_reader k.0)) (sym is.known) (makes_reader id (maker_next me.0.maker) (starts_of me.0))
 
 -- the writer behind others

@@ -94,7 +94,7 @@ pub record HasSeen (slots : ℕ) (lists : ℕ → List ℤ) (seen : List ℤ) : 
   pub among : (k : ℕ) → k < slots → Contains (lists k) (position_at k seen)
 
 -- what a seat knows is so
-pub record Fits (seat : ℕ → ℕ) (slots : ℕ) (lists : ℕ → List ℤ) (by : ℕ) (v : View) : Type 0 where
+pub record KnowsRightly (seat : ℕ → ℕ) (slots : ℕ) (lists : ℕ → List ℤ) (by : ℕ) (v : View) : Type 0 where
   pub maker : IfSome v.maker (MakesFrom seat slots lists by)
   pub raiser : IfSome v.raiser (RaisesIn seat slots lists by)
   pub reader : IfSome v.reader (HasSeen slots lists)
@@ -107,7 +107,7 @@ pub record IsBoard (words : List ℕ) (views : List View) : Type 0 where
   pub last : (k : ℕ) → k < length words → pos (slice_index words k) ≡ last_position (lists k)
   pub rising : (k : ℕ) → k < length words → NeverFall (lists k)
   pub small : (k : ℕ) → k < length words → slice_index words k < 2 ^ 63
-  pub each : (by : ℕ) (v : View) → get_elem? views by ≡ some v → Fits seat (length words) lists by v
+  pub each : (by : ℕ) (v : View) → get_elem? views by ≡ some v → KnowsRightly seat (length words) lists by v
 
 abbrev pub raiser_positions : Option Raiser → List ℤ
 raiser_positions None = []
@@ -137,12 +137,12 @@ abbrev pub Known : Type 0
 Known = Me (Unit {0}) View
 
 -- the maker's seat of a board
-pub record IsMaker (table : TableId) (me : Known) : Type 0 where
+pub record IsMakerSeat (table : TableId) (me : Known) : Type 0 where
   pub known : me ≡ (making (maker_next me.0.maker) (starts_of me.0), [])
   pub wide : length (starts_of me.0) ≡ table.words
 
 -- the seat of a slot's writer, and the word of the last of its positions
-pub record IsWriter (table : TableId) (slot word : ℕ) (me : Known) : Type 0 where
+pub record IsWriterSeat (table : TableId) (slot word : ℕ) (me : Known) : Type 0 where
   pub known : me ≡ (writing slot (positions_of me.0), [])
   pub inside : slot < table.words
   pub last : pos word ≡ last_position (positions_of me.0)
@@ -150,6 +150,6 @@ pub record IsWriter (table : TableId) (slot word : ℕ) (me : Known) : Type 0 wh
   pub rising : NeverFall (positions_of me.0)
 
 -- a reader's seat
-pub record IsReader (table : TableId) (me : Known) : Type 0 where
+pub record IsReaderSeat (table : TableId) (me : Known) : Type 0 where
   pub known : me ≡ (reading (seen_of me.0), [])
   pub wide : length (seen_of me.0) ≡ table.words

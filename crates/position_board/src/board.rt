@@ -35,13 +35,13 @@ pub struct Writer {
 
 impl Model for Writer {
     ghost use Rattle.position_board.specs.Positions.{Published};
-    ghost use Rattle.position_board.specs.Rule.{IsWriter, positions_of};
+    ghost use Rattle.position_board.specs.Rule.{IsWriterSeat, positions_of};
 
     ghost Value = { Published };
 
     ghost view = { λ w. record { table = w.seat.table_id; slot = w.slot; positions = positions_of w.seat.me.0 } };
 
-    ghost invariant = { λ w. IsWriter w.seat.table_id w.slot w.last w.seat.me };
+    ghost invariant = { λ w. IsWriterSeat w.seat.table_id w.slot w.last w.seat.me };
 }
 
 /// One that looks at positions. To a contract it is its board, and the position that it saw last in each slot.
@@ -52,13 +52,13 @@ pub struct Reader {
 
 impl Model for Reader {
     ghost use Rattle.position_board.specs.Positions.{Seen};
-    ghost use Rattle.position_board.specs.Rule.{IsReader, seen_of};
+    ghost use Rattle.position_board.specs.Rule.{IsReaderSeat, seen_of};
 
     ghost Value = { Seen };
 
     ghost view = { λ r. record { table = r.seat.table_id; seen = seen_of r.seat.me.0 } };
 
-    ghost invariant = { λ r. IsReader r.seat.table_id r.seat.me };
+    ghost invariant = { λ r. IsReaderSeat r.seat.table_id r.seat.me };
 }
 
 impl Board {

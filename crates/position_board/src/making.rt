@@ -2,7 +2,7 @@
 
 ghost use Rattle.std.specs.Prelude.{◌≡◌, ℕ, pos, ◌^◌, ◌<◌, ◌≤ℤ◌, ◌↔◌, [], All, IfErr, IfOk, OnOk, IsTrue, length, map, slice_index, vec_len};
 ghost use Rattle.position_board.specs.Positions.{IsAccepted, MayRefuse, new_readers, new_writers};
-ghost use Rattle.position_board.specs.Rule.{IsMaker, making, starts_of};
+ghost use Rattle.position_board.specs.Rule.{IsMakerSeat, making, starts_of};
 
 use crate::board::{Board, Reader, Words, Writer};
 use crate::rule::{MakesReader, MakesWriter, View};
@@ -117,7 +117,7 @@ fn readers_of(
 ) -> Result<Vec<Reader>, AllocError>
     requires board { seat.old.table_id ≡ table.now.shared.table_id }
     requires some { 0 < table.now.shared.table_id.words }
-    requires seat { IsMaker table.now.shared.table_id seat.old.me }
+    requires seat { IsMakerSeat table.now.shared.table_id seat.old.me }
     ensures { IfOk result (λ v. v.items ≡ new_readers table.now.shared.table_id count (starts_of seat.old.me.0)) }
 {
     let mut readers = Vec::with_capacity(alloc, count)?;

@@ -18,7 +18,7 @@ pub record IsPartOf (d : Descriptor) (r : Recording) : Type 0 where
   pub written : unsigned_abs d.start_position ≤ unsigned_abs r.written
 
 -- a block of the recording's publication, which begins where the last one that was written ends
-pub record IsNext (r : Recording) (d : Descriptor) (block : Block) : Type 0 where
+pub record IsNextBlock (r : Recording) (d : Descriptor) (block : Block) : Type 0 where
   pub is_block : IsBlock (geometry_of d) (publication_of d) block
   pub follows : block.position ≡ r.written
 
@@ -32,7 +32,7 @@ needs_settle d r = not (base_of d (unsigned_abs r.committed) == base_of d (unsig
 
 -- whether a block may be written: where it is the next one, in the segment of what waits to be settled
 abbrev pub MayWrite : {X : Type 0} → Recording → Descriptor → Block → Result X Refusal → Type 0
-MayWrite r d block (Ok x) = IsNext r d block × (needs_settle d r ≡ false)
-MayWrite r d block (Err BadBlock) = IsNext r d block → ⊥
-MayWrite r d block (Err NeedSettle) = IsNext r d block × (needs_settle d r ≡ true)
+MayWrite r d block (Ok x) = IsNextBlock r d block × (needs_settle d r ≡ false)
+MayWrite r d block (Err BadBlock) = IsNextBlock r d block → ⊥
+MayWrite r d block (Err NeedSettle) = IsNextBlock r d block × (needs_settle d r ≡ true)
 MayWrite r d block (Err _) = ⊥

@@ -13,7 +13,7 @@ use Rattle.segment_store.specs.DamagedFrame.{ShowsFrame}
 use Rattle.segment_store.specs.Stored.{HoldsFrames}
 use Rattle.segment_store.proofs.DurableLemmas.{stored_shown, one_shown}
 use Rattle.segment_store.proofs.ReadLemmas.{belongs_covers, belongs_ends}
-use Rattle.replay_core.specs.Poll.{BeginBefore, Belong, Polls, BreaksOff, before}
+use Rattle.replay_core.specs.Poll.{BeginBefore, Belong, ArePolled, BreaksOff, before}
 
 -- what begins at or past the bound does not begin before it
 not_before : (bound : ℤ) (from : ℕ) (test : Bool) → int_lt (pos from) bound ≡ test → bound ≤ℤ pos from → test ≡ false
@@ -79,7 +79,7 @@ module _ (image : DiskImage) (l : Layout) (g : Geometry) where
       goes_on limit fs hs (from + aligned_length f) at to (subst (λ (n : ℕ). IsChain image l g limit (from + n) hs to) (sym (ap aligned_length same)) held.1) chain.1 before
 
 pub all_given : (image : DiskImage) (l : Layout) (g : Geometry) (held frames : List Frame) (from to end most : ℕ) (bound : ℤ) → HoldsFrames image l from held to → AreEncodable held → Belong l g (pos to) from held
-    → Polls image l g (pos to) bound most from frames end → frames ≡ take most (before bound from held)
+    → ArePolled image l g (pos to) bound most from frames end → frames ≡ take most (before bound from held)
 all_given image l g held frames from to end most bound holds encodable belong polls =
     given image l g bound frames held most from end to (held_shown image l g (pos to) held from to holds encodable belong) polls.stand polls.before polls.few polls.all
 

@@ -16,7 +16,7 @@ BeginBefore bound from [] = Unit {0}
 BeginBefore bound from (f ∷ fs) = (pos from <ℤ bound) × BeginBefore bound (from + aligned_length f) fs
 
 -- frames, from one position to another, that are given where at most so many are asked for
-pub record Polls (image : DiskImage) (l : Layout) (g : Geometry) (recorded bound : ℤ) (most from : ℕ) (frames : List Frame) (to : ℕ) : Type 0 where
+pub record ArePolled (image : DiskImage) (l : Layout) (g : Geometry) (recorded bound : ℤ) (most from : ℕ) (frames : List Frame) (to : ℕ) : Type 0 where
   -- they stand there, one after another, none past the recorded position
   pub stand : IsChain image l g recorded from frames to
   -- each begins before the bound

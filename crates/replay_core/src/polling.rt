@@ -6,7 +6,7 @@ ghost use Rattle.disk_core.specs.Life.{HasFailed, IsQuiet};
 ghost use Rattle.frame_core.specs.declared.refusal.Refusal.TheVariants.{DeviceFault};
 ghost use Rattle.frame_core.specs.Block.{covered};
 ghost use Rattle.segment_store.specs.Layout.{IsFromStart, IsGeometryOf, IsLayout};
-ghost use Rattle.replay_core.specs.Poll.{IsDue, MovesTo, Polls, RefusesPoll};
+ghost use Rattle.replay_core.specs.Poll.{IsDue, MovesTo, ArePolled, RefusesPoll};
 
 use crate::replay::Replay;
 use disk_core::Disk;
@@ -41,7 +41,7 @@ impl Replay {
         requires geometry { IsGeometryOf store.old.layout store.old.geometry }
         requires from_start { IsFromStart store.old.layout self.old.next }
         ensures frames { IfOk result (λ frames. IsTrue (D.life store.new.disk.now).obeys →
-            Polls (reads (D.life store.old.disk.now).now) store.old.layout store.old.geometry recorded self.old.bound most
+            ArePolled (reads (D.life store.old.disk.now).now) store.old.layout store.old.geometry recorded self.old.bound most
             (unsigned_abs self.old.next) frames.items (unsigned_abs self.new.next)) }
         ensures onwards { self.old.next ≤ℤ self.new.next }
         // Also where the disk does not obey.

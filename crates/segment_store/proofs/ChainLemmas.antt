@@ -13,7 +13,7 @@ use Rattle.frame_core.specs.FrameEncoding.{aligned_length}
 use Rattle.segment_store.specs.declared.layout.Layout.{Layout}
 use Rattle.segment_store.specs.Boundary.{IsChain, ReachesTo, RefusesBoundary, TellsBoundary}
 use Rattle.segment_store.specs.DamagedFrame.{ShowsFrame, belongs_at}
-use Rattle.segment_store.specs.Window.{EndsAt, RefusesEnd}
+use Rattle.segment_store.specs.Window.{FrameEndsAt, RefusesEnd}
 use Rattle.segment_store.proofs.DurableLemmas.{one_shown}
 
 module _ (image : DiskImage) (l : Layout) (g : Geometry) (limit : ℤ) where
@@ -45,14 +45,14 @@ module _ (image : DiskImage) (l : Layout) (g : Geometry) (limit : ℤ) where
       (subst (λ (n : ℕ). IsChain image l g limit (from + n) hs end) (sym (ap aligned_length same)) other.1) before
 
   -- the frame after those so far
-  pub reaches_more : (to end : ℕ) → ReachesTo image l g limit to → EndsAt image l g limit to end → ReachesTo image l g limit end
+  pub reaches_more : (to end : ℕ) → ReachesTo image l g limit to → FrameEndsAt image l g limit to end → ReachesTo image l g limit end
   reaches_more to end so_far next = record {
     frames = so_far.frames ++ next.frame ∷ [];
     chain = chain_more so_far.frames (unsigned_abs l.start_position) to end next.frame so_far.chain next.shown next.is;
   }
 
   -- a position that a frame goes past is no boundary, and nothing breaks off before it
-  pub goes_past : (at next end : ℕ) (position : ℤ) → ReachesTo image l g limit at → EndsAt image l g limit at next → at < end → end < next → position ≡ pos end → TellsBoundary image l g limit position false
+  pub goes_past : (at next end : ℕ) (position : ℤ) → ReachesTo image l g limit at → FrameEndsAt image l g limit at next → at < end → end < next → position ≡ pos end → TellsBoundary image l g limit position false
   goes_past at next end position so_far frame before behind is = (
     λ boundary.
         let there : boundary.end ≡ end = omega (arith, ints, sym boundary.is ∙ is) in

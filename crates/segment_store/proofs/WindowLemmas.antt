@@ -13,7 +13,7 @@ use Rattle.segment_store.specs.declared.layout.Spot.{Spot}
 use Rattle.segment_store.specs.Layout.{file_of, offset_of}
 use Rattle.segment_store.specs.DamagedFrame.{belongs_at}
 use Rattle.segment_store.specs.Reading.{encoded_size}
-use Rattle.segment_store.specs.Window.{Covers, EndsAt, IsWindow, StartsAt}
+use Rattle.segment_store.specs.Window.{Covers, FrameEndsAt, IsWindow, StartsAt}
 use Rattle.segment_store.proofs.ShownLemmas.{HasFrom, header_shown}
 
 -- a part of what was read
@@ -26,7 +26,7 @@ part_of file bytes count offset start same within =
 
 -- a header in front of the bytes, which belongs there and whose frame is whole, is that of a frame that ends there
 pub header_ends : (image : DiskImage) (l : Layout) (g : Geometry) (limit : ℤ) (p : ℕ) (bytes : List ℕ) (header : Frame) (size : ℕ) → bytes ≡ take size (drop (offset_of l p) (bytes_of (image (file_of l p)))) → StartsWithHeader bytes header
-    → belongs_at l g p limit header ≡ true → offset_of l p + encoded_size header ≤ length (bytes_of (image (file_of l p))) → (end : ℕ) → end ≡ p + aligned_length header → EndsAt image l g limit p end
+    → belongs_at l g p limit header ≡ true → offset_of l p + encoded_size header ≤ length (bytes_of (image (file_of l p))) → (end : ℕ) → end ≡ p + aligned_length header → FrameEndsAt image l g limit p end
 header_ends image l g limit p bytes header size are starts belongs whole end is =
     let payload : List ℕ = take (encoded_size header - 32) (drop 32 (drop (offset_of l p) (bytes_of (image (file_of l p))))) in
     record { frame = record header { payload = payload }; shown = header_shown image l g limit p bytes header size payload are starts belongs (whole, refl); is = is }

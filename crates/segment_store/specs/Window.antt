@@ -29,7 +29,7 @@ pub record Covers (w : Window) (spot : Spot) : Type 0 where
   pub within : spot.offset - w.offset + 32 ≤ w.count
 
 -- a frame is shown at the position, and ends there
-pub record EndsAt (image : DiskImage) (l : Layout) (g : Geometry) (limit : ℤ) (position end : ℕ) : Type 0 where
+pub record FrameEndsAt (image : DiskImage) (l : Layout) (g : Geometry) (limit : ℤ) (position end : ℕ) : Type 0 where
   pub frame : Frame
   pub shown : ShowsFrame image l g limit position frame
   pub is : end ≡ position + aligned_length frame

@@ -7,8 +7,8 @@ use native.Mathlib.Decide.{dec_le, ℕ_discrete}
 use Rattle.stream_pairs.specs.declared.points.StreamPoint.{StreamPoint}
 use Rattle.stream_pairs.specs.declared.pairs.SessionSlot.{SessionSlot}
 use Rattle.stream_pairs.specs.declared.pairs.JoinedImage.{JoinedImage}
-use Rattle.stream_pairs.specs.Pairs.{PairsState, after_joined, after_opened, after_refused, after_settled, after_stopped, ended, ended_at, fed_by, image_at, image_of_slot, joined, lost, may_join, moved, no_pairs, noted, opened_slot, pair_all, slot_of, with_slot, without_image, writes}
-use Rattle.stream_pairs.specs.Laws.{Coming, opens, joins, settles, stops, refuses, FeedsOne, IsLost, NoneWaits, Stays, after, after_all}
+use Rattle.stream_pairs.specs.Pairs.{PairsState, after_joined, after_opened, after_refused, after_settled, after_stopped, ended, ended_at, fed_by, image_at, image_of_slot, joined, lost, may_join, moved, no_pairs, with_new_session, opened_slot, pair_all, slot_of, with_slot, without_image, writes}
+use Rattle.stream_pairs.specs.Laws.{Coming, opens, joins, settles, stops, refuses, FeedsOne, IsLost, NoneWaits, PairStays, after_coming, after_comings}
 use Rattle.stream_pairs.proofs.SlotLemmas.{changed, moved_image, ended_image, unfed_image, is_none}
 use Rattle.stream_pairs.proofs.PairLemmas.{LostFeedNone, first_images, first_keeps, first_feeds_one, first_lost, lost_there, none_waits}
 
@@ -31,7 +31,7 @@ noted_by : (n : ℕ) (recording : ℤ) (point : StreamPoint) (s : PairsState) (t
 noted_by n recording point s true e = unchanged s
 noted_by n recording point s false e = with_same n (Some (opened_slot recording point)) s (sym (ap image_of_slot (is_none (slot_of n s) e)))
 
-noted_same : (n : ℕ) (recording : ℤ) (point : StreamPoint) (s : PairsState) → SameImages s (noted n (opened_slot recording point) s)
+noted_same : (n : ℕ) (recording : ℤ) (point : StreamPoint) (s : PairsState) → SameImages s (with_new_session n (opened_slot recording point) s)
 noted_same n recording point s = noted_by n recording point s (is_some (slot_of n s)) refl
 
 settled_same : (n : ℕ) (position : ℤ) (s : PairsState) → SameImages s (after_settled n position s)
@@ -157,17 +157,17 @@ refused_by n s inv (Some i) e = record {
   none = refused_lost n i s e inv.none inv.feeds;
 }
 
-kept_inv : (s : PairsState) (e : Coming) → Inv s → Inv (after s e)
+kept_inv : (s : PairsState) (e : Coming) → Inv s → Inv (after_coming s e)
 kept_inv s (opens n recording point) inv =
-    all_paired (noted n (opened_slot recording point) s) (same_inv s (noted n (opened_slot recording point) s) (noted_same n recording point s) inv)
+    all_paired (with_new_session n (opened_slot recording point) s) (same_inv s (with_new_session n (opened_slot recording point) s) (noted_same n recording point s) inv)
 kept_inv s (joins join) inv = joins_by join s inv (may_join join.publication s)
 kept_inv s (settles n position) inv = same_inv s (after_settled n position s) (settled_same n position s) inv
 kept_inv s (stops recording) inv = same_inv s (after_stopped recording s) (ended_same (position (writes recording) s.slots) s) inv
 kept_inv s (refuses n) inv = refused_by n s inv (image_at n s) refl
 
-all_inv : (es : List Coming) (s : PairsState) → Inv s → Inv (after_all s es)
+all_inv : (es : List Coming) (s : PairsState) → Inv s → Inv (after_comings s es)
 all_inv [] s inv = inv
-all_inv (e ∷ es) s inv = all_inv es (after s e) (kept_inv s e inv)
+all_inv (e ∷ es) s inv = all_inv es (after_coming s e) (kept_inv s e inv)
 
 nothing : (k n : ℕ) → get_or {A = Option SessionSlot} (replicate k None) n None ≡ None
 nothing zero n = refl
@@ -180,7 +180,7 @@ begins = record {
   none = λ i n gone at. let none = ap image_of_slot (nothing 64 n) in cc;
 }
 
-pub feeds_one : (es : List Coming) → FeedsOne (after_all no_pairs es)
+pub feeds_one : (es : List Coming) → FeedsOne (after_comings no_pairs es)
 feeds_one es = (all_inv es no_pairs begins).feeds
 
 -- ---- what was lost stays lost
@@ -200,25 +200,25 @@ refuses_lost : (i n : ℕ) (s : PairsState) → IsLost i s → (o : Option ℕ) 
 refuses_lost i n s gone None e = gone
 refuses_lost i n s gone (Some j) e = still_lost n j s e i gone
 
-after_lost : (i : ℕ) (s : PairsState) (e : Coming) → IsLost i s → IsLost i (after s e)
+after_lost : (i : ℕ) (s : PairsState) (e : Coming) → IsLost i s → IsLost i (after_coming s e)
 after_lost i s (opens n recording point) gone =
-    all_paired_lost i (noted n (opened_slot recording point) s) (lost_there i s (noted n (opened_slot recording point) s) (noted_same n recording point s).images gone)
+    all_paired_lost i (with_new_session n (opened_slot recording point) s) (lost_there i s (with_new_session n (opened_slot recording point) s) (noted_same n recording point s).images gone)
 after_lost i s (joins join) gone = joins_lost i join s gone (may_join join.publication s)
 after_lost i s (settles n position) gone = lost_there i s (after_settled n position s) (settled_same n position s).images gone
 after_lost i s (stops recording) gone = lost_there i s (after_stopped recording s) (ended_same (position (writes recording) s.slots) s).images gone
 after_lost i s (refuses n) gone = refuses_lost i n s gone (image_at n s) refl
 
-never_again : (more : List Coming) (i n : ℕ) (s : PairsState) → Inv s → IsLost i s → image_at n (after_all s more) ≢ Some i
+never_again : (more : List Coming) (i n : ℕ) (s : PairsState) → Inv s → IsLost i s → image_at n (after_comings s more) ≢ Some i
 never_again [] i n s inv gone at = inv.none i n gone at
-never_again (e ∷ more) i n s inv gone at = never_again more i n (after s e) (kept_inv s e inv) (after_lost i s e gone) at
+never_again (e ∷ more) i n s inv gone at = never_again more i n (after_coming s e) (kept_inv s e inv) (after_lost i s e gone) at
 
-one_after_another : (es more : List Coming) (s : PairsState) → after_all s (es ++ more) ≡ after_all (after_all s es) more
+one_after_another : (es more : List Coming) (s : PairsState) → after_comings s (es ++ more) ≡ after_comings (after_comings s es) more
 one_after_another [] more s = refl
-one_after_another (e ∷ es) more s = one_after_another es more (after s e)
+one_after_another (e ∷ es) more s = one_after_another es more (after_coming s e)
 
-pub lost_feeds_none : (es more : List Coming) (i n : ℕ) → IsLost i (after_all no_pairs es) → image_at n (after_all no_pairs (es ++ more)) ≢ Some i
+pub lost_feeds_none : (es more : List Coming) (i n : ℕ) → IsLost i (after_comings no_pairs es) → image_at n (after_comings no_pairs (es ++ more)) ≢ Some i
 lost_feeds_none es more i n gone at =
-    never_again more i n (after_all no_pairs es) (all_inv es no_pairs begins) gone (sym (ap (image_at n) (one_after_another es more no_pairs)) ∙ at)
+    never_again more i n (after_comings no_pairs es) (all_inv es no_pairs begins) gone (sym (ap (image_at n) (one_after_another es more no_pairs)) ∙ at)
 
 -- ---- a pair ends by a refusal alone
 
@@ -234,9 +234,9 @@ refuses_or : (m : ℕ) (s : PairsState) (n i : ℕ) → image_at n s ≡ Some i 
 refuses_or m s n i e (yes same) = inr (ap refuses (sym same))
 refuses_or m s n i e (no other) = inl (refuses_keep m s n i e other (image_at m s) refl)
 
-pub stays : (s : PairsState) (e : Coming) (n : ℕ) → Stays n e s
+pub stays : (s : PairsState) (e : Coming) (n : ℕ) → PairStays n e s
 stays s (opens m recording point) n i e =
-    inl (first_keeps (length (noted m (opened_slot recording point) s).images) (noted m (opened_slot recording point) s) n i ((noted_same m recording point s).image n ∙ e))
+    inl (first_keeps (length (with_new_session m (opened_slot recording point) s).images) (with_new_session m (opened_slot recording point) s) n i ((noted_same m recording point s).image n ∙ e))
 stays s (joins join) n i e = inl (joins_keep join s n i e (may_join join.publication s))
 stays s (settles m position) n i e = inl ((settled_same m position s).image n ∙ e)
 stays s (stops recording) n i e = inl ((ended_same (position (writes recording) s.slots) s).image n ∙ e)
@@ -245,7 +245,7 @@ stays s (refuses m) n i e = refuses_or m s n i e (ℕ_discrete n m)
 -- ---- none waits
 
 pub opened_waits : (n : ℕ) (recording : ℤ) (point : StreamPoint) (s : PairsState) → NoneWaits (after_opened n recording point s)
-opened_waits n recording point s = none_waits (noted n (opened_slot recording point) s)
+opened_waits n recording point s = none_waits (with_new_session n (opened_slot recording point) s)
 
 pub joined_waits : (join : StreamPoint) (s : PairsState) → may_join join.publication s ≡ true → NoneWaits (after_joined join s)
 joined_waits join s may = subst (λ b. NoneWaits (if b then pair_all (joined join s) else s)) (sym may) (none_waits (joined join s))

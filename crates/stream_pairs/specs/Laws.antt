@@ -13,16 +13,16 @@ pub data Coming : Type 0 where
   stops : ℤ → Coming
   refuses : ℕ → Coming
 
-abbrev pub after : PairsState → Coming → PairsState
-after s (opens n recording point) = after_opened n recording point s
-after s (joins join) = after_joined join s
-after s (settles n position) = after_settled n position s
-after s (stops recording) = after_stopped recording s
-after s (refuses n) = after_refused n s
+abbrev pub after_coming : PairsState → Coming → PairsState
+after_coming s (opens n recording point) = after_opened n recording point s
+after_coming s (joins join) = after_joined join s
+after_coming s (settles n position) = after_settled n position s
+after_coming s (stops recording) = after_stopped recording s
+after_coming s (refuses n) = after_refused n s
 
-abbrev pub after_all : PairsState → List Coming → PairsState
-after_all s [] = s
-after_all s (e ∷ es) = after_all (after s e) es
+abbrev pub after_comings : PairsState → List Coming → PairsState
+after_comings s [] = s
+after_comings s (e ∷ es) = after_comings (after_coming s e) es
 
 -- an image feeds one session at most
 abbrev pub FeedsOne : PairsState → Type 0
@@ -41,8 +41,8 @@ pub record MayFeed (i n : ℕ) (s : PairsState) : Type 0 where
   pub least : IsLeastTaker image.join n s
 
 -- a pair ends by a refusal of its session alone
-abbrev pub Stays : ℕ → Coming → PairsState → Type 0
-Stays n e s = (i : ℕ) → image_at n s ≡ Some i → (image_at n (after s e) ≡ Some i) ⊎ (e ≡ refuses n)
+abbrev pub PairStays : ℕ → Coming → PairsState → Type 0
+PairStays n e s = (i : ℕ) → image_at n s ≡ Some i → (image_at n (after_coming s e) ≡ Some i) ⊎ (e ≡ refuses n)
 
 -- the image of an index was lost by a session that it fed
 pub record IsLost (i : ℕ) (s : PairsState) : Type 0 where

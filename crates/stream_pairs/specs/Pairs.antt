@@ -103,11 +103,11 @@ abbrev pub opened_slot : ℤ → StreamPoint → SessionSlot
 opened_slot recording point = record { recording = recording; point = point; is_open = true; image = None }
 
 -- a session of this number is noted, unless one is
-abbrev pub noted : ℕ → SessionSlot → PairsState → PairsState
-noted n slot s = if is_some (slot_of n s) then s else with_slot n (Some slot) s
+abbrev pub with_new_session : ℕ → SessionSlot → PairsState → PairsState
+with_new_session n slot s = if is_some (slot_of n s) then s else with_slot n (Some slot) s
 
 abbrev pub after_opened : ℕ → ℤ → StreamPoint → PairsState → PairsState
-after_opened n recording point s = pair_all (noted n (opened_slot recording point) s)
+after_opened n recording point s = pair_all (with_new_session n (opened_slot recording point) s)
 
 -- the image of a publication, by its index
 abbrev pub image_with : Publication → PairsState → Option ℕ
@@ -158,13 +158,13 @@ lost None i images = images
 lost (Some image) i images = slice_set images i (record image { is_lost = true })
 
 -- the image of an index was lost
-abbrev pub with_lost : ℕ → PairsState → PairsState
-with_lost i s = record s { images = lost (slice_get s.images i) i s.images }
+abbrev pub with_lost_image : ℕ → PairsState → PairsState
+with_lost_image i s = record s { images = lost (slice_get s.images i) i s.images }
 
 -- the session of a number loses this image, if it has one
 abbrev pub without_image : ℕ → Option ℕ → PairsState → PairsState
 without_image n None s = s
-without_image n (Some i) s = with_lost i (with_slot n (fed_by None (slot_of n s)) s)
+without_image n (Some i) s = with_lost_image i (with_slot n (fed_by None (slot_of n s)) s)
 
 -- a session was refused, and loses its image, which is not paired again
 abbrev pub after_refused : ℕ → PairsState → PairsState

@@ -2,7 +2,7 @@
 
 ghost use Rattle.std.specs.Prelude.{◌≡◌, ◌≢◌, ℕ, ℤ, List, Some, ◌++◌, true};
 ghost use Rattle.stream_pairs.specs.declared.points.StreamPoint.{StreamPoint};
-ghost use Rattle.stream_pairs.specs.Laws.{Coming, FeedsOne, IsLost, MayFeed, NoneWaits, Stays, after_all};
+ghost use Rattle.stream_pairs.specs.Laws.{Coming, FeedsOne, IsLost, MayFeed, NoneWaits, PairStays, after_comings};
 ghost use Rattle.stream_pairs.specs.Pairs.{PairsState, after_joined, after_opened, image_at, may_join, no_pairs, pair_one};
 
 /// An image that is paired was not lost, and is paired with the least session that takes it.
@@ -12,18 +12,18 @@ pub fn an_image_is_paired_with_the_least_session_that_takes_it()
 
 /// Whatever comes, an image feeds one session at most.
 pub fn an_image_feeds_one_session_at_most()
-    ensures { (es : List Coming) → FeedsOne (after_all no_pairs es) }
+    ensures { (es : List Coming) → FeedsOne (after_comings no_pairs es) }
 {}
 
 /// A pair ends by a refusal of its session alone.
 pub fn a_pair_ends_by_a_refusal_alone()
-    ensures { (s : PairsState) (e : Coming) (n : ℕ) → Stays n e s }
+    ensures { (s : PairsState) (e : Coming) (n : ℕ) → PairStays n e s }
 {}
 
 /// Whatever comes, an image that was lost feeds no session, then and ever after.
 pub fn a_lost_image_is_never_paired_again()
-    ensures { (es more : List Coming) (i n : ℕ) → IsLost i (after_all no_pairs es) →
-        image_at n (after_all no_pairs (es ++ more)) ≢ Some i }
+    ensures { (es more : List Coming) (i n : ℕ) → IsLost i (after_comings no_pairs es) →
+        image_at n (after_comings no_pairs (es ++ more)) ≢ Some i }
 {}
 
 /// Once a session was opened, or an image came, no session takes an image that waits.

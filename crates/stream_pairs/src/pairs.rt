@@ -3,7 +3,7 @@
 ghost use Rattle.std.specs.Prelude.{◌≡◌, ◌<◌, ◌≤◌, IfOk, IfErr, length, slice_get};
 ghost use Rattle.std.specs.List.{position};
 ghost use Rattle.frame_core.specs.declared.refusal.Refusal.TheVariants.{NoMemory};
-ghost use Rattle.stream_pairs.specs.Pairs.{after_joined, after_opened, after_refused, after_settled, after_stopped, ended, fed_by, feeds, image_at, image_with, joined, joined_index, may_join, no_pairs, noted, pair_all, pair_one, slot_of, takes, with_lost, with_slot, writes};
+ghost use Rattle.stream_pairs.specs.Pairs.{after_joined, after_opened, after_refused, after_settled, after_stopped, ended, fed_by, feeds, image_at, image_with, joined, joined_index, may_join, no_pairs, with_new_session, pair_all, pair_one, slot_of, takes, with_lost_image, with_slot, writes};
 
 use crate::points::StreamPoint;
 use frame_core::{Publication, Refusal};
@@ -171,7 +171,7 @@ impl Pairs {
     }
 
     fn note(&mut self, number: usize, slot: SessionSlot)
-        ensures { self.new ≡ noted number slot self.old }
+        ensures { self.new ≡ with_new_session number slot self.old }
     {
         if let Some(None) = self.slots.get(number) {
             self.put(number, Some(slot));
@@ -214,7 +214,7 @@ impl Pairs {
     }
 
     fn lose(&mut self, index: usize)
-        ensures { self.new ≡ with_lost index self.old }
+        ensures { self.new ≡ with_lost_image index self.old }
     {
         if let Some(image) = self.images.get_mut(index) {
             image.is_lost = true;

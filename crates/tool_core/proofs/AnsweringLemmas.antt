@@ -9,7 +9,7 @@ use Rattle.tool_core.specs.declared.fault.EarlyEnd.TheVariants as ends
 use Rattle.tool_core.specs.declared.state.ScriptState.{ScriptState}
 use Rattle.tool_core.specs.InputLines.{ReadsLine}
 use Rattle.tool_core.specs.Answering.{EndsEarly, FailsToAnswer, IsAnswer, Replies, RepliesTo, Ways, asked, asked_copies, outcome_text, quits}
-use Rattle.tool_core.specs.Transcript.{AnswersAll, AnswersSome, Writes}
+use Rattle.tool_core.specs.Transcript.{AnswersAll, AnswersSome, WritesText}
 use Rattle.tool_core.proofs.ProgressLemmas.{Near, Progress, near-here, near-next, progress-cut, progress-early, progress-end, progress-kept, progress-last, progress-more}
 
 -- ---- one line
@@ -42,14 +42,14 @@ module _ {A : Type 0} (ways : Ways A) where
 
     -- the line that quits is answered
     pub at_quit : (before now later contents written then line : Option (List ℕ)) (state new : ScriptState A) (result : Result (Unit {0}) EarlyEnd) → Came before now contents written state → ReadsLine now later line
-        → RepliesTo ways written then line state new result → result ≡ Ok tt → quits line ≡ true → Writes before contents then (AnswersAll start (λ s. s ≡ new) quits (Replies ways))
+        → RepliesTo ways written then line state new result → result ≡ Ok tt → quits line ≡ true → WritesText before contents then (AnswersAll start (λ s. s ≡ new) quits (Replies ways))
     at_quit before now later contents written then line state new result so_far read replied ok quit =
         let told : Appends written then replied.reply = subst (λ (r : Result (Unit {0}) EarlyEnd). MatchResult r (λ done. Appends written then replied.reply) (λ end. FailsToAnswer end written then)) ok replied.told in
         progress-last start quits (Replies ways) (λ s. s ≡ new) before now later contents written then read.line replied.reply state new so_far read.next told
         (subst (λ l. Replies ways state l replied.reply new) read.is_kept replied.answers) (ap quits (sym read.is_kept) ∙ quit) refl
 
     -- no line is left
-    pub at_end : (before now contents written : Option (List ℕ)) (state : ScriptState A) → Came before now contents written state → IsAtEnd now → Writes before contents written (AnswersAll start (λ s. s ≡ state) quits (Replies ways))
+    pub at_end : (before now contents written : Option (List ℕ)) (state : ScriptState A) → Came before now contents written state → IsAtEnd now → WritesText before contents written (AnswersAll start (λ s. s ≡ state) quits (Replies ways))
     at_end before now contents written state so_far end = progress-end start quits (Replies ways) (λ s. s ≡ state) before now contents written state so_far end refl
 
     pub still : (before now contents written then : Option (List ℕ)) (state : ScriptState A) → Came before now contents written state → Keeps written then → Came before now contents then state

@@ -22,7 +22,7 @@ use Rattle.tool_core.specs.declared.archive.ScriptArchive.TheVariants.{Open, Clo
 use Rattle.tool_core.specs.declared.observer.Beginning.{Beginning}
 use Rattle.tool_core.specs.declared.observer.Beginning.TheVariants as beginnings
 use Rattle.tool_core.specs.Archives.{BeginsAs, BeginsByOpening, HasMade, HasOpened, HasRefused, OpensAs, closed_by, life_of}
-use Rattle.tool_core.specs.Script.{Begins, HasNotBegun, IsBlank, IsRefused, IsRefusedBy, Opens}
+use Rattle.tool_core.specs.Script.{Begins, HasNotBegun, IsBlank, IsRefused, IsRefusedBy, OpensStanding}
 use Rattle.tool_core.specs.ScriptLines.{Standing, closed, doubtful, opened, refused, unknown}
 use Rattle.tool_core.proofs.StandingLemmas.{IsStanding, recovers_as}
 use Rattle.tool_core.proofs.OpeningLemmas.{begun, fault_leaves, quiet_restarts}
@@ -48,7 +48,7 @@ nothing_left life s u may none leaves =
 
 -- ---- a disk that is as it was
 
-quiet_opens : (old new : Life) (first : Standing) → IsQuiet old new → Opens old first → Opens new first
+quiet_opens : (old new : Life) (first : Standing) → IsQuiet old new → OpensStanding old first → OpensStanding new first
 quiet_opens old new (opened a) quiet opens = quiet_restarts old new a quiet opens
 quiet_opens old new (closed a) quiet opens = absurd opens
 quiet_opens old new (doubtful s u) quiet opens = absurd opens
@@ -103,7 +103,7 @@ module _ {D : Type 0} (life : D → Life) where
       any : (s u : State) → LeavesEither old s u → LeavesOnly old (life disk) (RecoversTo (IsNear s u))
       any s u leaves = quiet_moments old (life disk) s u quiet leaves
 
-      by : (first : Standing) → Opens old first → Starts old (Closed disk) first
+      by : (first : Standing) → OpensStanding old first → Starts old (Closed disk) first
       by (opened a) restarts = record {
         begun = doubtful restarts.state restarts.other;
         stands = quiet_leaves old (life disk) restarts.state restarts.other quiet restarts.leaves;
@@ -122,13 +122,13 @@ module _ {D : Type 0} (life : D → Life) where
 
   -- ---- files that were there
 
-  opened_files : (old mid : Life) (engine : Engine D) (first : Standing) → IsQuiet old mid → HasOpened life mid engine → IsTrue (life engine.storage.disk).obeys → Opens old first → Starts old (Open engine) first
+  opened_files : (old mid : Life) (engine : Engine D) (first : Standing) → IsQuiet old mid → HasOpened life mid engine → IsTrue (life engine.storage.disk).obeys → OpensStanding old first → Starts old (Open engine) first
   opened_files old mid engine first quiet answer obeys opens = by first (quiet_opens old mid first quiet opens)
     where
       any : (s u : State) → LeavesEither old s u → LeavesOnly old (life engine.storage.disk) (RecoversTo (IsNear s u))
       any s u leaves = let o = answer.opened_as s u (quiet_leaves old mid s u quiet leaves) obeys in moments_behind old mid (life engine.storage.disk) s u quiet leaves o.any_moment
 
-      by : (first : Standing) → Opens mid first → Starts old (Open engine) first
+      by : (first : Standing) → OpensStanding mid first → Starts old (Open engine) first
       by (opened a) restarts =
           let at = begun mid (seen life engine) engine.restarted a restarts (answer.opened_as restarts.state restarts.other restarts.leaves obeys) in
           record { begun = opened a; stands = record { desk = at.desk; consistent = at.consistent }; is = inl refl; any_moment = any }
@@ -137,7 +137,7 @@ module _ {D : Type 0} (life : D → Life) where
       by (refused image why) opens = let desk = answer.desk obeys in absurd (no_catalogue mid why desk.header desk.entries opens.0 desk.catalogue)
       by unknown opens = absurd opens
 
-  refused_files : (old mid : Life) (disk : D) (refusal : Refusal) (first : Standing) → IsQuiet old mid → refusal ≢ NoMemory → HasRefused life mid refusal disk → IsTrue (life disk).obeys → Opens old first → Starts old (Closed disk) first
+  refused_files : (old mid : Life) (disk : D) (refusal : Refusal) (first : Standing) → IsQuiet old mid → refusal ≢ NoMemory → HasRefused life mid refusal disk → IsTrue (life disk).obeys → OpensStanding old first → Starts old (Closed disk) first
   refused_files old mid disk refusal first quiet other answer obeys opens = by first opens (quiet_opens old mid first quiet opens)
     where
       any : (s u : State) → LeavesEither old s u → LeavesOnly old (life disk) (RecoversTo (IsNear s u))
@@ -151,7 +151,7 @@ module _ {D : Type 0} (life : D → Life) where
           let before : ReadsAsBefore mid (life disk) = elim answer.refuses.kept [ inl fault ↦ absurd (no_fault fault) | inr before ↦ before ] in
           record { begun = refused image why; stands = refused_still mid (life disk) image why before.same is; is = inl refl; any_moment = any }
 
-      by : (first : Standing) → Opens old first → Opens mid first → Starts old (Closed disk) first
+      by : (first : Standing) → OpensStanding old first → OpensStanding mid first → Starts old (Closed disk) first
       by (opened a) was restarts =
           let whole = answer.whole restarts.state restarts.other restarts.leaves obeys in
           elim whole.1 [

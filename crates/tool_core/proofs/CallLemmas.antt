@@ -14,7 +14,7 @@ use Rattle.control_core.specs.Bytes.{IsReadBy, terms_in}
 use Rattle.control_core.specs.Desk.{DeskState}
 use Rattle.control_core.specs.Exact.{Archive, with_desk}
 use Rattle.control_lines.specs.declared.line.Line.{Line}
-use Rattle.engine_core.specs.Calls.{AnswersEvent, Ended, EndsAs, is_cut}
+use Rattle.engine_core.specs.Calls.{AnswersEvent, CallEnded, EndsAs, is_cut}
 use Rattle.engine_core.specs.Consistent.{IsCrashConsistent, MayStandIn}
 use Rattle.engine_core.specs.Engine.{EngineState, archive_of, content_of}
 use Rattle.engine_core.specs.Recovery.{RecoversTo}
@@ -22,7 +22,7 @@ use Rattle.engine_core.specs.Seen.{seen}
 use Rattle.engine_core.specs.declared.engine.Engine.{Engine}
 use Rattle.tool_core.specs.declared.archive.ScriptArchive.{ScriptArchive}
 use Rattle.tool_core.specs.declared.archive.ScriptArchive.TheVariants.{Open, Closed}
-use Rattle.tool_core.specs.Answering.{IsRead, WritesRead}
+use Rattle.tool_core.specs.Answering.{BlockIsRead, WritesRead}
 use Rattle.tool_core.specs.Answering as answering
 use Rattle.tool_core.specs.Archives.{TermsAre, archive_ways, life_of}
 use Rattle.tool_core.specs.Archives as archives
@@ -34,10 +34,10 @@ use Rattle.tool_core.proofs.StandingLemmas.{IsStanding, recovers_as, standing_le
 
 -- an engine that keeps an archive answers an event of it
 pub answered_at : (old new : EngineState) (a : Archive) (event : Event) (outcome : Result Reply Refusal) → old.desk ≡ a.desk → IsCrashConsistent old.life old.log a → AnswersEvent old new event outcome → (IsTrue (is_cut event) → IsTrue new.life.obeys)
-    → Ended old new a (EndsAs old.life new.life event a outcome)
+    → CallEnded old new a (EndsAs old.life new.life event a outcome)
 answered_at old new a event outcome desk was answers cut =
     let same : archive_of old (content_of a) ≡ a = ap (λ (d : DeskState). with_desk d a) desk in
-    subst (λ (b : Archive). Ended old new b (EndsAs old.life new.life event b outcome)) same
+    subst (λ (b : Archive). CallEnded old new b (EndsAs old.life new.life event b outcome)) same
     (answers.ended (content_of a) (subst (λ (b : Archive). IsCrashConsistent old.life old.log b) (sym same) was) cut)
 
 module _ {D : Type 0} (life : D → Life) where
@@ -72,7 +72,7 @@ module _ {D : Type 0} (life : D → Life) where
       }
 
   -- an event, whatever stands
-  pub event_kept : (line : Line) (event : Event) (old new : ScriptArchive D) (s : Standing) (outcome : Result Reply Refusal) → IsStanding life old s → IsTrue (life_of life new).obeys → archives.Calls life event old outcome new
+  pub event_kept : (line : Line) (event : Event) (old new : ScriptArchive D) (s : Standing) (outcome : Result Reply Refusal) → IsStanding life old s → IsTrue (life_of life new).obeys → archives.CallsEngine life event old outcome new
       → Kept line old new s (WhereOpen (Calls (HasFailed (life_of life old) (life_of life new)) event) s) outcome
   event_kept line event (Open old) (Open new) (opened a) outcome stands obeys answered = open_event line event old new a outcome stands obeys answered.answers
   event_kept line event (Open old) (Open new) unknown outcome stands obeys answered = record { after = unknown; stands = tt; ends = refl; meanwhile = tt }
@@ -90,7 +90,7 @@ module _ {D : Type 0} (life : D → Life) where
 
   -- what was read by the terms of the session's recording is written
   open_read : (line : Line) (session : ℤ) (bytes : List ℕ) (old : Engine D) (new : ScriptArchive D) (a : Archive) (terms : Result Geometry Refusal) (read : Result Block Refusal) (outcome : Result Reply Refusal)
-      → IsStanding life (Open old) (opened a) → IsTrue (life_of life new).obeys → terms ≡ terms_in a.desk session → IsRead terms bytes read → WritesRead (archive_ways life) session read (Open old) outcome new
+      → IsStanding life (Open old) (opened a) → IsTrue (life_of life new).obeys → terms ≡ terms_in a.desk session → BlockIsRead terms bytes read → WritesRead (archive_ways life) session read (Open old) outcome new
       → Kept line (Open old) new (opened a) (OrWant (opened a) (WhereOpen (WritesBytes (HasFailed (life old.storage.disk) (life_of life new)) session bytes) (opened a))) outcome
   open_read line session bytes old new a (Err refusal) read outcome stands obeys same is written = by read is written
     where
@@ -119,7 +119,7 @@ module _ {D : Type 0} (life : D → Life) where
 
   -- no terms are known where none is open
   closed_read : (session : ℤ) (bytes : List ℕ) (disk : D) (new : ScriptArchive D) (terms : Result Geometry Refusal) (read : Result Block Refusal) (outcome : Result Reply Refusal)
-      → terms ≡ Err Broken → IsRead terms bytes read → WritesRead (archive_ways life) session read (Closed disk) outcome new → (outcome ≡ Err Broken) × (new ≡ Closed disk)
+      → terms ≡ Err Broken → BlockIsRead terms bytes read → WritesRead (archive_ways life) session read (Closed disk) outcome new → (outcome ≡ Err Broken) × (new ≡ Closed disk)
   closed_read session bytes disk new (Ok g) read outcome same is written = (let wrong : Ok g ≡ Err Broken = same in absurd cc)
   closed_read session bytes disk new (Err refusal) (Ok block) outcome same is written = (let wrong : Ok block ≡ Err refusal = is in absurd cc)
   closed_read session bytes disk new (Err refusal) (Err other) outcome same is written =

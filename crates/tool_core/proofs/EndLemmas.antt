@@ -8,7 +8,7 @@ use Rattle.tool_core.specs.declared.fault.EarlyEnd.TheVariants as ends
 use Rattle.tool_core.specs.declared.state.ScriptState.{ScriptState}
 use Rattle.tool_core.specs.InputLines.{lines_of}
 use Rattle.tool_core.specs.Answering.{AnswersFirstLines, AnswersLines, EndsEarly, Replies, Ways, begun_with, ended_by, quits}
-use Rattle.tool_core.specs.Transcript.{AnswersAll, AnswersSome, LeftNear, Transcript, Writes, until_quit}
+use Rattle.tool_core.specs.Transcript.{AnswersAll, AnswersSome, LeftNear, Transcript, WritesText, until_quit}
 
 -- ---- what is right, told by another word
 
@@ -18,7 +18,7 @@ known_as (Some bytes) P Q then is = then bytes is
 
 -- of a writer that hands on what it has
 pub writes_as : (input contents written flushed : Option (List ℕ)) (P Q : List (List ℕ) → List ℕ → Type 0) → ((lines : List (List ℕ)) (text : List ℕ) → P lines text → Q lines text) → Keeps written flushed
-    → Writes input contents written P → Writes input contents flushed Q
+    → WritesText input contents written P → WritesText input contents flushed Q
 writes_as input contents written flushed P Q follows keeps writes = record {
   text = writes.text;
   appended = Appends-kept contents written flushed writes.text writes.appended keeps;
@@ -33,7 +33,7 @@ early_as ends.Read input contents written flushed P Q follows keeps early = writ
 early_as ends.Memory input contents written flushed P Q follows keeps early = writes_as input contents written flushed P Q follows keeps early
 
 -- what was written could not be handed on
-unflushed : (input contents written flushed : Option (List ℕ)) (P Q : List (List ℕ) → List ℕ → Type 0) → ((lines : List (List ℕ)) (text : List ℕ) → P lines text → Q lines text) → Writes input contents written P → EndsEarly ends.Write Q input contents flushed
+unflushed : (input contents written flushed : Option (List ℕ)) (P Q : List (List ℕ) → List ℕ → Type 0) → ((lines : List (List ℕ)) (text : List ℕ) → P lines text → Q lines text) → WritesText input contents written P → EndsEarly ends.Write Q input contents flushed
 unflushed input contents written flushed P Q follows writes =
     known_as input (λ bytes. P (lines_of bytes) writes.text) (λ bytes. (text : List ℕ) × Q (lines_of bytes) text) (λ bytes all. (writes.text, follows (lines_of bytes) writes.text all)) writes.right
 
@@ -69,19 +69,19 @@ module _ {A : Type 0} (ways : Ways A) (first : A) (new : ScriptState A) where
 
   -- what lines were answered, by a result
   pub record Ran (input contents written : Option (List ℕ)) (result : Result (Unit {0}) EarlyEnd) : Type 0 where
-    pub whole : OnOk result (Writes input contents written (AnswersAll (begun_with first) (λ s. s ≡ new) quits (Replies ways)))
+    pub whole : OnOk result (WritesText input contents written (AnswersAll (begun_with first) (λ s. s ≡ new) quits (Replies ways)))
     pub early : IfErr result (λ end. EndsEarly end (AnswersSome (begun_with first) (λ s. s ≡ new) quits (Replies ways)) input contents written)
 
-  pub ran_of : (as_input input contents written : Option (List ℕ)) (result : Result (Unit {0}) EarlyEnd) → as_input ≡ input → OnOk result (Writes as_input contents written (AnswersAll (begun_with first) (λ s. s ≡ new) quits (Replies ways)))
+  pub ran_of : (as_input input contents written : Option (List ℕ)) (result : Result (Unit {0}) EarlyEnd) → as_input ≡ input → OnOk result (WritesText as_input contents written (AnswersAll (begun_with first) (λ s. s ≡ new) quits (Replies ways)))
       → IfErr result (λ end. EndsEarly end (AnswersSome (begun_with first) (λ s. s ≡ new) quits (Replies ways)) as_input contents written) → Ran input contents written result
   ran_of as_input input contents written result same whole early = subst (λ (i : Option (List ℕ)). Ran i contents written result) same (record { whole = whole; early = early })
 
   -- the lines were read to their end, and what was written was handed on
   pub ends_well : (input contents written flushed : Option (List ℕ)) (result after : Result (Unit {0}) EarlyEnd) (is_flushed : Bool) → Ran input contents written result → after ≡ ended_by result is_flushed → Keeps written flushed
-      → OnOk after (Writes input contents flushed (AnswersLines ways first new.archive))
-  ends_well input contents written flushed result after is_flushed ran is keeps = subst (λ (r : Result (Unit {0}) EarlyEnd). OnOk r (Writes input contents flushed (AnswersLines ways first new.archive))) (sym is) (by result is_flushed ran)
+      → OnOk after (WritesText input contents flushed (AnswersLines ways first new.archive))
+  ends_well input contents written flushed result after is_flushed ran is keeps = subst (λ (r : Result (Unit {0}) EarlyEnd). OnOk r (WritesText input contents flushed (AnswersLines ways first new.archive))) (sym is) (by result is_flushed ran)
     where
-      by : (result : Result (Unit {0}) EarlyEnd) (is_flushed : Bool) → Ran input contents written result → OnOk (ended_by result is_flushed) (Writes input contents flushed (AnswersLines ways first new.archive))
+      by : (result : Result (Unit {0}) EarlyEnd) (is_flushed : Bool) → Ran input contents written result → OnOk (ended_by result is_flushed) (WritesText input contents flushed (AnswersLines ways first new.archive))
       by (Ok done) true ran = writes_as input contents written flushed _ _ all_left keeps ran.whole
       by (Ok done) false ran = tt
       by (Err end) is_flushed ran = tt

@@ -9,56 +9,56 @@ use Rattle.control_core.specs.declared.event.Event.{Event}
 use Rattle.control_core.specs.declared.event.Event.TheVariants as events
 use Rattle.control_lines.specs.declared.line.Line.{Line}
 use Rattle.control_lines.specs.declared.line.Line.TheVariants as lines
-use Rattle.engine_core.specs.Engine.{GoesOn}
+use Rattle.engine_core.specs.Engine.{DiskGoesOn}
 use Rattle.tool_core.specs.declared.archive.ScriptArchive.{ScriptArchive}
 use Rattle.tool_core.specs.declared.archive.ScriptArchive.TheVariants.{Open, Closed}
 use Rattle.tool_core.specs.declared.state.ScriptState.{ScriptState}
 use Rattle.tool_core.specs.Answering.{IsAnswer, LineIs, ThenSettles, WritesBytes, WritesRead}
-use Rattle.tool_core.specs.Archives.{Calls, Opens, archive_ways, life_of}
+use Rattle.tool_core.specs.Archives.{CallsEngine, OpensDisk, archive_ways, life_of}
 
-pub no_calls : (life : Life) → GoesOn life life
+pub no_calls : (life : Life) → DiskGoesOn life life
 no_calls life = record { obeyed = λ obeys. obeys; faults = omega arith }
 
-pub goes_further : (old mid new : Life) → GoesOn old mid → GoesOn mid new → GoesOn old new
+pub goes_further : (old mid new : Life) → DiskGoesOn old mid → DiskGoesOn mid new → DiskGoesOn old new
 goes_further old mid new first later = record {
   obeyed = λ obeys. first.obeyed (later.obeyed obeys);
   faults = let up = first.faults in let more = later.faults in omega (arith, up, more);
 }
 
 -- a fault of the first part, or of the other, is one of the whole
-pub failed_first : (old mid new : Life) → GoesOn mid new → HasFailed old mid → HasFailed old new
+pub failed_first : (old mid new : Life) → DiskGoesOn mid new → HasFailed old mid → HasFailed old new
 failed_first old mid new later failed = let more = later.faults in omega (arith, more, failed)
 
-pub failed_later : (old mid new : Life) → GoesOn old mid → HasFailed mid new → HasFailed old new
+pub failed_later : (old mid new : Life) → DiskGoesOn old mid → HasFailed mid new → HasFailed old new
 failed_later old mid new first failed = let up = first.faults in omega (arith, up, failed)
 
 module _ {D : Type 0} (life : D → Life) where
-  same_goes : (old new : ScriptArchive D) → new ≡ old → GoesOn (life_of life old) (life_of life new)
-  same_goes old new same = subst (λ (x : ScriptArchive D). GoesOn (life_of life old) (life_of life x)) (sym same) (no_calls (life_of life old))
+  same_goes : (old new : ScriptArchive D) → new ≡ old → DiskGoesOn (life_of life old) (life_of life new)
+  same_goes old new same = subst (λ (x : ScriptArchive D). DiskGoesOn (life_of life old) (life_of life x)) (sym same) (no_calls (life_of life old))
 
-  pub calls_go_on : (event : Event) (old : ScriptArchive D) (outcome : Result Reply Refusal) (new : ScriptArchive D) → Calls life event old outcome new → GoesOn (life_of life old) (life_of life new)
+  pub calls_go_on : (event : Event) (old : ScriptArchive D) (outcome : Result Reply Refusal) (new : ScriptArchive D) → CallsEngine life event old outcome new → DiskGoesOn (life_of life old) (life_of life new)
   calls_go_on event (Open old) outcome (Open new) answered = answered.answers.goes_on
   calls_go_on event (Open old) outcome (Closed disk) answered = absurd answered
   calls_go_on event (Closed disk) outcome new answered = same_goes (Closed disk) new answered.1
 
-  pub opens_go_on : (old : Life) (outcome : Result Reply Refusal) (new : ScriptArchive D) → Opens life old outcome new → GoesOn old (life_of life new)
+  pub opens_go_on : (old : Life) (outcome : Result Reply Refusal) (new : ScriptArchive D) → OpensDisk life old outcome new → DiskGoesOn old (life_of life new)
   opens_go_on old (Ok reply) (Open engine) opens = let opened = opens.1 in opened.goes_on
   opens_go_on old (Ok reply) (Closed disk) opens = absurd opens
   opens_go_on old (Err refusal) (Open engine) opens = absurd opens
   opens_go_on old (Err refusal) (Closed disk) opens = opens.goes_on
 
-  read_goes_on : (session : ℤ) (read : Result Block Refusal) (old : ScriptArchive D) (outcome : Result Reply Refusal) (new : ScriptArchive D) → WritesRead (archive_ways life) session read old outcome new → GoesOn (life_of life old) (life_of life new)
+  read_goes_on : (session : ℤ) (read : Result Block Refusal) (old : ScriptArchive D) (outcome : Result Reply Refusal) (new : ScriptArchive D) → WritesRead (archive_ways life) session read old outcome new → DiskGoesOn (life_of life old) (life_of life new)
   read_goes_on session (Ok block) old outcome new written = calls_go_on (events.Write session block) old outcome new written
   read_goes_on session (Err refusal) old outcome new written = same_goes old new written.1
 
-  pub writes_go_on : (session : ℤ) (bytes : List ℕ) (old : ScriptArchive D) (outcome : Result Reply Refusal) (new : ScriptArchive D) → WritesBytes (archive_ways life) session bytes old outcome new → GoesOn (life_of life old) (life_of life new)
+  pub writes_go_on : (session : ℤ) (bytes : List ℕ) (old : ScriptArchive D) (outcome : Result Reply Refusal) (new : ScriptArchive D) → WritesBytes (archive_ways life) session bytes old outcome new → DiskGoesOn (life_of life old) (life_of life new)
   writes_go_on session bytes old outcome new (terms, read, are, is, written) = read_goes_on session read old outcome new written
 
-  pub settles_go_on : (session : ℤ) (first : Result Reply Refusal) (mid : ScriptArchive D) (outcome : Result Reply Refusal) (new : ScriptArchive D) → ThenSettles (archive_ways life) session first mid outcome new → GoesOn (life_of life mid) (life_of life new)
+  pub settles_go_on : (session : ℤ) (first : Result Reply Refusal) (mid : ScriptArchive D) (outcome : Result Reply Refusal) (new : ScriptArchive D) → ThenSettles (archive_ways life) session first mid outcome new → DiskGoesOn (life_of life mid) (life_of life new)
   settles_go_on session (Ok reply) mid outcome new settled = calls_go_on (events.Settle session) mid outcome new settled
   settles_go_on session (Err refusal) mid outcome new settled = same_goes mid new settled.1
 
-  line_goes_on : (old : ScriptState (ScriptArchive D)) (line : Line) (outcome : Result Reply Refusal) (new : ScriptState (ScriptArchive D)) → LineIs (archive_ways life) old line outcome new → GoesOn (life_of life old.archive) (life_of life new.archive)
+  line_goes_on : (old : ScriptState (ScriptArchive D)) (line : Line) (outcome : Result Reply Refusal) (new : ScriptState (ScriptArchive D)) → LineIs (archive_ways life) old line outcome new → DiskGoesOn (life_of life old.archive) (life_of life new.archive)
   line_goes_on old (lines.Event event) outcome new is = calls_go_on event old.archive outcome new.archive is.0
   line_goes_on old (lines.Write session bytes) outcome new is = writes_go_on session bytes old.archive outcome new.archive is.0
   line_goes_on old (lines.Block session bytes) outcome new ((first, mid, written, settled), same) =
@@ -66,10 +66,10 @@ module _ {D : Type 0} (life : D → Life) where
   line_goes_on old lines.Reopen outcome new is = opens_go_on (life_of life old.archive) outcome new.archive is.0
   line_goes_on old lines.Compact outcome new is = let compacts = is.0 in same_goes old.archive new.archive compacts.1
   line_goes_on old (lines.Merge line) outcome new is = same_goes old.archive new.archive is.1
-  line_goes_on old lines.Quit outcome new is = subst (λ (x : ScriptState (ScriptArchive D)). GoesOn (life_of life old.archive) (life_of life x.archive)) (sym is.1) (no_calls (life_of life old.archive))
+  line_goes_on old lines.Quit outcome new is = subst (λ (x : ScriptState (ScriptArchive D)). DiskGoesOn (life_of life old.archive) (life_of life x.archive)) (sym is.1) (no_calls (life_of life old.archive))
 
   pub answer_goes_on : (takes : Bool) (old : ScriptState (ScriptArchive D)) (line : Result Line Refusal) (outcome : Result Reply Refusal) (new : ScriptState (ScriptArchive D)) → IsAnswer (archive_ways life) takes old line outcome new
-      → GoesOn (life_of life old.archive) (life_of life new.archive)
+      → DiskGoesOn (life_of life old.archive) (life_of life new.archive)
   answer_goes_on takes old (Ok line) outcome new (inl is) = line_goes_on old line outcome new is
-  answer_goes_on takes old (Err refusal) outcome new (inl is) = subst (λ (x : ScriptState (ScriptArchive D)). GoesOn (life_of life old.archive) (life_of life x.archive)) (sym is.1) (no_calls (life_of life old.archive))
-  answer_goes_on takes old line outcome new (inr (takes_it, want, same)) = subst (λ (x : ScriptState (ScriptArchive D)). GoesOn (life_of life old.archive) (life_of life x.archive)) (sym same) (no_calls (life_of life old.archive))
+  answer_goes_on takes old (Err refusal) outcome new (inl is) = subst (λ (x : ScriptState (ScriptArchive D)). DiskGoesOn (life_of life old.archive) (life_of life x.archive)) (sym is.1) (no_calls (life_of life old.archive))
+  answer_goes_on takes old line outcome new (inr (takes_it, want, same)) = subst (λ (x : ScriptState (ScriptArchive D)). DiskGoesOn (life_of life old.archive) (life_of life x.archive)) (sym same) (no_calls (life_of life old.archive))

@@ -13,7 +13,7 @@ use Rattle.tool_core.specs.declared.state.ScriptState.{ScriptState}
 use Rattle.tool_core.specs.Answering.{IsAnswer, LineIs}
 use Rattle.tool_core.specs.Archives.{archive_ways, life_of}
 use Rattle.tool_core.specs.Merging.{Ends}
-use Rattle.tool_core.specs.ScriptLines.{Answered, Calls, LeavesMeanwhile, LineEnds, OrWant, Records, Reopens, Scene, Standing, WhereOpen, WritesBytes}
+use Rattle.tool_core.specs.ScriptLines.{ReadLineOrWant, Calls, LeavesMeanwhile, LineEnds, OrWant, Records, Reopens, Scene, Standing, WhereOpen, WritesBytes}
 use Rattle.tool_core.proofs.CallLemmas.{Kept, bytes_kept, event_kept}
 use Rattle.tool_core.proofs.OpeningLemmas.{reopen_kept}
 use Rattle.tool_core.proofs.RecordLemmas.{record_kept}
@@ -103,7 +103,7 @@ module _ {D : Type 0} (life : D → Life) where
     unchanged old s new is same = subst (λ (x : ScriptState (ScriptArchive D)). IsScene x s) (sym same) is
 
     pub answered : (takes : Bool) (old : ScriptState (ScriptArchive D)) (s : Scene) (line : Result Line Refusal) (outcome : Result Reply Refusal) (new : ScriptState (ScriptArchive D)) → IsScene old s → IsTrue (life_of life new.archive).obeys
-        → IsAnswer (archive_ways life) takes old line outcome new → (t : Scene) × IsScene new t × Answered takes s line outcome t
+        → IsAnswer (archive_ways life) takes old line outcome new → (t : Scene) × IsScene new t × ReadLineOrWant takes s line outcome t
     answered takes old s (Ok line) outcome new is obeys (inl answer) = let done = scene_done old s line outcome new is obeys answer in (done.0, done.1, inl done.2)
     answered takes old s (Err refusal) outcome new is obeys (inl answer) = (s, unchanged old s new is answer.1, inl (answer.0, refl))
     answered takes old s line outcome new is obeys (inr (takes_it, want, same)) = (s, unchanged old s new is same, inr (takes_it, want, refl))

@@ -28,8 +28,8 @@ use Rattle.engine_core.specs.Seen.{seen}
 use Rattle.engine_core.proofs.RecoveryLemmas.{one_state}
 use Rattle.tool_core.specs.declared.archive.ScriptArchive.{ScriptArchive}
 use Rattle.tool_core.specs.declared.archive.ScriptArchive.TheVariants.{Open, Closed}
-use Rattle.tool_core.specs.Archives.{HasOpened, HasRefused, Opens, life_of}
-use Rattle.tool_core.specs.Script.{IsRefused, IsRefusedBy, LeavesArchive, LeavesOpened, LeavesStanding, Restarts}
+use Rattle.tool_core.specs.Archives.{HasOpened, HasRefused, OpensDisk, life_of}
+use Rattle.tool_core.specs.Script.{IsRefused, IsRefusedBy, LeavesArchive, LeavesOpened, LeavesStanding, RestartsDisk}
 use Rattle.tool_core.specs.ScriptLines.{LeavesMeanwhile, MayStandAt, Reopens, ReopensAs, ReopensEither, ReopensOpened, Standing, StaysInDoubt, closed, doubtful, opened, refused, reopened, unknown}
 use Rattle.tool_core.proofs.RefusedLemmas.{no_catalogue, refused_once, refused_still}
 use Rattle.tool_core.proofs.StandingLemmas.{IsStanding, either_stands, recovers_as, standing_left}
@@ -65,17 +65,17 @@ at_fresh e image s a b desk consistent fresh same = record {
 -- ---- beginning
 
 -- the archive of a disk that recovers to a state is opened
-pub begun : (old : Life) (new : EngineState) (count : ℤ) (a : Archive) (restarts : Restarts old a) → IsOpened old new count restarts.state restarts.other → IsAt new a
+pub begun : (old : Life) (new : EngineState) (count : ℤ) (a : Archive) (restarts : RestartsDisk old a) → IsOpened old new count restarts.state restarts.other → IsAt new a
 begun old new count a restarts o =
     let same : o.read ≡ restarts.state = one_state (reads old.now) o.read restarts.state o.recovers restarts.recovers in
     at_fresh new (reads old.now) (after o.read Restart) a o.archive o.desk o.consistent o.fresh
     (one_fresh (reads old.now) (after o.read Restart) (after restarts.state Restart) o.archive a o.fresh restarts.fresh (ap (λ (x : State). after x Restart) same))
 
 -- nothing has changed but the count of faults
-pub quiet_restarts : (old new : Life) (a : Archive) → IsQuiet old new → Restarts old a → Restarts new a
+pub quiet_restarts : (old new : Life) (a : Archive) → IsQuiet old new → RestartsDisk old a → RestartsDisk new a
 quiet_restarts old new a quiet restarts = by old.now new.now (sym quiet.now) restarts
   where
-    by : (x y : Files) → x ≡ y → (r : Restarts old a) → Restarts new a
+    by : (x y : Files) → x ≡ y → (r : RestartsDisk old a) → RestartsDisk new a
     by x y same r = record {
       state = r.state;
       other = r.other;
@@ -256,7 +256,7 @@ module _ {D : Type 0} (life : D → Life) (stays : (disk : D) → MayLeave (life
   certain_again : (old new : ScriptArchive D) (s : Standing) (a : Archive) (outcome : Result Reply Refusal) → LeavesArchive (life_of life old) a → ((x : State) → IsEither a.state a.state x → MayStandAt s x)
       → ((t : Standing) → LeavesOnly (life_of life old) (life_of life new) (RecoversTo (λ x. MayStandAt s x ⊎ (MayStandAt t x ⊎ ((y : State) × MayStandAt s y × (x ≡ after y Restart))))) → LeavesMeanwhile lines.Reopen (life_of life old) (life_of life new) s t)
       → ((t : Standing) → ReopensAs (HasFailed (life_of life old) (life_of life new)) a outcome t → Reopens (life_of life old) (HasFailed (life_of life old) (life_of life new)) s outcome t)
-      → IsTrue (life_of life new).obeys → Opens life (life_of life old) outcome new → Again old new s outcome
+      → IsTrue (life_of life new).obeys → OpensDisk life (life_of life old) outcome new → Again old new s outcome
   certain_again old (Open engine) s a (Ok reply) leaves stood meanwhile so obeys opens =
       let done = certain_opened old engine a reply leaves opens.0 opens.1 obeys in
       record {
@@ -280,7 +280,7 @@ module _ {D : Type 0} (life : D → Life) (stays : (disk : D) → MayLeave (life
   either_again : (old new : ScriptArchive D) (before : Standing) (s u : State) (outcome : Result Reply Refusal) → LeavesEither (life_of life old) s u → ((x : State) → IsEither s u x → MayStandAt before x)
       → ((t : Standing) → LeavesOnly (life_of life old) (life_of life new) (RecoversTo (λ x. MayStandAt before x ⊎ (MayStandAt t x ⊎ ((y : State) × MayStandAt before y × (x ≡ after y Restart))))) → LeavesMeanwhile lines.Reopen (life_of life old) (life_of life new) before t)
       → ((t : Standing) → ReopensEither (life_of life old) (HasFailed (life_of life old) (life_of life new)) s u outcome t → Reopens (life_of life old) (HasFailed (life_of life old) (life_of life new)) before outcome t)
-      → IsTrue (life_of life new).obeys → Opens life (life_of life old) outcome new → Again old new before outcome
+      → IsTrue (life_of life new).obeys → OpensDisk life (life_of life old) outcome new → Again old new before outcome
   either_again old (Open engine) before s u (Ok reply) leaves stood meanwhile so obeys opens =
       let done = either_opened (life_of life old) engine s u reply leaves opens.0 opens.1 obeys in
       record {
@@ -301,7 +301,7 @@ module _ {D : Type 0} (life : D → Life) (stays : (disk : D) → MayLeave (life
       }
 
   -- a refused catalogue
-  refused_again : (old new : ScriptArchive D) (image : DiskImage) (why : Refusal) (outcome : Result Reply Refusal) → IsRefused (life_of life old) image why → IsTrue (life_of life new).obeys → Opens life (life_of life old) outcome new
+  refused_again : (old new : ScriptArchive D) (image : DiskImage) (why : Refusal) (outcome : Result Reply Refusal) → IsRefused (life_of life old) image why → IsTrue (life_of life new).obeys → OpensDisk life (life_of life old) outcome new
       → Again old new (refused image why) outcome
   refused_again old (Open engine) image why (Ok reply) is obeys opens = let desk = opens.1.desk obeys in absurd (no_catalogue (life_of life old) why desk.header desk.entries is.0 desk.catalogue)
   refused_again old (Closed disk) image why (Ok reply) is obeys opens = absurd opens
@@ -326,7 +326,7 @@ module _ {D : Type 0} (life : D → Life) (stays : (disk : D) → MayLeave (life
             meanwhile = inr before.any_moment;
           }
 
-  opened_again_as : (old new : ScriptArchive D) (a : Archive) (outcome : Result Reply Refusal) (o : Option State) → a.doubt ≡ o → LeavesOpened (life_of life old) a o → IsTrue (life_of life new).obeys → Opens life (life_of life old) outcome new
+  opened_again_as : (old new : ScriptArchive D) (a : Archive) (outcome : Result Reply Refusal) (o : Option State) → a.doubt ≡ o → LeavesOpened (life_of life old) a o → IsTrue (life_of life new).obeys → OpensDisk life (life_of life old) outcome new
       → Again old new (opened a) outcome
   opened_again_as old new a outcome None certain leaves obeys opens =
       certain_again old new (opened a) a outcome leaves (λ x either. inl (one_either a.state x either)) (λ t only. only)
@@ -335,7 +335,7 @@ module _ {D : Type 0} (life : D → Life) (stays : (disk : D) → MayLeave (life
       either_again old new (opened a) a.state u outcome leaves (λ x either. either_stands a u x doubt either) (λ t only. only)
       (λ t ends. subst (λ (o : Option State). ReopensOpened (life_of life old) (HasFailed (life_of life old) (life_of life new)) a o outcome t) (sym doubt) ends) obeys opens
 
-  pub reopen_kept : (old new : ScriptArchive D) (s : Standing) (outcome : Result Reply Refusal) → IsStanding life old s → IsTrue (life_of life new).obeys → Opens life (life_of life old) outcome new
+  pub reopen_kept : (old new : ScriptArchive D) (s : Standing) (outcome : Result Reply Refusal) → IsStanding life old s → IsTrue (life_of life new).obeys → OpensDisk life (life_of life old) outcome new
       → Kept life lines.Reopen old new s (Reopens (life_of life old) (HasFailed (life_of life old) (life_of life new)) s) outcome
   reopen_kept old new s outcome stands obeys opens = by s (standing_left life old s stands)
     where

@@ -9,15 +9,15 @@ use Rattle.std.proofs.lemmas.Bool.{false≢true}
 use Rattle.std.proofs.lemmas.List.{take_more}
 use Rattle.std.proofs.lemmas.List.Elements.{All-append, All-head, All-tail}
 use Rattle.tool_core.specs.InputLines.{lines_of, kept, NextLine, ReadsLine}
-use Rattle.tool_core.specs.Parts.{HasNoEnd, Grows, Moves}
+use Rattle.tool_core.specs.Parts.{HasNoEnd, Grows, MovesText}
 
 -- what was shown first is consumed: a text, and what ends it
-pub Moves-shown : (a b c line_old line_new : Option (List ℕ)) (limit : Option ℕ) (shown : List ℕ) (n : ℕ) (text end : List ℕ)
+pub MovesText-shown : (a b c line_old line_new : Option (List ℕ)) (limit : Option ℕ) (shown : List ℕ) (n : ℕ) (text end : List ℕ)
     → n ≤ length shown → take n shown ≡ text ++ end → HasNoEnd text → Grows line_old line_new text
     → IfSome a (λ xs. StartsWith xs shown) → IfSome a (λ xs. length shown ≡ 0 → xs ≡ []) → Keeps a b
     → IfSome a (λ _. IfSome limit (λ k. length shown ≤ k)) → DropsConsumable b c limit n
-    → Moves a c line_old line_new end
-Moves-shown a b c line_old line_new limit shown n text end within is no_end grows front all kept fits drops = record {
+    → MovesText a c line_old line_new end
+MovesText-shown a b c line_old line_new limit shown n text end within is no_end grows front all kept fits drops = record {
   text = text;
   no_end = no_end;
   consumed = subst (Consumes a c) is (Consumes_shown a b c limit shown n within front all kept fits drops).0;
@@ -38,7 +38,7 @@ pub record HasRead (old now : Option (List ℕ)) (line : Option (List ℕ)) : Ty
 pub HasRead-nil : (a line : Option (List ℕ)) → line ≡ Some [] → HasRead a a line
 HasRead-nil a line is = record { text = []; no_end = search rules; consumed = Consumes-nil a; is_kept = is }
 
-pub HasRead-more : (a b c line more : Option (List ℕ)) → HasRead a b line → Moves b c line more [] → HasRead a c more
+pub HasRead-more : (a b c line more : Option (List ℕ)) → HasRead a b line → MovesText b c line more [] → HasRead a c more
 HasRead-more a b c line more seen moves = record {
   text = seen.text ++ moves.text;
   no_end = All-append (λ x. x ≢ 10) seen.text moves.text seen.no_end moves.no_end;
@@ -66,7 +66,7 @@ NextLine-ended (Some xs) None line no_end h = absurd h
 NextLine-ended (Some xs) (Some ys) line no_end h = ap lines_of (h ∙ append_assoc line (10 ∷ []) ys) ∙ lines_of-end line ys no_end
 
 -- the line's end was met
-pub ReadsLine-ended : (a b c line whole : Option (List ℕ)) → HasRead a b line → Moves b c line whole (10 ∷ []) → ReadsLine a c whole
+pub ReadsLine-ended : (a b c line whole : Option (List ℕ)) → HasRead a b line → MovesText b c line whole (10 ∷ []) → ReadsLine a c whole
 ReadsLine-ended a b c line whole seen moves =
     let text = seen.text ++ moves.text in
     record {

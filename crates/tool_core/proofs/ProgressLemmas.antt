@@ -5,7 +5,7 @@ use Rattle.std.specs.Io.KnownBytes.{Appends, Keeps, IsAtEnd}
 use Rattle.std.proofs.KnownBytes.{Appends-nil, Appends-trans, Appends-kept}
 use Rattle.std.specs.Prelude.{IfSome}
 use Rattle.tool_core.specs.InputLines.{lines_of, kept, NextLine}
-use Rattle.tool_core.specs.Transcript.{Transcript, until_quit, AnswersAll, AnswersSome, LeftNear, Writes}
+use Rattle.tool_core.specs.Transcript.{Transcript, until_quit, AnswersAll, AnswersSome, LeftNear, WritesText}
 
 -- ---- lines up to the one that quits
 
@@ -117,7 +117,7 @@ module _ {S : Type 0} (start : S) (quits : Option (List ℕ) → Bool) (Answers 
         (new, subst (λ ls. Transcript Answers start ls (text ++ reply) new) (sym lines) (transcript-more Answers start so_far.done text state line reply new so_far.answered answers), left)
 
     -- the line that quits is answered
-    pub progress-last : (before now later contents written then : Option (List ℕ)) (line reply : List ℕ) (state new : S) → Progress before now contents written state → NextLine now later line → Appends written then reply → Answers state (kept line) reply new → quits (kept line) ≡ true → Left new → Writes before contents then All
+    pub progress-last : (before now later contents written then : Option (List ℕ)) (line reply : List ℕ) (state new : S) → Progress before now contents written state → NextLine now later line → Appends written then reply → Answers state (kept line) reply new → quits (kept line) ≡ true → Left new → WritesText before contents then All
     progress-last before now later contents written then line reply state new progress next appended answers quit left =
         record {
           text = progress.text ++ reply;
@@ -134,7 +134,7 @@ module _ {S : Type 0} (start : S) (quits : Option (List ℕ) → Bool) (Answers 
         (state, subst (λ ls. Transcript Answers start ls text state) (sym lines) so_far.answered, left)
 
     -- the input is at its end
-    pub progress-end : (before now contents written : Option (List ℕ)) (state : S) → Progress before now contents written state → IsAtEnd now → Left state → Writes before contents written All
+    pub progress-end : (before now contents written : Option (List ℕ)) (state : S) → Progress before now contents written state → IsAtEnd now → Left state → WritesText before contents written All
     progress-end before now contents written state progress end left =
         record { text = progress.text; appended = progress.appended; right = end_all before now progress.text state progress.so_far end left }
 
@@ -170,7 +170,7 @@ module _ {S : Type 0} (start : S) (quits : Option (List ℕ) → Bool) (Answers 
         )
 
     -- the script ends early
-    pub progress-early : (before now contents written : Option (List ℕ)) (state : S) → Progress before now contents written state → Near now state → Writes before contents written First
+    pub progress-early : (before now contents written : Option (List ℕ)) (state : S) → Progress before now contents written state → Near now state → WritesText before contents written First
     progress-early before now contents written state progress near =
         record { text = progress.text; appended = progress.appended; right = some_first before now progress.text state progress.so_far near }
 

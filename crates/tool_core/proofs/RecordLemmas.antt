@@ -15,7 +15,7 @@ use Rattle.control_core.specs.Runs.{MayStand}
 use Rattle.control_core.proofs.FaultLemmas.{other_cause}
 use Rattle.control_lines.specs.declared.line.Line.{Line}
 use Rattle.control_lines.specs.declared.line.Line.TheVariants as lines
-use Rattle.engine_core.specs.Engine.{GoesOn}
+use Rattle.engine_core.specs.Engine.{DiskGoesOn}
 use Rattle.engine_core.specs.Recovery.{RecoversTo}
 use Rattle.tool_core.specs.declared.archive.ScriptArchive.{ScriptArchive}
 use Rattle.tool_core.specs.declared.archive.ScriptArchive.TheVariants.{Open, Closed}
@@ -90,7 +90,7 @@ module _ {D : Type 0} (life : D → Life) (session : ℤ) (bytes : List ℕ) whe
       → LeavesOnly (life_of life old) (life_of life mid) (RecoversTo (Stood a (opened b)))
       → IsStanding life new (opened c) → Calls (HasFailed (life_of life mid) (life_of life new)) (events.Settle session) b outcome c
       → LeavesOnly (life_of life mid) (life_of life new) (RecoversTo (Stood b (opened c)))
-      → GoesOn (life_of life old) (life_of life mid) → GoesOn (life_of life mid) (life_of life new) → Both old new (opened a) outcome
+      → DiskGoesOn (life_of life old) (life_of life mid) → DiskGoesOn (life_of life mid) (life_of life new) → Both old new (opened a) outcome
   settled_then old mid new a b c reply outcome wrote before stands ends later began more =
       let F = HasFailed (life_of life old) (life_of life mid) in
       let G = HasFailed (life_of life old) (life_of life new) in
@@ -123,7 +123,7 @@ module _ {D : Type 0} (life : D → Life) (session : ℤ) (bytes : List ℕ) whe
       later_stood x state doubt (inr after) = inr after
 
   then_settled : (old mid new : ScriptArchive D) (a : Archive) (reply : Reply) (outcome : Result Reply Refusal) → First old mid (opened a) (Ok reply) → IsTrue (life_of life new).obeys
-      → GoesOn (life_of life old) (life_of life mid) → GoesOn (life_of life mid) (life_of life new)
+      → DiskGoesOn (life_of life old) (life_of life mid) → DiskGoesOn (life_of life mid) (life_of life new)
       → answering.ThenSettles (archive_ways life) session (Ok reply) mid outcome new → Both old new (opened a) outcome
   then_settled old mid new a reply outcome first obeys began more settled = by first.after first.stands first.ends first.meanwhile
     where
@@ -171,7 +171,7 @@ module _ {D : Type 0} (life : D → Life) (session : ℤ) (bytes : List ℕ) whe
       by unknown stands (inr (want, wrong)) before = absurd cc
 
   open_both : (old mid new : ScriptArchive D) (a : Archive) (wrote outcome : Result Reply Refusal) → First old mid (opened a) wrote → IsTrue (life_of life new).obeys
-      → GoesOn (life_of life old) (life_of life mid) → GoesOn (life_of life mid) (life_of life new)
+      → DiskGoesOn (life_of life old) (life_of life mid) → DiskGoesOn (life_of life mid) (life_of life new)
       → answering.ThenSettles (archive_ways life) session wrote mid outcome new → Both old new (opened a) outcome
   open_both old mid new a (Ok reply) outcome first obeys began more settled = then_settled old mid new a reply outcome first obeys began more settled
   open_both old mid new a (Err refusal) outcome first obeys began more settled = not_written old mid new a refusal outcome first settled.0 settled.1

@@ -17,7 +17,7 @@ use Rattle.control_core.proofs.FaultLemmas.{other_cause}
 use Rattle.engine_core.specs.declared.engine.Engine.{Engine}
 use Rattle.engine_core.specs.Calls.{AnswersEvent, HasFailedOften, faults_in, is_fault}
 use Rattle.engine_core.specs.Consistent.{IsCrashConsistent}
-use Rattle.engine_core.specs.Engine.{GoesOn, archive_of}
+use Rattle.engine_core.specs.Engine.{DiskGoesOn, archive_of}
 use Rattle.engine_core.specs.Seen.{seen}
 use Rattle.engine_core.proofs.RunLemmas.{run_failed}
 use Rattle.tool_core.specs.declared.fault.EarlyEnd.{EarlyEnd}
@@ -71,7 +71,7 @@ module _ {D : Type 0} (life : D → Life) where
         (subst (λ (x : Archive). CallEnds a (Verify id) (Unit {0}) outcome x) ended.ends.1 ends, tt);
   }
 
-  goes_then : (old mid new : Engine D) → GoesOn (life_in life old) (life_in life mid) → GoesOn (life_in life mid) (life_in life new) → GoesOn (life_in life old) (life_in life new)
+  goes_then : (old mid new : Engine D) → DiskGoesOn (life_in life old) (life_in life mid) → DiskGoesOn (life_in life mid) (life_in life new) → DiskGoesOn (life_in life old) (life_in life new)
   goes_then old mid new first behind =
       let early = first.faults in
       let late = behind.faults in

@@ -7,7 +7,7 @@ use Rattle.tool_core.specs.declared.archive.ScriptArchive.{ScriptArchive}
 use Rattle.tool_core.specs.declared.state.ScriptState.{ScriptState}
 use Rattle.tool_core.specs.Answering.{AnswersFirstLines, AnswersLines, Replies, asked, asked_copies, begun_with, quits}
 use Rattle.tool_core.specs.Archives.{IsScript, IsScriptBy, IsScriptOfFirst, archive_ways, life_of}
-use Rattle.tool_core.specs.Script.{Answers, Begins, BeginsAt, IsTranscript, IsTranscriptBy, IsTranscriptOfFirst, LeavesScene, LeavesStanding}
+use Rattle.tool_core.specs.Script.{AnswersLine, Begins, BeginsAt, IsTranscript, IsTranscriptBy, IsTranscriptOfFirst, LeavesScene, LeavesStanding}
 use Rattle.tool_core.specs.ScriptLines.{Scene, Standing}
 use Rattle.tool_core.specs.Transcript.{AnswersAll, AnswersSome}
 use Rattle.tool_core.proofs.BeginLemmas.{Starts, starts}
@@ -21,7 +21,7 @@ module _ {D : Type 0} (life : D → Life) (stays : (disk : D) → MayLeave (life
   back s line reply t (outcome, answer, text) obeys = let on = answer_goes_on life (asked_copies line) s (asked line) outcome t answer in on.obeyed obeys
 
   step : (s : ScriptState (ScriptArchive D)) (line : Option (List ℕ)) (reply : List ℕ) (t : ScriptState (ScriptArchive D)) (x : Scene) → Replies (archive_ways life) s line reply t → IsTrue (life_of life t.archive).obeys → IsScene life s x
-      → (y : Scene) × IsScene life t y × Answers x line reply y
+      → (y : Scene) × IsScene life t y × AnswersLine x line reply y
   step s line reply t x (outcome, answer, text) obeys is =
       let done = answered life stays (asked_copies line) s x (asked line) outcome t is obeys answer in
       (done.0, done.1, (outcome, done.2, text))
@@ -53,13 +53,13 @@ module _ {D : Type 0} (life : D → Life) (stays : (disk : D) → MayLeave (life
     pub transcript : IsScript life old new lines text → IsTranscript first old new lines text
     transcript script =
         let ends : (s : ScriptState (ScriptArchive D)) → s.archive ≡ script.last → Good s = λ s same. good new script.last s script.left obeys same in
-        by_scenes (AnswersLines (archive_ways life)) (λ begun. AnswersAll begun (LeavesScene new) quits Answers) old new first may begins lines text script
-        (all_good (Replies (archive_ways life)) Answers Good (IsScene life) back step (begun_with script.first) quits (λ s. s.archive ≡ script.last) ends lines text script.answers)
-        (λ x is. all_as (Replies (archive_ways life)) Answers Good (IsScene life) back step (begun_with script.first) x quits (λ s. s.archive ≡ script.last) (LeavesScene new) ends (λ s x same is. scene_left new script.last s x script.left same is) is lines text script.answers)
+        by_scenes (AnswersLines (archive_ways life)) (λ begun. AnswersAll begun (LeavesScene new) quits AnswersLine) old new first may begins lines text script
+        (all_good (Replies (archive_ways life)) AnswersLine Good (IsScene life) back step (begun_with script.first) quits (λ s. s.archive ≡ script.last) ends lines text script.answers)
+        (λ x is. all_as (Replies (archive_ways life)) AnswersLine Good (IsScene life) back step (begun_with script.first) x quits (λ s. s.archive ≡ script.last) (LeavesScene new) ends (λ s x same is. scene_left new script.last s x script.left same is) is lines text script.answers)
 
     pub transcript_of_first : IsScriptOfFirst life old new lines text → IsTranscriptOfFirst first old new lines text
     transcript_of_first script =
         let ends : (s : ScriptState (ScriptArchive D)) → s.archive ≡ script.last → Good s = λ s same. good new script.last s script.left obeys same in
-        by_scenes (AnswersFirstLines (archive_ways life)) (λ begun. AnswersSome begun (LeavesScene new) quits Answers) old new first may begins lines text script
-        (some_good (Replies (archive_ways life)) Answers Good (IsScene life) back step (begun_with script.first) quits (λ s. s.archive ≡ script.last) ends lines text script.answers)
-        (λ x is. some_as (Replies (archive_ways life)) Answers Good (IsScene life) back step (begun_with script.first) x quits (λ s. s.archive ≡ script.last) (LeavesScene new) ends (λ s x same is. scene_left new script.last s x script.left same is) is lines text script.answers)
+        by_scenes (AnswersFirstLines (archive_ways life)) (λ begun. AnswersSome begun (LeavesScene new) quits AnswersLine) old new first may begins lines text script
+        (some_good (Replies (archive_ways life)) AnswersLine Good (IsScene life) back step (begun_with script.first) quits (λ s. s.archive ≡ script.last) ends lines text script.answers)
+        (λ x is. some_as (Replies (archive_ways life)) AnswersLine Good (IsScene life) back step (begun_with script.first) x quits (λ s. s.archive ≡ script.last) (LeavesScene new) ends (λ s x same is. scene_left new script.last s x script.left same is) is lines text script.answers)

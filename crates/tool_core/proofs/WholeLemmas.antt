@@ -9,21 +9,21 @@ use Rattle.tool_core.specs.declared.fault.EarlyEnd.{EarlyEnd}
 use Rattle.tool_core.specs.declared.fault.ScriptFault.{ScriptFault}
 use Rattle.tool_core.specs.declared.observer.Beginning.{Beginning}
 use Rattle.tool_core.specs.Answering.{AnswersFirstLines, AnswersLines, EndsEarly}
-use Rattle.tool_core.specs.Archives.{BeginsAs, IsScript, IsScriptOfFirst, archive_ways, disk_of, end_of, life_of}
+use Rattle.tool_core.specs.Archives.{BeginsAs, IsScript, IsScriptOfFirst, archive_ways, disk_of, early_end_of, life_of}
 use Rattle.tool_core.specs.Script.{Begins, IsTranscript, IsTranscriptOfFirst}
 use Rattle.tool_core.specs.ScriptLines.{Standing}
-use Rattle.tool_core.specs.Transcript.{Writes}
+use Rattle.tool_core.specs.Transcript.{WritesText}
 use Rattle.tool_core.proofs.EndLemmas.{early_as, writes_as}
 use Rattle.tool_core.proofs.ScriptLemmas.{transcript, transcript_of_first}
 
 module _ {D : Type 0} (life : D → Life) (old : Life) (input contents written : Option (List ℕ)) (first last : ScriptArchive D) (beginning : Beginning) (begins : BeginsAs life old beginning first) where
   -- what was answered, over the archive of the disk
-  pub whole : (new : Life) (result : Result (Unit {0}) EarlyEnd) (done : Unit {0}) → new ≡ life_of life last → result ≡ Ok done → OnOk result (Writes input contents written (AnswersLines (archive_ways life) first last))
-      → Writes input contents written (IsScript life old new)
+  pub whole : (new : Life) (result : Result (Unit {0}) EarlyEnd) (done : Unit {0}) → new ≡ life_of life last → result ≡ Ok done → OnOk result (WritesText input contents written (AnswersLines (archive_ways life) first last))
+      → WritesText input contents written (IsScript life old new)
   whole new result done left is answers =
       writes_as input contents written written (AnswersLines (archive_ways life) first last) (IsScript life old new)
       (λ lines text answers. record { first = first; beginning = beginning; begins = begins; last = last; answers = answers; left = left }) (Keeps-refl written)
-      (subst (λ (r : Result (Unit {0}) EarlyEnd). OnOk r (Writes input contents written (AnswersLines (archive_ways life) first last))) is answers)
+      (subst (λ (r : Result (Unit {0}) EarlyEnd). OnOk r (WritesText input contents written (AnswersLines (archive_ways life) first last))) is answers)
 
   early_at : (new : Life) (end : EarlyEnd) → new ≡ life_of life last → EndsEarly end (AnswersFirstLines (archive_ways life) first last) input contents written → EndsEarly end (IsScriptOfFirst life old new) input contents written
   early_at new end left ends =
@@ -31,16 +31,16 @@ module _ {D : Type 0} (life : D → Life) (old : Life) (input contents written :
       (λ lines text answers. record { first = first; beginning = beginning; begins = begins; last = last; answers = answers; left = left }) (Keeps-refl written) ends
 
   -- the same with the disk of a fault
-  pub early : (fault : ScriptFault D) (end : EarlyEnd) (disk : D) (result : Result (Unit {0}) EarlyEnd) → end_of fault ≡ end → disk_of fault ≡ disk → life disk ≡ life_of life last → result ≡ Err end
-      → IfErr result (λ end. EndsEarly end (AnswersFirstLines (archive_ways life) first last) input contents written) → EndsEarly (end_of fault) (IsScriptOfFirst life old (life (disk_of fault))) input contents written
+  pub early : (fault : ScriptFault D) (end : EarlyEnd) (disk : D) (result : Result (Unit {0}) EarlyEnd) → early_end_of fault ≡ end → disk_of fault ≡ disk → life disk ≡ life_of life last → result ≡ Err end
+      → IfErr result (λ end. EndsEarly end (AnswersFirstLines (archive_ways life) first last) input contents written) → EndsEarly (early_end_of fault) (IsScriptOfFirst life old (life (disk_of fault))) input contents written
   early fault end disk result one two left is answers =
       let ends : EndsEarly end (AnswersFirstLines (archive_ways life) first last) input contents written =
       subst (λ (r : Result (Unit {0}) EarlyEnd). IfErr r (λ end. EndsEarly end (AnswersFirstLines (archive_ways life) first last) input contents written)) is answers in
-      early_at (life (disk_of fault)) (end_of fault) (ap life two ∙ left) (subst (λ (e : EarlyEnd). EndsEarly e (AnswersFirstLines (archive_ways life) first last) input contents written) (sym one) ends)
+      early_at (life (disk_of fault)) (early_end_of fault) (ap life two ∙ left) (subst (λ (e : EarlyEnd). EndsEarly e (AnswersFirstLines (archive_ways life) first last) input contents written) (sym one) ends)
 
 -- exactly, where the disk obeys
 module _ {D : Type 0} (life : D → Life) (stays : (disk : D) → MayLeave (life disk).now (reads (life disk).now)) (old : D) (new : Life) (input contents written : Option (List ℕ)) where
-  pub kept : Writes input contents written (IsScript life (life old) new) → (first : Standing) → Begins (life old) first → IsTrue new.obeys → Writes input contents written (IsTranscript first (life old) new)
+  pub kept : WritesText input contents written (IsScript life (life old) new) → (first : Standing) → Begins (life old) first → IsTrue new.obeys → WritesText input contents written (IsTranscript first (life old) new)
   kept writes first begins obeys =
       writes_as input contents written written (IsScript life (life old) new) (IsTranscript first (life old) new)
       (λ lines text script. transcript life stays (life old) new first (stays old) begins obeys lines text script) (Keeps-refl written) writes

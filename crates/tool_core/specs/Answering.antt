@@ -21,7 +21,7 @@ use Rattle.tool_core.specs.declared.fault.EarlyEnd.TheVariants as ends
 use Rattle.tool_core.specs.declared.state.ScriptState.{ScriptState}
 use Rattle.tool_core.specs.InputLines.{lines_of}
 use Rattle.tool_core.specs.Merging.{Ends, MergeEnds}
-use Rattle.tool_core.specs.Transcript.{AnswersAll, AnswersSome, Writes}
+use Rattle.tool_core.specs.Transcript.{AnswersAll, AnswersSome, WritesText}
 
 -- ---- who answers
 
@@ -34,10 +34,10 @@ pub record Ways (A : Type 0) : Type 1 where
   pub compact : A → Ends A
 
 -- the bytes of a block are read by these terms, which may want memory; without terms they are not read
-abbrev pub IsRead : Result Geometry Refusal → List ℕ → Result Block Refusal → Type 0
-IsRead (Err refusal) bytes read = read ≡ Err refusal
-IsRead (Ok g) bytes (Err NoMemory) = Unit {0}
-IsRead (Ok g) bytes read = IsReadBy (Ok g) bytes read
+abbrev pub BlockIsRead : Result Geometry Refusal → List ℕ → Result Block Refusal → Type 0
+BlockIsRead (Err refusal) bytes read = read ≡ Err refusal
+BlockIsRead (Ok g) bytes (Err NoMemory) = Unit {0}
+BlockIsRead (Ok g) bytes read = IsReadBy (Ok g) bytes read
 
 -- ---- lines
 
@@ -82,7 +82,7 @@ module _ {A : Type 0} (ways : Ways A) where
   abbrev pub WritesBytes : ℤ → List ℕ → A → Ends A
   WritesBytes session bytes old outcome new =
       (terms : Result Geometry Refusal) × (read : Result Block Refusal)
-      × ways.terms old session terms × IsRead terms bytes read × WritesRead session read old outcome new
+      × ways.terms old session terms × BlockIsRead terms bytes read × WritesRead session read old outcome new
 
   -- what was written is settled; a refusal is the answer
   abbrev pub ThenSettles : ℤ → Result Reply Refusal → A → Ends A
@@ -150,8 +150,8 @@ module _ {A : Type 0} (ways : Ways A) where
 -- was written.
 abbrev pub EndsEarly : EarlyEnd → (List (List ℕ) → List ℕ → Type 0) → Option (List ℕ) → Option (List ℕ) → Option (List ℕ) → Type 0
 EndsEarly ends.Write AnswersFirst input contents written = IfSome input (λ bytes. (text : List ℕ) × AnswersFirst (lines_of bytes) text)
-EndsEarly ends.Read AnswersFirst input contents written = Writes input contents written AnswersFirst
-EndsEarly ends.Memory AnswersFirst input contents written = Writes input contents written AnswersFirst
+EndsEarly ends.Read AnswersFirst input contents written = WritesText input contents written AnswersFirst
+EndsEarly ends.Memory AnswersFirst input contents written = WritesText input contents written AnswersFirst
 
 -- A script ends by its first fault; one that was read to its end, and whose output could not be handed on, by Write.
 abbrev pub ended_by : Result (Unit {0}) EarlyEnd → Bool → Result (Unit {0}) EarlyEnd

@@ -12,7 +12,7 @@ use Rattle.archive_model.specs.State.{State}
 use Rattle.control_core.specs.declared.event.Event.{Event}
 use Rattle.control_core.specs.Bytes.{terms_in}
 use Rattle.engine_core.specs.declared.engine.Engine.{Engine}
-use Rattle.engine_core.specs.Engine.{GoesOn, new_archive}
+use Rattle.engine_core.specs.Engine.{DiskGoesOn, new_archive}
 use Rattle.engine_core.specs.Opened.{IsDeskOf, IsNotOpened, IsOpened, LeavesEither}
 use Rattle.engine_core.specs.Opening.{IsMadeIn, ReadsAsBefore, RefusesNew, RefusesOpening}
 use Rattle.engine_core.specs.Seen.{HasAnswered, KeepsArchive, seen}
@@ -39,20 +39,20 @@ module _ {D : Type 0} (life : D → Life) where
   pub record HasOpened (old : Life) (engine : Engine D) : Type 0 where
     pub opened_as : (s u : State) → LeavesEither old s u → IsTrue (life engine.storage.disk).obeys → IsOpened old (seen life engine) engine.restarted s u
     pub desk : IsTrue (life engine.storage.disk).obeys → IsDeskOf (reads old.now) engine.desk.state engine.restarted
-    pub goes_on : GoesOn old (life engine.storage.disk)
+    pub goes_on : DiskGoesOn old (life engine.storage.disk)
 
   -- what it says of one that it refuses
   pub record HasRefused (old : Life) (refusal : Refusal) (disk : D) : Type 0 where
     pub whole : (s u : State) → LeavesEither old s u → IsTrue (life disk).obeys → IsNotOpened old (life disk) s u × ((refusal ≡ DeviceFault) ⊎ (refusal ≡ NoMemory))
     pub refuses : RefusesOpening old (life disk) refusal
-    pub goes_on : GoesOn old (life disk)
+    pub goes_on : DiskGoesOn old (life disk)
 
   -- the disk with this life is opened, or refused, and then none is open
-  abbrev pub Opens : Life → Ends (ScriptArchive D)
-  Opens old (Ok reply) (Open engine) = (reply ≡ Reopened engine.restarted) × HasOpened old engine
-  Opens old (Err refusal) (Closed disk) = HasRefused old refusal disk
-  Opens old (Ok reply) (Closed disk) = ⊥
-  Opens old (Err refusal) (Open engine) = ⊥
+  abbrev pub OpensDisk : Life → Ends (ScriptArchive D)
+  OpensDisk old (Ok reply) (Open engine) = (reply ≡ Reopened engine.restarted) × HasOpened old engine
+  OpensDisk old (Err refusal) (Closed disk) = HasRefused old refusal disk
+  OpensDisk old (Ok reply) (Closed disk) = ⊥
+  OpensDisk old (Err refusal) (Open engine) = ⊥
 
   -- ---- calls
 
@@ -62,10 +62,10 @@ module _ {D : Type 0} (life : D → Life) where
   TermsAre (Closed disk) session terms = terms ≡ Err Broken
 
   -- an event is answered as `Engine::step` says; where none is open it is Broken
-  abbrev pub Calls : Event → ScriptArchive D → Ends (ScriptArchive D)
-  Calls event (Open old) outcome (Open new) = HasAnswered life old new event outcome
-  Calls event (Open old) outcome (Closed disk) = ⊥
-  Calls event (Closed disk) outcome new = (outcome ≡ Err Broken) × (new ≡ Closed disk)
+  abbrev pub CallsEngine : Event → ScriptArchive D → Ends (ScriptArchive D)
+  CallsEngine event (Open old) outcome (Open new) = HasAnswered life old new event outcome
+  CallsEngine event (Open old) outcome (Closed disk) = ⊥
+  CallsEngine event (Closed disk) outcome new = (outcome ≡ Err Broken) × (new ≡ Closed disk)
 
   -- nothing writes a history anew yet
   abbrev pub Compacts : ScriptArchive D → Ends (ScriptArchive D)
@@ -74,8 +74,8 @@ module _ {D : Type 0} (life : D → Life) where
   abbrev pub archive_ways : Ways (ScriptArchive D)
   archive_ways = record {
     terms = TermsAre;
-    call = Calls;
-    reopen = λ old. Opens (life_of old);
+    call = CallsEngine;
+    reopen = λ old. OpensDisk (life_of old);
     compact = Compacts;
   }
 
@@ -137,10 +137,10 @@ pub record IsUnopened (old new : Life) (contents written : Option (List ℕ)) (e
   pub before : ReadsAsBefore old new
 
 -- why a script ended, and its disk
-abbrev pub end_of : {D : Type 0} → ScriptFault D → EarlyEnd
-end_of (faults.Read disk) = ends.Read
-end_of (faults.Write disk) = ends.Write
-end_of (faults.Memory disk) = ends.Memory
+abbrev pub early_end_of : {D : Type 0} → ScriptFault D → EarlyEnd
+early_end_of (faults.Read disk) = ends.Read
+early_end_of (faults.Write disk) = ends.Write
+early_end_of (faults.Memory disk) = ends.Memory
 
 abbrev pub disk_of : {D : Type 0} → ScriptFault D → D
 disk_of (faults.Read disk) = disk

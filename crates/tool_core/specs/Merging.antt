@@ -11,7 +11,7 @@ use Rattle.archive_model.specs.declared.reply.Reply.TheVariants as replies
 use Rattle.archive_model.specs.Descriptor.{may_begin_at}
 use Rattle.merge_core.specs.declared.merge.Offered.{Offered}
 use Rattle.merge_core.specs.declared.merge.Offered.TheVariants.{Held, Ignored, Full}
-use Rattle.merge_core.specs.Merge.{Merging, opened, answer_to, after_replay_frame, after_live_frame, after_take, next_frame}
+use Rattle.merge_core.specs.Merge.{Merging, opened_merge, answer_to, after_replay_frame, after_live_frame, after_take, next_frame}
 use Rattle.control_lines.specs.declared.merge_line.MergeLine.{MergeLine}
 use Rattle.control_lines.specs.declared.merge_line.MergeLine.TheVariants as merges
 
@@ -34,15 +34,15 @@ OrNoMemory old ends (Err NoMemory) new = new ≡ old
 OrNoMemory old ends (Err refusal) new = ends (Err refusal) new
 
 -- a merge reads no MTU
-abbrev pub geometry_of : ℤ → ℤ → Geometry
-geometry_of term term_length = record { initial_term_id = term; term_length = term_length; mtu = pos 65504 }
+abbrev pub merge_geometry : ℤ → ℤ → Geometry
+merge_geometry term term_length = record { initial_term_id = term; term_length = term_length; mtu = pos 65504 }
 
 -- a merge begins anew, or none may begin there, and an earlier one stays
 abbrev pub OpenEnds : Option Merging → ℤ → ℤ → ℤ → Ends (Option Merging)
 OpenEnds old term term_length position (Ok reply) new =
     (may_begin_at term_length position ≡ true)
     × (reply ≡ replies.MergeOpened position)
-    × (new ≡ Some (opened (geometry_of term term_length) (unsigned_abs position)))
+    × (new ≡ Some (opened_merge (merge_geometry term term_length) (unsigned_abs position)))
 OpenEnds old term term_length position (Err refusal) new =
     (may_begin_at term_length position ≡ false) × (refusal ≡ BadParameter) × (new ≡ old)
 
@@ -58,15 +58,15 @@ abbrev pub IsOfferOrMemory : List ℕ → Result Frame Refusal → Type 0
 IsOfferOrMemory bytes (Err NoMemory) = Unit {0}
 IsOfferOrMemory bytes offer = IsOffer bytes offer
 
-abbrev pub reply_to : Result Offered Refusal → Result Reply Refusal
-reply_to (Ok Held) = Ok replies.Held
-reply_to (Ok Ignored) = Ok replies.Ignored
-reply_to (Ok Full) = Ok replies.Full
-reply_to (Err refusal) = Err refusal
+abbrev pub offer_reply : Result Offered Refusal → Result Reply Refusal
+offer_reply (Ok Held) = Ok replies.Held
+offer_reply (Ok Ignored) = Ok replies.Ignored
+offer_reply (Ok Full) = Ok replies.Full
+offer_reply (Err refusal) = Err refusal
 
 -- that frame is offered
 abbrev pub FrameEnds : (Frame → Merging → Merging) → Merging → Result Frame Refusal → Ends (Option Merging)
-FrameEnds after m (Ok frame) outcome new = (outcome ≡ reply_to (answer_to frame m)) × (new ≡ Some (after frame m))
+FrameEnds after m (Ok frame) outcome new = (outcome ≡ offer_reply (answer_to frame m)) × (new ≡ Some (after frame m))
 FrameEnds after m (Err refusal) outcome new = Refused (Some m) refusal outcome new
 
 abbrev pub OfferEnds : (Frame → Merging → Merging) → Merging → List ℕ → Ends (Option Merging)
@@ -81,12 +81,12 @@ abbrev pub TakeEnds : Merging → Ends (Option Merging)
 TakeEnds m outcome new = (outcome ≡ Ok (replies.Taken (frame_at m.cursor (next_frame m)))) × (new ≡ Some (after_take m))
 
 -- lines to a merge that was begun; only an offer may want memory
-abbrev pub BegunEnds : Merging → MergeLine → Ends (Option Merging)
-BegunEnds m (merges.Open term term_length position) = OpenEnds (Some m) term term_length position
-BegunEnds m (merges.Replay bytes) = OrNoMemory (Some m) (OfferEnds after_replay_frame m bytes)
-BegunEnds m (merges.Live bytes) = OrNoMemory (Some m) (OfferEnds after_live_frame m bytes)
-BegunEnds m merges.Take = TakeEnds m
-BegunEnds m merges.State = Answered (Some m) (replies.MergeState m.is_merged (pos m.cursor))
+abbrev pub BegunMergeEnds : Merging → MergeLine → Ends (Option Merging)
+BegunMergeEnds m (merges.Open term term_length position) = OpenEnds (Some m) term term_length position
+BegunMergeEnds m (merges.Replay bytes) = OrNoMemory (Some m) (OfferEnds after_replay_frame m bytes)
+BegunMergeEnds m (merges.Live bytes) = OrNoMemory (Some m) (OfferEnds after_live_frame m bytes)
+BegunMergeEnds m merges.Take = TakeEnds m
+BegunMergeEnds m merges.State = Answered (Some m) (replies.MergeState m.is_merged (pos m.cursor))
 
 -- lines to none
 abbrev pub FirstEnds : MergeLine → Ends (Option Merging)
@@ -95,4 +95,4 @@ FirstEnds line = Refused None UnknownReplay
 
 abbrev pub MergeEnds : Option Merging → MergeLine → Ends (Option Merging)
 MergeEnds None line = FirstEnds line
-MergeEnds (Some m) line = BegunEnds m line
+MergeEnds (Some m) line = BegunMergeEnds m line

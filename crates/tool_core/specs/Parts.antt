@@ -17,7 +17,7 @@ abbrev pub Grows : Option (List ℕ) → Option (List ℕ) → List ℕ → Type
 Grows old new text = (seen : List ℕ) → old ≡ kept seen → new ≡ kept (seen ++ text)
 
 -- a text without a line end, and what ends it, go from an input to a line
-pub record Moves (old new : Option (List ℕ)) (line_old line_new : Option (List ℕ)) (end : List ℕ) : Type 0 where
+pub record MovesText (old new : Option (List ℕ)) (line_old line_new : Option (List ℕ)) (end : List ℕ) : Type 0 where
   pub text : List ℕ
   pub no_end : HasNoEnd text
   pub consumed : Consumes old new (text ++ end)
@@ -25,8 +25,8 @@ pub record Moves (old new : Option (List ℕ)) (line_old line_new : Option (List
 
 -- what one read of an input did
 abbrev pub TakesPart : Part → Option (List ℕ) → Option (List ℕ) → Option (List ℕ) → Option (List ℕ) → Type 0
-TakesPart More old new line_old line_new = Moves old new line_old line_new []
-TakesPart Ended old new line_old line_new = Moves old new line_old line_new (10 ∷ [])
+TakesPart More old new line_old line_new = MovesText old new line_old line_new []
+TakesPart Ended old new line_old line_new = MovesText old new line_old line_new (10 ∷ [])
 TakesPart AtEnd old new line_old line_new = IsAtEnd old × Keeps old new × (line_new ≡ line_old)
 
 -- an input that was read as often as may be is refused, and nothing is taken of it

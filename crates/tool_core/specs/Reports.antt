@@ -10,7 +10,7 @@ use Rattle.control_core.specs.declared.event.Event.TheVariants.{Verify}
 use Rattle.control_core.specs.Exact.{Archive, CallEnds}
 use Rattle.engine_core.specs.declared.engine.Engine.{Engine}
 use Rattle.engine_core.specs.Calls.{HasFailedOften, faults_in}
-use Rattle.engine_core.specs.Engine.{GoesOn}
+use Rattle.engine_core.specs.Engine.{DiskGoesOn}
 use Rattle.engine_core.specs.Seen.{KeepsArchive}
 use Rattle.tool_core.specs.declared.fault.EarlyEnd.{EarlyEnd}
 use Rattle.tool_core.specs.declared.fault.EarlyEnd.TheVariants as ends
@@ -49,7 +49,7 @@ module _ {D : Type 0} (life : D → Life) where
   -- failed; where the disk obeys the crash model each is one that the call may have over the archive. The archive stays,
   -- whatever was read.
   pub record AnswersEach (old new : Engine D) (ids : List ℤ) (outcomes : List (Result Reply Refusal)) : Type 0 where
-    pub goes_on : GoesOn (life_in old) (life_in new)
+    pub goes_on : DiskGoesOn (life_in old) (life_in new)
     pub each : length outcomes ≡ length ids
     pub cause : HasFailedOften (faults_in outcomes) (life_in old) (life_in new)
     pub stays : (a : Archive) → IsEngineOf a old → IsEngineOf a new

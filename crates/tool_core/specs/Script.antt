@@ -19,12 +19,12 @@ use Rattle.engine_core.specs.Engine.{new_archive}
 use Rattle.engine_core.specs.Opened.{IsFresh, IsNear, LeavesEither}
 use Rattle.engine_core.specs.Recovery.{Recovers, RecoversTo}
 use Rattle.tool_core.specs.Answering.{asked, asked_copies, outcome_text, quits}
-use Rattle.tool_core.specs.ScriptLines.{Answered, IsRestart, Scene, Standing, StaysInDoubt, closed, doubtful, opened, refused, reopened, unknown}
+use Rattle.tool_core.specs.ScriptLines.{ReadLineOrWant, IsRestart, Scene, Standing, StaysInDoubt, closed, doubtful, opened, refused, reopened, unknown}
 use Rattle.tool_core.specs.Transcript.{AnswersAll, AnswersSome}
 
 -- From the old scene the text may be the answer to the line, and new the scene after it.
-abbrev pub Answers : Scene → Option (List ℕ) → List ℕ → Scene → Type 0
-Answers old line text new = (outcome : Result Reply Refusal) × Answered (asked_copies line) old (asked line) outcome new × (text ≡ outcome_text outcome)
+abbrev pub AnswersLine : Scene → Option (List ℕ) → List ℕ → Scene → Type 0
+AnswersLine old line text new = (outcome : Result Reply Refusal) × ReadLineOrWant (asked_copies line) old (asked line) outcome new × (text ≡ outcome_text outcome)
 
 -- ---- the disk
 
@@ -34,7 +34,7 @@ IsBlank life = (file : FileId) → reads life.now file ≡ None
 
 -- The disk recovers to a state: it reads as this one, and a crash would leave this one or one other. The archive is its
 -- restart, with the history that the catalogue has.
-pub record Restarts (life : Life) (a : Archive) : Type 0 where
+pub record RestartsDisk (life : Life) (a : Archive) : Type 0 where
   pub state : State
   pub other : State
   pub leaves : LeavesEither life state other
@@ -56,14 +56,14 @@ abbrev pub IsRefused : Life → DiskImage → Refusal → Type 0
 IsRefused life image why = IsRefusedBy life why × ((file : FileId) → reads life.now file ≡ image file)
 
 -- what is opened of a disk: the restart of what it recovers to, or why there is no archive
-abbrev pub Opens : Life → Standing → Type 0
-Opens life (opened a) = Restarts life a
-Opens life (refused image why) = IsRefused life image why
-Opens life _ = ⊥
+abbrev pub OpensStanding : Life → Standing → Type 0
+OpensStanding life (opened a) = RestartsDisk life a
+OpensStanding life (refused image why) = IsRefused life image why
+OpensStanding life _ = ⊥
 
 -- what a script begins with: a new archive where no file is there, else what is opened
 abbrev pub Begins : Life → Standing → Type 0
-Begins life first = (IsBlank life × (first ≡ opened (new_archive 1048576))) ⊎ (HasFile life × Opens life first)
+Begins life first = (IsBlank life × (first ≡ opened (new_archive 1048576))) ⊎ (HasFile life × OpensStanding life first)
 
 -- a script begins with the restart of an archive, and with its history
 abbrev pub GoesOnFrom : Archive → Life → Type 0
@@ -128,8 +128,8 @@ pub record IsTranscriptBy (Answer : Scene → List (List ℕ) → List ℕ → T
 
 -- the text answers all lines up to the one that quits, and the disk is left so
 abbrev pub IsTranscript : Standing → Life → Life → List (List ℕ) → List ℕ → Type 0
-IsTranscript first old new = IsTranscriptBy (λ begun. AnswersAll begun (LeavesScene new) quits Answers) first old
+IsTranscript first old new = IsTranscriptBy (λ begun. AnswersAll begun (LeavesScene new) quits AnswersLine) first old
 
 -- the same of the first of these lines
 abbrev pub IsTranscriptOfFirst : Standing → Life → Life → List (List ℕ) → List ℕ → Type 0
-IsTranscriptOfFirst first old new = IsTranscriptBy (λ begun. AnswersSome begun (LeavesScene new) quits Answers) first old
+IsTranscriptOfFirst first old new = IsTranscriptBy (λ begun. AnswersSome begun (LeavesScene new) quits AnswersLine) first old

@@ -174,5 +174,5 @@ ReadLineEnds s (Ok line) outcome t = LineEnds s line outcome t × LeavesMeanwhil
 ReadLineEnds s (Err refusal) outcome t = Stays s (Err refusal) outcome t
 
 -- how it ends; or, where its reading takes memory, want of memory before anything has changed
-abbrev pub Answered : Bool → Scene → Result Line Refusal → Ends Scene
-Answered takes s line outcome new = ReadLineEnds s line outcome new ⊎ ((takes ≡ true) × (outcome ≡ Err NoMemory) × (new ≡ s))
+abbrev pub ReadLineOrWant : Bool → Scene → Result Line Refusal → Ends Scene
+ReadLineOrWant takes s line outcome new = ReadLineEnds s line outcome new ⊎ ((takes ≡ true) × (outcome ≡ Err NoMemory) × (new ≡ s))

@@ -51,10 +51,10 @@ PassesFrame (Some xs) None header = ⊥
 PassesFrame (Some xs) (Some ys) header = StandsFirst xs header × (ys ≡ drop (aligned_length header) xs)
 
 -- what stands next in a file
-abbrev pub IsNext : Option (List ℕ) → Option (List ℕ) → Next → Type 0
-IsNext old new (nexts.Stored header) = PassesFrame old new (frame_of header)
-IsNext old new nexts.End = IfSome old EndsFrames
-IsNext old new nexts.NoFrame = IfSome old HasNoFrame
+abbrev pub StandsNext : Option (List ℕ) → Option (List ℕ) → Next → Type 0
+StandsNext old new (nexts.Stored header) = PassesFrame old new (frame_of header)
+StandsNext old new nexts.End = IfSome old EndsFrames
+StandsNext old new nexts.NoFrame = IfSome old HasNoFrame
 
 -- the frame that stood first was counted, and the bytes that it covers
 pub record Counts (old new : Listed) (header : Frame) : Type 0 where

@@ -31,7 +31,7 @@ module _ {S : Type 0} (start : S) (Left : S → Type 0) (quits : Option (List �
   AnswersSome lines text = (n : ℕ) × (state : S) × Transcript Answers start (take n (until_quit quits lines)) text state × LeftNear state (drop n (until_quit quits lines))
 
 -- The writer gained a text that is right for the lines of the input, where that is known.
-pub record Writes (input contents written : Option (List ℕ)) (IsRight : List (List ℕ) → List ℕ → Type 0) : Type 0 where
+pub record WritesText (input contents written : Option (List ℕ)) (IsRight : List (List ℕ) → List ℕ → Type 0) : Type 0 where
   pub text : List ℕ
   pub appended : Appends contents written text
   pub right : IfSome input (λ bytes. IsRight (lines_of bytes) text)

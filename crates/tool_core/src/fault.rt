@@ -2,7 +2,7 @@
 
 ghost use Rattle.std.specs.Prelude.{◌≡◌};
 ghost use Rattle.tool_core.specs.declared.fault.EarlyEnd.TheVariants.{Memory};
-ghost use Rattle.tool_core.specs.Archives.{disk_of, end_of};
+ghost use Rattle.tool_core.specs.Archives.{disk_of, early_end_of};
 
 use std::alloc::AllocError;
 
@@ -39,7 +39,7 @@ pub enum ScriptFault<D> {
 impl<D> ScriptFault<D> {
     /// The fault of a script that ended so, with its disk.
     pub fn new(end: EarlyEnd, disk: D) -> ScriptFault<D>
-        ensures end { end_of result ≡ end }
+        ensures end { early_end_of result ≡ end }
         ensures disk { disk_of result ≡ disk }
     {
         match end {
@@ -51,7 +51,7 @@ impl<D> ScriptFault<D> {
 
     /// Why, without the disk.
     pub fn end(&self) -> EarlyEnd
-        ensures { result ≡ end_of self.now }
+        ensures { result ≡ early_end_of self.now }
     {
         match self {
             ScriptFault::Read(_) => EarlyEnd::Read,

@@ -1,7 +1,7 @@
 //! Lines to the merge of a replay and the live stream: docs/CONTROL.md, "Merging".
 
 ghost use Rattle.std.specs.Prelude.{◌≡◌, pos};
-ghost use Rattle.tool_core.specs.Merging.{MergeEnds, OpenEnds, IsOfferOrMemory, reply_to, frame_at};
+ghost use Rattle.tool_core.specs.Merging.{MergeEnds, OpenEnds, IsOfferOrMemory, offer_reply, frame_at};
 ghost use Rattle.merge_core.specs.Merge.{next_frame, after_take};
 
 use archive_model::{PolledFrame, Reply, may_begin_at};
@@ -82,7 +82,7 @@ fn offer_of(alloc: Global, bytes: &[u8]) -> Result<Frame, Refusal>
 }
 
 fn reply_of(offered: Offered) -> Reply
-    ensures { reply_to (Ok offered) ≡ Ok result }
+    ensures { offer_reply (Ok offered) ≡ Ok result }
 {
     match offered {
         Offered::Held => Reply::Held,

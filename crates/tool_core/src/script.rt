@@ -4,9 +4,9 @@ ghost use Rattle.std.specs.Prelude.{◌≡◌, ◌⊎◌, ◌↔◌, ◌<◌, Co
 ghost use Rattle.std.specs.Io.KnownBytes.{IsAtEnd, Keeps};
 ghost use Rattle.std.specs.Io.Buffered.{reader_remaining};
 ghost use Rattle.tool_core.specs.InputLines.{ReadsLine};
-ghost use Rattle.tool_core.specs.Transcript.{AnswersAll, AnswersSome, Writes};
+ghost use Rattle.tool_core.specs.Transcript.{AnswersAll, AnswersSome, WritesText};
 ghost use Rattle.tool_core.specs.Answering.{AnswersFirstLines, AnswersLines, EndsEarly, IsAnswer, Replies, RepliesTo, asked, asked_copies, ended_by, quits};
-ghost use Rattle.tool_core.specs.Archives.{IsScript, IsScriptOfFirst, IsUnopened, disk_of, end_of};
+ghost use Rattle.tool_core.specs.Archives.{IsScript, IsScriptOfFirst, IsUnopened, disk_of, early_end_of};
 ghost use Rattle.tool_core.specs.ScriptLines.{Standing};
 ghost use Rattle.tool_core.specs.Script.{Begins, IsTranscript, IsTranscriptOfFirst};
 
@@ -105,7 +105,7 @@ fn run_lines<R: Read + Drop, W: Write, A: Answerer, O: Observer>(
     writer: &mut W,
     observer: &mut O,
 ) -> (ScriptState<A>, Result<(), EarlyEnd>)
-    ensures whole { OnOk result.1 (Writes (reader_remaining R.remaining reader.old)
+    ensures whole { OnOk result.1 (WritesText (reader_remaining R.remaining reader.old)
         (W.contents writer.old) (W.contents writer.new)
         (AnswersAll state (λ s. s ≡ result.0) quits (Replies A.ways))) }
     ensures early { IfErr result.1 (λ end. EndsEarly end (AnswersSome state (λ s. s ≡ result.0) quits (Replies A.ways))
@@ -146,7 +146,7 @@ pub fn answer_lines<R: Read + Drop, W: Write, A: Answerer, O: Observer>(
     archive: A,
     observer: &mut O,
 ) -> (A, Result<(), EarlyEnd>)
-    ensures whole { OnOk result.1 (Writes (R.remaining reader) (W.contents writer.old) (W.contents writer.new)
+    ensures whole { OnOk result.1 (WritesText (R.remaining reader) (W.contents writer.old) (W.contents writer.new)
         (AnswersLines A.ways archive result.0)) }
     ensures early { IfErr result.1 (λ end. EndsEarly end (AnswersFirstLines A.ways archive result.0)
         (R.remaining reader) (W.contents writer.old) (W.contents writer.new)) }
@@ -187,21 +187,21 @@ pub fn run_script<R: Read + Drop, W: Write, D: Disk, O: Observer>(
     observer: &mut O,
 ) -> Result<D, ScriptFault<D>>
     // Whatever the disk holds and does: each line is answered as `Engine::step` and `Engine::open` say.
-    ensures whole { IfOk result (λ back. Writes (R.remaining reader) (W.contents writer.old) (W.contents writer.new)
+    ensures whole { IfOk result (λ back. WritesText (R.remaining reader) (W.contents writer.old) (W.contents writer.new)
         (IsScript D.life (D.life disk) (D.life back))) }
-    ensures early { IfErr result (λ fault. EndsEarly (end_of fault)
+    ensures early { IfErr result (λ fault. EndsEarly (early_end_of fault)
         (IsScriptOfFirst D.life (D.life disk) (D.life (disk_of fault)))
         (R.remaining reader) (W.contents writer.old) (W.contents writer.new)
-        ⊎ IsUnopened (D.life disk) (D.life (disk_of fault)) (W.contents writer.old) (W.contents writer.new) (end_of fault)) }
+        ⊎ IsUnopened (D.life disk) (D.life (disk_of fault)) (W.contents writer.old) (W.contents writer.new) (early_end_of fault)) }
     // Where the disk obeys the crash model: the exact answers, and what a crash leaves at every moment.
     ensures kept { IfOk result (λ back. (first : Standing) → Begins (D.life disk) first → IsTrue (D.life back).obeys →
-        Writes (R.remaining reader) (W.contents writer.old) (W.contents writer.new)
+        WritesText (R.remaining reader) (W.contents writer.old) (W.contents writer.new)
         (IsTranscript first (D.life disk) (D.life back))) }
     ensures kept_early { IfErr result (λ fault. (first : Standing) → Begins (D.life disk) first →
-        IsTrue (D.life (disk_of fault)).obeys → EndsEarly (end_of fault)
+        IsTrue (D.life (disk_of fault)).obeys → EndsEarly (early_end_of fault)
         (IsTranscriptOfFirst first (D.life disk) (D.life (disk_of fault)))
         (R.remaining reader) (W.contents writer.old) (W.contents writer.new)
-        ⊎ IsUnopened (D.life disk) (D.life (disk_of fault)) (W.contents writer.old) (W.contents writer.new) (end_of fault)) }
+        ⊎ IsUnopened (D.life disk) (D.life (disk_of fault)) (W.contents writer.old) (W.contents writer.new) (early_end_of fault)) }
 {
     let (archive, beginning) = match ScriptArchive::of_disk(alloc, disk) {
         Ok(found) => found,

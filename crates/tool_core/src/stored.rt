@@ -3,7 +3,7 @@
 ghost use Rattle.std.specs.Prelude.{◌≡◌, ◌↔◌, ◌<◌, ◌≤◌, ◌+◌, ℕ, List, Option, length, take, unsigned_abs, IsTrue, IfOk, IfErr, OnOk, MatchBool};
 ghost use Rattle.frame_core.specs.FrameEncoding.{frame_of};
 ghost use Rattle.tool_core.specs.FrameLines.{EndsFrames, HasStored};
-ghost use Rattle.tool_core.specs.Stored.{Fills, IsNext, LosesFirst, LosesHeader, Skips};
+ghost use Rattle.tool_core.specs.Stored.{Fills, StandsNext, LosesFirst, LosesHeader, Skips};
 
 use crate::fault::EarlyEnd;
 use crate::lines::{MAX_READS, count_read};
@@ -144,7 +144,7 @@ pub(crate) fn pass_next<'a, R: BufRead>(
 ) -> Result<Next<'a>, EarlyEnd>
     requires size { length header.now ≤ 32 }
     ensures next { IfOk result (λ next. (old : Option (List ℕ))
-        → LosesHeader old (R.remaining reader.old) header.now → IsNext old (R.remaining reader.new) next) }
+        → LosesHeader old (R.remaining reader.old) header.now → StandsNext old (R.remaining reader.new) next) }
     ensures counted { OnOk result (reads.old ≤ reads.new) }
     ensures fault { IfErr result (λ end. end ≡ EarlyEnd.Read) }
 {

@@ -4,7 +4,7 @@ use Rattle.std.proofs.lemmas.Result.{IfErr-weaker}
 use Rattle.std.specs.Prelude.{unsigned_abs}
 use Rattle.frame_core.specs.Block.{covered}
 use Rattle.disk_core.specs.DiskImage.{reads}
-use Rattle.replay_core.specs.Poll.{MovesTo, Polls}
+use Rattle.replay_core.specs.Poll.{MovesTo, ArePolled}
 use Rattle.archive_model.specs.Replay.{is_boundary, placed}
 use Rattle.archive_model.specs.State.{geometry_of}
 use Rattle.control_core.specs.Exact.{frames_end}
@@ -29,7 +29,7 @@ returns-clause-frames g c r read at =
     let frames = c.in_ok-frames.frames.items in
     let obeys : IsTrue (g.D.Disk.life c.poll.new.store.disk.now).obeys = search (rules, read.obeys) in
     let these = c.in_ok-frames.ensures.frames obeys in
-    let polls : Polls (reads (g.D.Disk.life c.args.disk.now).now) (layout_of d) (geometry_of d) c.args.registration.now.recorded c.args.replay.now.bound (unsigned_abs c.args.most) (unsigned_abs c.args.replay.now.next) frames
+    let polls : ArePolled (reads (g.D.Disk.life c.args.disk.now).now) (layout_of d) (geometry_of d) c.args.registration.now.recorded c.args.replay.now.bound (unsigned_abs c.args.most) (unsigned_abs c.args.replay.now.next) frames
     (unsigned_abs c.poll.new.self.next) = search (rules, these) in
     let given : c.from_vec.result ≡ placed c.args.replay.now.next frames = search rules in
     let start : pos 0 ≤ℤ d.start_position = omega (arith, ints, c.requires.laid_out.layout.start_is) in
