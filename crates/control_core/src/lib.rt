@@ -20,7 +20,9 @@ mod turns;
 
 pub use asked::{Asked, Told};
 pub use bytes::read_terms;
-pub use callers::{FoundReplay, FoundSession, OpenReplay, Reader, RecorderSession, Writer, Written};
+pub use callers::{
+    FoundReplay, FoundSession, OpenReplay, Reader, RecorderSession, Writer, Written,
+};
 pub use copies::copy_reply;
 pub use deciding::decide;
 pub use decision::Decision;

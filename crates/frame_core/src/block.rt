@@ -201,7 +201,12 @@ pub fn are_encodable(frames: &[Frame]) -> bool
 }
 
 /// How many bytes one pad covers that lies inside its term.
-fn pad_size<F: AsFrame>(geometry: &Geometry, ids: &BlockIds, first: &FrameRef<'_>, rest: &[F]) -> Option<u64>
+fn pad_size<F: AsFrame>(
+    geometry: &Geometry,
+    ids: &BlockIds,
+    first: &FrameRef<'_>,
+    rest: &[F],
+) -> Option<u64>
     ensures size { MatchOption result
         (IsPadBlock geometry.now ids.now (frame_of first.now) (map F.frame rest.now) → ⊥)
         (λ size. IsPadBlock geometry.now ids.now (frame_of first.now) (map F.frame rest.now)
@@ -227,7 +232,13 @@ fn pad_size<F: AsFrame>(geometry: &Geometry, ids: &BlockIds, first: &FrameRef<'_
 }
 
 /// How many bytes messages cover that follow one another inside their term, the first frame and the rest.
-fn messages_size<F: AsFrame>(geometry: &Geometry, ids: &BlockIds, first: &F, rest: &[F], frames: &[F]) -> Option<u64>
+fn messages_size<F: AsFrame>(
+    geometry: &Geometry,
+    ids: &BlockIds,
+    first: &F,
+    rest: &[F],
+    frames: &[F],
+) -> Option<u64>
     requires { frames.now ≡ first.now ∷ rest.now }
     ensures size { MatchOption result
         (IsMessageBlock geometry.now ids.now (F.frame first.now) (map F.frame rest.now) → ⊥)
