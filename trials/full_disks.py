@@ -16,6 +16,7 @@ import sys
 from pathlib import Path
 
 from mounts import Skipped, make_ext4, mounted
+from standard_error import CLOSED
 from tool import TIMESTAMP, Fault, Session, Stream, expect, program, room, run
 
 STREAM = Stream(term_length=2**30, segment_length=2**30)
@@ -168,7 +169,7 @@ def full_at_an_opening(archive: Archive) -> str:
     why = "catalogue-a.bank: write: No space left on device"
     right = 3, "", [*DEVICE_FAULT, why]
     expect("list, still full", (ended.returncode, ended.stdout, ended.stderr.splitlines()), right)
-    told = run([archive.tool, "run", archive.folder], ["list 0 1", "reopen", "quit"])
+    told = run([archive.tool, "run", archive.folder], ["list 0 1", "reopen", "quit"], [why, *DEVICE_FAULT, CLOSED.strip()])
     expect("run, still full", told, [*BROKEN, *DEVICE_FAULT, "bye"])
     archive.make_room()
     archive.expect_recorded("with room", 0)

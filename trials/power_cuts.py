@@ -25,7 +25,7 @@ from concurrent.futures import ProcessPoolExecutor
 from dataclasses import dataclass, field
 from pathlib import Path
 
-from tool import MTU, Fault, Stream, aligned, program, room
+from tool import MTU, Fault, Stream, aligned, is_calm, program, room
 
 STREAM = Stream(term_length=65_536, segment_length=131_072)
 TRACED = "openat,pwrite64,ftruncate,fdatasync,fsync,unlink,write,close,flock"
@@ -239,7 +239,7 @@ def shown(tool: Path, folder: Path | None, before: list[str], count: int) -> lis
     asked += [f"poll {number} {MOST}" for number in range(count)]
     given = "".join(line + "\n" for line in [*before, *(["reopen"] if folder is None else []), *asked])
     ended = subprocess.run([tool, "run", *([folder] if folder else [])], input=given, capture_output=True, text=True)
-    if ended.returncode != 0:
+    if ended.returncode != 0 or not is_calm(ended.stderr):
         raise Fault(f"ended with status {ended.returncode}: {ended.stderr.strip()}")
     told = ended.stdout.splitlines()
     skipped = len(before) + (folder is None)

@@ -16,6 +16,7 @@ from pathlib import Path
 
 from mounts import Skipped, make_ext4, mount, mounted
 from power_cuts import script_of, shown
+from standard_error import CLOSED
 from tool import Fault, Stream, expect, program, room, run
 
 BROKEN, DEVICE_FAULT = "error 16 Broken", "error 17 DeviceFault"
@@ -32,11 +33,11 @@ def recorded(tool: Path, folder: Path) -> list[str]:
     return shown(tool, None, LINES, COUNT)
 
 
-def refused(tool: Path, folder: Path) -> None:
-    """A command that needs the archive is refused by one line, and ends soon."""
+def refused(tool: Path, folder: Path, why: str) -> None:
+    """A command that needs the archive is refused by one line, and by why, and ends soon."""
     ended = subprocess.run([tool, "list", folder], capture_output=True, text=True, timeout=60)
-    expect("list", (ended.returncode, ended.stdout, ended.stderr.splitlines()[:1]), (3, "", [DEVICE_FAULT]))
-    told = run([tool, "run", folder], ["list 0 1", "reopen", "quit"])
+    expect("list", (ended.returncode, ended.stdout, ended.stderr.splitlines()), (3, "", [DEVICE_FAULT, why]))
+    told = run([tool, "run", folder], ["list 0 1", "reopen", "quit"], [why, DEVICE_FAULT, CLOSED.strip()])
     expect("run", told, [BROKEN, DEVICE_FAULT, "bye"])
 
 
@@ -45,7 +46,7 @@ def read_only(tool: Path, work: Path) -> str:
     with mounted(work / "disk", "-t", "tmpfs", "-o", "size=16m", "tmpfs") as disk:
         right = recorded(tool, disk / "archive")
         mount("-o", "remount,ro", disk)
-        refused(tool, disk / "archive")
+        refused(tool, disk / "archive", "1-0.rec: sync: Read-only file system")  # the first file that an opening syncs
         mount("-o", "remount,rw", disk)
         expect("once it may be written", shown(tool, disk / "archive", [], COUNT), right)
     return "read-only: refused, and nothing was lost"
@@ -118,17 +119,18 @@ def names_that_are_no_files(tool: Path, work: Path) -> str:
         path.write_bytes(b"x")
         path.chmod(0)
 
-    makers: list[Callable[[Path], None]] = [
-        Path.mkdir,
-        lambda path: path.symlink_to("catalogue-a.bank"),
-        os.mkfifo,
+    unsupported = "the folder: list: unsupported"
+    makers: list[tuple[Callable[[Path], None], str]] = [
+        (Path.mkdir, unsupported),
+        (lambda path: path.symlink_to("catalogue-a.bank"), unsupported),
+        (os.mkfifo, unsupported),
     ]
     if os.geteuid() != 0:
-        makers.append(unreadable)
-    for make in makers:
+        makers.append((unreadable, "9-0.rec: sync: Permission denied"))
+    for make, why in makers:
         make(in_the_way)
         was = in_the_way.lstat()
-        refused(tool, folder)
+        refused(tool, folder, why)
         expect("what is there", (in_the_way.lstat().st_ino, in_the_way.lstat().st_mode), (was.st_ino, was.st_mode))
         if in_the_way.is_dir() and not in_the_way.is_symlink():
             in_the_way.rmdir()

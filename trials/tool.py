@@ -1,5 +1,6 @@
 """The built program, the bytes that scripts give it and the folders that they work in: what trials and measures share."""
 import os
+import re
 import shutil
 import signal
 import struct
@@ -13,6 +14,13 @@ from pathlib import Path
 
 ROOT = Path(__file__).resolve().parent.parent
 STREAM_ID, SESSION_ID, INITIAL_TERM, MTU, TIMESTAMP = 1_001, 7, 42, 1_408, 1_000
+
+# What a command tells on standard error where nothing has failed: docs/CONTROL.md, "Standard error".
+CALM = re.compile(
+    r"a new archive was made, as the folder had none"
+    r"|the history is full: .*"
+    r"|recordings \d+, frames \d+, bytes \d+, damaged 0, not read 0"
+)
 
 
 class Fault(Exception):
@@ -122,12 +130,18 @@ def bank(history_limit: int, entries: Iterable[bytes]) -> bytes:
     return header + b"".join(b"\x01" + text for text in entries) + b"\x00"
 
 
-def run(words: Sequence[str | Path], lines: Iterable[str] = ()) -> list[str]:
-    """The lines that a command answers to lines on its standard input; it has to end with status 0. What it tells beside them
-    on standard error is tried by standard_error.py."""
+def is_calm(told: str) -> bool:
+    """Whether standard error tells of nothing that failed. Its texts are tried by standard_error.py."""
+    return all(CALM.fullmatch(line) for line in told.splitlines())
+
+
+def run(words: Sequence[str | Path], lines: Iterable[str] = (), failed: Sequence[str] = ()) -> list[str]:
+    """The lines that a command answers to lines on its standard input; it has to end with status 0, and tell on standard error
+    what failed, if it is said that something does, else of nothing that failed."""
     given = "".join(line + "\n" for line in lines)
     ended = subprocess.run(words, input=given, capture_output=True, text=True)
-    if ended.returncode != 0:
+    is_told = ended.stderr.splitlines() == [*failed] if failed else is_calm(ended.stderr)
+    if ended.returncode != 0 or not is_told:
         raise Fault(f"{' '.join(map(str, words[1:]))} ended with status {ended.returncode}: {ended.stderr.strip()}")
     return ended.stdout.splitlines()
 
