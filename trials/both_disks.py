@@ -130,6 +130,8 @@ MADE: dict[str, Callable[[Trial, Path], None]] = {
     "with_short_history(rt.alloc())?": make_short_history,
     "without_catalogue(rt.alloc())?": make_no_catalogue,
 }
+# The refusal of an opening, where a folder is so.
+UNOPENED = {make_no_catalogue: NOT_CATALOGUE}
 
 
 def try_scripts(trial: Trial) -> None:
@@ -148,7 +150,8 @@ def try_scripts(trial: Trial) -> None:
         with trial.folder() as folder:
             MADE[disk](trial, folder)
             answer = trial.ended("run", folder, given=text_of(lines, vectors))
-            trial.expect(f"{name}, over a folder", answer[:2], (0, text_of(told, vectors)))
+            right = 0, text_of(told, vectors), UNOPENED.get(MADE[disk], "")
+            trial.expect(f"{name}, over a folder", answer, right)
     trial.expect("scripts found in the tests", len(empty) + len(other) >= FEWEST_SCRIPTS, True)
 
 
