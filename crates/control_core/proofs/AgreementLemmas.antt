@@ -11,7 +11,7 @@ use Rattle.archive_model.specs.declared.reply.Reply.{Reply}
 use Rattle.archive_model.specs.Keyed.{find}
 use Rattle.archive_model.specs.Checks.{Tests, block_checks, checked, checks, first_checks, last_checks, passes}
 use Rattle.archive_model.specs.Register as register
-use Rattle.archive_model.specs.Register.{RegisterState, is_end, registration_in}
+use Rattle.archive_model.specs.Register.{is_end, registration_in}
 use Rattle.archive_model.specs.State.{State, id_of, register_of}
 use Rattle.archive_model.specs.Commands.{after, frames_of, recorded_in, register_after}
 use Rattle.archive_model.specs.Acceptance.{BookState}
@@ -26,7 +26,7 @@ use Rattle.control_core.specs.declared.request.Request.{Request}
 use Rattle.control_core.specs.declared.request.Request.TheVariants as requests
 use Rattle.control_core.specs.Desk.{DeskState}
 use Rattle.control_core.specs.Changes.{desk_after, settled, settled_by}
-use Rattle.control_core.specs.Decisions.{Allows, accepted, answered, command_in, command_tests, decided, decision_of, if_boundary, on_truncate, truncate_tests}
+use Rattle.control_core.specs.Decisions.{Allows, accepted, answered, asked_command, command_in, command_tests, decided, decision_of, extend_tests, if_boundary, on_truncate, purge_segments_tests, purge_tests, start_tests, stop_tests, truncate_tests}
 use Rattle.control_core.specs.Agreement.{Agrees, HasWritten, WroteBlocks}
 
 -- ---- what is decided may be accepted
@@ -96,6 +96,27 @@ allowed d (requests.PurgeRecording id) c e = allows_made d (commands.PurgeRecord
 allowed d (requests.List from count) c e = absurd (answered_none _ c e)
 allowed d (requests.Find f) c e = absurd (answered_none _ c e)
 allowed d (requests.Positions id) c e = absurd (answered_none _ c e)
+
+-- ---- what is decided is what was asked for
+
+asked_for : (tests : Tests) (rs : List Refusal) (made c : Command) → command_in (accepted (checked tests rs (Ok made))) ≡ Some c → Some made ≡ Some c
+asked_for tests rs made c e = ap (λ (x : Command). Some x) (passing tests rs made c e).1
+
+pub asked_is : (d : DeskState) (request : Request) (c : Command) → command_in (decision_of d request) ≡ Some c → asked_command request ≡ Some c
+asked_is d (requests.Start f) c e = asked_for (start_tests d f) checks (commands.Start f) c e
+asked_is d (requests.Stop id timestamp) c e = asked_for (stop_tests d id timestamp) checks (commands.Stop id timestamp) c e
+asked_is d (requests.Extend f) c e = asked_for (extend_tests d f) checks (commands.Extend f) c e
+asked_is d (requests.Truncate id position) c e =
+    let tests = truncate_tests d id position in
+    let made = commands.Truncate id position in
+    let behind : Result Command Refusal = checked tests (block_checks ++ last_checks) (Ok made) in
+    let front = in_front tests first_checks (if_boundary (registration_in d.register id) id position behind) c e in
+    asked_for tests (block_checks ++ last_checks) made c (at_boundary (registration_in d.register id) id position behind c front.1)
+asked_is d (requests.PurgeSegments id position) c e = asked_for (purge_segments_tests d id position) checks (commands.PurgeSegments id position) c e
+asked_is d (requests.PurgeRecording id) c e = asked_for (purge_tests d id) checks (commands.PurgeRecording id) c e
+asked_is d (requests.List from count) c e = absurd (answered_none _ c e)
+asked_is d (requests.Find f) c e = absurd (answered_none _ c e)
+asked_is d (requests.Positions id) c e = absurd (answered_none _ c e)
 
 -- ---- the desk follows the state
 

@@ -29,12 +29,13 @@ use Rattle.control_core.specs.Decided.{Decision}
 use Rattle.control_core.specs.Decided as decisions
 use Rattle.control_core.specs.declared.request.Request.{Request}
 use Rattle.control_core.specs.declared.request.Request.TheVariants as requests
+use Rattle.control_core.specs.declared.turns.Settling.{Settling}
 use Rattle.control_core.specs.declared.turns.Settling.TheVariants as settling
 use Rattle.control_core.specs.Callers.{session_number}
 use Rattle.control_core.specs.Desk.{DeskState, has_room, has_session_number, is_replay_before, is_replayed}
 use Rattle.control_core.specs.Changes.{settled, writer_in}
 use Rattle.control_core.specs.Decisions.{Allows, accepted, answered, command_in, command_tests, decided, decision_of, if_boundary, truncate_tests}
-use Rattle.control_core.specs.Turns.{has_written, session_in, settle_decision, settle_tests, settling_by, settling_of}
+use Rattle.control_core.specs.Turns.{DecidesSettling, has_written, session_in, settle_decision, settle_tests, settling_by, settling_of}
 use Rattle.control_core.specs.Seats.{AreApart, IsWriting, KeepsSeats}
 use Rattle.control_core.specs.Agreement.{Agrees, WroteBlocks}
 use Rattle.control_core.specs.Exact.{Archive, asked_frames, book_of, recording_at}
@@ -318,3 +319,20 @@ settled_session a number id w consistent e by =
     let settles = settling_session d number id w (session_in d number) refl is.1 in
     let writer : writer_in d id ≡ Some settles.session = subst (λ (z : ℤ). writer_in d z ≡ Some settles.session) settles.recording (writer_is number d.callers.sessions settles.session consistent.seats.sessions.apart settles.found) in
     settles.found ∙ sym writer ∙ by.writer
+
+-- a settling that is decided on has its session
+pub settles_session : (d : DeskState) (number : ℤ) (settles : Settling) → settle_decision d number ≡ Ok settles → DecidesSettling d number settles
+settles_session d number settles e =
+    let is = held (settle_tests d number) checks (settling_of d (session_in d number)) settles e in
+    let unsettled : Bool = not (has_written (session_in d number)) || has_room d in
+    let whole : (not d.is_broken ≡ true) × ((is_some (session_in d number) && (unsettled && true)) ≡ true) = both is.0 in
+    let there : (is_some (session_in d number) ≡ true) × ((unsettled && true) ≡ true) = both whole.1 in
+    by (session_in d number) refl there.0 is.1 (not_true d.is_broken whole.0)
+  where
+    not_true : (b : Bool) → not b ≡ true → b ≡ false
+    not_true true off = absurd (true≢false (sym off))
+    not_true false off = refl
+
+    by : (o : Option RecorderSession) → session_in d number ≡ o → is_some o ≡ true → settling_of d o ≡ settles → d.is_broken ≡ false → DecidesSettling d number settles
+    by None found there is works = absurd (true≢false (sym there))
+    by (Some s) found there is works = record { works = works; session = s; found = found; number_is = found_number number d.callers.sessions s found; is = is }

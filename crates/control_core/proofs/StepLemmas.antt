@@ -19,7 +19,6 @@ use Rattle.control_core.specs.Decided as decisions
 use Rattle.control_core.specs.Decisions.{decision_of}
 use Rattle.control_core.specs.declared.callers.OpenReplay.{OpenReplay}
 use Rattle.control_core.specs.declared.turns.Opening.{Opening}
-use Rattle.control_core.specs.Opened.{OpeningDecision}
 use Rattle.control_core.specs.Opened as opening
 use Rattle.control_core.specs.Changes.{after_close, after_open, after_write, desk_after, reply_after, settled, settled_position}
 use Rattle.control_core.specs.Desk.{DeskState}

@@ -152,6 +152,16 @@ decision_of d (AskList from count) = answered (checked (list_tests from count) c
 decision_of d (Find f) = answered (checked (find_tests f) checks (Ok (Found (greatest f d.register.recordings))))
 decision_of d (AskPositions id) = answered (checked (positions_tests d id) checks (Ok (positions_reply (registration_in d.register id))))
 
+-- the command that a request asks for; none, where it asks what is there
+abbrev pub asked_command : Request → Option Command
+asked_command (Start f) = Some (commands.Start f)
+asked_command (Stop id timestamp) = Some (commands.Stop id timestamp)
+asked_command (Extend f) = Some (commands.Extend f)
+asked_command (Truncate id position) = Some (commands.Truncate id position)
+asked_command (PurgeSegments id position) = Some (commands.PurgeSegments id position)
+asked_command (PurgeRecording id) = Some (commands.PurgeRecording id)
+asked_command _ = None
+
 -- this decision, or want of memory in its place, where the decision takes memory
 abbrev pub Decides : Bool → Decision → Decision → Type 0
 Decides takes (Refused NoMemory) decision = takes ≡ true

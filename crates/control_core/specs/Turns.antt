@@ -1,6 +1,6 @@
 -- What is decided on a call that is no request: writing and settling, replays, sweeping and verifying.
 -- docs/CONTROL.md, "Recorder sessions", "Replays" and "Refusals".
-use Rattle.std.specs.Prelude.{◌≢◌, ◌<◌, ◌&&◌, ◌||◌, ◌++◌, not, ℤ, pos, negsuc, Bool, true, false, IsTrue, length, nat_lt, int_le, Option, Some, None, is_some, Result, Ok, Err, if◌then◌else◌}
+use Rattle.std.specs.Prelude.{◌≡◌, ◌≢◌, ◌<◌, ◌&&◌, ◌||◌, ◌++◌, not, ℤ, pos, negsuc, Bool, true, false, IsTrue, length, nat_lt, int_le, Option, Some, None, is_some, Result, Ok, Err, if◌then◌else◌}
 use Rattle.std.specs.Ordering.{int_eq}
 use Rattle.frame_core.specs.declared.refusal.Refusal.{Refusal}
 use Rattle.frame_core.specs.declared.refusal.Refusal.TheVariants.{BadBlock, BadParameter, BadPosition, Broken, HistoryFull, MaxReplays, NeedSettle, StaleSession, UnknownRecording, UnknownReplay}
@@ -82,6 +82,14 @@ settling_of d (Some s) = settling_by d s s.written
 
 abbrev pub settle_decision : DeskState → ℤ → Result Settling Refusal
 settle_decision d number = checked (settle_tests d number) checks (Ok (settling_of d (session_in d number)))
+
+-- A settling that is decided on: the archive works, and this is what there is to settle of the session of that number.
+pub record DecidesSettling (d : DeskState) (number : ℤ) (settles : Settling) : Type 0 where
+  pub works : d.is_broken ≡ false
+  pub session : RecorderSession
+  pub found : session_in d number ≡ Some session
+  pub number_is : session.number ≡ number
+  pub is : settling_by d session session.written ≡ settles
 
 -- ---- opening a replay
 

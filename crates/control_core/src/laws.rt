@@ -12,7 +12,7 @@ ghost use Rattle.archive_model.specs.WellFormed.{IsWell};
 ghost use Rattle.control_core.specs.declared.request.Request.{Request};
 ghost use Rattle.control_core.specs.Desk.{DeskState};
 ghost use Rattle.control_core.specs.Changes.{desk_after};
-ghost use Rattle.control_core.specs.Decisions.{Allows, command_in, decision_of};
+ghost use Rattle.control_core.specs.Decisions.{Allows, asked_command, command_in, decision_of};
 ghost use Rattle.control_core.specs.Agreement.{Agrees, HasWritten};
 ghost use Rattle.frame_core.specs.declared.refusal.Refusal.{Refusal};
 ghost use Rattle.frame_core.specs.declared.refusal.Refusal.TheVariants.{DeviceFault};
@@ -27,10 +27,11 @@ ghost use Rattle.control_core.specs.Exact.{Archive, ArchiveEnds, CallEnds, archi
 ghost use Rattle.control_core.specs.Consistent.{AreAtBoundaries, IsAcceptable, IsAtBoundary, IsConsistent, MakesCommand, SettlesByAppend, StaysConsistent, StaysOpen, WroteNothing, is_append, is_asked};
 ghost use Rattle.control_core.specs.Orderly.{BeginsBy};
 ghost use Rattle.control_core.specs.Runs.{IsHistory, Leave};
-ghost use Rattle.control_core.specs.Turns.{MayOpen, open_decision, opening_in, poll_decision, settle_decision, sweep_tests, verify_tests};
+ghost use Rattle.control_core.specs.Turns.{DecidesSettling, MayOpen, open_decision, opening_in, poll_decision, settle_decision, sweep_tests, verify_tests};
 ghost use Rattle.control_core.specs.declared.turns.Opening.{Opening};
 ghost use Rattle.control_core.specs.declared.callers.Written.{Written};
 ghost use Rattle.control_core.specs.Decided.{Accepted};
+ghost use Rattle.control_core.specs.declared.turns.Settling.{Settling};
 ghost use Rattle.control_core.specs.declared.turns.Settling.TheVariants.{Blocks};
 
 /// Each test holds of the command that a decision leads to, so it may be accepted: docs/CONTROL.md, "Requests".
@@ -38,6 +39,12 @@ ghost use Rattle.control_core.specs.declared.turns.Settling.TheVariants.{Blocks}
 pub fn what_is_decided_is_allowed()
     ensures { (d : DeskState) (request : Request) (c : Command) →
         command_in (decision_of d request) ≡ Some c → Allows d c }
+{}
+
+/// The command that a request leads to is the one that it asks for: docs/CONTROL.md, "Requests".
+pub fn what_is_decided_is_what_was_asked_for()
+    ensures { (d : DeskState) (request : Request) (c : Command) →
+        command_in (decision_of d request) ≡ Some c → asked_command request ≡ Some c }
 {}
 
 /// The desk's register after an accepted command, each of the eight, is the one that the command makes of the register
@@ -70,6 +77,12 @@ pub fn a_decided_command_is_accepted()
 pub fn a_settling_is_an_accepted_append()
     ensures { (a : Archive) (session id : ℤ) (w : Written) → IsConsistent a →
         settle_decision a.desk session ≡ Ok (Blocks id w) → SettlesByAppend a session id }
+{}
+
+/// A settling is decided on while the archive works, of a session that is there: docs/CONTROL.md, "Recorder sessions".
+pub fn a_settling_has_its_session()
+    ensures { (d : DeskState) (number : ℤ) (settles : Settling) →
+        settle_decision d number ≡ Ok settles → DecidesSettling d number settles }
 {}
 
 /// A replay that a decision leads to may be opened, and begins at the start of its recording or behind it:

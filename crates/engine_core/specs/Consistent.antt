@@ -17,6 +17,7 @@ use Rattle.control_core.specs.declared.callers.RecorderSession.{RecorderSession}
 use Rattle.control_core.specs.Consistent.{AreAtBoundaries, IsConsistent}
 use Rattle.control_core.specs.Exact.{Archive, recording_at}
 use Rattle.control_core.specs.Runs.{MayStand}
+use Rattle.engine_core.specs.Engine.{EngineState}
 use Rattle.engine_core.specs.Recovery.{IsDurable, IsSound, RecoversTo, last_of, layout_of}
 
 -- ---- which states a crash may leave
@@ -61,3 +62,8 @@ pub record IsCrashConsistent (life : Life) (log : LogState) (a : Archive) : Type
   pub stand : Each (StandsBehind (reads life.now) a) a.desk.callers.sessions
   -- of what was read: where the disk obeys the crash model
   pub boundaries : IsTrue life.obeys → AreAtBoundaries a
+
+-- the engine keeps this archive, which is crash-consistent
+pub record KeepsArchive (e : EngineState) (a : Archive) : Type 0 where
+  pub desk : e.desk ≡ a.desk
+  pub consistent : IsCrashConsistent e.life e.log a

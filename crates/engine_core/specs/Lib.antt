@@ -10,5 +10,4 @@ pub mod Reading
 -- what only private functions say
 pub mod Moves
 pub mod Making
-pub mod Writing
 pub mod Replaying

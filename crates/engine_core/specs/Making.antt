@@ -1,21 +1,17 @@
 -- How commands are made.
-use Rattle.std.specs.Prelude.{◌≡◌, ◌⊎◌, ℕ, ℤ, pos, Bool, true, false, IfErr, IfOk, IsErrOf, IsTrue, OnOk, Result, Ok, Err, Some}
+use Rattle.std.specs.Prelude.{◌≡◌, ◌⊎◌, ℕ, ℤ, pos, IfErr, IfOk, IsErrOf, OnOk, Result, Err}
 use Rattle.disk_core.specs.Life.{HasFailed, LeavesOnly, Life}
 use Rattle.frame_core.specs.declared.refusal.Refusal.{Refusal}
-use Rattle.frame_core.specs.declared.refusal.Refusal.TheVariants.{BadPosition, DeviceFault, NoMemory}
-use Rattle.archive_model.specs.declared.command.Command.{Command}
+use Rattle.frame_core.specs.declared.refusal.Refusal.TheVariants.{DeviceFault, NoMemory}
 use Rattle.archive_model.specs.declared.command.Command.TheVariants.{Restart}
 use Rattle.archive_model.specs.declared.reply.Reply.{Reply}
-use Rattle.archive_model.specs.Accepting.{Accepts}
 use Rattle.archive_model.specs.Commands.{after}
-use Rattle.archive_model.specs.Register.{RegisterState, active_count, all_stopped, is_end}
-use Rattle.archive_model.specs.Replay.{begins_frame}
-use Rattle.archive_model.specs.State.{Recording, State, register_of, registration_of}
+use Rattle.archive_model.specs.Register.{RegisterState, active_count, all_stopped}
+use Rattle.archive_model.specs.State.{State, register_of}
 use Rattle.catalogue_log.specs.Catalogue.{ChangesBank}
-use Rattle.control_core.specs.Changes.{broken_desk, reply_after}
+use Rattle.control_core.specs.Changes.{broken_desk}
 use Rattle.control_core.specs.Desk.{DeskState, opened_desk}
-use Rattle.control_core.specs.Exact.{Archive, ArchiveEnd, Is, archive_after, book_of, opened_archive, plain, recording_at}
-use Rattle.control_core.specs.Machine.{Does, OrOutside, UnlessBoundary}
+use Rattle.control_core.specs.Exact.{Archive, opened_archive}
 use Rattle.engine_core.specs.Recovery.{IsEither, RecoversTo}
 use Rattle.engine_core.specs.Engine.{Content, EngineState, DiskGoesOn, IsSpared, archive_of}
 use Rattle.engine_core.specs.Consistent.{IsCrashConsistent}
@@ -36,27 +32,6 @@ pub record CommitsEntry (old new : EngineState) (Fits : Archive → Type 0) (rep
   -- of a crash-consistent one
   pub ended : (c : Content) → IsCrashConsistent old.life old.log (archive_of old c) → Fits (archive_of old c) →
       CallEnded old new (archive_of old c) (CommitEnds (archive_of old c) reply (to (archive_of old c)) (HasFailed old.life new.life) result)
-
--- what is decided where a frame begins at a position: the command is made, or refused
-abbrev pub BegunEnds : Archive → Result Command Refusal → Type 0 → ArchiveEnd
-BegunEnds a (Ok command) faulted = CommitEnds a (reply_after a.desk command) (archive_after a command) faulted
-BegunEnds a (Err refusal) faulted = Is (Err refusal) a
-
--- a read may fail, which changes nothing
-abbrev pub InsideEnds : Archive → Bool → Result Command Refusal → Type 0 → ArchiveEnd
-InsideEnds a true decided faulted = OrOutside a faulted (λ b. b ≡ a) (BegunEnds a decided faulted)
-InsideEnds a false decided faulted = OrOutside a faulted (λ b. b ≡ a) (Is (Err BadPosition) a)
-
--- What was done with what is decided where a frame begins at a position strictly inside a recording.
-pub record MakesInside (old new : EngineState) (id position : ℤ) (decided : Result Command Refusal) (result : Result Reply Refusal) : Type 0 where
-  pub goes_on : DiskGoesOn old.life new.life
-  pub kept : IsSpared (new.desk.is_broken ≡ old.desk.is_broken) old new result
-  -- a fault has its cause, unless it is what was decided
-  pub cause : IsErrOf result DeviceFault → IsErrOf decided DeviceFault ⊎ HasFailed old.life new.life
-  pub machine : OrOutside old.desk ⊥ (λ d. ⊥) (UnlessBoundary old.desk (Does old.desk decided)) (plain result) new.desk
-  pub ended : (c : Content) (r : Recording) → IsCrashConsistent old.life old.log (archive_of old c) → recording_at (archive_of old c) id ≡ Some r → is_end position (registration_of r) ≡ false →
-      (begins_frame position r ≡ true → IfOk decided (λ command. Accepts (book_of (archive_of old c)) command)) → IsTrue new.life.obeys →
-      CallEnded old new (archive_of old c) (InsideEnds (archive_of old c) (begins_frame position r) decided (HasFailed old.life new.life) result)
 
 -- What a restart of an archive did that is opened.
 pub record Restarts (old new : EngineState) (result : Result ℤ Refusal) : Type 0 where

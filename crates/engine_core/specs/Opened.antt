@@ -1,5 +1,9 @@
 -- Opening an archive after a crash: docs/STORAGE.md, "Recovery".
-use Rattle.std.specs.Prelude.{◌≡◌, ◌⊎◌, ℤ, pos, List, count_by}
+use Rattle.std.specs.Prelude.{◌≡◌, ◌≢◌, ◌⊎◌, ◌<◌, ℕ, ℤ, pos, IsSome, IsTrue, List, Option, None, Some, count_by}
+use Rattle.frame_core.specs.declared.refusal.Refusal.{Refusal}
+use Rattle.frame_core.specs.declared.refusal.Refusal.TheVariants.{BadParameter, DeviceFault, NoMemory}
+use Rattle.disk_core.specs.declared.file_id.FileId.{FileId}
+use Rattle.disk_core.specs.declared.file_id.FileId.TheVariants.{BankA}
 use Rattle.disk_core.specs.DiskImage.{DiskImage, MayLeave, reads}
 use Rattle.disk_core.specs.Life.{Life, LeavesOnly}
 use Rattle.archive_model.specs.State.{State, active_count}
@@ -14,8 +18,9 @@ use Rattle.catalogue_log.specs.Fold.{after_entries, counts}
 use Rattle.control_core.specs.Desk.{DeskState, opened_desk}
 use Rattle.control_core.specs.Exact.{Archive, opened_archive}
 use Rattle.engine_core.specs.Recovery.{IsEither, Recovers, RecoversTo}
-use Rattle.engine_core.specs.Engine.{EngineState}
-use Rattle.engine_core.specs.Consistent.{IsCrashConsistent}
+use Rattle.engine_core.specs.Engine.{DiskGoesOn, EngineState, new_archive}
+use Rattle.engine_core.specs.Consistent.{IsCrashConsistent, KeepsArchive}
+use Rattle.engine_core.specs.Opening.{IsMadeIn, ReadsAsBefore, RefusesNew, RefusesOpening}
 
 -- every image that a crash now may leave recovers to one of two states
 abbrev pub LeavesEither : Life → State → State → Type 0
@@ -58,3 +63,39 @@ pub record IsDeskOf (image : DiskImage) (desk : DeskState) (restarted : ℤ) : T
   pub catalogue : IsCatalogue image header entries
   pub is : desk ≡ opened_desk (all_stopped (after_entries no_recordings entries)) (count_by counts entries) header.history_limit
   pub stopped : restarted ≡ pos (register.active_count (after_entries no_recordings entries))
+
+-- What `Engine::open` says of a disk that it opens, by stopping so many recordings.
+pub record HasOpened (old : Life) (new : EngineState) (stopped : ℤ) : Type 0 where
+  pub opened : (s u : State) → LeavesEither old s u → IsTrue new.life.obeys → IsOpened old new stopped s u
+  -- no archive is opened without a catalogue
+  pub desk : IsTrue new.life.obeys → IsDeskOf (reads old.now) new.desk stopped
+  pub goes_on : DiskGoesOn old new.life
+  -- only the bank in use may read otherwise
+  pub others : (file : FileId) → file ≢ BankA → reads new.life.now file ≡ reads old.now file
+  -- nothing is written where no recording was active
+  pub idle : stopped ≡ pos 0 → ReadsAsBefore old new.life
+
+-- What it says of a disk that it refuses.
+pub record HasNotOpened (old new : Life) (refusal : Refusal) : Type 0 where
+  pub whole : (s u : State) → LeavesEither old s u → IsTrue new.obeys → IsNotOpened old new s u × ((refusal ≡ DeviceFault) ⊎ (refusal ≡ NoMemory))
+  -- also of a disk that no archive has left
+  pub refuses : RefusesOpening old new refusal
+  pub goes_on : DiskGoesOn old new
+  pub others : (file : FileId) → file ≢ BankA → reads new.now file ≡ reads old.now file
+
+-- a file was there, unless the disk does not obey
+abbrev pub HadFiles : Life → Life → Type 0
+HadFiles old new = IsTrue new.obeys → (file : FileId) × IsSome (reads old.now file)
+
+-- An archive was made where no file was, or one was opened, by stopping so many recordings, where files were.
+abbrev pub MadeOrOpened : ℕ → Life → EngineState → Option ℤ → Type 0
+MadeOrOpened limit old new None = IsMadeIn old new.life limit × KeepsArchive new (new_archive limit) × DiskGoesOn old new.life
+MadeOrOpened limit old new (Some stopped) = HadFiles old new.life × HasOpened old new stopped
+
+-- Neither: the limit of the history is out of its range, and then the disk was asked nothing; no archive was made where no
+-- file was, or nothing was listed; or files were there and are not opened.
+abbrev pub NeitherMadeNorOpened : ℕ → Life → Life → Refusal → Type 0
+NeitherMadeNorOpened limit old new refusal =
+    ((refusal ≡ BadParameter) × ((limit < 1) ⊎ (16777216 < limit)) × (new ≡ old))
+    ⊎ ((refusal ≢ BadParameter) × RefusesNew old new limit refusal)
+    ⊎ (HadFiles old new × HasNotOpened old new refusal)

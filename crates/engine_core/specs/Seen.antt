@@ -1,13 +1,11 @@
 -- What a call says of the engine that it was made on.
-use Rattle.std.specs.Prelude.{◌≡◌, Result}
+use Rattle.std.specs.Prelude.{Result}
 use Rattle.disk_core.specs.Life.{Life}
 use Rattle.frame_core.specs.declared.refusal.Refusal.{Refusal}
 use Rattle.archive_model.specs.declared.reply.Reply.{Reply}
 use Rattle.control_core.specs.declared.event.Event.{Event}
-use Rattle.control_core.specs.Exact.{Archive}
 use Rattle.engine_core.specs.declared.engine.Engine.{Engine}
 use Rattle.engine_core.specs.Engine.{EngineState}
-use Rattle.engine_core.specs.Consistent.{IsCrashConsistent}
 use Rattle.engine_core.specs.Calls.{AnswersEvent}
 
 module _ {D : Type 0} (life : D → Life) where
@@ -16,11 +14,5 @@ module _ {D : Type 0} (life : D → Life) where
   seen e = record { life = life e.storage.disk; log = e.storage.log; desk = e.desk.state }
 
   -- the engine answered an event
-  pub record HasAnswered (old new : Engine D) (event : Event) (result : Result Reply Refusal) : Type 0 where
-    pub answers : AnswersEvent (seen old) (seen new) event result
-    pub restarted : new.restarted ≡ old.restarted
-
-  -- the engine keeps this archive, which is crash-consistent
-  pub record KeepsArchive (e : Engine D) (a : Archive) : Type 0 where
-    pub desk : e.desk.state ≡ a.desk
-    pub consistent : IsCrashConsistent (life e.storage.disk) e.storage.log a
+  abbrev pub HasAnswered : Engine D → Engine D → Event → Result Reply Refusal → Type 0
+  HasAnswered old new event result = AnswersEvent (seen old) (seen new) event result

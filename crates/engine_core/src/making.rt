@@ -35,7 +35,6 @@ impl<D: Disk> Engine<D> {
             D.life self.new.storage.disk ≡ D.life self.old.storage.disk) }
         ensures changes { ChangesBank (D.life self.old.storage.disk)
             (D.life self.new.storage.disk) }
-        ensures restarted { self.new.restarted ≡ self.old.restarted }
     {
         let entry = Entry::of_command(alloc, &self.desk.next_recording(), &command)?;
         self.desk.reserve(&command)?;

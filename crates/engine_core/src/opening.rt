@@ -5,16 +5,17 @@ ghost use Rattle.frame_core.specs.declared.refusal.Refusal.TheVariants.{BadParam
 ghost use Rattle.disk_core.specs.declared.file_id.FileId.{FileId};
 ghost use Rattle.disk_core.specs.declared.file_id.FileId.TheVariants.{Segment};
 ghost use Rattle.disk_core.specs.DiskImage.{durable, reads};
-ghost use Rattle.disk_core.specs.Life.{HasFailed};
+ghost use Rattle.disk_core.specs.FileNames.{AreFilesWith};
+ghost use Rattle.disk_core.specs.Life.{HasFailed, IsQuiet};
 ghost use Rattle.archive_model.specs.State.{State, empty, register_of};
 ghost use Rattle.archive_model.specs.Register.{no_recordings};
 ghost use Rattle.catalogue_log.specs.declared.entry.Entry.{Entry};
 ghost use Rattle.catalogue_log.specs.Catalogue.{RefusesCatalogue, bank_in_use};
 ghost use Rattle.catalogue_log.specs.Fold.{AreAdmitted, after_entries};
 ghost use Rattle.catalogue_log.specs.LogState.{IsLogOf};
-ghost use Rattle.engine_core.specs.Opening.{IsMadeIn, ReadsAsBefore, RefusesNew, SyncsOnly};
+ghost use Rattle.engine_core.specs.Opening.{ReadsAsBefore, SyncsOnly};
 ghost use Rattle.control_core.specs.Desk.{opened_desk};
-ghost use Rattle.engine_core.specs.Engine.{IsTied};
+ghost use Rattle.engine_core.specs.Engine.{DiskGoesOn, IsTied};
 ghost use Rattle.engine_core.specs.Recovery.{Folds, IsSound, Recovers};
 
 use catalogue_log::{Entry, Log, register_from};
@@ -24,13 +25,20 @@ use frame_core::Refusal;
 use frame_core::limits::MAX_HISTORY;
 use std::alloc::Global;
 
-/// Syncs the files of an archive and reads its catalogue: the log, and the desk, at which nobody calls yet.
+/// Syncs the files of an archive, which are these, and reads its catalogue: the log, and the desk, at which nobody calls
+/// yet.
 ///
 /// Where the disk's files recover to a state, the archive is sound for it from then on, and the desk has that state's
 /// recordings; and then it refuses by `DeviceFault` and `NoMemory` alone. Else `NotCatalogue`, `NewerVersion` and
 /// `Damaged`, as `catalogue_log::open`. In every case each file reads as before. docs/STORAGE.md, "Opening". Costs a call of the disk for each file and for each 64 KiB
-/// of the catalogue, and the memory of the listing, the entries and the recordings.
-pub(crate) fn read_desk<D: Disk>(alloc: Global, disk: &mut D) -> Result<(Log, Desk), Refusal>
+/// of the catalogue, and the memory of the entries and the recordings.
+pub(crate) fn read_desk<D: Disk>(
+    alloc: Global,
+    disk: &mut D,
+    files: &[FileId],
+) -> Result<(Log, Desk), Refusal>
+    requires { IsTrue (D.life disk.old).obeys →
+        AreFilesWith (λ file. IsSome (reads (D.life disk.old).now file)) files.now }
     ensures sound { IfOk result (λ opened. IsTrue (D.life disk.new).obeys → (x : State) →
         Recovers (reads (D.life disk.old).now) x → IsSound (D.life disk.new).now opened.0 x
         × (opened.1.state ≡ opened_desk (register_of x) opened.0.counted opened.0.header.history_limit)) }
@@ -47,7 +55,7 @@ pub(crate) fn read_desk<D: Disk>(alloc: Global, disk: &mut D) -> Result<(Log, De
     ensures before { ReadsAsBefore (D.life disk.old) (D.life disk.new) }
     ensures cause { IsErrOf result DeviceFault → HasFailed (D.life disk.old) (D.life disk.new) }
 {
-    let (log, entries) = open_files(alloc, disk)?;
+    let (log, entries) = open_files(alloc, disk, files)?;
     let register = register_from(alloc, &entries)?;
     let counted = log.counted() as u64;
     let limit = log.limit();
@@ -56,7 +64,13 @@ pub(crate) fn read_desk<D: Disk>(alloc: Global, disk: &mut D) -> Result<(Log, De
 }
 
 /// The log of the catalogue and its entries in order, once the files of the archive are synced.
-fn open_files<D: Disk>(alloc: Global, disk: &mut D) -> Result<(Log, Vec<Entry>), Refusal>
+fn open_files<D: Disk>(
+    alloc: Global,
+    disk: &mut D,
+    files: &[FileId],
+) -> Result<(Log, Vec<Entry>), Refusal>
+    requires { IsTrue (D.life disk.old).obeys →
+        AreFilesWith (λ file. IsSome (reads (D.life disk.old).now file)) files.now }
     ensures sound { IfOk result (λ opened. IsTrue (D.life disk.new).obeys → (x : State) →
         Recovers (reads (D.life disk.old).now) x →
         IsSound (D.life disk.new).now opened.0 x × Folds opened.1.items x) }
@@ -69,57 +83,83 @@ fn open_files<D: Disk>(alloc: Global, disk: &mut D) -> Result<(Log, Vec<Entry>),
     ensures before { ReadsAsBefore (D.life disk.old) (D.life disk.new) }
     ensures cause { IsErrOf result DeviceFault → HasFailed (D.life disk.old) (D.life disk.new) }
 {
-    sync_segments(disk)?;
+    sync_segments(disk, files)?;
     catalogue_log::open(alloc, disk)
 }
 
-/// A new archive without recordings in an empty folder, with this limit of its history: the catalogue's log, for which the
-/// archive is sound.
+/// The files of a disk. `DeviceFault`; `NoMemory` for the listing.
+pub(crate) fn files_of<D: Disk>(disk: &mut D) -> Result<Vec<FileId>, Refusal>
+    ensures files { IfOk result (λ files. IsTrue (D.life disk.new).obeys →
+        AreFilesWith (λ file. IsSome (reads (D.life disk.old).now file)) files.items) }
+    ensures quiet { IsQuiet (D.life disk.old) (D.life disk.new) }
+    ensures refused { IfErr result (λ refusal.
+        ((refusal ≡ DeviceFault) × HasFailed (D.life disk.old) (D.life disk.new))
+        ⊎ (refusal ≡ NoMemory)) }
+{
+    Ok(disk.list()?)
+}
+
+/// The files of a disk on which an archive may stand with this limit of its history.
 ///
-/// `BadParameter` where a file is there or the limit is not from 1 to 16,777,216, and `NoMemory` for the listing: then
-/// nothing was done. `DeviceFault` where a call of the disk fails: what the banks hold then is unknown. docs/STORAGE.md,
-/// "Banks"; docs/CONTROL.md, "Limits". By six calls of the disk behind a listing.
+/// `BadParameter` where the limit is not from 1 to 16,777,216, before the disk is asked; `DeviceFault`; `NoMemory` for the
+/// listing. docs/CONTROL.md, "Limits".
+pub(crate) fn files_within<D: Disk>(
+    disk: &mut D,
+    history_limit: u32,
+) -> Result<Vec<FileId>, Refusal>
+    ensures some { OnOk result (1 ≤ history_limit) }
+    ensures most { OnOk result (history_limit ≤ 16777216) }
+    ensures files { IfOk result (λ files. IsTrue (D.life disk.new).obeys →
+        AreFilesWith (λ file. IsSome (reads (D.life disk.old).now file)) files.items) }
+    ensures quiet { IsQuiet (D.life disk.old) (D.life disk.new) }
+    ensures refused { IfErr result (λ refusal.
+        ((refusal ≡ BadParameter) × ((history_limit < 1) ⊎ (16777216 < history_limit))
+        × (D.life disk.new ≡ D.life disk.old))
+        ⊎ ((refusal ≡ DeviceFault) × HasFailed (D.life disk.old) (D.life disk.new))
+        ⊎ (refusal ≡ NoMemory)) }
+    ensures limit { (history_limit < 1) ⊎ (16777216 < history_limit) → IsErrOf result BadParameter }
+{
+    if history_limit == 0 || history_limit > MAX_HISTORY {
+        return Err(Refusal::BadParameter);
+    }
+    files_of(disk)
+}
+
+/// The catalogue of a new archive without recordings, with this limit of its history: its log, for which the archive is
+/// sound. `DeviceFault` where a call of the disk fails: what the banks hold then is unknown. docs/STORAGE.md, "Banks". By
+/// six calls of the disk.
 pub(crate) fn create<D: Disk>(
     alloc: Global,
     disk: &mut D,
     history_limit: u32,
 ) -> Result<Log, Refusal>
+    requires some { 1 ≤ history_limit }
+    requires most { history_limit ≤ 16777216 }
     ensures sound { IfOk result (λ log. IsSound (D.life disk.new).now log empty) }
     ensures log { IfOk result (λ log. (log.header
         ≡ record { history_limit = history_limit; epoch = 1 })
         × (log.counted ≡ 0) × IsFalse log.is_broken) }
-    ensures made { OnOk result (IsMadeIn (D.life disk.old) (D.life disk.new) history_limit) }
-    ensures segments { (recording base : ℤ) →
-        (D.life disk.new).now (Segment recording base) ≡ (D.life disk.old).now (Segment recording base) }
-    ensures refused { IfErr result (RefusesNew (D.life disk.old) (D.life disk.new) history_limit) }
-    // A limit out of its range is refused before the disk is asked.
-    ensures limit { (history_limit < 1) ⊎ (16777216 < history_limit) →
-        IsErrOf result BadParameter × (D.life disk.new ≡ D.life disk.old) }
-    ensures faults { (D.life disk.old).faults ≤ (D.life disk.new).faults }
+    ensures refused { IfErr result (λ refusal.
+        (refusal ≡ DeviceFault) × HasFailed (D.life disk.old) (D.life disk.new)) }
+    ensures goes_on { DiskGoesOn (D.life disk.old) (D.life disk.new) }
 {
-    if history_limit == 0 || history_limit > MAX_HISTORY {
-        return Err(Refusal::BadParameter);
-    }
-    let files = disk.list()?;
-    if !files.is_empty() {
-        return Err(Refusal::BadParameter);
-    }
     catalogue_log::create(alloc, disk, history_limit)
 }
 
-/// Syncs each segment file that is there: a disk over a folder may read what is not yet durable. `DeviceFault`;
-/// `NoMemory` for the listing. docs/STORAGE.md, "Opening". Costs a call of the disk for each of them.
-pub(crate) fn sync_segments<D: Disk>(disk: &mut D) -> Result<(), Refusal>
+/// Syncs each segment file of these files of a disk, which may read what is not yet durable. `DeviceFault`.
+/// docs/STORAGE.md, "Opening". Costs a call of the disk for each of them.
+pub(crate) fn sync_segments<D: Disk>(disk: &mut D, files: &[FileId]) -> Result<(), Refusal>
+    requires { IsTrue (D.life disk.old).obeys →
+        AreFilesWith (λ file. IsSome (reads (D.life disk.old).now file)) files.now }
     ensures synced { OnOk result (IsTrue (D.life disk.new).obeys → (recording base : ℤ) →
         IsSome (reads (D.life disk.old).now (Segment recording base)) →
         (D.life disk.new).now (Segment recording base)
         ≡ durable (reads (D.life disk.old).now (Segment recording base))) }
     ensures only { SyncsOnly (D.life disk.old) (D.life disk.new) }
-    ensures refused { IfErr result (λ refusal. (refusal ≡ DeviceFault) ⊎ (refusal ≡ NoMemory)) }
+    ensures refused { IfErr result (λ refusal. refusal ≡ DeviceFault) }
     ensures cause { IsErrOf result DeviceFault → HasFailed (D.life disk.old) (D.life disk.new) }
 {
-    let files = disk.list()?;
-    for file in &files {
+    for file in files {
         sync_listed(disk, *file)?;
     }
     Ok(())

@@ -62,10 +62,9 @@ impl<D: Disk> Engine<D> {
         requires found { IsFoundSession session.now self.old.desk.state.callers.sessions found.now }
         requires decided { settle_decision self.old.desk.state session.now
             ≡ Ok (Blocks recording.now written.now) }
-        ensures settled { CommitsEntry (seen D.life self.old) (seen D.life self.new)
+        ensures { CommitsEntry (seen D.life self.old) (seen D.life self.new)
             (λ a. settle_decision a.desk session.now ≡ Ok (Blocks recording.now written.now))
             (replies.Settled written.now.last) (λ a. settled_archive a session.now recording.now) result }
-        ensures restarted { self.new.restarted ≡ self.old.restarted }
     {
         let position = written.last;
         let entry = Entry::Settle {

@@ -1,27 +1,81 @@
-//! The recordings of an archive that is opened stop. docs/STORAGE.md, "Opening".
+//! An archive is made on a disk without files, or opened, and then its recordings stop. docs/STORAGE.md, "Opening".
 
-ghost use Rattle.std.specs.Prelude.{◌≡◌, Err, IsFalse, MatchResult, Ok};
+ghost use Rattle.std.specs.Prelude.{◌≡◌, ◌≤◌, Err, IfErr, IfOk, IsFalse, IsSome, IsTrue, MatchResult, None, Ok, Some};
+ghost use Rattle.frame_core.specs.declared.refusal.Refusal.TheVariants.{DeviceFault};
+ghost use Rattle.disk_core.specs.DiskImage.{reads};
+ghost use Rattle.disk_core.specs.FileNames.{AreFilesWith};
+ghost use Rattle.disk_core.specs.Life.{HasFailed};
+ghost use Rattle.engine_core.specs.Consistent.{KeepsArchive};
+ghost use Rattle.engine_core.specs.Engine.{DiskGoesOn, new_archive};
 ghost use Rattle.engine_core.specs.Making.{HasNotStarted, Restarts};
+ghost use Rattle.engine_core.specs.Opened.{HasNotOpened, HasOpened};
 ghost use Rattle.engine_core.specs.Seen.{seen};
 
-use crate::{Engine, OpenRefusal};
-use disk_core::Disk;
+use crate::{Engine, OpenRefusal, Storage, opening};
+use control_core::Desk;
+use disk_core::{Disk, FileId};
 use std::alloc::Global;
 
-/// The engine of an archive whose files were read, once each active recording has stopped; else why it did not, and the
-/// disk. `NoMemory`; `DeviceFault` where a write fails.
-pub(crate) fn start<D: Disk>(alloc: Global, engine: Engine<D>) -> Result<Engine<D>, OpenRefusal<D>>
+/// A new archive on a disk without files; else the disk, by `DeviceFault`. By six calls of the disk.
+pub(crate) fn make<D: Disk>(
+    alloc: Global,
+    disk: D,
+    history_limit: u32,
+) -> Result<Engine<D>, OpenRefusal<D>>
+    requires some { 1 ≤ history_limit }
+    requires most { history_limit ≤ 16777216 }
+    ensures keeps { IfOk result (λ engine. KeepsArchive (seen D.life engine)
+        (new_archive history_limit)) }
+    ensures goes_on { MatchResult result
+        (λ engine. DiskGoesOn (D.life disk) (D.life engine.storage.disk))
+        (λ refused. DiskGoesOn (D.life disk) (D.life refused.disk)) }
+    ensures refused { IfErr result (λ refused. (refused.refusal ≡ DeviceFault)
+        × HasFailed (D.life disk) (D.life refused.disk)) }
+{
+    let mut disk = disk;
+    match opening::create(alloc, &mut disk, history_limit) {
+        Ok(log) => Ok(Engine {
+            storage: Storage { disk, log },
+            desk: Desk::new(alloc, history_limit),
+        }),
+        Err(refusal) => Err(OpenRefusal { refusal, disk }),
+    }
+}
+
+/// The archive of these files of a disk, and how many recordings its opening stopped: all of `Engine::open` behind the
+/// listing.
+pub(crate) fn open_listed<D: Disk>(
+    alloc: Global,
+    disk: D,
+    files: &[FileId],
+) -> Result<(Engine<D>, i64), OpenRefusal<D>>
+    requires { IsTrue (D.life disk).obeys →
+        AreFilesWith (λ file. IsSome (reads (D.life disk).now file)) files.now }
+    ensures { MatchResult result
+        (λ opened. HasOpened (D.life disk) (seen D.life opened.0) opened.1)
+        (λ refused. HasNotOpened (D.life disk) (D.life refused.disk) refused.refusal) }
+{
+    let mut disk = disk;
+    match opening::read_desk(alloc, &mut disk, files) {
+        Ok((log, desk)) => {
+            let storage = Storage { disk, log };
+            start(alloc, Engine { storage, desk })
+        }
+        Err(refusal) => Err(OpenRefusal { refusal, disk }),
+    }
+}
+
+/// The engine of an archive whose files were read, once each active recording has stopped, and how many there were; else
+/// why it did not, and the disk. `NoMemory`; `DeviceFault` where a write fails.
+fn start<D: Disk>(alloc: Global, engine: Engine<D>) -> Result<(Engine<D>, i64), OpenRefusal<D>>
     requires { IsFalse engine.desk.state.is_broken }
     ensures { MatchResult result
-        (λ started. Restarts (seen D.life engine) (seen D.life started) (Ok started.restarted))
+        (λ started. Restarts (seen D.life engine) (seen D.life started.0) (Ok started.1))
         (λ refused. HasNotStarted (seen D.life engine) (D.life refused.disk) refused.refusal) }
 {
     let mut engine = engine;
     match engine.restart(alloc) {
-        Ok(restarted) => {
-            engine.restarted = restarted;
-            Ok(engine)
-        }
+        Ok(stopped) => Ok((engine, stopped)),
         Err(refusal) => Err(OpenRefusal {
             refusal,
             disk: engine.storage.disk,

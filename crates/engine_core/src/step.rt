@@ -49,7 +49,6 @@ impl<D: Disk> Engine<D> {
     ) -> Result<Vec<Result<Reply, Refusal>>, Refusal>
         ensures ran { IfOk result (λ outcomes.
             IsRun (seen D.life self.old) events.now outcomes.items (seen D.life self.new)) }
-        ensures restarted { self.new.restarted ≡ self.old.restarted }
         ensures refused { IfErr result (λ refusal. (refusal ≡ NoMemory) × (self.new ≡ self.old)) }
     {
         let mut outcomes = Vec::with_capacity(alloc, events.len())?;

@@ -257,7 +257,10 @@ pub fn made(alloc: Global, disk: MemoryDisk, limit: u32) -> Result<Engine<Memory
 
 /// The archive of a disk that a crash left.
 pub fn opened(alloc: Global, disk: MemoryDisk) -> Result<Engine<MemoryDisk>, Refusal> {
-    Engine::open(alloc, disk).map_err(|refused| refused.refusal)
+    match Engine::open(alloc, disk) {
+        Ok((engine, _)) => Ok(engine),
+        Err(refused) => Err(refused.refusal),
+    }
 }
 
 /// Makes the calls of a script, which have to be answered as it says.

@@ -185,10 +185,13 @@ fn a_limit_out_of_range_asks_no_disk(rt: HostRuntime) -> Result<(), Fail> {
 fn changes_of_opening(alloc: Global, script: &str) -> Result<(u64, i64), Refusal> {
     let disk = disk_behind(alloc, script, 100)?;
     let before = disk.changes();
-    let engine = opened(alloc, disk)?;
-    let restarted = engine.restarted();
-    let disk = engine.into_disk();
-    Ok((disk.changes().wrapping_sub(before), restarted))
+    match Engine::open(alloc, disk) {
+        Ok((engine, stopped)) => {
+            let changes = engine.into_disk().changes().wrapping_sub(before);
+            Ok((changes, stopped))
+        }
+        Err(refused) => Err(refused.refusal),
+    }
 }
 
 /// Two banks and a segment file are synced; a restart is committed only where a recording was active.
@@ -198,5 +201,28 @@ fn an_opening_restarts_active_recordings_alone(rt: HostRuntime) -> Result<(), Fa
     let active = changes_of_opening(rt.alloc(), "start 0\nwrite 0 0")?;
     assert!(rt; stopped == (3, 0));
     assert!(rt; active == (7, 1));
+    Ok(())
+}
+
+/// How many calls of the disk it takes to open the archive of a disk, or to make one where it may be made, and how many
+/// recordings the opening stopped.
+fn calls_to_begin(alloc: Global, disk: MemoryDisk) -> Result<(u64, Option<i64>), Refusal> {
+    let before = disk.calls();
+    match Engine::create_or_open(alloc, disk, 100) {
+        Ok((engine, stopped)) => {
+            let calls = engine.into_disk().calls().wrapping_sub(before);
+            Ok((calls, stopped))
+        }
+        Err(refused) => Err(refused.refusal),
+    }
+}
+
+/// The disk is listed once: seven calls make an archive, and one that is there is opened by no more than opening takes,
+/// which lists, syncs a segment file and two banks, reads the bank by one call and commits a restart by four.
+#[test]
+fn a_disk_is_listed_once(rt: HostRuntime) -> Result<(), Fail> {
+    let there = disk_behind(rt.alloc(), "start 0\nwrite 0 0", 100)?;
+    assert!(rt; calls_to_begin(rt.alloc(), MemoryDisk::new(rt.alloc()))? == (7, None));
+    assert!(rt; calls_to_begin(rt.alloc(), there)? == (9, Some(1)));
     Ok(())
 }

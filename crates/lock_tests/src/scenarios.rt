@@ -68,13 +68,14 @@ fn opened<D: Disk + Drop + Send, R: Threads + Wait + Abort + Sync>(
     let Ok(opened) = Opened::new(alloc, keeps) else {
         return Err(Fail::from("opened"));
     };
-    shared::<D, Brand, R>(rt, alloc, opened, engine, scenario)
+    shared::<D, Brand, R>(rt, alloc, opened, keeps, engine, scenario)
 }
 
 fn shared<D: Disk + Drop + Send, A: Naming + Send + Sync, R: Threads + Wait + Abort + Sync>(
     rt: &R,
     alloc: Global,
     opened: Opened<Made>,
+    keeps: bool,
     engine: Engine<D>,
     scenario: Scenario,
 ) -> Result<(), Fail>
@@ -88,28 +89,28 @@ fn shared<D: Disk + Drop + Send, A: Naming + Send + Sync, R: Threads + Wait + Ab
     let second = Seat::new(passes.pop().ok_or("two passes")?);
     let first = Seat::new(passes.pop().ok_or("two passes")?);
     match scenario {
-        Scenario::MissingPass => missing_pass(rt, alloc, archive, first, second),
-        Scenario::BoundedPart => bounded_part(rt, alloc, archive, first, second),
-        Scenario::Break => breaks(rt, alloc, archive, first, second),
+        Scenario::MissingPass => missing_pass(rt, alloc, archive, first, second, keeps),
+        Scenario::BoundedPart => bounded_part(rt, alloc, archive, first, second, keeps),
+        Scenario::Break => breaks(rt, alloc, archive, first, second, keeps),
     }
 }
 
-/// How many calls were stored.
-fn stored(history: &Stored<Call>) -> u64 {
+/// How many calls were stored, and whether their records were kept.
+fn stored(history: &Stored<Call>) -> (u64, bool) {
     match history {
-        Stored::Kept(records) => records.len() as u64,
-        Stored::Counted(number) => *number,
+        Stored::Kept(records) => (records.len() as u64, true),
+        Stored::Counted(number) => (*number, false),
     }
 }
 
-/// The archive closes with both seats, behind so many calls.
+/// The archive closes with both seats, behind so many calls, whose records were kept or not.
 fn closes<D: Disk + Drop, A: Naming, R: Abort>(
     rt: &R,
     alloc: Global,
     archive: SharedArchive<D, A>,
     first: Seat<A>,
     second: Seat<A>,
-    calls: u64,
+    calls: (u64, bool),
 ) -> Result<(), Fail> {
     let mut given = Vec::new(alloc);
     given.push(first.into_pass())?;
@@ -133,6 +134,7 @@ fn missing_pass<D: Disk + Drop + Send, A: Naming + Send + Sync, R: Threads + Wai
     archive: SharedArchive<D, A>,
     first: Seat<A>,
     second: Seat<A>,
+    keeps: bool,
 ) -> Result<(), Fail> {
     let shared = &archive;
     let (first, second) = join(
@@ -155,7 +157,7 @@ fn missing_pass<D: Disk + Drop + Send, A: Naming + Send + Sync, R: Threads + Wai
     let Ok(closed) = archive.close(given) else {
         return Err(Fail::from("all passes are given"));
     };
-    assert!(rt; stored(&closed.history) == 3);
+    assert!(rt; stored(&closed.history) == (3, keeps));
     Ok(())
 }
 
@@ -198,9 +200,10 @@ fn bounded_part<D: Disk + Drop, A: Naming, R: Wait + Abort>(
     archive: SharedArchive<D, A>,
     mut first: Seat<A>,
     second: Seat<A>,
+    keeps: bool,
 ) -> Result<(), Fail> {
     first.plays(rt, alloc, &archive, BOUNDED_PART)?;
-    closes(rt, alloc, archive, first, second, 9)
+    closes(rt, alloc, archive, first, second, (9, keeps))
 }
 
 const BREAK: &str = "\
@@ -234,10 +237,11 @@ fn breaks<D: Disk + Drop, A: Naming, R: Wait + Abort>(
     archive: SharedArchive<D, A>,
     mut first: Seat<A>,
     mut second: Seat<A>,
+    keeps: bool,
 ) -> Result<(), Fail> {
     first.plays(rt, alloc, &archive, BREAK)?;
     second.plays(rt, alloc, &archive, BROKEN)?;
     first.plays(rt, alloc, &archive, BROKEN)?;
     second.plays(rt, alloc, &archive, BROKEN_REPLAY)?;
-    closes(rt, alloc, archive, first, second, 22)
+    closes(rt, alloc, archive, first, second, (22, keeps))
 }

@@ -45,7 +45,10 @@ pub(crate) fn recorded<R: Threads + Wait + Print + Sync>(
 /// The archive of a folder.
 fn engine_of(host: HostRuntime, folder: &str) -> Result<Engine<HostDisk>, Refusal> {
     let disk = disk_of(host, folder)?;
-    Engine::open(host.alloc(), disk).map_err(|refused| refused.refusal)
+    match Engine::open(host.alloc(), disk) {
+        Ok((engine, _)) => Ok(engine),
+        Err(refused) => Err(refused.refusal),
+    }
 }
 
 /// A folder as a disk.

@@ -1,19 +1,19 @@
 -- The first opening of a script's disk.
-use Rattle.std.proofs.Common.{◌≡◌, ◌≢◌, ◌⊎◌, ◌∙◌, ap, refl, inl, inr, sym, subst, ℕ, List, IsTrue, arith}
-use Rattle.std.specs.Prelude.{Option, Some, None, IfErr, IfOk, IsSome, Result, Ok, Err}
+use Rattle.std.proofs.Common.{◌≡◌, ◌≢◌, ◌⊎◌, ◌∙◌, ap, refl, inl, inr, sym, subst, ℕ, ℤ, List, IsTrue, arith}
+use Rattle.std.specs.Prelude.{Option, Some, None, IfErr, IfOk, IsSome, Result}
 use Rattle.frame_core.specs.declared.refusal.Refusal.{Refusal}
 use Rattle.frame_core.specs.declared.refusal.Refusal.TheVariants.{BadParameter, DeviceFault, NoMemory}
 use Rattle.disk_core.specs.declared.file_id.FileId.{FileId}
 use Rattle.disk_core.specs.declared.file_id.FileId.TheVariants.{BankA}
 use Rattle.disk_core.specs.DiskImage.{DiskImage, Files, MayLeave, bytes_of, reads}
 use Rattle.disk_core.specs.Life.{HasFailed, IsQuiet, LeavesOnly, Life}
-use Rattle.disk_core.proofs.CallerLemmas.{goes_on_part, goes_quiet, started}
+use Rattle.disk_core.proofs.CallerLemmas.{goes_quiet, started}
 use Rattle.archive_model.specs.State.{State}
 use Rattle.catalogue_log.specs.declared.bank.BankHeader.{BankHeader}
 use Rattle.catalogue_log.specs.declared.entry.Entry.{Entry}
 use Rattle.catalogue_log.specs.Bank.{IsBank}
 use Rattle.engine_core.specs.declared.engine.Engine.{Engine}
-use Rattle.engine_core.specs.Opened.{IsNear, LeavesEither}
+use Rattle.engine_core.specs.Opened.{HasNotOpened, HasOpened, IsNear, LeavesEither, MadeOrOpened, NeitherMadeNorOpened}
 use Rattle.engine_core.specs.Opening.{ReadsAsBefore, RefusesNew}
 use Rattle.engine_core.specs.Recovery.{IsEither, RecoversTo}
 use Rattle.engine_core.specs.Seen.{seen}
@@ -21,11 +21,11 @@ use Rattle.tool_core.specs.declared.archive.ScriptArchive.{ScriptArchive}
 use Rattle.tool_core.specs.declared.archive.ScriptArchive.TheVariants.{Open, Closed}
 use Rattle.tool_core.specs.declared.observer.Beginning.{Beginning}
 use Rattle.tool_core.specs.declared.observer.Beginning.TheVariants as beginnings
-use Rattle.tool_core.specs.Archives.{BeginsAs, BeginsByOpening, HasMade, HasOpened, HasRefused, OpensAs, closed_by, life_of}
-use Rattle.tool_core.specs.Script.{Begins, HasNotBegun, IsBlank, IsRefused, IsRefusedBy, OpensStanding}
+use Rattle.tool_core.specs.Archives.{BeginsAs, closed_by, life_of}
+use Rattle.tool_core.specs.Script.{Begins, HasNotBegun, IsRefused, IsRefusedBy, OpensStanding}
 use Rattle.tool_core.specs.ScriptLines.{Standing, closed, doubtful, opened, refused, unknown}
 use Rattle.tool_core.proofs.StandingLemmas.{IsStanding, recovers_as}
-use Rattle.tool_core.proofs.OpeningLemmas.{begun, fault_leaves, quiet_restarts}
+use Rattle.tool_core.proofs.OpeningLemmas.{OneState, begun, fault_leaves, quiet_restarts}
 use Rattle.tool_core.proofs.RefusedLemmas.{no_catalogue, refused_once, refused_still}
 
 -- ---- no file
@@ -61,15 +61,6 @@ quiet_leaves old new s u quiet leaves image may = leaves image (subst (λ (files
 quiet_moments : (old new : Life) (s u : State) → IsQuiet old new → LeavesEither old s u → LeavesOnly old new (RecoversTo (IsNear s u))
 quiet_moments old new s u quiet leaves = goes_quiet old old new (RecoversTo (IsNear s u)) (started old (RecoversTo (IsNear s u)) (λ image may. recovers_as (IsEither s u) (IsNear s u) image (λ x either. inl either) (leaves image may))) quiet
 
-moments_behind : (old mid new : Life) (s u : State) → IsQuiet old mid → LeavesEither old s u → LeavesOnly mid new (RecoversTo (IsNear s u)) → LeavesOnly old new (RecoversTo (IsNear s u))
-moments_behind old mid new s u quiet leaves later = goes_on_part old mid new (RecoversTo (IsNear s u)) (RecoversTo (IsNear s u)) (quiet_moments old mid s u quiet leaves) later (λ image near. near)
-
--- where files are there no archive is made
-no_new : (old new : Life) → RefusesNew old new 1048576 BadParameter → IsTrue new.obeys → IsBlank old → ⊥
-no_new old new (quiet, inl few) obeys blank = omega (arith, few)
-no_new old new (quiet, inr (inl many)) obeys blank = omega (arith, many)
-no_new old new (quiet, inr (inr there)) obeys blank = some_file (blank (there obeys).0) (there obeys).1
-
 -- ---- what it begins with
 
 module _ {D : Type 0} (life : D → Life) where
@@ -80,14 +71,14 @@ module _ {D : Type 0} (life : D → Life) where
     pub is : (begun ≡ first) ⊎ (HasFailed old (life_of life archive) × HasNotBegun old first begun)
     pub any_moment : (s u : State) → LeavesEither old s u → LeavesOnly old (life_of life archive) (RecoversTo (IsNear s u))
 
-  made : (old : Life) (engine : Engine D) (first : Standing) → MayLeave old.now (reads old.now) → HasMade life old engine → IsTrue (life engine.storage.disk).obeys → Begins old first → Starts old (Open engine) first
+  made : (old : Life) (engine : Engine D) (first : Standing) → MayLeave old.now (reads old.now) → MadeOrOpened 1048576 old (seen life engine) None → IsTrue (life engine.storage.disk).obeys → Begins old first → Starts old (Open engine) first
   made old engine first may is obeys (inl blank) = record {
     begun = first;
-    stands = subst (λ (s : Standing). IsStanding life (Open engine) s) (sym blank.1) is.keeps;
+    stands = subst (λ (s : Standing). IsStanding life (Open engine) s) (sym blank.1) is.1;
     is = inl refl;
     any_moment = λ s u leaves. absurd (nothing_left old s u may blank.0 leaves);
   }
-  made old engine first may is obeys (inr files) = let made = is.made in absurd (some_file (made.empty obeys files.0.0) files.0.1)
+  made old engine first may is obeys (inr files) = let made = is.0 in absurd (some_file (made.empty obeys files.0.0) files.0.1)
 
   -- a call failed while it was made
   unmade : (old : Life) (disk : D) (first : Standing) → MayLeave old.now (reads old.now) → RefusesNew old (life disk) 1048576 DeviceFault → IsTrue (life disk).obeys → Begins old first → Starts old (Closed disk) first
@@ -122,101 +113,91 @@ module _ {D : Type 0} (life : D → Life) where
 
   -- ---- files that were there
 
-  opened_files : (old mid : Life) (engine : Engine D) (first : Standing) → IsQuiet old mid → HasOpened life mid engine → IsTrue (life engine.storage.disk).obeys → OpensStanding old first → Starts old (Open engine) first
-  opened_files old mid engine first quiet answer obeys opens = by first (quiet_opens old mid first quiet opens)
+  opened_files : OneState → (old : Life) (engine : Engine D) (stopped : ℤ) (first : Standing) → HasOpened old (seen life engine) stopped → IsTrue (life engine.storage.disk).obeys → OpensStanding old first → Starts old (Open engine) first
+  opened_files one_state old engine stopped first answer obeys opens = by first opens
     where
       any : (s u : State) → LeavesEither old s u → LeavesOnly old (life engine.storage.disk) (RecoversTo (IsNear s u))
-      any s u leaves = let o = answer.opened_as s u (quiet_leaves old mid s u quiet leaves) obeys in moments_behind old mid (life engine.storage.disk) s u quiet leaves o.any_moment
+      any s u leaves = let o = answer.opened s u leaves obeys in o.any_moment
 
-      by : (first : Standing) → OpensStanding mid first → Starts old (Open engine) first
+      by : (first : Standing) → OpensStanding old first → Starts old (Open engine) first
       by (opened a) restarts =
-          let at = begun mid (seen life engine) engine.restarted a restarts (answer.opened_as restarts.state restarts.other restarts.leaves obeys) in
+          let at = begun one_state old (seen life engine) stopped a restarts (answer.opened restarts.state restarts.other restarts.leaves obeys) in
           record { begun = opened a; stands = record { desk = at.desk; consistent = at.consistent }; is = inl refl; any_moment = any }
       by (closed a) opens = absurd opens
       by (doubtful s u) opens = absurd opens
-      by (refused image why) opens = let desk = answer.desk obeys in absurd (no_catalogue mid why desk.header desk.entries opens.0 desk.catalogue)
+      by (refused image why) opens = let desk = answer.desk obeys in absurd (no_catalogue old why desk.header desk.entries opens.0 desk.catalogue)
       by unknown opens = absurd opens
 
-  refused_files : (old mid : Life) (disk : D) (refusal : Refusal) (first : Standing) → IsQuiet old mid → refusal ≢ NoMemory → HasRefused life mid refusal disk → IsTrue (life disk).obeys → OpensStanding old first → Starts old (Closed disk) first
-  refused_files old mid disk refusal first quiet other answer obeys opens = by first opens (quiet_opens old mid first quiet opens)
+  refused_files : (old : Life) (disk : D) (refusal : Refusal) (first : Standing) → refusal ≢ NoMemory → HasNotOpened old (life disk) refusal → IsTrue (life disk).obeys → OpensStanding old first → Starts old (Closed disk) first
+  refused_files old disk refusal first other answer obeys opens = by first opens
     where
       any : (s u : State) → LeavesEither old s u → LeavesOnly old (life disk) (RecoversTo (IsNear s u))
-      any s u leaves = let whole = answer.whole s u (quiet_leaves old mid s u quiet leaves) obeys in moments_behind old mid (life disk) s u quiet leaves whole.0.any_moment
+      any s u leaves = let whole = answer.whole s u leaves obeys in whole.0.any_moment
 
       failed : refusal ≡ DeviceFault → HasFailed old (life disk)
-      failed fault = let up = quiet.faults in let more = answer.refuses.cause fault in omega (arith, up, more)
+      failed fault = answer.refuses.cause fault
 
-      still_refused : (image : DiskImage) (why : Refusal) → IsRefused mid image why → (refusal ≡ DeviceFault → ⊥) → Starts old (Closed disk) (refused image why)
+      still_refused : (image : DiskImage) (why : Refusal) → IsRefused old image why → (refusal ≡ DeviceFault → ⊥) → Starts old (Closed disk) (refused image why)
       still_refused image why is no_fault =
-          let before : ReadsAsBefore mid (life disk) = elim answer.refuses.kept [ inl fault ↦ absurd (no_fault fault) | inr before ↦ before ] in
-          record { begun = refused image why; stands = refused_still mid (life disk) image why before.same is; is = inl refl; any_moment = any }
+          let before : ReadsAsBefore old (life disk) = elim answer.refuses.kept [ inl fault ↦ absurd (no_fault fault) | inr before ↦ before ] in
+          record { begun = refused image why; stands = refused_still old (life disk) image why before.same is; is = inl refl; any_moment = any }
 
-      by : (first : Standing) → OpensStanding old first → OpensStanding mid first → Starts old (Closed disk) first
-      by (opened a) was restarts =
+      by : (first : Standing) → OpensStanding old first → Starts old (Closed disk) first
+      by (opened a) restarts =
           let whole = answer.whole restarts.state restarts.other restarts.leaves obeys in
           elim whole.1 [
-            | inl fault ↦ (let left = fault_leaves mid (life disk) restarts.state restarts.other whole.0 in record {
+            | inl fault ↦ (let left = fault_leaves old (life disk) restarts.state restarts.other whole.0 in record {
               begun = doubtful left.0 left.1;
               stands = left.2;
-              is = inr (failed fault, (restarts.state, restarts.other, (λ image may. restarts.leaves image (subst (λ (files : Files). MayLeave files image) (sym quiet.now) may)), left.3));
+              is = inr (failed fault, (restarts.state, restarts.other, restarts.leaves, left.3));
               any_moment = any;
             })
             | inr memory ↦ absurd (other memory)
           ]
-      by (closed a) was opens = absurd opens
-      by (doubtful s u) was opens = absurd opens
-      by (refused image why) was is =
-          elim (refused_once mid why refusal is.0 (answer.refuses.catalogue obeys)) [
+      by (closed a) opens = absurd opens
+      by (doubtful s u) opens = absurd opens
+      by (refused image why) is =
+          elim (refused_once old why refusal is.0 (answer.refuses.catalogue obeys)) [
             | inl same ↦ still_refused image why is (λ fault. not_fault why is.0 (sym same ∙ fault))
             | inr (inl memory) ↦ absurd (other memory)
             | inr (inr fault) ↦ record { begun = unknown; stands = tt; is = inr (failed fault, tt); any_moment = any }
           ]
         where
-          not_fault : (why : Refusal) → IsRefusedBy mid why → why ≡ DeviceFault → ⊥
-          not_fault why is same = subst (IsRefusedBy mid) same is
-      by unknown was opens = absurd opens
+          not_fault : (why : Refusal) → IsRefusedBy old why → why ≡ DeviceFault → ⊥
+          not_fault why is same = subst (IsRefusedBy old) same is
+      by unknown opens = absurd opens
 
-  by_opening : (old : Life) (beginning : Beginning) (archive : ScriptArchive D) (first : Standing) → BeginsByOpening life old beginning archive → IsTrue (life_of life archive).obeys → Begins old first → Starts old archive first
-  by_opening old beginnings.Made (Open engine) first b obeys begins = absurd b.opens
-  by_opening old beginnings.Made (Closed disk) first b obeys begins = absurd b.opens
-  by_opening old beginnings.Opened (Closed disk) first b obeys begins = absurd b.opens
-  by_opening old (beginnings.Refused refusal) (Open engine) first b obeys begins = absurd b.opens
-  by_opening old beginnings.Opened (Open engine) first b obeys begins = by b.opens begins
-    where
-      by : HasOpened life b.mid engine → Begins old first → Starts old (Open engine) first
-      by answer (inl blank) = absurd (no_new old b.mid b.files (answer.goes_on.obeyed obeys) blank.0)
-      by answer (inr files) = opened_files old b.mid engine first b.files.0 answer obeys files.1
-  by_opening old (beginnings.Refused refusal) (Closed disk) first b obeys begins = by b.opens begins
-    where
-      by : (refusal ≢ NoMemory) × HasRefused life b.mid refusal disk → Begins old first → Starts old (Closed disk) first
-      by (other, answer) (inl blank) = absurd (no_new old b.mid b.files (answer.goes_on.obeyed obeys) blank.0)
-      by (other, answer) (inr files) = refused_files old b.mid disk refusal first b.files.0 other answer obeys files.1
+  opened_there : OneState → (old : Life) (engine : Engine D) (stopped : ℤ) (first : Standing) → MadeOrOpened 1048576 old (seen life engine) (Some stopped) → IsTrue (life engine.storage.disk).obeys → Begins old first → Starts old (Open engine) first
+  opened_there one_state old engine stopped first is obeys (inl blank) = let there = is.0 obeys in absurd (some_file (blank.0 there.0) there.1)
+  opened_there one_state old engine stopped first is obeys (inr files) = opened_files one_state old engine stopped first is.1 obeys files.1
 
-  pub starts : (old : Life) (beginning : Beginning) (archive : ScriptArchive D) (first : Standing) → MayLeave old.now (reads old.now) → BeginsAs life old beginning archive → IsTrue (life_of life archive).obeys → Begins old first → Starts old archive first
-  starts old beginnings.Made (Open engine) first may is obeys begins = made old engine first may is obeys begins
-  starts old beginnings.Made (Closed disk) first may is obeys begins = absurd is
-  starts old beginnings.Opened archive first may opening obeys begins = by_opening old beginnings.Opened archive first opening obeys begins
-  starts old (beginnings.Refused refusal) (Open engine) first may is obeys begins = absurd is
-  starts old (beginnings.Refused refusal) (Closed disk) first may (inl no_archive) obeys begins = unmade old disk first may no_archive.1 obeys begins
-  starts old (beginnings.Refused refusal) (Closed disk) first may (inr opening) obeys begins = by_opening old (beginnings.Refused refusal) (Closed disk) first opening obeys begins
+  none_open : (old : Life) (disk : D) (refusal : Refusal) (first : Standing) → MayLeave old.now (reads old.now) → refusal ≢ NoMemory → NeitherMadeNorOpened 1048576 old (life disk) refusal → IsTrue (life disk).obeys → Begins old first → Starts old (Closed disk) first
+  none_open old disk refusal first may other (inl out) obeys begins = absurd (elim out.1 [ inl few ↦ omega (arith, few) | inr many ↦ omega (arith, many) ])
+  none_open old disk refusal first may other (inr (inl refuses)) obeys begins = by refusal other refuses
+    where
+      by : (r : Refusal) → r ≢ NoMemory → (r ≢ BadParameter) × RefusesNew old (life disk) 1048576 r → Starts old (Closed disk) first
+      by DeviceFault other refuses = unmade old disk first may refuses.1 obeys begins
+      by NoMemory other refuses = absurd (other refl)
+      by BadParameter other refuses = absurd (refuses.0 refl)
+      by r other refuses = absurd refuses.1
+  none_open old disk refusal first may other (inr (inr is)) obeys (inl blank) = let there = is.0 obeys in absurd (some_file (blank.0 there.0) there.1)
+  none_open old disk refusal first may other (inr (inr is)) obeys (inr files) = refused_files old disk refusal first other is.1 obeys files.1
+
+  pub starts : OneState → (old : Life) (beginning : Beginning) (archive : ScriptArchive D) (first : Standing) → MayLeave old.now (reads old.now) → BeginsAs life old beginning archive → IsTrue (life_of life archive).obeys → Begins old first → Starts old archive first
+  starts one_state old beginnings.Made (Open engine) first may is obeys begins = made old engine first may is obeys begins
+  starts one_state old beginnings.Made (Closed disk) first may is obeys begins = absurd is
+  starts one_state old beginnings.Opened (Open engine) first may is obeys begins = opened_there one_state old engine is.0 first is.1 obeys begins
+  starts one_state old beginnings.Opened (Closed disk) first may is obeys begins = absurd is
+  starts one_state old (beginnings.Refused refusal) (Open engine) first may is obeys begins = absurd is
+  starts one_state old (beginnings.Refused refusal) (Closed disk) first may is obeys begins = none_open old disk refusal first may is.0 is.1 obeys begins
 
 -- where it is refused by anything but want of memory none is open
-pub closed_then : {D : Type 0} (life : D → Life) (old : Life) (refusal : Refusal) (disk : D) (result : Result (ScriptArchive D × Beginning) D) → result ≡ closed_by refusal disk → HasRefused life old refusal disk → IfOk result (λ found. OpensAs life old found.1 found.0)
-closed_then life old refusal disk result is answer = subst (λ (r : Result (ScriptArchive _ × Beginning) _). IfOk r (λ found. OpensAs life old found.1 found.0)) (sym is) (by refusal answer)
+pub closed_then : {D : Type 0} (life : D → Life) (old : Life) (refusal : Refusal) (disk : D) (result : Result (ScriptArchive D × Beginning) D) → result ≡ closed_by refusal disk → NeitherMadeNorOpened 1048576 old (life disk) refusal → IfOk result (λ found. BeginsAs life old found.1 found.0)
+closed_then life old refusal disk result is answer = subst (λ (r : Result (ScriptArchive _ × Beginning) _). IfOk r (λ found. BeginsAs life old found.1 found.0)) (sym is) (by refusal answer)
   where
-    by : (r : Refusal) → HasRefused life old r disk → IfOk (closed_by r disk) (λ found. OpensAs life old found.1 found.0)
+    by : (r : Refusal) → NeitherMadeNorOpened 1048576 old (life disk) r → IfOk (closed_by r disk) (λ found. BeginsAs life old found.1 found.0)
     by NoMemory answer = tt
     by r answer = ((λ same. let wrong : r ≡ NoMemory = same in absurd cc), answer)
-
--- where a call failed while it was made none is open
-pub unmade_then : {D : Type 0} (life : D → Life) (old : Life) (refusal : Refusal) (disk : D) (result : Result (ScriptArchive D × Beginning) D) → result ≡ closed_by refusal disk → refusal ≢ BadParameter → RefusesNew old (life disk) 1048576 refusal → IfOk result (λ found. BeginsAs life old found.1 found.0)
-unmade_then life old refusal disk result is other refuses = subst (λ (r : Result (ScriptArchive _ × Beginning) _). IfOk r (λ found. BeginsAs life old found.1 found.0)) (sym is) (by refusal other refuses)
-  where
-    by : (r : Refusal) → r ≢ BadParameter → RefusesNew old (life disk) 1048576 r → IfOk (closed_by r disk) (λ found. BeginsAs life old found.1 found.0)
-    by NoMemory other refuses = tt
-    by DeviceFault other refuses = inl (refl, refuses)
-    by BadParameter other refuses = absurd (other refl)
-    by r other refuses = absurd refuses
 
 -- for want of memory the disk goes back as it was
 quiet_before : (old new : Life) → IsQuiet old new → ReadsAsBefore old new
@@ -227,14 +208,14 @@ quiet_before old new quiet = record {
   faults = quiet.faults;
 }
 
-before_then : (old mid new : Life) → IsQuiet old mid → ReadsAsBefore mid new → ReadsAsBefore old new
-before_then old mid new quiet before = record {
-  same = λ file. before.same file ∙ ap (λ (files : Files). reads files file) quiet.now;
-  any_moment = goes_on_part old mid new (MayLeave old.now) (MayLeave mid.now) (quiet_before old mid quiet).any_moment before.any_moment (λ image left. subst (λ (files : Files). MayLeave files image) quiet.now left);
-  obeyed = λ obeys. quiet.obeyed (before.obeyed obeys);
-  faults = let first = quiet.faults in let more = before.faults in omega (arith, first, more);
-}
+no_memory : (old new : Life) → NeitherMadeNorOpened 1048576 old new NoMemory → ReadsAsBefore old new
+no_memory old new (inl out) = let wrong : NoMemory ≡ BadParameter = out.0 in absurd cc
+no_memory old new (inr (inl refuses)) = quiet_before old new refuses.1
+no_memory old new (inr (inr is)) = elim is.1.refuses.kept [ inl fault ↦ (let wrong : NoMemory ≡ DeviceFault = fault in absurd cc) | inr before ↦ before ]
 
-pub before_with_files : {D X : Type 0} (life : D → Life) (old mid : Life) (result : Result X D) → RefusesNew old mid 1048576 BadParameter → IfErr result (λ back. ReadsAsBefore mid (life back)) → IfErr result (λ back. ReadsAsBefore old (life back))
-before_with_files life old mid (Ok found) no_archive before = tt
-before_with_files life old mid (Err back) no_archive before = before_then old mid (life back) no_archive.0 before
+pub back_then : {D : Type 0} (life : D → Life) (old : Life) (refusal : Refusal) (disk : D) (result : Result (ScriptArchive D × Beginning) D) → result ≡ closed_by refusal disk → NeitherMadeNorOpened 1048576 old (life disk) refusal → IfErr result (λ back. ReadsAsBefore old (life back))
+back_then life old refusal disk result is answer = subst (λ (r : Result (ScriptArchive _ × Beginning) _). IfErr r (λ back. ReadsAsBefore old (life back))) (sym is) (by refusal answer)
+  where
+    by : (r : Refusal) → NeitherMadeNorOpened 1048576 old (life disk) r → IfErr (closed_by r disk) (λ back. ReadsAsBefore old (life back))
+    by NoMemory answer = no_memory old (life disk) answer
+    by r answer = tt

@@ -4,7 +4,7 @@ use Rattle.std.specs.Prelude.{Result, Ok, Err}
 use Rattle.frame_core.specs.declared.block.Block.{Block}
 use Rattle.frame_core.specs.declared.geometry.Geometry.{Geometry}
 use Rattle.frame_core.specs.declared.refusal.Refusal.{Refusal}
-use Rattle.frame_core.specs.declared.refusal.Refusal.TheVariants.{Broken, NoMemory}
+use Rattle.frame_core.specs.declared.refusal.Refusal.TheVariants.{Broken, DeviceFault, NoMemory}
 use Rattle.disk_core.specs.Life.{HasFailed, Life}
 use Rattle.disk_core.proofs.CallerLemmas.{weaker}
 use Rattle.archive_model.specs.declared.reply.Reply.{Reply}
@@ -12,7 +12,7 @@ use Rattle.control_core.specs.declared.event.Event.{Event}
 use Rattle.control_core.specs.declared.event.Event.TheVariants as events
 use Rattle.control_core.specs.Bytes.{IsReadBy, terms_in}
 use Rattle.control_core.specs.Desk.{DeskState}
-use Rattle.control_core.specs.Exact.{Archive, with_desk}
+use Rattle.control_core.specs.Exact.{Archive, CallEnds, with_desk}
 use Rattle.control_lines.specs.declared.line.Line.{Line}
 use Rattle.engine_core.specs.Calls.{AnswersEvent, CallEnded, EndsAs, is_cut}
 use Rattle.engine_core.specs.Consistent.{IsCrashConsistent, MayStandIn}
@@ -24,11 +24,18 @@ use Rattle.tool_core.specs.declared.archive.ScriptArchive.{ScriptArchive}
 use Rattle.tool_core.specs.declared.archive.ScriptArchive.TheVariants.{Open, Closed}
 use Rattle.tool_core.specs.Answering.{BlockIsRead, WritesRead}
 use Rattle.tool_core.specs.Answering as answering
-use Rattle.tool_core.specs.Archives.{TermsAre, archive_ways, life_of}
+use Rattle.tool_core.specs.Archives.{archive_ways, life_of}
 use Rattle.tool_core.specs.Archives as archives
 use Rattle.tool_core.specs.Merging.{Ends}
 use Rattle.tool_core.specs.ScriptLines.{Calls, LeavesMeanwhile, OrWant, Standing, WhereOpen, WritesBytes, closed, doubtful, opened, refused, unknown}
 use Rattle.tool_core.proofs.StandingLemmas.{IsStanding, recovers_as, standing_left, still}
+
+-- a device fault may have a wider cause
+pub wider_cause : (a : Archive) (event : Event) (F G : Type 0) (o : Result Reply Refusal) (b : Archive) → (F → G) → CallEnds a event F o b → CallEnds a event G o b
+wider_cause a event F G (Ok reply) b cause ends = ends
+wider_cause a event F G (Err NoMemory) b cause ends = ends
+wider_cause a event F G (Err DeviceFault) b cause ends = elim ends [ inl exact ↦ inl exact | inr out ↦ inr (cause out.0, out.1) ]
+wider_cause a event F G (Err refusal) b cause ends = ends
 
 -- ---- an event of an engine
 
@@ -74,7 +81,7 @@ module _ {D : Type 0} (life : D → Life) where
   -- an event, whatever stands
   pub event_kept : (line : Line) (event : Event) (old new : ScriptArchive D) (s : Standing) (outcome : Result Reply Refusal) → IsStanding life old s → IsTrue (life_of life new).obeys → archives.CallsEngine life event old outcome new
       → Kept line old new s (WhereOpen (Calls (HasFailed (life_of life old) (life_of life new)) event) s) outcome
-  event_kept line event (Open old) (Open new) (opened a) outcome stands obeys answered = open_event line event old new a outcome stands obeys answered.answers
+  event_kept line event (Open old) (Open new) (opened a) outcome stands obeys answered = open_event line event old new a outcome stands obeys answered
   event_kept line event (Open old) (Open new) unknown outcome stands obeys answered = record { after = unknown; stands = tt; ends = refl; meanwhile = tt }
   event_kept line event (Open old) (Open new) (closed a) outcome stands obeys answered = absurd stands
   event_kept line event (Open old) (Open new) (doubtful s u) outcome stands obeys answered = absurd stands

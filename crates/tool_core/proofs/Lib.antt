@@ -10,6 +10,7 @@ mod RecordLemmas
 mod RefusedLemmas
 mod OpeningLemmas
 mod BeginLemmas
+mod CommandLemmas
 mod LineLemmas
 mod ScriptLemmas
 mod WholeLemmas

@@ -21,14 +21,13 @@ use Rattle.control_lines.specs.declared.line.Line.TheVariants as lines
 use Rattle.engine_core.specs.declared.engine.Engine.{Engine}
 use Rattle.engine_core.specs.Consistent.{IsCrashConsistent}
 use Rattle.engine_core.specs.Engine.{EngineState}
-use Rattle.engine_core.specs.Opened.{IsFresh, IsNear, IsNotOpened, IsOpened, LeavesEither}
+use Rattle.engine_core.specs.Opened.{HasNotOpened, HasOpened, IsFresh, IsNear, IsNotOpened, IsOpened, LeavesEither}
 use Rattle.engine_core.specs.Opening.{ReadsAsBefore}
 use Rattle.engine_core.specs.Recovery.{IsEither, Recovers, RecoversTo}
 use Rattle.engine_core.specs.Seen.{seen}
-use Rattle.engine_core.proofs.RecoveryLemmas.{one_state}
 use Rattle.tool_core.specs.declared.archive.ScriptArchive.{ScriptArchive}
 use Rattle.tool_core.specs.declared.archive.ScriptArchive.TheVariants.{Open, Closed}
-use Rattle.tool_core.specs.Archives.{HasOpened, HasRefused, OpensDisk, life_of}
+use Rattle.tool_core.specs.Archives.{OpensDisk, life_of}
 use Rattle.tool_core.specs.Script.{IsRefused, IsRefusedBy, LeavesArchive, LeavesOpened, LeavesStanding, RestartsDisk}
 use Rattle.tool_core.specs.ScriptLines.{LeavesMeanwhile, MayStandAt, Reopens, ReopensAs, ReopensEither, ReopensOpened, Standing, StaysInDoubt, closed, doubtful, opened, refused, reopened, unknown}
 use Rattle.tool_core.proofs.RefusedLemmas.{no_catalogue, refused_once, refused_still}
@@ -64,9 +63,13 @@ at_fresh e image s a b desk consistent fresh same = record {
 
 -- ---- beginning
 
+-- an image recovers to one state at most
+abbrev pub OneState : Type 0
+OneState = (image : DiskImage) (s u : State) → Recovers image s → Recovers image u → s ≡ u
+
 -- the archive of a disk that recovers to a state is opened
-pub begun : (old : Life) (new : EngineState) (count : ℤ) (a : Archive) (restarts : RestartsDisk old a) → IsOpened old new count restarts.state restarts.other → IsAt new a
-begun old new count a restarts o =
+pub begun : OneState → (old : Life) (new : EngineState) (count : ℤ) (a : Archive) (restarts : RestartsDisk old a) → IsOpened old new count restarts.state restarts.other → IsAt new a
+begun one_state old new count a restarts o =
     let same : o.read ≡ restarts.state = one_state (reads old.now) o.read restarts.state o.recovers restarts.recovers in
     at_fresh new (reads old.now) (after o.read Restart) a o.archive o.desk o.consistent o.fresh
     (one_fresh (reads old.now) (after o.read Restart) (after restarts.state Restart) o.archive a o.fresh restarts.fresh (ap (λ (x : State). after x Restart) same))
@@ -163,19 +166,19 @@ module _ {D : Type 0} (life : D → Life) (stays : (disk : D) → MayLeave (life
   archive_stays (Closed disk) = stays disk
 
   -- refused by anything but a fault, it reads as before
-  before_of : (old : Life) (refusal : Refusal) (disk : D) → HasRefused life old refusal disk → refusal ≡ NoMemory → ReadsAsBefore old (life disk)
+  before_of : (old : Life) (refusal : Refusal) (disk : D) → HasNotOpened old (life disk) refusal → refusal ≡ NoMemory → ReadsAsBefore old (life disk)
   before_of old refusal disk answer memory = elim answer.refuses.kept [
     | inl fault ↦ (let wrong : NoMemory ≡ DeviceFault = sym memory ∙ fault in absurd cc)
     | inr before ↦ before
   ]
 
   -- of a state that is certain
-  certain_opened : (old : ScriptArchive D) (engine : Engine D) (a : Archive) (reply : Reply) → LeavesArchive (life_of life old) a → reply ≡ Reopened engine.restarted → HasOpened life (life_of life old) engine → IsTrue (life engine.storage.disk).obeys
+  certain_opened : (old : ScriptArchive D) (engine : Engine D) (stopped : ℤ) (a : Archive) (reply : Reply) → LeavesArchive (life_of life old) a → reply ≡ Reopened stopped → HasOpened (life_of life old) (seen life engine) stopped → IsTrue (life engine.storage.disk).obeys
       → IsStanding life (Open engine) (opened (reopened a)) × ReopensAs (HasFailed (life_of life old) (life engine.storage.disk)) a (Ok reply) (opened (reopened a))
       × LeavesOnly (life_of life old) (life engine.storage.disk) (RecoversTo (IsNear a.state a.state))
-  certain_opened old engine a reply leaves is answer obeys =
-      let o = answer.opened_as a.state a.state (leaves_one (life_of life old) a leaves) obeys in
-      let done = opened_again (life_of life old) (seen life engine) engine.restarted a leaves (archive_stays old) o in
+  certain_opened old engine stopped a reply leaves is answer obeys =
+      let o = answer.opened a.state a.state (leaves_one (life_of life old) a leaves) obeys in
+      let done = opened_again (life_of life old) (seen life engine) stopped a leaves (archive_stays old) o in
       (record { desk = done.0.desk; consistent = done.0.consistent }, (is ∙ ap (λ (n : ℤ). Reopened n) done.1, refl), o.any_moment)
 
   -- how it ends, where it is refused
@@ -185,7 +188,7 @@ module _ {D : Type 0} (life : D → Life) (stays : (disk : D) → MayLeave (life
     pub ends : ReopensAs (HasFailed old (life disk)) a (Err refusal) after
     pub any_moment : LeavesOnly old (life disk) (RecoversTo (IsNear a.state a.state))
 
-  certain_refused : (old : Life) (disk : D) (a : Archive) (refusal : Refusal) → LeavesArchive old a → HasRefused life old refusal disk → IsTrue (life disk).obeys → CertainRefused old disk a refusal
+  certain_refused : (old : Life) (disk : D) (a : Archive) (refusal : Refusal) → LeavesArchive old a → HasNotOpened old (life disk) refusal → IsTrue (life disk).obeys → CertainRefused old disk a refusal
   certain_refused old disk a refusal leaves answer obeys =
       let whole = answer.whole a.state a.state (leaves_one old a leaves) obeys in
       let not = whole.0 in
@@ -211,9 +214,9 @@ module _ {D : Type 0} (life : D → Life) (stays : (disk : D) → MayLeave (life
     pub ends : ReopensEither old (HasFailed old (life engine.storage.disk)) s u (Ok reply) (opened archive)
     pub any_moment : LeavesOnly old (life engine.storage.disk) (RecoversTo (IsNear s u))
 
-  either_opened : (old : Life) (engine : Engine D) (s u : State) (reply : Reply) → LeavesEither old s u → reply ≡ Reopened engine.restarted → HasOpened life old engine → IsTrue (life engine.storage.disk).obeys → EitherOpened old engine s u reply
-  either_opened old engine s u reply leaves is answer obeys =
-      let o = answer.opened_as s u leaves obeys in
+  either_opened : (old : Life) (engine : Engine D) (stopped : ℤ) (s u : State) (reply : Reply) → LeavesEither old s u → reply ≡ Reopened stopped → HasOpened old (seen life engine) stopped → IsTrue (life engine.storage.disk).obeys → EitherOpened old engine s u reply
+  either_opened old engine stopped s u reply leaves is answer obeys =
+      let o = answer.opened s u leaves obeys in
       record {
         archive = o.archive;
         stands = record { desk = o.desk; consistent = o.consistent };
@@ -228,7 +231,7 @@ module _ {D : Type 0} (life : D → Life) (stays : (disk : D) → MayLeave (life
     pub ends : ReopensEither old (HasFailed old (life disk)) s u (Err refusal) after
     pub any_moment : LeavesOnly old (life disk) (RecoversTo (IsNear s u))
 
-  either_refused : (old : Life) (disk : D) (s u : State) (refusal : Refusal) → LeavesEither old s u → HasRefused life old refusal disk → IsTrue (life disk).obeys → EitherRefused old disk s u refusal
+  either_refused : (old : Life) (disk : D) (s u : State) (refusal : Refusal) → LeavesEither old s u → HasNotOpened old (life disk) refusal → IsTrue (life disk).obeys → EitherRefused old disk s u refusal
   either_refused old disk s u refusal leaves answer obeys =
       let whole = answer.whole s u leaves obeys in
       let not = whole.0 in
@@ -258,7 +261,7 @@ module _ {D : Type 0} (life : D → Life) (stays : (disk : D) → MayLeave (life
       → ((t : Standing) → ReopensAs (HasFailed (life_of life old) (life_of life new)) a outcome t → Reopens (life_of life old) (HasFailed (life_of life old) (life_of life new)) s outcome t)
       → IsTrue (life_of life new).obeys → OpensDisk life (life_of life old) outcome new → Again old new s outcome
   certain_again old (Open engine) s a (Ok reply) leaves stood meanwhile so obeys opens =
-      let done = certain_opened old engine a reply leaves opens.0 opens.1 obeys in
+      let done = certain_opened old engine opens.0 a reply leaves opens.1 opens.2 obeys in
       record {
         after = opened (reopened a);
         stands = done.0;
@@ -282,7 +285,7 @@ module _ {D : Type 0} (life : D → Life) (stays : (disk : D) → MayLeave (life
       → ((t : Standing) → ReopensEither (life_of life old) (HasFailed (life_of life old) (life_of life new)) s u outcome t → Reopens (life_of life old) (HasFailed (life_of life old) (life_of life new)) before outcome t)
       → IsTrue (life_of life new).obeys → OpensDisk life (life_of life old) outcome new → Again old new before outcome
   either_again old (Open engine) before s u (Ok reply) leaves stood meanwhile so obeys opens =
-      let done = either_opened (life_of life old) engine s u reply leaves opens.0 opens.1 obeys in
+      let done = either_opened (life_of life old) engine opens.0 s u reply leaves opens.1 opens.2 obeys in
       record {
         after = opened done.archive;
         stands = done.stands;
@@ -303,7 +306,7 @@ module _ {D : Type 0} (life : D → Life) (stays : (disk : D) → MayLeave (life
   -- a refused catalogue
   refused_again : (old new : ScriptArchive D) (image : DiskImage) (why : Refusal) (outcome : Result Reply Refusal) → IsRefused (life_of life old) image why → IsTrue (life_of life new).obeys → OpensDisk life (life_of life old) outcome new
       → Again old new (refused image why) outcome
-  refused_again old (Open engine) image why (Ok reply) is obeys opens = let desk = opens.1.desk obeys in absurd (no_catalogue (life_of life old) why desk.header desk.entries is.0 desk.catalogue)
+  refused_again old (Open engine) image why (Ok reply) is obeys opens = let desk = opens.2.desk obeys in absurd (no_catalogue (life_of life old) why desk.header desk.entries is.0 desk.catalogue)
   refused_again old (Closed disk) image why (Ok reply) is obeys opens = absurd opens
   refused_again old (Open engine) image why (Err refusal) is obeys opens = absurd opens
   refused_again old (Closed disk) image why (Err refusal) is obeys opens =

@@ -12,7 +12,6 @@ use Rattle.control_core.specs.declared.event.Event.TheVariants as events
 use Rattle.control_core.specs.Bytes.{ReadEnd}
 use Rattle.control_core.specs.Exact.{Archive, Leaves, written}
 use Rattle.control_core.specs.Runs.{MayStand}
-use Rattle.control_core.proofs.FaultLemmas.{other_cause}
 use Rattle.control_lines.specs.declared.line.Line.{Line}
 use Rattle.control_lines.specs.declared.line.Line.TheVariants as lines
 use Rattle.engine_core.specs.Engine.{DiskGoesOn}
@@ -24,7 +23,7 @@ use Rattle.tool_core.specs.Archives.{archive_ways, life_of}
 use Rattle.tool_core.specs.ScriptLines.{Calls, LeavesMeanwhile, MayStandAt, OrWant, Records, Standing, ThenSettles, WhereOpen, WritesBytes, closed, doubtful, opened, refused, unknown}
 use Rattle.tool_core.proofs.GoesOnLemmas.{failed_first, failed_later, settles_go_on, writes_go_on}
 use Rattle.tool_core.proofs.StandingLemmas.{IsStanding, recovers_as}
-use Rattle.tool_core.proofs.CallLemmas.{Kept, bytes_kept, closed_bytes, event_kept, is_unknown, kept_same}
+use Rattle.tool_core.proofs.CallLemmas.{Kept, bytes_kept, closed_bytes, event_kept, is_unknown, kept_same, wider_cause}
 
 -- ---- a written block
 
@@ -50,11 +49,11 @@ read_cause : (F G : Type 0) (session : ℤ) (bytes : List ℕ) (a b : Archive) (
 read_cause F G session bytes a b outcome cause (read, is, ends) = (read, is, by read ends)
   where
     by : (read : Result Block Refusal) → ReadEnd a (λ block. Calls F (events.Write session block) a) read outcome b → ReadEnd a (λ block. Calls G (events.Write session block) a) read outcome b
-    by (Ok block) ends = other_cause a (events.Write session block) F G outcome b cause ends
+    by (Ok block) ends = wider_cause a (events.Write session block) F G outcome b cause ends
     by (Err refusal) ends = ends
 
 settle_cause : (F G : Type 0) (session : ℤ) (first : Result Reply Refusal) (a b : Archive) (outcome : Result Reply Refusal) → (F → G) → ThenSettles F session first a outcome b → ThenSettles G session first a outcome b
-settle_cause F G session (Ok reply) a b outcome cause ends = other_cause a (events.Settle session) F G outcome b cause ends
+settle_cause F G session (Ok reply) a b outcome cause ends = wider_cause a (events.Settle session) F G outcome b cause ends
 settle_cause F G session (Err refusal) a b outcome cause ends = ends
 
 -- ---- both calls
@@ -103,7 +102,7 @@ module _ {D : Type 0} (life : D → Life) (session : ℤ) (bytes : List ℕ) whe
           Ok reply,
           b,
           want_as F G session bytes a b (Ok reply) (failed_first (life_of life old) (life_of life mid) (life_of life new) more) wrote,
-          other_cause b (events.Settle session) H G outcome c (failed_later (life_of life old) (life_of life mid) (life_of life new) began) ends,
+          wider_cause b (events.Settle session) H G outcome c (failed_later (life_of life old) (life_of life mid) (life_of life new) began) ends,
         );
         meanwhile =
             goes_on_part (life_of life old) (life_of life mid) (life_of life new) (RecoversTo (Stood a (opened c))) (RecoversTo (Stood b (opened c)))

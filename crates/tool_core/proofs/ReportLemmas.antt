@@ -3,7 +3,7 @@ use Rattle.std.proofs.Common.{◌≡◌, ◌∙◌, ◌≤◌, ◌+◌, ◌<◌,
 use Rattle.std.proofs.lemmas.List.{append-nil, length-append, length-take-le, take_all, take_more}
 use Rattle.std.proofs.lemmas.List.Concat.{flat_map-append}
 use Rattle.std.proofs.lemmas.List.Folds.{list_all-append}
-use Rattle.std.proofs.lemmas.List.Sums.{sum_by-append}
+use Rattle.std.proofs.lemmas.List.Sums.{sum_by-append, sum_by-cons}
 use Rattle.std.proofs.KnownBytes.{Appends-nil, Appends-trans, Appends-kept}
 use Rattle.std.specs.Io.KnownBytes.{Appends}
 use Rattle.std.specs.List.{AllZip, list_all}
@@ -13,20 +13,19 @@ use Rattle.disk_core.specs.Life.{HasFailed, Life}
 use Rattle.archive_model.specs.declared.reply.Reply.{Reply}
 use Rattle.control_core.specs.declared.event.Event.TheVariants.{Verify}
 use Rattle.control_core.specs.Exact.{Archive, CallEnds}
-use Rattle.control_core.proofs.FaultLemmas.{other_cause}
 use Rattle.engine_core.specs.declared.engine.Engine.{Engine}
 use Rattle.engine_core.specs.Calls.{AnswersEvent, HasFailedOften, faults_in, is_fault}
 use Rattle.engine_core.specs.Consistent.{IsCrashConsistent}
 use Rattle.engine_core.specs.Engine.{DiskGoesOn, archive_of}
 use Rattle.engine_core.specs.Seen.{seen}
-use Rattle.engine_core.proofs.RunLemmas.{run_failed}
 use Rattle.tool_core.specs.declared.fault.EarlyEnd.{EarlyEnd}
 use Rattle.tool_core.specs.declared.fault.EarlyEnd.TheVariants as ends
 use Rattle.tool_core.specs.declared.reports.Verdict.{Verdict}
 use Rattle.tool_core.specs.declared.reports.Verdict.TheVariants.{Whole, Refused}
 use Rattle.tool_core.specs.Reports.{AnswersEach, HasReported, HasReportedFirst, HasReportedOne, IsWrittenBefore, ids_in, life_in, outcomes_text}
 use Rattle.tool_core.specs.Answering.{FailsToAnswer, outcome_text}
-use Rattle.tool_core.proofs.CallLemmas.{answered_at}
+use Rattle.tool_core.proofs.CallLemmas.{answered_at, wider_cause}
+use Rattle.frame_core.specs.declared.refusal.Refusal.TheVariants.{DeviceFault}
 
 and-true : (b : Bool) → (b && true) ≡ b
 and-true true = refl
@@ -51,6 +50,14 @@ each_more R (i ∷ ids) (p ∷ os) id o all one = (all.0, each_more R ids os id 
 
 -- ---- answers
 
+-- a device fault is answered where a call of the disk has failed
+one_failed : (old new : Life) (outcome : Result Reply Refusal) → DiskGoesOn old new → (outcome ≡ Err DeviceFault → HasFailed old new) → HasFailedOften (faults_in (outcome ∷ [])) old new
+one_failed old new outcome goes cause = subst (λ (n : ℕ). HasFailedOften n old new) (sym (sum_by-cons (λ o. cond (is_fault o) 1 0) outcome [])) (by outcome cause)
+  where
+    by : (o : Result Reply Refusal) → (o ≡ Err DeviceFault → HasFailed old new) → HasFailedOften (cond (is_fault o) 1 0 + faults_in []) old new
+    by (Err DeviceFault) cause = let failed = cause refl in omega (arith, failed)
+    by o cause = omega (arith, goes.faults)
+
 module _ {D : Type 0} (life : D → Life) where
   pub none_yet : (engine : Engine D) → AnswersEach life engine engine [] []
   none_yet engine = record { goes_on = record { obeyed = λ obeys. obeys; faults = omega arith }; each = refl; cause = omega arith; stays = λ a is. is; exact = λ a is obeys. tt }
@@ -60,14 +67,14 @@ module _ {D : Type 0} (life : D → Life) where
   one old new id outcome answers = record {
     goes_on = answers.goes_on;
     each = refl;
-    cause = run_failed (seen life old) (seen life new) (Verify id ∷ []) (outcome ∷ []) (seen life new, answers, refl);
+    cause = one_failed (life_in life old) (life_in life new) outcome answers.goes_on answers.cause;
     stays = λ a was.
         let ended = answered_at (seen life old) (seen life new) a (Verify id) outcome was.desk was.consistent answers (λ cut. absurd (true≢false (sym cut))) in
         record { desk = ap (λ (b : Archive). b.desk) ended.ends.1; consistent = subst (λ (b : Archive). IsCrashConsistent (life_in life new) new.storage.log b) ended.ends.1 ended.consistent };
     exact = λ a was obeys.
         let ended = answered_at (seen life old) (seen life new) a (Verify id) outcome was.desk was.consistent answers (λ cut. obeys) in
         let b : Archive = archive_of (seen life new) ended.after in
-        let ends = other_cause a (Verify id) (HasFailed (life_in life old) (life_in life new)) (Unit {0}) outcome b (λ failed. tt) (ended.ends.0 (λ reads. obeys)) in
+        let ends = wider_cause a (Verify id) (HasFailed (life_in life old) (life_in life new)) (Unit {0}) outcome b (λ failed. tt) (ended.ends.0 (λ reads. obeys)) in
         (subst (λ (x : Archive). CallEnds a (Verify id) (Unit {0}) outcome x) ended.ends.1 ends, tt);
   }
 

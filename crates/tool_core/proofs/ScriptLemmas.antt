@@ -15,6 +15,7 @@ use Rattle.tool_core.proofs.GoesOnLemmas.{answer_goes_on}
 use Rattle.tool_core.proofs.LineLemmas.{IsScene, answered, at_scene, scene_at}
 use Rattle.tool_core.proofs.SimulationLemmas.{all_as, all_good, some_as, some_good}
 use Rattle.tool_core.proofs.StandingLemmas.{standing_left}
+use Rattle.tool_core.proofs.OpeningLemmas.{OneState}
 
 module _ {D : Type 0} (life : D → Life) (stays : (disk : D) → MayLeave (life disk).now (reads (life disk).now)) where
   back : (s : ScriptState (ScriptArchive D)) (line : Option (List ℕ)) (reply : List ℕ) (t : ScriptState (ScriptArchive D)) → Replies (archive_ways life) s line reply t → IsTrue (life_of life t.archive).obeys → IsTrue (life_of life s.archive).obeys
@@ -42,24 +43,24 @@ module _ {D : Type 0} (life : D → Life) (stays : (disk : D) → MayLeave (life
   begins_at old archive first at = record { no_merge = refl; archive = at.is; any_moment = at.any_moment }
 
   -- what lines are answered from what was opened on, told by scenes
-  by_scenes : (Answer : ScriptArchive D → ScriptArchive D → List (List ℕ) → List ℕ → Type 0) (Scenes : Scene → List (List ℕ) → List ℕ → Type 0) (old new : Life) (first : Standing) → MayLeave old.now (reads old.now) → Begins old first
+  by_scenes : OneState → (Answer : ScriptArchive D → ScriptArchive D → List (List ℕ) → List ℕ → Type 0) (Scenes : Scene → List (List ℕ) → List ℕ → Type 0) (old new : Life) (first : Standing) → MayLeave old.now (reads old.now) → Begins old first
       → (lines : List (List ℕ)) (text : List ℕ) (script : IsScriptBy life Answer old new lines text) → Good (begun_with script.first) → ((x : Scene) → IsScene life (begun_with script.first) x → Scenes x lines text) → IsTranscriptBy Scenes first old lines text
-  by_scenes Answer Scenes old new first may begins lines text script good told =
-      let at = starts life old script.beginning script.first first may script.begins good begins in
+  by_scenes one_state Answer Scenes old new first may begins lines text script good told =
+      let at = starts life one_state old script.beginning script.first first may script.begins good begins in
       let begun = scene_at life (begun_with script.first) at.begun in
       record { begun = begun; begins = begins_at old script.first first at; answers = told begun (at_scene life (begun_with script.first) at.begun at.stands) }
 
-  module _ (old new : Life) (first : Standing) (may : MayLeave old.now (reads old.now)) (begins : Begins old first) (obeys : IsTrue new.obeys) (lines : List (List ℕ)) (text : List ℕ) where
+  module _ (one_state : OneState) (old new : Life) (first : Standing) (may : MayLeave old.now (reads old.now)) (begins : Begins old first) (obeys : IsTrue new.obeys) (lines : List (List ℕ)) (text : List ℕ) where
     pub transcript : IsScript life old new lines text → IsTranscript first old new lines text
     transcript script =
         let ends : (s : ScriptState (ScriptArchive D)) → s.archive ≡ script.last → Good s = λ s same. good new script.last s script.left obeys same in
-        by_scenes (AnswersLines (archive_ways life)) (λ begun. AnswersAll begun (LeavesScene new) quits AnswersLine) old new first may begins lines text script
+        by_scenes one_state (AnswersLines (archive_ways life)) (λ begun. AnswersAll begun (LeavesScene new) quits AnswersLine) old new first may begins lines text script
         (all_good (Replies (archive_ways life)) AnswersLine Good (IsScene life) back step (begun_with script.first) quits (λ s. s.archive ≡ script.last) ends lines text script.answers)
         (λ x is. all_as (Replies (archive_ways life)) AnswersLine Good (IsScene life) back step (begun_with script.first) x quits (λ s. s.archive ≡ script.last) (LeavesScene new) ends (λ s x same is. scene_left new script.last s x script.left same is) is lines text script.answers)
 
     pub transcript_of_first : IsScriptOfFirst life old new lines text → IsTranscriptOfFirst first old new lines text
     transcript_of_first script =
         let ends : (s : ScriptState (ScriptArchive D)) → s.archive ≡ script.last → Good s = λ s same. good new script.last s script.left obeys same in
-        by_scenes (AnswersFirstLines (archive_ways life)) (λ begun. AnswersSome begun (LeavesScene new) quits AnswersLine) old new first may begins lines text script
+        by_scenes one_state (AnswersFirstLines (archive_ways life)) (λ begun. AnswersSome begun (LeavesScene new) quits AnswersLine) old new first may begins lines text script
         (some_good (Replies (archive_ways life)) AnswersLine Good (IsScene life) back step (begun_with script.first) quits (λ s. s.archive ≡ script.last) ends lines text script.answers)
         (λ x is. some_as (Replies (archive_ways life)) AnswersLine Good (IsScene life) back step (begun_with script.first) x quits (λ s. s.archive ≡ script.last) (LeavesScene new) ends (λ s x same is. scene_left new script.last s x script.left same is) is lines text script.answers)

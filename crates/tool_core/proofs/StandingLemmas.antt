@@ -1,5 +1,5 @@
 -- How a script's archive stands, and what its disk leaves of it.
-use Rattle.std.proofs.Common.{◌≡◌, ◌∙◌, false, ap, refl, inl, inr, sym}
+use Rattle.std.proofs.Common.{◌≡◌, ◌∙◌, false, ap, refl, inl, inr, subst, sym}
 use Rattle.std.specs.Prelude.{Option, Some, None, is_some, count_by}
 use Rattle.disk_core.specs.DiskImage.{DiskImage, MayLeave}
 use Rattle.disk_core.specs.Life.{Life}
@@ -11,11 +11,10 @@ use Rattle.control_core.specs.Desk.{DeskState}
 use Rattle.control_core.specs.Exact.{Archive}
 use Rattle.control_core.specs.Runs.{MayStand}
 use Rattle.control_lines.specs.declared.line.Line.{Line}
-use Rattle.engine_core.specs.Consistent.{IsCrashConsistent}
+use Rattle.engine_core.specs.Consistent.{IsCrashConsistent, KeepsArchive}
 use Rattle.engine_core.specs.Engine.{EngineState, IsTied}
-use Rattle.engine_core.specs.Recovery.{IsEither, RecoversTo}
-use Rattle.engine_core.specs.Seen.{KeepsArchive, seen}
-use Rattle.engine_core.proofs.RecoveryLemmas.{sound_recovers}
+use Rattle.engine_core.specs.Recovery.{IsEither, Recovers, RecoversTo}
+use Rattle.engine_core.specs.Seen.{seen}
 use Rattle.tool_core.specs.declared.archive.ScriptArchive.{ScriptArchive}
 use Rattle.tool_core.specs.declared.archive.ScriptArchive.TheVariants.{Open, Closed}
 use Rattle.tool_core.specs.Archives.{life_of}
@@ -35,7 +34,7 @@ kept e a tied desk was certain =
     let counted : a.desk.counted ≡ count_by counts sound.entries = ap (λ (d : DeskState). d.counted) (sym desk) ∙ sym (tied.counted works) ∙ sound.rests.is_log.counted in
     let limit : a.desk.limit ≡ e.log.header.history_limit = ap (λ (d : DeskState). d.limit) (sym desk) ∙ sym (tied.limit works) in
     record {
-      recovers = λ image left. sound_recovers e.life.now e.log a.state image sound left;
+      recovers = λ image left. (let to = was.images image left in subst (Recovers image) (elim to.is [ inl same ↦ same | inr doubt ↦ (let none : None ≡ Some to.state = sym certain ∙ doubt in absurd cc) ]) to.recovers);
       header = e.log.header;
       entries = sound.entries;
       catalogue = λ image left. rest_left e.life.now e.log sound.entries image sound.rests left;
@@ -61,7 +60,7 @@ module _ {D : Type 0} (life : D → Life) where
   -- catalogue is refused.
   abbrev pub IsStanding : ScriptArchive D → Standing → Type 0
   IsStanding archive unknown = Unit {0}
-  IsStanding (Open engine) (opened a) = KeepsArchive life engine a
+  IsStanding (Open engine) (opened a) = KeepsArchive (seen life engine) a
   IsStanding (Open engine) standing = ⊥
   IsStanding (Closed disk) (opened a) = ⊥
   IsStanding (Closed disk) standing = LeavesStanding (life disk) standing

@@ -15,6 +15,7 @@ use Rattle.tool_core.specs.ScriptLines.{Standing}
 use Rattle.tool_core.specs.Transcript.{WritesText}
 use Rattle.tool_core.proofs.EndLemmas.{early_as, writes_as}
 use Rattle.tool_core.proofs.ScriptLemmas.{transcript, transcript_of_first}
+use Rattle.tool_core.proofs.OpeningLemmas.{OneState}
 
 module _ {D : Type 0} (life : D → Life) (old : Life) (input contents written : Option (List ℕ)) (first last : ScriptArchive D) (beginning : Beginning) (begins : BeginsAs life old beginning first) where
   -- what was answered, over the archive of the disk
@@ -39,13 +40,13 @@ module _ {D : Type 0} (life : D → Life) (old : Life) (input contents written :
       early_at (life (disk_of fault)) (early_end_of fault) (ap life two ∙ left) (subst (λ (e : EarlyEnd). EndsEarly e (AnswersFirstLines (archive_ways life) first last) input contents written) (sym one) ends)
 
 -- exactly, where the disk obeys
-module _ {D : Type 0} (life : D → Life) (stays : (disk : D) → MayLeave (life disk).now (reads (life disk).now)) (old : D) (new : Life) (input contents written : Option (List ℕ)) where
+module _ {D : Type 0} (life : D → Life) (one_state : OneState) (stays : (disk : D) → MayLeave (life disk).now (reads (life disk).now)) (old : D) (new : Life) (input contents written : Option (List ℕ)) where
   pub kept : WritesText input contents written (IsScript life (life old) new) → (first : Standing) → Begins (life old) first → IsTrue new.obeys → WritesText input contents written (IsTranscript first (life old) new)
   kept writes first begins obeys =
       writes_as input contents written written (IsScript life (life old) new) (IsTranscript first (life old) new)
-      (λ lines text script. transcript life stays (life old) new first (stays old) begins obeys lines text script) (Keeps-refl written) writes
+      (λ lines text script. transcript life stays one_state (life old) new first (stays old) begins obeys lines text script) (Keeps-refl written) writes
 
   pub kept_early : (end : EarlyEnd) → EndsEarly end (IsScriptOfFirst life (life old) new) input contents written → (first : Standing) → Begins (life old) first → IsTrue new.obeys → EndsEarly end (IsTranscriptOfFirst first (life old) new) input contents written
   kept_early end ends first begins obeys =
       early_as end input contents written written (IsScriptOfFirst life (life old) new) (IsTranscriptOfFirst first (life old) new)
-      (λ lines text script. transcript_of_first life stays (life old) new first (stays old) begins obeys lines text script) (Keeps-refl written) ends
+      (λ lines text script. transcript_of_first life stays one_state (life old) new first (stays old) begins obeys lines text script) (Keeps-refl written) ends

@@ -1,21 +1,17 @@
 -- How a script's archive answers, whatever its disk holds and does: each call as `Engine::step` says, each opening as `Engine::open`
 -- says, and what a script does from its opening to its last line. docs/CONTROL.md, "Scripts".
-use Rattle.std.specs.Prelude.{◌≡◌, ◌≢◌, ◌⊎◌, ◌≤◌, ℕ, ℤ, IsTrue, List, Option, Result, Ok, Err}
+use Rattle.std.specs.Prelude.{◌≡◌, ◌≢◌, ℕ, ℤ, List, Option, None, Some, Result, Ok, Err}
 use Rattle.std.specs.Io.KnownBytes.{Keeps}
 use Rattle.frame_core.specs.declared.geometry.Geometry.{Geometry}
 use Rattle.frame_core.specs.declared.refusal.Refusal.{Refusal}
-use Rattle.frame_core.specs.declared.refusal.Refusal.TheVariants.{BadLine, BadParameter, Broken, DeviceFault, NoMemory}
-use Rattle.disk_core.specs.DiskImage.{reads}
+use Rattle.frame_core.specs.declared.refusal.Refusal.TheVariants.{BadLine, Broken, NoMemory}
 use Rattle.disk_core.specs.Life.{Life}
 use Rattle.archive_model.specs.declared.reply.Reply.TheVariants.{Reopened}
-use Rattle.archive_model.specs.State.{State}
 use Rattle.control_core.specs.declared.event.Event.{Event}
 use Rattle.control_core.specs.Bytes.{terms_in}
-use Rattle.engine_core.specs.declared.engine.Engine.{Engine}
-use Rattle.engine_core.specs.Engine.{DiskGoesOn, new_archive}
-use Rattle.engine_core.specs.Opened.{IsDeskOf, IsNotOpened, IsOpened, LeavesEither}
-use Rattle.engine_core.specs.Opening.{IsMadeIn, ReadsAsBefore, RefusesNew, RefusesOpening}
-use Rattle.engine_core.specs.Seen.{HasAnswered, KeepsArchive, seen}
+use Rattle.engine_core.specs.Opened.{HasNotOpened, HasOpened, MadeOrOpened, NeitherMadeNorOpened}
+use Rattle.engine_core.specs.Opening.{ReadsAsBefore}
+use Rattle.engine_core.specs.Seen.{HasAnswered, seen}
 use Rattle.tool_core.specs.declared.archive.ScriptArchive.{ScriptArchive}
 use Rattle.tool_core.specs.declared.archive.ScriptArchive.TheVariants.{Open, Closed}
 use Rattle.tool_core.specs.declared.fault.EarlyEnd.{EarlyEnd}
@@ -35,22 +31,10 @@ module _ {D : Type 0} (life : D → Life) where
 
   -- ---- openings
 
-  -- what `Engine::open` says of a disk that it opens
-  pub record HasOpened (old : Life) (engine : Engine D) : Type 0 where
-    pub opened_as : (s u : State) → LeavesEither old s u → IsTrue (life engine.storage.disk).obeys → IsOpened old (seen life engine) engine.restarted s u
-    pub desk : IsTrue (life engine.storage.disk).obeys → IsDeskOf (reads old.now) engine.desk.state engine.restarted
-    pub goes_on : DiskGoesOn old (life engine.storage.disk)
-
-  -- what it says of one that it refuses
-  pub record HasRefused (old : Life) (refusal : Refusal) (disk : D) : Type 0 where
-    pub whole : (s u : State) → LeavesEither old s u → IsTrue (life disk).obeys → IsNotOpened old (life disk) s u × ((refusal ≡ DeviceFault) ⊎ (refusal ≡ NoMemory))
-    pub refuses : RefusesOpening old (life disk) refusal
-    pub goes_on : DiskGoesOn old (life disk)
-
   -- the disk with this life is opened, or refused, and then none is open
   abbrev pub OpensDisk : Life → Ends (ScriptArchive D)
-  OpensDisk old (Ok reply) (Open engine) = (reply ≡ Reopened engine.restarted) × HasOpened old engine
-  OpensDisk old (Err refusal) (Closed disk) = HasRefused old refusal disk
+  OpensDisk old (Ok reply) (Open engine) = (stopped : ℤ) × (reply ≡ Reopened stopped) × HasOpened old (seen life engine) stopped
+  OpensDisk old (Err refusal) (Closed disk) = HasNotOpened old (life disk) refusal
   OpensDisk old (Ok reply) (Closed disk) = ⊥
   OpensDisk old (Err refusal) (Open engine) = ⊥
 
@@ -81,32 +65,13 @@ module _ {D : Type 0} (life : D → Life) where
 
   -- ---- scripts
 
-  -- an archive was made where no file was
-  pub record HasMade (old : Life) (engine : Engine D) : Type 0 where
-    pub made : IsMadeIn old (life engine.storage.disk) 1048576
-    pub keeps : KeepsArchive life engine (new_archive 1048576)
-    pub faults : old.faults ≤ (life engine.storage.disk).faults
-
-  -- a disk is opened, or refused by anything but want of memory
-  abbrev pub OpensAs : Life → Beginning → ScriptArchive D → Type 0
-  OpensAs old beginnings.Opened (Open engine) = HasOpened old engine
-  OpensAs old (beginnings.Refused refusal) (Closed disk) = (refusal ≢ NoMemory) × HasRefused old refusal disk
-  OpensAs old beginning archive = ⊥
-
-  -- so a disk with files begins, as the refused making of an archive left it
-  pub record BeginsByOpening (old : Life) (beginning : Beginning) (archive : ScriptArchive D) : Type 0 where
-    pub mid : Life
-    pub files : RefusesNew old mid 1048576 BadParameter
-    pub opens : OpensAs mid beginning archive
-
-  -- What a script begins with: an archive that was made, none because a call failed while it was made, or what is opened.
+  -- What a script begins with: an archive that was made or opened, as `Engine::create_or_open` says; or none, by a refusal
+  -- but want of memory.
   abbrev pub BeginsAs : Life → Beginning → ScriptArchive D → Type 0
-  BeginsAs old beginnings.Made (Open engine) = HasMade old engine
-  BeginsAs old beginnings.Made (Closed disk) = ⊥
-  BeginsAs old beginnings.Opened archive = BeginsByOpening old beginnings.Opened archive
-  BeginsAs old (beginnings.Refused refusal) (Open engine) = ⊥
-  BeginsAs old (beginnings.Refused refusal) (Closed disk) =
-      ((refusal ≡ DeviceFault) × RefusesNew old (life disk) 1048576 DeviceFault) ⊎ BeginsByOpening old (beginnings.Refused refusal) (Closed disk)
+  BeginsAs old beginnings.Made (Open engine) = MadeOrOpened 1048576 old (seen life engine) None
+  BeginsAs old beginnings.Opened (Open engine) = (stopped : ℤ) × MadeOrOpened 1048576 old (seen life engine) (Some stopped)
+  BeginsAs old (beginnings.Refused refusal) (Closed disk) = (refusal ≢ NoMemory) × NeitherMadeNorOpened 1048576 old (life disk) refusal
+  BeginsAs old beginning archive = ⊥
 
   -- From what was opened of the disk on, the text answers lines so, and that is what the disk came to.
   pub record IsScriptBy (Answer : ScriptArchive D → ScriptArchive D → List (List ℕ) → List ℕ → Type 0) (old new : Life) (lines : List (List ℕ)) (text : List ℕ) : Type 0 where

@@ -1,10 +1,22 @@
 -- What of a disk's segment files lies before an offset in one of them, of which a terminal shows the hundredths. docs/CONTROL.md,
 -- "Standard error".
-use Rattle.std.specs.Prelude.{◌+◌, ◌*◌, ◌/◌, ◌-◌, ◌^◌, ℕ, min, max, List, [], ◌∷◌, if◌then◌else◌}
+use Rattle.std.specs.Prelude.{◌≡◌, ◌+◌, ◌*◌, ◌/◌, ◌-◌, ◌^◌, ℕ, min, max, All, IsSome, List, [], ◌∷◌, length, map, if◌then◌else◌}
 use Rattle.std.specs.Ordering.{is_eq}
 use Rattle.disk_core.specs.declared.file_id.FileId.{FileId}
-use Rattle.disk_core.specs.FileNames.{file_cmp}
+use Rattle.disk_core.specs.declared.file_id.FileId.TheVariants.{Segment}
+use Rattle.disk_core.specs.DiskImage.{DiskImage, bytes_of}
+use Rattle.disk_core.specs.FileNames.{AreFilesWith, file_cmp}
 use Rattle.tool_core.specs.declared.progress.ListedFile.{ListedFile}
+
+-- the bytes of an image's segment file; a bank counts none
+abbrev pub segment_bytes : DiskImage → FileId → ℕ
+segment_bytes image (Segment recording base) = length (bytes_of (image (Segment recording base)))
+segment_bytes image file = 0
+
+-- these are the files of an image, in their order, with their bytes
+pub record AreListed (image : DiskImage) (listed : List ListedFile) : Type 0 where
+  pub files : AreFilesWith (λ file. IsSome (image file)) (map (λ (l : ListedFile). l.file) listed)
+  pub lengths : All (λ (l : ListedFile). l.length ≡ segment_bytes image l.file) listed
 
 -- the bytes of these files together
 abbrev pub bytes_in : List ListedFile → ℕ

@@ -11,7 +11,8 @@ use Rattle.control_core.specs.Exact.{Archive, CallEnds}
 use Rattle.engine_core.specs.declared.engine.Engine.{Engine}
 use Rattle.engine_core.specs.Calls.{HasFailedOften, faults_in}
 use Rattle.engine_core.specs.Engine.{DiskGoesOn}
-use Rattle.engine_core.specs.Seen.{KeepsArchive}
+use Rattle.engine_core.specs.Consistent.{KeepsArchive}
+use Rattle.engine_core.specs.Seen.{seen}
 use Rattle.tool_core.specs.declared.fault.EarlyEnd.{EarlyEnd}
 use Rattle.tool_core.specs.declared.fault.EarlyEnd.TheVariants as ends
 use Rattle.tool_core.specs.declared.reports.Verdict.{Verdict}
@@ -43,7 +44,7 @@ module _ {D : Type 0} (life : D → Life) where
 
   -- the engine is a crash-consistent archive's
   abbrev pub IsEngineOf : Archive → Engine D → Type 0
-  IsEngineOf a engine = KeepsArchive life engine a
+  IsEngineOf a engine = KeepsArchive (seen life engine) a
 
   -- An answer to the verifying of each of these recordings, so many of them device faults at most as calls of the disk have
   -- failed; where the disk obeys the crash model each is one that the call may have over the archive. The archive stays,

@@ -1,9 +1,8 @@
 //! The archive that a script works on. docs/CONTROL.md, "Lines".
 
 ghost use Rattle.std.specs.Prelude.{◌≡◌, IfErr, IfOk};
-ghost use Rattle.archive_model.specs.declared.reply.Reply.TheVariants.{Reopened};
 ghost use Rattle.engine_core.specs.Opening.{ReadsAsBefore};
-ghost use Rattle.tool_core.specs.Archives.{BeginsAs, OpensAs, archive_ways, closed_by, life_of};
+ghost use Rattle.tool_core.specs.Archives.{BeginsAs, archive_ways, closed_by, life_of};
 
 use crate::answerer::Answerer;
 use crate::observer::Beginning;
@@ -29,20 +28,15 @@ pub enum ScriptArchive<D> {
 impl<D: Disk> ScriptArchive<D> {
     /// The archive of a disk: a new one where no file is there, whose history may have 1,048,576 entries; else the one that
     /// is opened. Where it is refused none is open. Which of these it was stands beside it. Want of memory hands the disk
-    /// back, and has changed nothing that is read. Costs what `Engine::create` or `Engine::open` costs.
+    /// back, and has changed nothing that is read. Costs what `Engine::create_or_open` costs.
     pub fn of_disk(alloc: Global, disk: D) -> Result<(ScriptArchive<D>, Beginning), D>
         ensures begun { IfOk result (λ found. BeginsAs D.life (D.life disk) found.1 found.0) }
         ensures unopened { IfErr result (λ back. ReadsAsBefore (D.life disk) (D.life back)) }
     {
-        match Engine::create(alloc, disk, HISTORY) {
-            Ok(engine) => Ok((ScriptArchive::Open(engine), Beginning::Made)),
-            Err(OpenRefusal { refusal, disk }) => {
-                if refusal == Refusal::BadParameter {
-                    opened(alloc, disk)
-                } else {
-                    unless_memory(refusal, disk)
-                }
-            }
+        match Engine::create_or_open(alloc, disk, HISTORY) {
+            Ok((engine, None)) => Ok((ScriptArchive::Open(engine), Beginning::Made)),
+            Ok((engine, Some(_))) => Ok((ScriptArchive::Open(engine), Beginning::Opened)),
+            Err(OpenRefusal { refusal, disk }) => unless_memory(refusal, disk),
         }
     }
 
@@ -79,8 +73,8 @@ impl<D: Disk> Answerer for ScriptArchive<D> {
     /// Closes the archive and opens it again: how many recordings that stopped. Where it is refused none is open.
     fn reopen(self, alloc: Global) -> (ScriptArchive<D>, Result<Reply, Refusal>) {
         match Engine::open(alloc, self.into_disk()) {
-            Ok(engine) => {
-                let reply = reply_of(&engine);
+            Ok((engine, recordings)) => {
+                let reply = Reply::Reopened { recordings };
                 (ScriptArchive::Open(engine), Ok(reply))
             }
             Err(OpenRefusal { refusal, disk }) => (ScriptArchive::Closed(disk), Err(refusal)),
@@ -92,17 +86,6 @@ impl<D: Disk> Answerer for ScriptArchive<D> {
     }
 }
 
-/// The archive of a disk with files, opened; none where that is refused. The disk again for want of memory.
-fn opened<D: Disk>(alloc: Global, disk: D) -> Result<(ScriptArchive<D>, Beginning), D>
-    ensures begun { IfOk result (λ found. OpensAs D.life (D.life disk) found.1 found.0) }
-    ensures unopened { IfErr result (λ back. ReadsAsBefore (D.life disk) (D.life back)) }
-{
-    match Engine::open(alloc, disk) {
-        Ok(engine) => Ok((ScriptArchive::Open(engine), Beginning::Opened)),
-        Err(OpenRefusal { refusal, disk }) => unless_memory(refusal, disk),
-    }
-}
-
 /// None is open, by this refusal; the disk again for want of memory.
 fn unless_memory<D: Disk>(refusal: Refusal, disk: D) -> Result<(ScriptArchive<D>, Beginning), D>
     ensures { result ≡ closed_by refusal disk }
@@ -110,14 +93,5 @@ fn unless_memory<D: Disk>(refusal: Refusal, disk: D) -> Result<(ScriptArchive<D>
     match refusal {
         Refusal::NoMemory => Err(disk),
         _ => Ok((ScriptArchive::Closed(disk), Beginning::Refused(refusal))),
-    }
-}
-
-/// How many recordings the opening stopped.
-fn reply_of<D: Disk>(engine: &Engine<D>) -> Reply
-    ensures { result ≡ Reopened engine.now.restarted }
-{
-    Reply::Reopened {
-        recordings: engine.restarted(),
     }
 }

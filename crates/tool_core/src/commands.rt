@@ -2,7 +2,7 @@
 
 ghost use Rattle.std.specs.Prelude.{IfErr, IfOk, codes};
 ghost use Rattle.std.specs.Io.KnownBytes.{Appends};
-ghost use Rattle.tool_core.specs.Commands.{FailsToCreate, FailsToList, FailsToVerify, HasListed, HasVerified, IsCreated};
+ghost use Rattle.tool_core.specs.Commands.{FailsToCreate, FailsToList, FailsToVerify, HasListed, HasVerified, IsCreated, IsOpenedBy, IsUnopenedBy};
 
 use crate::fault::EarlyEnd;
 use crate::observer::{Beginning, Observer};
@@ -77,17 +77,7 @@ pub fn list_archive<W: Write, D: Disk, O: Observer>(
     ensures fault { IfErr result (λ fault. FailsToList D.life (D.life disk) fault.disk fault.why
         (W.contents writer.old) (W.contents writer.new)) }
 {
-    let engine = match Engine::open(alloc, disk) {
-        Ok(engine) => engine,
-        Err(OpenRefusal { refusal, disk }) => {
-            observer.began(&Beginning::Refused(refusal));
-            return Err(CommandFault {
-                why: Stopped::Refused(refusal),
-                disk,
-            });
-        }
-    };
-    observer.began(&Beginning::Opened);
+    let engine = opened(alloc, disk, observer)?;
     let outcome = list_recordings(alloc, engine.desk(), writer);
     let disk = engine.into_disk();
     match outcome {
@@ -115,17 +105,7 @@ pub fn verify_archive<W: Write, D: Disk, O: Observer>(
     ensures fault { IfErr result (λ fault. FailsToVerify D.life (D.life disk) fault.disk fault.why
         (W.contents writer.old) (W.contents writer.new)) }
 {
-    let mut engine = match Engine::open(alloc, disk) {
-        Ok(engine) => engine,
-        Err(OpenRefusal { refusal, disk }) => {
-            observer.began(&Beginning::Refused(refusal));
-            return Err(CommandFault {
-                why: Stopped::Refused(refusal),
-                disk,
-            });
-        }
-    };
-    observer.began(&Beginning::Opened);
+    let mut engine = opened(alloc, disk, observer)?;
     let outcome = verify_recordings(alloc, &mut engine, writer, observer);
     let disk = engine.into_disk();
     match outcome {
@@ -134,5 +114,27 @@ pub fn verify_archive<W: Write, D: Disk, O: Observer>(
             why: Stopped::Cut(end),
             disk,
         }),
+    }
+}
+
+/// The archive of a disk, opened, which an observer is told; else why it is not, and the disk.
+fn opened<D: Disk, O: Observer>(
+    alloc: Global,
+    disk: D,
+    observer: &mut O,
+) -> Result<Engine<D>, CommandFault<D>>
+    ensures opened { IfOk result (λ engine. IsOpenedBy D.life (D.life disk) engine) }
+    ensures refused { IfErr result (λ fault. IsUnopenedBy D.life (D.life disk) fault.disk fault.why) }
+{
+    match Engine::open(alloc, disk) {
+        Ok((engine, _)) => {
+            observer.began(&Beginning::Opened);
+            Ok(engine)
+        }
+        Err(OpenRefusal { refusal, disk }) => {
+            observer.began(&Beginning::Refused(refusal));
+            let why = Stopped::Refused(refusal);
+            Err(CommandFault { why, disk })
+        }
     }
 }

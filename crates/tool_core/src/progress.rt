@@ -1,8 +1,9 @@
 //! What a terminal shows of an opening and of a verification that last. docs/CONTROL.md, "Standard error".
 
-ghost use Rattle.std.specs.Prelude.{◌≡◌, ◌+◌};
+ghost use Rattle.std.specs.Prelude.{◌≡◌, ◌+◌, IfSome, IsTrue};
+ghost use Rattle.disk_core.specs.DiskImage.{reads};
 ghost use Rattle.disk_core.specs.Life.{IsQuiet};
-ghost use Rattle.tool_core.specs.Progress.{bytes_before, bytes_in, counted, hundredths};
+ghost use Rattle.tool_core.specs.Progress.{AreListed, bytes_before, bytes_in, counted, hundredths, segment_bytes};
 
 use crate::screen::{Screen, Stage};
 use crate::watched::Viewer;
@@ -177,7 +178,9 @@ fn is_after(now: Instant, then: Instant, millis: u64) -> bool {
 
 /// The files of a disk, with the lengths of its segment files.
 fn listed_files<D: Disk>(alloc: Global, disk: &mut D) -> Option<Vec<ListedFile>>
-    ensures { IsQuiet (D.life disk.old) (D.life disk.new) }
+    ensures listed { IfSome result (λ files. IsTrue (D.life disk.new).obeys →
+        AreListed (reads (D.life disk.old).now) files.items) }
+    ensures quiet { IsQuiet (D.life disk.old) (D.life disk.new) }
 {
     let files = disk.list().ok()?;
     let mut listed = Vec::new(alloc);
@@ -191,7 +194,9 @@ fn listed_files<D: Disk>(alloc: Global, disk: &mut D) -> Option<Vec<ListedFile>>
 
 /// The length of a segment file, and 0 of any other.
 fn segment_length<D: Disk>(disk: &mut D, file: FileId) -> Option<u64>
-    ensures { IsQuiet (D.life disk.old) (D.life disk.new) }
+    ensures length { IfSome result (λ length. IsTrue (D.life disk.new).obeys →
+        length ≡ segment_bytes (reads (D.life disk.old).now) file) }
+    ensures quiet { IsQuiet (D.life disk.old) (D.life disk.new) }
 {
     match file {
         FileId::Segment { .. } => disk.len(file).ok(),

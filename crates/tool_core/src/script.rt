@@ -20,6 +20,7 @@ use crate::state::ScriptState;
 use archive_model::Reply;
 use control_lines::parse_line;
 use disk_core::Disk;
+use engine_core::laws::an_image_recovers_to_one_state;
 use frame_core::Refusal;
 use memchr::memchr;
 use std::alloc::Global;
@@ -203,6 +204,7 @@ pub fn run_script<R: Read + Drop, W: Write, D: Disk, O: Observer>(
         (R.remaining reader) (W.contents writer.old) (W.contents writer.new)
         ⊎ IsUnopened (D.life disk) (D.life (disk_of fault)) (W.contents writer.old) (W.contents writer.new) (early_end_of fault)) }
 {
+    an_image_recovers_to_one_state();
     let (archive, beginning) = match ScriptArchive::of_disk(alloc, disk) {
         Ok(found) => found,
         Err(disk) => return Err(ScriptFault::Memory(disk)),

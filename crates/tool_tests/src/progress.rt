@@ -160,7 +160,7 @@ impl Viewer<MemoryDisk> for Counter {
 #[test]
 fn a_watched_disk(rt: HostRuntime) -> Result<(), Fail> {
     let disk = Watched::new(two_recordings(rt.alloc())?, Some(Counter { bytes: 0 }));
-    let Ok(mut engine) = Engine::open(rt.alloc(), disk) else {
+    let Ok((mut engine, _)) = Engine::open(rt.alloc(), disk) else {
         return Err(Fail::new("the archive was not opened"));
     };
     let mut out = Vec::new(rt.alloc());

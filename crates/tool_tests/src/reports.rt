@@ -29,7 +29,7 @@ fn damaged(disk: MemoryDisk, recording: i64) -> Result<MemoryDisk, Fail> {
 
 /// What `list` tells of the archive of a disk.
 fn listed(alloc: Global, disk: MemoryDisk) -> Result<Vec<u8>, Fail> {
-    let Ok(engine) = Engine::open(alloc, disk) else {
+    let Ok((engine, _)) = Engine::open(alloc, disk) else {
         return Err(Fail::new("the archive was not opened"));
     };
     let mut out = Vec::new(alloc);
@@ -41,7 +41,7 @@ fn listed(alloc: Global, disk: MemoryDisk) -> Result<Vec<u8>, Fail> {
 
 /// What `verify` tells of the archive of a disk, and its verdict.
 fn verified(alloc: Global, disk: MemoryDisk) -> Result<(Vec<u8>, Verdict), Fail> {
-    let Ok(mut engine) = Engine::open(alloc, disk) else {
+    let Ok((mut engine, _)) = Engine::open(alloc, disk) else {
         return Err(Fail::new("the archive was not opened"));
     };
     let mut out = Vec::new(alloc);

@@ -1,4 +1,4 @@
-use Rattle.engine_core.proofs.RunLemmas.{one_answered, one_refused}
+use Rattle.engine_core.proofs.calls.RunLemmas.{one_answered, one_refused}
 use Rattle.engine_core.proofs.laws.a_call_leaves_one_state.Goals as goal
 
 pub returns-clause-answered : goal.returns-clause-answered

@@ -1,4 +1,4 @@
-use Rattle.engine_core.proofs.RunLemmas.{run_more, run_none}
+use Rattle.engine_core.proofs.calls.RunLemmas.{run_more, run_none}
 use Rattle.engine_core.proofs.laws.a_run_and_a_step_are_a_run.Goals as goal
 
 pub returns-clause-none : goal.returns-clause-none

@@ -1,4 +1,4 @@
-use Rattle.engine_core.proofs.RunLemmas.{run_each, run_failed, run_goes_on}
+use Rattle.engine_core.proofs.calls.RunLemmas.{run_each, run_failed, run_goes_on}
 use Rattle.engine_core.proofs.laws.a_run_goes_on.Goals as goal
 
 pub returns-clause-goes_on : goal.returns-clause-goes_on

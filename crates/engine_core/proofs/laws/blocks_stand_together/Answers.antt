@@ -1,4 +1,4 @@
-use Rattle.engine_core.proofs.BlockLemmas.{stands_more}
+use Rattle.engine_core.proofs.files.BlockLemmas.{stands_more}
 use Rattle.engine_core.proofs.laws.blocks_stand_together.Goals as goal
 
 pub returns : goal.returns

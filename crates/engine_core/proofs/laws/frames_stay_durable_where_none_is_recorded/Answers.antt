@@ -1,4 +1,4 @@
-use Rattle.engine_core.proofs.StayLemmas.{frames_stay, leads}
+use Rattle.engine_core.proofs.files.StayLemmas.{frames_stay, leads}
 use Rattle.engine_core.proofs.laws.frames_stay_durable_where_none_is_recorded.Goals as goal
 
 pub returns-clause-frames : goal.returns-clause-frames

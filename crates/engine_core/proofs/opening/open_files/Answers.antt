@@ -1,5 +1,5 @@
 use Rattle.std.proofs.lemmas.Result.{IfOk-weaker}
-use Rattle.engine_core.proofs.OpeningLemmas.{log_read, ok_both, open_sound, read_opened}
+use Rattle.engine_core.proofs.openings.OpeningLemmas.{log_read, ok_both, open_sound, read_opened}
 use Rattle.engine_core.proofs.opening.open_files.Goals as goal
 
 pub returns-clause-before : goal.returns-clause-before

@@ -7,9 +7,9 @@ use Rattle.catalogue_log.specs.Fold.{after_entries}
 use Rattle.control_core.specs.Desk.{DeskState}
 use Rattle.control_core.specs.Orderly.{AreLaid}
 use Rattle.engine_core.specs.Engine.{IsTied}
-use Rattle.engine_core.proofs.OpeningLemmas.{whole_refused}
-use Rattle.engine_core.proofs.EntryLaidLemmas.{entries_laid}
-use Rattle.engine_core.proofs.ReopenLemmas.{same_desk}
+use Rattle.engine_core.proofs.openings.OpeningLemmas.{whole_refused}
+use Rattle.engine_core.proofs.openings.EntryLaidLemmas.{entries_laid}
+use Rattle.engine_core.proofs.openings.ReopenLemmas.{same_desk}
 use Rattle.engine_core.proofs.opening.read_desk.Goals as goal
 
 pub returns-in_err-log-clause-whole : goal.returns-in_err-log-clause-whole

@@ -1,4 +1,4 @@
-use Rattle.engine_core.proofs.OpeningLemmas.{one_synced}
+use Rattle.engine_core.proofs.openings.OpeningLemmas.{one_synced}
 use Rattle.engine_core.proofs.opening.sync_listed.Goals as goal
 
 pub returns-in_err-sync-in-Segment-clause-only : goal.returns-in_err-sync-in-Segment-clause-only

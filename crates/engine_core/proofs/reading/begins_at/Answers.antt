@@ -4,7 +4,7 @@ use Rattle.disk_core.specs.DiskImage.{reads}
 use Rattle.segment_store.specs.Boundary.{TellsBoundary}
 use Rattle.archive_model.specs.State.{geometry_of}
 use Rattle.engine_core.specs.Recovery.{layout_of}
-use Rattle.engine_core.proofs.ReadLemmas.{fault_read, told_read}
+use Rattle.engine_core.proofs.replays.ReadLemmas.{fault_read, told_read}
 use Rattle.engine_core.proofs.reading.begins_at.Goals as goal
 
 pub returns-clause-refused : goal.returns-clause-refused

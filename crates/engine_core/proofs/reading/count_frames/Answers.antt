@@ -8,8 +8,8 @@ use Rattle.segment_store.specs.DamagedFrame.{RefusesFrame, ShowsFrame}
 use Rattle.archive_model.specs.State.{geometry_of}
 use Rattle.engine_core.specs.Reading.{RefusesCount}
 use Rattle.engine_core.specs.Recovery.{layout_of}
-use Rattle.engine_core.proofs.CountLemmas.{all_counted, count_refused, less_left, one_counted}
-use Rattle.engine_core.proofs.ReadLemmas.{count_read}
+use Rattle.engine_core.proofs.replays.CountLemmas.{all_counted, count_refused, less_left, one_counted}
+use Rattle.engine_core.proofs.replays.ReadLemmas.{count_read}
 use Rattle.engine_core.proofs.reading.count_frames.Goals as goal
 
 pub returns-in_err-frame-clause-refused : goal.returns-in_err-frame-clause-refused

@@ -1,7 +1,7 @@
 use Rattle.std.proofs.Common.{rules, ◌≡◌, ◌+ℤ◌, pos, to_z, of_z, w64, arith}
 use Rattle.std.proofs.lemmas.Int.{ints}
 use Rattle.frame_core.specs.FrameEncoding.{aligned_length}
-use Rattle.engine_core.proofs.ReadLemmas.{places_one, places_within}
+use Rattle.engine_core.proofs.replays.ReadLemmas.{places_one, places_within}
 use Rattle.engine_core.proofs.reading.placed_at.Goals as goal
 
 pub overflow_add-next : goal.overflow_add-next

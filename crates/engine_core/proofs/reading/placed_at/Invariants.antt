@@ -1,4 +1,4 @@
-use Rattle.engine_core.proofs.ReadLemmas.{Places}
+use Rattle.engine_core.proofs.replays.ReadLemmas.{Places}
 use Rattle.engine_core.proofs.reading.placed_at.Given as goal
 
 -- the frames so far are placed

@@ -9,7 +9,7 @@ use Rattle.archive_model.specs.Replay.{is_boundary, placed}
 use Rattle.archive_model.specs.State.{geometry_of}
 use Rattle.control_core.specs.Exact.{frames_end}
 use Rattle.engine_core.specs.Recovery.{layout_of}
-use Rattle.engine_core.proofs.ReadLemmas.{boundary_read, frames_read, placed_end, poll_read}
+use Rattle.engine_core.proofs.replays.ReadLemmas.{boundary_read, frames_read, placed_end, poll_read}
 use Rattle.engine_core.proofs.reading.poll.Goals as goal
 
 pub returns-in_err-frames-clause-refused : goal.returns-in_err-frames-clause-refused

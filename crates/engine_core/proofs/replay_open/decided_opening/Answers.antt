@@ -4,8 +4,8 @@ use Rattle.frame_core.specs.declared.refusal.Refusal.TheVariants.{BadPosition}
 use Rattle.archive_model.specs.Register.{registration_in}
 use Rattle.control_core.specs.Exact.{opens_by_frames}
 use Rattle.control_core.specs.Turns.{open_decision}
-use Rattle.engine_core.proofs.KnownLemmas.{laid_found, read_known}
-use Rattle.engine_core.proofs.ReplayOpenLemmas.{allowed_alone, allowed_behind, allowed_nowhere, asked_alone, asked_read, leads_inside, leads_to, opening_no_fault, outcome_in}
+use Rattle.engine_core.proofs.calls.KnownLemmas.{laid_found, read_known}
+use Rattle.engine_core.proofs.replays.ReplayOpenLemmas.{allowed_alone, allowed_behind, allowed_nowhere, asked_alone, asked_read, leads_inside, leads_to, opening_no_fault, outcome_in}
 use Rattle.engine_core.proofs.replay_open.decided_opening.Goals as goal
 
 pub returns-in-Decided-clause-decided : goal.returns-in-Decided-clause-decided
@@ -34,10 +34,10 @@ returns-then-not-branch-clause-decided g c log a desk was reads =
     let new = g.D.Disk.life c.begins_at.new.disk in
     let by_frames : opens_by_frames (open_decision a.desk c.args.recording.now c.args.position.now c.args.length.now) ≡ true = ap (λ d. opens_by_frames (open_decision d c.args.recording.now c.args.position.now c.args.length.now)) (sym desk)
     ∙ ap opens_by_frames (sym c.in-IfBoundary.ensures.decided) in
-    let place = c.in-IfBoundary.position in
-    let same : place ≡ to_z w64 (of_z w64 place) = search rules in
+    let boundary = c.in-IfBoundary.position in
+    let same : boundary ≡ to_z w64 (of_z w64 boundary) = search rules in
     let no : c.in_ok-begins_at-in-IfBoundary.field-0 ≡ false = search rules in
-    inl (sym (asked_read old new log c.args.desk.now.state a c.args.recording.now c.args.position.now c.args.length.now place _ c.in-IfBoundary.decided c.in-IfBoundary.known.now c.in_ok-begins_at-in-IfBoundary.field-0
+    inl (sym (asked_read old new log c.args.desk.now.state a c.args.recording.now c.args.position.now c.args.length.now boundary _ c.in-IfBoundary.decided c.in-IfBoundary.known.now c.in_ok-begins_at-in-IfBoundary.field-0
     (g.met.D.Disk.reads_may_stay c.args.disk.now) desk was (sym c.in-IfBoundary.ensures.known.0) c.in-IfBoundary.ensures.decided same (reads by_frames) c.in_ok-begins_at-in-IfBoundary.ensures.told ∙ ap (λ t. cond t c.in-IfBoundary.decided (Err BadPosition)) no))
 
 pub returns-else-not-branch-clause-decided : goal.returns-else-not-branch-clause-decided
@@ -46,10 +46,10 @@ returns-else-not-branch-clause-decided g c log a desk was reads =
     let new = g.D.Disk.life c.begins_at.new.disk in
     let by_frames : opens_by_frames (open_decision a.desk c.args.recording.now c.args.position.now c.args.length.now) ≡ true = ap (λ d. opens_by_frames (open_decision d c.args.recording.now c.args.position.now c.args.length.now)) (sym desk)
     ∙ ap opens_by_frames (sym c.in-IfBoundary.ensures.decided) in
-    let place = c.in-IfBoundary.position in
-    let same : place ≡ to_z w64 (of_z w64 place) = search rules in
+    let boundary = c.in-IfBoundary.position in
+    let same : boundary ≡ to_z w64 (of_z w64 boundary) = search rules in
     let yes : c.in_ok-begins_at-in-IfBoundary.field-0 ≡ true = search rules in
-    inl (sym (asked_read old new log c.args.desk.now.state a c.args.recording.now c.args.position.now c.args.length.now place _ c.in-IfBoundary.decided c.in-IfBoundary.known.now c.in_ok-begins_at-in-IfBoundary.field-0
+    inl (sym (asked_read old new log c.args.desk.now.state a c.args.recording.now c.args.position.now c.args.length.now boundary _ c.in-IfBoundary.decided c.in-IfBoundary.known.now c.in_ok-begins_at-in-IfBoundary.field-0
     (g.met.D.Disk.reads_may_stay c.args.disk.now) desk was (sym c.in-IfBoundary.ensures.known.0) c.in-IfBoundary.ensures.decided same (reads by_frames) c.in_ok-begins_at-in-IfBoundary.ensures.told ∙ ap (λ t. cond t c.in-IfBoundary.decided (Err BadPosition)) yes))
 
 pub returns-else-not-branch-clause-leads : goal.returns-else-not-branch-clause-leads

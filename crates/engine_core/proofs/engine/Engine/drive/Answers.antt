@@ -1,8 +1,8 @@
-use Rattle.std.proofs.Common.{◌∙◌, ◌+◌, refl, subst, sym, take, [], arith}
+use Rattle.std.proofs.Common.{◌+◌, subst, sym, take, [], arith}
 use Rattle.std.proofs.lemmas.List.{take_all}
 use Rattle.engine_core.specs.Calls.{IsRun}
 use Rattle.engine_core.specs.Seen.{seen}
-use Rattle.engine_core.proofs.RunLemmas.{run_next, run_none}
+use Rattle.engine_core.proofs.calls.RunLemmas.{run_next, run_none}
 use Rattle.engine_core.proofs.engine.Engine.drive.Goals as goal
 
 pub loop-event-init : goal.loop-event-init
@@ -12,7 +12,6 @@ loop-event-init g c =
       subst (λ outcomes. IsRun e [] outcomes e) (sym none.items) (run_none e),
       none.len,
       none.capacity,
-      refl,
     )
 
 pub push_reserved-requires : goal.push_reserved-requires
@@ -27,10 +26,9 @@ loop-event-preserved g c =
     let events = c.args.events.now in
     let i = c.loop-event.event-index in (
       subst (λ outcomes. IsRun old (take (i + 1) events) outcomes new) (sym pushed.items)
-          (run_next old mid new events i c.event-item.result c.loop-event.outcomes.items c.step-outcome.result c.loop-event-test.true c.event-item.is c.loop-event.invariant.0 c.step-outcome.ensures.answers),
+          (run_next old mid new events i c.event-item.result c.loop-event.outcomes.items c.step-outcome.result c.loop-event-test.true c.event-item.is c.loop-event.invariant.0 c.step-outcome.ensures),
       omega (arith, pushed.len, c.loop-event.invariant.1),
       omega (arith, pushed.capacity, c.loop-event.invariant.2),
-      c.step-outcome.ensures.restarted ∙ c.loop-event.invariant.3,
     )
 
 pub returns-clause-ran : goal.returns-clause-ran
@@ -40,6 +38,3 @@ returns-clause-ran g c =
     let events = c.args.events.now in
     let i = c.loop-event.event-index in
     subst (λ es. IsRun old es c.loop-event.outcomes.items new) (take_all i events c.loop-event-test.false) c.loop-event.invariant.0
-
-pub returns-clause-restarted : goal.returns-clause-restarted
-returns-clause-restarted g c = c.loop-event.invariant.3

@@ -10,4 +10,3 @@ invariant-loop-event g l =
     IsRun (seen g.D.Disk.life l.initial.self) (take l.event-index l.events) l.outcomes.items (seen g.D.Disk.life l.self)
     × (vec_len l.outcomes ≡ l.event-index)
     × (length l.events ≤ vec_capacity l.outcomes)
-    × (l.self.restarted ≡ l.initial.self.restarted)

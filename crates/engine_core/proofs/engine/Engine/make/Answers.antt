@@ -4,7 +4,7 @@ use Rattle.control_core.specs.Changes.{desk_after, reply_after}
 use Rattle.control_core.specs.Desk.{DeskState}
 use Rattle.engine_core.specs.Engine.{IsTied}
 use Rattle.engine_core.specs.Making.{after_failure}
-use Rattle.engine_core.proofs.MakeLemmas.{IsEntryFor, commits_done, commits_refused, has_room, made_tied, short_for, unmade}
+use Rattle.engine_core.proofs.calls.MakeLemmas.{IsEntryFor, commits_done, commits_refused, has_room, made_tied, short_for, unmade}
 use Rattle.engine_core.proofs.engine.Engine.make.Goals as goal
 
 pub returns-in_err-entry-clause-made : goal.returns-in_err-entry-clause-made

@@ -7,28 +7,22 @@ use Rattle.control_core.specs.Turns.{MayOpen}
 use Rattle.control_core.proofs.CallLemmas.{opening_allowed}
 use Rattle.engine_core.specs.Calls.{AnswersEvent}
 use Rattle.control_core.proofs.OpenedLemmas.{opens_from_start}
-use Rattle.engine_core.proofs.ReplayOpenLemmas.{open_done, open_refused, open_unkept}
+use Rattle.engine_core.proofs.replays.ReplayOpenLemmas.{open_done, open_refused, open_unkept}
 use Rattle.engine_core.proofs.engine.Engine.open_replay.Goals as goal
 
 pub returns-in_err-opening : goal.returns-in_err-opening
 returns-in_err-opening g c =
     let refusal = c.in_err-opening.field-0.0 in
     let is : c.from_residual.result ≡ Err refusal = search rules in
-    record {
-      answers = subst (AnswersEvent _ _ (events.ReplayOpen c.args.recording.now c.args.position.now c.args.length.now)) (sym is)
-          (open_refused _ _ c.args.recording.now c.args.position.now c.args.length.now refusal c.decided_opening.ensures.quiet refl refl c.in_err-opening.ensures.cause c.in_err-opening.ensures.allowed c.in_err-opening.ensures.decided);
-      restarted = refl;
-    }
+    subst (AnswersEvent _ _ (events.ReplayOpen c.args.recording.now c.args.position.now c.args.length.now)) (sym is)
+    (open_refused _ _ c.args.recording.now c.args.position.now c.args.length.now refusal c.decided_opening.ensures.quiet refl refl c.in_err-opening.ensures.cause c.in_err-opening.ensures.allowed c.in_err-opening.ensures.decided)
 
 pub returns-in_err-reserve_replay : goal.returns-in_err-reserve_replay
 returns-in_err-reserve_replay g c =
     let refusal = c.in_err-reserve_replay.field-0.0 in
     let is : c.from_residual-in_err-reserve_replay.result ≡ Err refusal = search rules in
-    record {
-      answers = subst (AnswersEvent _ _ (events.ReplayOpen c.args.recording.now c.args.position.now c.args.length.now)) (sym (is ∙ ap Err c.in_err-reserve_replay.ensures.err))
-          (open_unkept _ _ c.args.recording.now c.args.position.now c.args.length.now c.decided_opening.ensures.quiet refl c.reserve_replay.ensures.state);
-      restarted = refl;
-    }
+    subst (AnswersEvent _ _ (events.ReplayOpen c.args.recording.now c.args.position.now c.args.length.now)) (sym (is ∙ ap Err c.in_err-reserve_replay.ensures.err))
+    (open_unkept _ _ c.args.recording.now c.args.position.now c.args.length.now c.decided_opening.ensures.quiet refl c.reserve_replay.ensures.state)
 
 pub open_replay-requires-clause-allowed : goal.open_replay-requires-clause-allowed
 open_replay-requires-clause-allowed g c =
@@ -48,7 +42,4 @@ returns g c =
     let number = to_z w64 (of_z w64 c.next_replay-replay.result) in
     let same : number ≡ c.next_replay-replay.result = search rules in
     let next : number ≡ c.args.self.now.desk.state.callers.next_replay = same ∙ c.next_replay-replay.ensures ∙ ap (λ d. d.callers.next_replay) state in
-    record {
-      answers = open_done _ _ c.args.recording.now c.args.position.now c.args.length.now number o next c.decided_opening.ensures.quiet refl (c.open_replay.ensures ∙ ap (after_open o.recording o.next o.bound) state) c.in_ok-opening.ensures.leads c.in_ok-opening.ensures.decided;
-      restarted = refl;
-    }
+    open_done _ _ c.args.recording.now c.args.position.now c.args.length.now number o next c.decided_opening.ensures.quiet refl (c.open_replay.ensures ∙ ap (after_open o.recording o.next o.bound) state) c.in_ok-opening.ensures.leads c.in_ok-opening.ensures.decided

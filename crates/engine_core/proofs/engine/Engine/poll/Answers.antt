@@ -6,19 +6,16 @@ use Rattle.control_core.specs.declared.event.Event.TheVariants as events
 use Rattle.control_core.specs.Turns.{is_done_at}
 use Rattle.control_core.proofs.ConsistentLemmas.{polled_open}
 use Rattle.engine_core.specs.Calls.{AnswersEvent}
-use Rattle.engine_core.proofs.KnownLemmas.{laid_found, one_known, replay_recording}
-use Rattle.engine_core.proofs.ReplayCallLemmas.{poll_refused, poll_unread, polled_on}
-use Rattle.engine_core.proofs.ReplayLemmas.{tied_on}
+use Rattle.engine_core.proofs.calls.KnownLemmas.{laid_found, one_known, replay_recording}
+use Rattle.engine_core.proofs.replays.ReplayCallLemmas.{poll_refused, poll_unread, polled_on}
+use Rattle.engine_core.proofs.replays.ReplayLemmas.{tied_on}
 use Rattle.engine_core.proofs.engine.Engine.poll.Goals as goal
 
 pub returns-in_err-reader : goal.returns-in_err-reader
 returns-in_err-reader g c =
     let refusal = c.in_err-reader.field-0.0 in
     let is : c.from_residual.result ≡ Err refusal = search rules in
-    record {
-      answers = subst (AnswersEvent _ _ (events.ReplayPoll c.args.replay.now c.args.most.now)) (sym is) (poll_refused _ c.args.replay.now c.args.most.now refusal c.in_err-reader.ensures.decided);
-      restarted = refl;
-    }
+    subst (AnswersEvent _ _ (events.ReplayPoll c.args.replay.now c.args.most.now)) (sym is) (poll_refused _ c.args.replay.now c.args.most.now refusal c.in_err-reader.ensures.decided)
 
 pub poll-requires-clause-laid_out : goal.poll-requires-clause-laid_out
 poll-requires-clause-laid_out g c = (laid_found c.args.self.now.desk.state c.in_ok-reader.reader.found.replay.recording c.in_ok-reader.reader.known.now c.in_ok-reader.ensures.keeps (sym c.in_ok-reader.ensures.found.known)).laid_out
@@ -35,12 +32,9 @@ pub returns-in_err-given : goal.returns-in_err-given
 returns-in_err-given g c =
     let refusal = c.in_err-given.field-0.0 in
     let is : c.from_residual-in_err-given.result ≡ Err refusal = search rules in
-    record {
-      answers = subst (AnswersEvent _ _ (events.ReplayPoll c.args.replay.now c.args.most.now)) (sym is)
-          (poll_unread _ _ c.args.replay.now c.args.most.now c.in_ok-reader.reader.found.replay c.in_ok-reader.reader.known.now _ _ _ _ _ refusal c.poll.ensures.quiet refl refl (g.met.D.Disk.reads_may_stay c.args.self.now.storage.disk) c.in_ok-reader.ensures.decided (sym c.in_ok-reader.ensures.found.known)
-          (λ fault. c.in_err-given.ensures.cause (let same : refusal ≡ _ = cc in ap Err same)) c.in_err-given.ensures.refused c.in_err-given.ensures.outside);
-      restarted = refl;
-    }
+    subst (AnswersEvent _ _ (events.ReplayPoll c.args.replay.now c.args.most.now)) (sym is)
+    (poll_unread _ _ c.args.replay.now c.args.most.now c.in_ok-reader.reader.found.replay c.in_ok-reader.reader.known.now _ _ _ _ _ refusal c.poll.ensures.quiet refl refl (g.met.D.Disk.reads_may_stay c.args.self.now.storage.disk) c.in_ok-reader.ensures.decided (sym c.in_ok-reader.ensures.found.known)
+    (λ fault. c.in_err-given.ensures.cause (let same : refusal ≡ _ = cc in ap Err same)) c.in_err-given.ensures.refused c.in_err-given.ensures.outside)
 
 pub move_replay-requires-clause-stands : goal.move_replay-requires-clause-stands
 move_replay-requires-clause-stands g c = c.in_ok-reader.ensures.found.found.stands
@@ -60,9 +54,6 @@ returns g c =
     let same : to_z w64 (of_z w64 next) ≡ next = search rules in
     let most : to_z w64 (of_z w64 c.args.most.now) ≡ c.args.most.now = search rules in
     let on : c.goes_on-next.result ≡ (if is_done_at c.in_ok-reader.reader.known.now replay.bound next then None else Some next) = c.goes_on-next.ensures ∙ ap (λ n. if is_done_at c.in_ok-reader.reader.known.now replay.bound n then None else Some n) same in
-    record {
-      answers = polled_on _ _ c.args.replay.now c.args.most.now next replay c.in_ok-reader.reader.known.now _ _ c.poll.ensures.quiet refl c.move_replay.ensures (g.met.D.Disk.reads_may_stay c.args.self.now.storage.disk) c.in_ok-reader.ensures.decided (sym c.in_ok-reader.ensures.found.known)
-          c.in_ok-given.ensures.next (λ some. c.in_ok-given.ensures.moves.1 (subst (λ n. 0 < unsigned_abs n) (sym most) some)) on
-          (λ r read at. let given = c.in_ok-given.ensures.frames r read at in (given.0, given.1 ∙ ap (λ n. polled replay.next replay.bound (unsigned_abs n) r) most));
-      restarted = refl;
-    }
+    polled_on _ _ c.args.replay.now c.args.most.now next replay c.in_ok-reader.reader.known.now _ _ c.poll.ensures.quiet refl c.move_replay.ensures (g.met.D.Disk.reads_may_stay c.args.self.now.storage.disk) c.in_ok-reader.ensures.decided (sym c.in_ok-reader.ensures.found.known)
+    c.in_ok-given.ensures.next (λ some. c.in_ok-given.ensures.moves.1 (subst (λ n. 0 < unsigned_abs n) (sym most) some)) on
+    (λ r read at. let given = c.in_ok-given.ensures.frames r read at in (given.0, given.1 ∙ ap (λ n. polled replay.next replay.bound (unsigned_abs n) r) most))

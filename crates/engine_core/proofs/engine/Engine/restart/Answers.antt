@@ -3,7 +3,7 @@ use Rattle.std.proofs.lemmas.Int.{ints}
 use Rattle.std.proofs.lemmas.Bool.Decides.{nat_tests}
 use Rattle.std.specs.Prelude.{Err}
 use Rattle.archive_model.specs.Register.{active_count}
-use Rattle.engine_core.proofs.RestartLemmas.{restarts_done, restarts_none, restarts_refused}
+use Rattle.engine_core.proofs.openings.RestartLemmas.{restarts_done, restarts_none, restarts_refused}
 use Rattle.engine_core.proofs.engine.Engine.restart.Goals as goal
 
 pub returns-in_err-make : goal.returns-in_err-make

@@ -5,8 +5,8 @@ use Rattle.archive_model.specs.declared.reply.Reply.TheVariants as replies
 use Rattle.catalogue_log.specs.declared.entry.Entry.TheVariants as entries
 use Rattle.engine_core.specs.Engine.{EngineState, IsTied}
 use Rattle.engine_core.specs.Seen.{seen}
-use Rattle.engine_core.proofs.CommitCallLemmas.{tied_refused}
-use Rattle.engine_core.proofs.SettleCallLemmas.{SettlesTo, asked, settled_layout, settled_start, settled_tied, settles, settling_done, settling_failed, settling_room, settling_works}
+use Rattle.engine_core.proofs.calls.CommitCallLemmas.{tied_refused}
+use Rattle.engine_core.proofs.calls.SettleCallLemmas.{SettlesTo, asked, settled_layout, settled_start, settled_tied, settles, settling_done, settling_failed, settling_room, settling_works}
 use Rattle.engine_core.proofs.engine.Engine.settle_blocks.Goals as goal
 
 pub settle-requires-clause-layout : goal.settle-requires-clause-layout
@@ -49,8 +49,8 @@ invariant_of-self g c =
     let asks = asked desk n id w layout first last number c.requires.laid.0 c.requires.decided c.requires.laid.1 c.requires.laid.2 same_first same_last same_id in
     record { tied = settled_tied log desk n id w layout first (entries.Settle number last) c.args.self.now.tied asks c.settle.new.self.log c.settle-in-Ok.new.self.state c.in-Ok.ensures.adds.header c.in-Ok.ensures.adds.works c.in-Ok.ensures.adds.counted c.settle-in-Ok.ensures }
 
-pub returns-in-Ok-clause-settled : goal.returns-in-Ok-clause-settled
-returns-in-Ok-clause-settled g c =
+pub returns-in-Ok : goal.returns-in-Ok
+returns-in-Ok g c =
     let life = g.D.Disk.life in
     let old = seen life c.args.self.now in
     let new : EngineState = record { life = life c.settle.new.self.disk; log = c.settle.new.self.log; desk = c.settle-in-Ok.new.self.state } in
@@ -73,8 +73,8 @@ pub invariant_of-self-in-Err : goal.invariant_of-self-in-Err
 invariant_of-self-in-Err g c =
     record { tied = subst (IsTied c.settle.new.self.log) (sym c.failed.ensures.state) (tied_refused c.args.self.now.storage.log c.settle.new.self.log c.args.self.now.desk.state c.in-Err.refusal c.args.self.now.tied c.in-Err.ensures.adds.kept) }
 
-pub returns-clause-settled : goal.returns-clause-settled
-returns-clause-settled g c =
+pub returns : goal.returns
+returns g c =
     let life = g.D.Disk.life in
     let old = seen life c.args.self.now in
     let new : EngineState = record { life = life c.settle.new.self.disk; log = c.settle.new.self.log; desk = c.failed.new.desk.state } in

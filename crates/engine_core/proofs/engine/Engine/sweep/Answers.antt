@@ -2,19 +2,19 @@ use Rattle.std.proofs.Common.{rules, ◌≡◌, sym, subst, ap, refl, All, Err, 
 use Rattle.segment_store.specs.declared.keep.Keep.{Keep}
 use Rattle.segment_store.specs.Stale.{IsKeep}
 use Rattle.engine_core.specs.Moves.{registered_keeps}
-use Rattle.engine_core.proofs.KnownLemmas.{keeps_are}
-use Rattle.engine_core.proofs.SweepCallLemmas.{sweep_refused, swept_answers, unkept_answers, unswept_answers}
+use Rattle.engine_core.proofs.calls.KnownLemmas.{keeps_are}
+use Rattle.engine_core.proofs.calls.SweepCallLemmas.{sweep_refused, swept_answers, unkept_answers, unswept_answers}
 use Rattle.engine_core.proofs.engine.Engine.sweep.Goals as goal
 
 pub returns-in_err-decide_sweep : goal.returns-in_err-decide_sweep
 returns-in_err-decide_sweep g c =
     let is : c.from_residual.result ≡ Err c.in_err-decide_sweep.field-0.0 = search rules in
-    record { answers = sweep_refused _ c.from_residual.result c.in_err-decide_sweep.field-0.0 is c.in_err-decide_sweep.ensures; restarted = refl }
+    sweep_refused _ c.from_residual.result c.in_err-decide_sweep.field-0.0 is c.in_err-decide_sweep.ensures
 
 pub returns-in_err-keeps : goal.returns-in_err-keeps
 returns-in_err-keeps g c =
     let is : c.from_residual-in_err-keeps.result ≡ Err c.in_err-keeps.field-0.0 = search rules in
-    record { answers = unkept_answers _ c.from_residual-in_err-keeps.result c.in_err-keeps.field-0.0 is c.in_err-keeps.ensures.err; restarted = refl }
+    unkept_answers _ c.from_residual-in_err-keeps.result c.in_err-keeps.field-0.0 is c.in_err-keeps.ensures.err
 
 pub sweep-requires : goal.sweep-requires
 sweep-requires g c =
@@ -28,29 +28,23 @@ returns-in_err-removed g c =
     let refusal = c.in_err-removed.field-0.0 in
     let outcome = c.from_residual-in_err-removed.result in
     let is : outcome ≡ Err refusal = search rules in
-    record {
-      answers = unswept_answers _ _ c.as_slice.result.now outcome refusal is (record {
-        asked = registered;
-        decided = (c.in_ok-decide_sweep.field-0, c.in_ok-decide_sweep.ensures);
-        active = c.sweep.ensures.active;
-        stays = c.sweep.ensures.stays;
-        spares = c.sweep.ensures.kept;
-        desk = refl;
-      }) c.in_err-removed.ensures.refused (λ memory. c.in_err-removed.ensures.unchanged (ap Err memory)) c.sweep.ensures.log (λ fault. c.in_err-removed.ensures.cause (ap Err fault));
-      restarted = refl;
-    }
+    unswept_answers _ _ c.as_slice.result.now outcome refusal is (record {
+      asked = registered;
+      decided = (c.in_ok-decide_sweep.field-0, c.in_ok-decide_sweep.ensures);
+      active = c.sweep.ensures.active;
+      stays = c.sweep.ensures.stays;
+      spares = c.sweep.ensures.kept;
+      desk = refl;
+    }) c.in_err-removed.ensures.refused (λ memory. c.in_err-removed.ensures.unchanged (ap Err memory)) c.sweep.ensures.log (λ fault. c.in_err-removed.ensures.cause (ap Err fault))
 
 pub returns : goal.returns
 returns g c =
     let registered : c.as_slice.result.now ≡ registered_keeps c.args.self.now.desk.state.register = search rules in
-    record {
-      answers = swept_answers _ _ c.as_slice.result.now c.in_ok-removed.removed (record {
-        asked = registered;
-        decided = (c.in_ok-decide_sweep.field-0, c.in_ok-decide_sweep.ensures);
-        active = c.sweep.ensures.active;
-        stays = c.sweep.ensures.stays;
-        spares = c.sweep.ensures.kept;
-        desk = refl;
-      }) c.in_ok-removed.ensures.swept;
-      restarted = refl;
-    }
+    swept_answers _ _ c.as_slice.result.now c.in_ok-removed.removed (record {
+      asked = registered;
+      decided = (c.in_ok-decide_sweep.field-0, c.in_ok-decide_sweep.ensures);
+      active = c.sweep.ensures.active;
+      stays = c.sweep.ensures.stays;
+      spares = c.sweep.ensures.kept;
+      desk = refl;
+    }) c.in_ok-removed.ensures.swept

@@ -10,8 +10,8 @@ use Rattle.engine_core.specs.Calls.{AnswersEvent}
 use Rattle.engine_core.specs.Engine.{EngineState}
 use Rattle.engine_core.specs.Making.{after_failure}
 use Rattle.engine_core.specs.Seen.{seen}
-use Rattle.engine_core.proofs.WriteCallLemmas.{write_done, write_fails, write_refuses, write_untargeted}
-use Rattle.engine_core.proofs.WritingLemmas.{from_start, lies_behind, span_same, span_to, target_is, target_layout, untargeted}
+use Rattle.engine_core.proofs.calls.WriteCallLemmas.{write_done, write_fails, write_refuses, write_untargeted}
+use Rattle.engine_core.proofs.calls.WritingLemmas.{from_start, lies_behind, span_same, span_to, target_is, target_layout, untargeted}
 use Rattle.engine_core.proofs.engine.Engine.write.Goals as goal
 
 pub returns-in_default : goal.returns-in_default
@@ -20,18 +20,15 @@ returns-in_default g c =
     let at = to_z w64 (of_z w64 c.args.block.now.position) in
     let nothing : Written = record { first = at; last = at } in
     let none = untargeted e.desk c.args.session.now c.args.block.now _ c.session-writer.ensures.found c.in_default.ensures in
-    record { answers = write_untargeted e c.args.session.now c.args.block.now nothing c.decide_write.result none (search rules); restarted = refl }
+    write_untargeted e c.args.session.now c.args.block.now nothing c.decide_write.result none (search rules)
 
 pub returns-in_err-reply : goal.returns-in_err-reply
 returns-in_err-reply g c =
     let e = seen g.D.Disk.life c.args.self.now in
     let is : c.from_residual.result ≡ Err c.in_err-reply.field-0.0 = search rules in
     let decided : Err c.in_err-reply.field-0.0 ≡ write_decision e.desk c.args.session.now (span_to c.args.block.now c.in-Some.target.end) true = search rules in
-    record {
-      answers = subst (λ o. AnswersEvent e e (events.Write c.args.session.now c.args.block.now) o) (sym is)
-          (write_refuses e c.args.session.now c.args.block.now c.layout_of-layout.result c.in-Some.target.end (target_is _ _ _ _ _ _ _ c.session-writer.ensures.found c.session-writer.ensures.keeps c.in-Some.ensures c.layout_of-layout.ensures) c.in_err-reply.field-0.0 decided);
-      restarted = refl;
-    }
+    subst (λ o. AnswersEvent e e (events.Write c.args.session.now c.args.block.now) o) (sym is)
+    (write_refuses e c.args.session.now c.args.block.now c.layout_of-layout.result c.in-Some.target.end (target_is _ _ _ _ _ _ _ c.session-writer.ensures.found c.session-writer.ensures.keeps c.in-Some.ensures c.layout_of-layout.ensures) c.in_err-reply.field-0.0 decided)
 
 pub write-requires-clause-layout : goal.write-requires-clause-layout
 write-requires-clause-layout g c = target_layout c.args.self.now.desk.state c.args.session.now c.args.block.now c.layout_of-layout.result c.in-Some.target.end (target_is _ _ _ _ _ _ _ c.session-writer.ensures.found c.session-writer.ensures.keeps c.in-Some.ensures c.layout_of-layout.ensures)
@@ -59,11 +56,8 @@ returns-in-Ok g c =
     let to = to_z w64 (of_z w64 c.in-Some.target.end) in
     let same_to : c.in-Some.target.end ≡ to = search rules in
     let noted = c.note_written.ensures ∙ ap (λ w. after_write c.args.session.now w old.desk) (c.span_of-span.ensures ∙ span_same c.args.block.now c.in-Some.target.end c.args.block.now.position to refl same_to) in
-    record {
-      answers = write_done old c.args.session.now c.args.block.now c.layout_of-layout.result c.in-Some.target.end (target_is _ _ _ _ _ _ _ c.session-writer.ensures.found c.session-writer.ensures.keeps c.in-Some.ensures c.layout_of-layout.ensures) new c.in_ok-reply.reply decided (Ok tt) c.in-Ok.ensures.changes c.in-Ok.ensures.moves c.in-Ok.ensures.stays refl noted
-          c.in-Ok.ensures.written;
-      restarted = refl;
-    }
+    write_done old c.args.session.now c.args.block.now c.layout_of-layout.result c.in-Some.target.end (target_is _ _ _ _ _ _ _ c.session-writer.ensures.found c.session-writer.ensures.keeps c.in-Some.ensures c.layout_of-layout.ensures) new c.in_ok-reply.reply decided (Ok tt) c.in-Ok.ensures.changes c.in-Ok.ensures.moves c.in-Ok.ensures.stays refl noted
+    c.in-Ok.ensures.written
 
 pub returns-in-Err : goal.returns-in-Err
 returns-in-Err g c =
@@ -72,8 +66,5 @@ returns-in-Err g c =
     let new : EngineState = record { life = life c.write.new.self.disk; log = c.write.new.self.log; desk = c.failed.new.desk.state } in
     let decided : Ok c.in_ok-reply.reply ≡ write_decision old.desk c.args.session.now (span_to c.args.block.now c.in-Some.target.end) true = search rules in
     let fault = c.in-Err.ensures.refusal in
-    record {
-      answers = write_fails old c.args.session.now c.args.block.now c.layout_of-layout.result c.in-Some.target.end (target_is _ _ _ _ _ _ _ c.session-writer.ensures.found c.session-writer.ensures.keeps c.in-Some.ensures c.layout_of-layout.ensures) new c.in_ok-reply.reply decided (Err c.in-Err.refusal) c.in-Err.ensures.changes c.in-Err.ensures.moves c.in-Err.ensures.stays
-          c.failed.result (c.failed.ensures.same ∙ fault) c.in-Err.ensures.cause (c.failed.ensures.state ∙ ap (λ refusal. after_failure refusal old.desk) fault);
-      restarted = refl;
-    }
+    write_fails old c.args.session.now c.args.block.now c.layout_of-layout.result c.in-Some.target.end (target_is _ _ _ _ _ _ _ c.session-writer.ensures.found c.session-writer.ensures.keeps c.in-Some.ensures c.layout_of-layout.ensures) new c.in_ok-reply.reply decided (Err c.in-Err.refusal) c.in-Err.ensures.changes c.in-Err.ensures.moves c.in-Err.ensures.stays
+    c.failed.result (c.failed.ensures.same ∙ fault) c.in-Err.ensures.cause (c.failed.ensures.state ∙ ap (λ refusal. after_failure refusal old.desk) fault)

@@ -1,0 +1,13 @@
+pub mod KnownLemmas
+pub mod StandLemmas
+pub mod EndedLemmas
+pub mod CommitCallLemmas
+pub mod MakeLemmas
+pub mod RunLemmas
+pub mod SettleCallLemmas
+pub mod Targets
+pub mod WritingLemmas
+pub mod WriteCallLemmas
+pub mod SweepCallLemmas
+pub mod InsideLemmas
+pub mod AskLemmas

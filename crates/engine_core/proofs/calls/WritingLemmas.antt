@@ -1,0 +1,228 @@
+-- A recorder session writes a block: what is decided, what that says of the desk, and what the sessions wrote then.
+use Rattle.std.proofs.Common.{◌≡◌, ◌≢◌, ◌∙◌, sym, ap, subst, refl, inl, inr, ℕ, ℤ, pos, ◌+◌, ◌*◌, ◌^◌, ◌+ℤ◌, ◌<ℤ◌, ◌≤ℤ◌, not, Bool, true, false, cond, true≢false, List, [], ◌∷◌, ◌++◌, Option, Some, None, Ok, Err, unsigned_abs, arith}
+use Rattle.std.proofs.lemmas.Int.{ints}
+use Rattle.std.proofs.lemmas.Bool.Decides.{Decides-int_eq, nat_tests}
+use Rattle.std.specs.Prelude.{◌==◌, IfSome, IsSomeAnd, MatchOption, is_some}
+use Rattle.std.specs.Ordering.{int_eq}
+use Rattle.disk_core.specs.DiskImage.{FileState, reads}
+use Rattle.disk_core.specs.Life.{Life}
+use Rattle.frame_core.specs.declared.block.Block.{Block}
+use Rattle.frame_core.specs.declared.block.Publication.{Publication}
+use Rattle.frame_core.specs.declared.frame.Frame.{Frame}
+use Rattle.frame_core.specs.declared.geometry.Geometry.{Geometry}
+use Rattle.frame_core.specs.declared.refusal.Refusal.{Refusal}
+use Rattle.frame_core.specs.declared.refusal.Refusal.TheVariants.{ActiveReplay, BadBlock, BadExtension, Broken, HistoryFull, MaxRecordings, MaxReplays, NeedSettle, StaleSession}
+use Rattle.frame_core.specs.Block.{AreBlockOf, IsBlock, block_ids, covered, end_position}
+use Rattle.segment_store.specs.declared.layout.Layout.{Layout}
+use Rattle.segment_store.specs.Layout.{IsFromStart, IsLayout, file_of}
+use Rattle.segment_store.specs.Stored.{ChangesFile}
+use Rattle.segment_store.proofs.StoredLemmas.{run_covers}
+use Rattle.archive_model.specs.declared.registration.Registration.{Registration}
+use Rattle.archive_model.specs.declared.reply.Reply.{Reply}
+use Rattle.archive_model.specs.declared.reply.Reply.TheVariants.{Written as WrittenReply}
+use Rattle.archive_model.specs.Checks.{block_checks, checks, first_checks, is_of, last_checks, passes}
+use Rattle.archive_model.specs.Commands.{frames_of}
+use Rattle.archive_model.specs.Keyed.{Each, Rise, change, find}
+use Rattle.archive_model.specs.Register as register
+use Rattle.archive_model.specs.Register.{registration_in}
+use Rattle.archive_model.specs.State.{geometry_of, id_of, publication_of}
+use Rattle.archive_model.proofs.RegisterLemmas.{found_number}
+use Rattle.archive_model.proofs.StateLemmas.{each_found}
+use Rattle.archive_model.proofs.StreamLemmas.{ends_in_stream}
+use Rattle.control_core.specs.declared.callers.RecorderSession.{RecorderSession}
+use Rattle.control_core.specs.declared.callers.Writer.{Writer}
+use Rattle.control_core.specs.declared.callers.Written.{Written}
+use Rattle.record_core.specs.Writing.{needs_settle}
+use Rattle.control_core.specs.Callers.{session_number, written_to}
+use Rattle.control_core.specs.Changes.{with_block}
+use Rattle.control_core.specs.Desk.{DeskState}
+use Rattle.control_core.specs.Exact.{Archive, recording_at, span_of}
+use Rattle.control_core.specs.Orderly.{KeepsDesk, LiesBehind, stream_end}
+use Rattle.control_core.specs.Seats.{AreApart, IsWriter}
+use Rattle.control_core.specs.Turns.{continues, is_waiting, part_of, session_in, write_decision, write_tests}
+use Rattle.control_core.proofs.AllowedLemmas.{both, passes_at}
+use Rattle.control_core.proofs.DecidedLemmas.{held}
+use Rattle.control_core.proofs.WriteLemmas.{span_ends}
+use Rattle.engine_core.specs.Consistent.{Stands, StandsBehind}
+use Rattle.engine_core.specs.Recovery.{last_of, layout_of}
+use Rattle.engine_core.proofs.calls.Targets.{HasNoTarget, IsTarget}
+use Rattle.engine_core.proofs.files.FrameLemmas.{apart}
+use Rattle.engine_core.proofs.calls.KnownLemmas.{begins_behind, block_behind, block_from_start, laid_found, layout_laid, one_known, written_behind}
+use Rattle.engine_core.proofs.calls.SettleCallLemmas.{not_so}
+use Rattle.engine_core.proofs.calls.StandLemmas.{frames_behind}
+
+-- ---- where a block is written
+
+one_session : (s t : RecorderSession) → Some s ≡ Some t → s ≡ t
+one_session s t is = cc
+
+pub target_is : (d : DeskState) (n : ℤ) (block : Block) (writer : Option Writer) (w : Writer) (layout : Layout) (end : ℤ) → MatchOption writer (session_in d n ≡ None) (IsWriter n d) → KeepsDesk d.register d.callers
+    → (writer ≡ Some w) × (end ≡ end_position block) × IsBlock (geometry_of w.known.now.descriptor) (publication_of w.known.now.descriptor) block → layout ≡ layout_of w.known.now.descriptor → IsTarget d n block layout end
+target_is d n block writer w layout end found keeps of is =
+    let writes : IsWriter n d w = subst (λ (o : Option Writer). MatchOption o (session_in d n ≡ None) (IsWriter n d)) of.0 found in
+    record {
+      session = w.found.session;
+      registration = w.known.now;
+      found = writes.found.session;
+      known = writes.known;
+      is_block = of.2;
+      layout_is = is;
+      end_is = of.1;
+      keeps = keeps;
+    }
+
+pub untargeted : (d : DeskState) (n : ℤ) (block : Block) (writer : Option Writer)
+    → MatchOption writer (session_in d n ≡ None) (IsWriter n d)
+    → IfSome writer (λ w. IsBlock (geometry_of w.known.now.descriptor) (publication_of w.known.now.descriptor) block → ⊥) → HasNoTarget d n block
+untargeted d n block None found none s r session known is = let no : None ≡ Some s = sym found ∙ session in cc
+untargeted d n block (Some w) found none s r session known is =
+    let same : s ≡ w.found.session = one_session s w.found.session (sym session ∙ found.found.session) in
+    let registration : r ≡ w.known.now = one_known r w.known.now (sym known ∙ ap (λ (x : RecorderSession). registration_in d.register x.recording) same ∙ found.known) in
+    none (subst (λ (x : Registration). IsBlock (geometry_of x.descriptor) (publication_of x.descriptor) block) registration is)
+
+-- ---- what is let through
+
+-- a block that is let through goes on where its session writes, which has not to settle first, and no write has failed
+pub record Lets (d : DeskState) (s : RecorderSession) (w : Written) : Type 0 where
+  pub works : d.is_broken ≡ false
+  pub goes_on : continues d (Some s) w ≡ true
+  pub soon : is_waiting d (Some s) ≡ false
+
+pub lets : (d : DeskState) (n : ℤ) (w : Written) (s : RecorderSession) (reply : Reply)
+    → session_in d n ≡ Some s → write_decision d n w true ≡ Ok reply → Lets d s w
+lets d n w s reply found is =
+    let all : passes (write_tests d n w true) checks ≡ true = (held (write_tests d n w true) checks (WrittenReply w.last) reply is).0 in
+    let soon : not (is_waiting d (session_in d n)) ≡ true = passes_at (write_tests d n w true) (first_checks ++ block_checks) (ActiveReplay ∷ MaxRecordings ∷ MaxReplays ∷ HistoryFull ∷ []) NeedSettle all in
+    record {
+      works = not_so d.is_broken (both (not d.is_broken) _ all).0;
+      goes_on = subst (λ (o : Option RecorderSession). continues d o w ≡ true) found (passes_at (write_tests d n w true) (first_checks ++ BadExtension ∷ []) last_checks BadBlock all);
+      soon = not_so (is_waiting d (Some s)) (subst (λ (o : Option RecorderSession). not (is_waiting d o) ≡ true) found soon);
+    }
+
+-- so it lies in the segment where what is recorded ends
+pub same_segment : (d : DeskState) (s : RecorderSession) (r : Registration)
+    → registration_in d.register s.recording ≡ Some r → is_waiting d (Some s) ≡ false
+    → register.base_of r.descriptor (unsigned_abs (written_to s.written r.recorded)) ≡ register.base_of r.descriptor (unsigned_abs r.recorded)
+same_segment d s r there soon =
+    let test : not (register.base_of r.descriptor (unsigned_abs r.recorded) == register.base_of r.descriptor (unsigned_abs (written_to s.written r.recorded))) ≡ false =
+    subst (λ (o : Option Registration). is_of o (λ known. needs_settle known.descriptor (part_of known s)) ≡ false) there soon in
+    sym (grind (arith, nat_tests, test))
+
+-- a block that is of no session's recording is refused, wherever it lies
+pub is_refused : (d : DeskState) (n : ℤ) (v w : Written) → (refusal : Refusal) × (write_decision d n v false ≡ Err refusal) × (write_decision d n w false ≡ Err refusal)
+is_refused d n v w = by d.is_broken (is_some (session_in d n)) refl refl
+  where
+    by : (b there : Bool) → d.is_broken ≡ b → is_some (session_in d n) ≡ there → (refusal : Refusal) × (write_decision d n v false ≡ Err refusal) × (write_decision d n w false ≡ Err refusal)
+    by true there e f = (Broken, cc, cc)
+    by false false e f = (StaleSession, cc, cc)
+    by false true e f = (BadBlock, cc, cc)
+
+-- ---- what the files and the desk are asked
+
+-- a block ends in its stream
+block_ends : (g : Geometry) (p : Publication) (frames : List Frame) (position : ℤ) → AreBlockOf g p frames position → (position +ℤ pos (covered frames)) ≤ℤ pos (2 ^ 31 * unsigned_abs g.term_length)
+block_ends g p [] position is = absurd is
+block_ends g p (f ∷ fs) position (at, encodable, inl pad) =
+    let alone : covered fs ≡ 0 = ap covered pad.alone in
+    ends_in_stream g f.term_id f.term_offset position (covered (f ∷ fs)) at (omega (arith, ints, pad.inside, alone))
+block_ends g p (f ∷ fs) position (at, encodable, inr run) =
+    let covers = run_covers (block_ids g p f) run.offset run.end (f ∷ fs) run.ends in
+    let end : run.end ≡ run.offset + covered (f ∷ fs) = covers.0 in
+    ends_in_stream g f.term_id f.term_offset position (covered (f ∷ fs)) at (omega (arith, ints, run.begins, end, run.inside))
+
+abbrev pub span_to : Block → ℤ → Written
+span_to block end = record { first = block.position; last = end }
+
+pub span_same : (block : Block) (end at to : ℤ) → block.position ≡ at → end ≡ to → record { first = at; last = to } ≡ span_to block end
+span_same block end at to first last = ap (λ (x : ℤ). record { first = x; last = to }) (sym first) ∙ ap (λ (x : ℤ). span_to block x) (sym last)
+
+module _ (d : DeskState) (n : ℤ) (block : Block) (layout : Layout) (end : ℤ) (at : IsTarget d n block layout end) where
+  pub target_layout : IsLayout layout
+  target_layout = subst IsLayout (sym at.layout_is) (layout_laid at.registration (laid_found d at.session.recording at.registration at.keeps (sym at.known)).laid_out)
+
+  -- its end
+  ends_inside : end_position block ≤ℤ stream_end at.registration
+  ends_inside = block_ends (geometry_of at.registration.descriptor) (publication_of at.registration.descriptor) block.frames block.position at.is_block
+
+  pub span_is : span_of block ≡ span_to block end
+  span_is =
+      let laid = laid_found d at.session.recording at.registration at.keeps (sym at.known) in
+      ap (λ (z : ℤ). span_to block z) (span_ends block at.registration.descriptor.term_length laid.laid_out.layout.term ends_inside ∙ sym at.end_is)
+
+  module _ (reply : Reply) (is : Ok reply ≡ write_decision d n (span_to block end) true) where
+    pub let_through : Lets d at.session (span_to block end)
+    let_through = lets d n (span_to block end) at.session reply at.found (sym is)
+
+    pub from_start : IsFromStart layout block.position
+    from_start = subst (λ (l : Layout). IsFromStart l block.position) (sym at.layout_is) (block_from_start d n at.session at.registration (span_to block end) at.keeps at.found at.known let_through.goes_on)
+
+    lies : (o : Option Written) → at.session.written ≡ o
+        → LiesBehind (with_block (span_to block end) o) at.registration
+    lies o has =
+        let behind : at.registration.recorded ≤ℤ block.position = block_behind d n at.session at.registration (span_to block end) at.keeps at.found at.known let_through.goes_on in
+        let ends = ends_inside in
+        let last = at.end_is in
+        by o has behind (omega (arith, ints, last)) (omega (arith, ints, last, ends))
+      where
+        by : (o : Option Written) → at.session.written ≡ o → at.registration.recorded ≤ℤ block.position → block.position ≤ℤ end → end ≤ℤ stream_end at.registration → LiesBehind (with_block (span_to block end) o) at.registration
+        by None has behind forward inside = record { behind = behind; forward = forward; in_stream = inside }
+        by (Some v) has behind forward inside =
+            let was = written_behind d n at.session at.registration v at.keeps at.found at.known has in
+            let here : block.position ≡ v.last = begins_behind d at.session at.registration (Some v) (span_to block end) at.known has let_through.goes_on in
+            record { behind = was.behind; forward = omega (arith, ints, was.forward, here, forward); in_stream = inside }
+
+    pub lies_behind : IsSomeAnd (session_in d n) (λ s. IsSomeAnd (registration_in d.register s.recording) (LiesBehind (with_block (span_to block end) s.written)))
+    lies_behind =
+        subst (λ (o : Option RecorderSession). IsSomeAnd o (λ s. IsSomeAnd (registration_in d.register s.recording) (LiesBehind (with_block (span_to block end) s.written)))) (sym at.found)
+        (subst (λ (o : Option Registration). IsSomeAnd o (LiesBehind (with_block (span_to block end) at.session.written))) (sym at.known) (lies at.session.written refl))
+
+-- ---- the other sessions
+
+-- another session, which writes another recording
+abbrev pub Other : RecorderSession → RecorderSession → Type 0
+Other s x = (x.number ≢ s.number) × (x.recording ≢ s.recording)
+
+module _ (P Q : RecorderSession → Type 0) (f : RecorderSession → RecorderSession) (n next : ℤ) (s : RecorderSession) (others : (x : RecorderSession) → Other s x → P x → Q x) where
+  rest : (low : ℤ) (xs : List RecorderSession) → s.number <ℤ low → Rise session_number low xs next
+      → Each (λ x. x.recording ≢ s.recording) xs → Each P xs → Each Q xs
+  rest low [] less rising away all = tt
+  rest low (x ∷ xs) less rising away all =
+      let other : x.number ≢ s.number = λ same. omega (arith, ints, less, rising.0, same) in
+      (others x (other, away.0) all.0, rest (x.number +ℤ pos 1) xs (omega (arith, ints, less, rising.0)) rising.1 away.1 all.1)
+
+  -- what holds of the others, and of the session of a number, changed or not, holds of each
+  pub each_other : (low : ℤ) (xs : List RecorderSession) → s.number ≡ n → Rise session_number low xs next → AreApart xs → find session_number n xs ≡ Some s → Each P xs
+      → (Q (f s) → Each Q (change session_number n f xs)) × (Q s → Each Q xs)
+  each_other low [] is rising away found all = absurd cc
+  each_other low (x ∷ xs) is rising away found all =
+      by (int_eq n x.number) refl found (λ there. each_other (x.number +ℤ pos 1) xs is rising.1 away.1 there all.1)
+    where
+      by : (b : Bool) → int_eq n x.number ≡ b → cond b (Some x) (find session_number n xs) ≡ Some s
+          → (find session_number n xs ≡ Some s → (Q (f s) → Each Q (change session_number n f xs)) × (Q s → Each Q xs))
+          → (Q (f s) → Each Q (cond b (f x ∷ xs) (x ∷ change session_number n f xs))) × (Q s → Each Q (x ∷ xs))
+      by true e there later =
+          let same : x ≡ s = cc in
+          let less : s.number <ℤ (x.number +ℤ pos 1) = subst (λ (y : RecorderSession). y.number <ℤ (x.number +ℤ pos 1)) same (omega (arith, ints)) in
+          let tail = rest (x.number +ℤ pos 1) xs less rising.1 (subst (λ (y : RecorderSession). Each (λ z. z.recording ≢ y.recording) xs) same away.0) all.1 in
+          ((λ this. (subst (λ (y : RecorderSession). Q (f y)) (sym same) this, tail)), (λ this. (subst Q (sym same) this, tail)))
+      by false e there later =
+          let other : x.number ≢ s.number = λ same. true≢false (sym ((Decides-int_eq n x.number).1 (sym is ∙ sym same)) ∙ e) in
+          let recording : s.recording ≢ x.recording = each_found session_number (λ z. z.recording ≢ x.recording) n xs s away.0 there in
+          let here = others x (other, λ same. recording (sym same)) all.0 in
+          let behind = later there in
+          ((λ this. (here, behind.0 this)), (λ this. (here, behind.1 this)))
+
+-- what another session wrote stands on where a file of a recording has changed
+pub stands_beside : (old new : Life) (a b : Archive) (x : RecorderSession) (layout : Layout) (position : ℕ) → ChangesFile (file_of layout position) old new → x.recording ≢ layout.recording → b.state ≡ a.state → b.blocks x.number ≡ a.blocks x.number
+    → StandsBehind (reads old.now) a x → StandsBehind (reads new.now) b x
+stands_beside old new a b x layout position changes other state blocks stands r there =
+    let found : recording_at a x.recording ≡ Some r = ap (λ s. find id_of x.recording s.recordings) (sym state) ∙ there in
+    let was = stands r found in
+    let l : Layout = layout_of r.descriptor in
+    let differs : id_of r ≢ layout.recording = λ same. other (sym (found_number id_of x.recording a.state.recordings r found) ∙ same) in
+    let here : Stands (reads new.now) (file_of l (last_of r)) r (frames_of (a.blocks x.number)) = record {
+      holds = frames_behind (reads old.now) (reads new.now) l (frames_of (a.blocks x.number)) 0 (last_of r) (last_of r + covered (frames_of (a.blocks x.number))) (omega (arith))
+          (λ p from. ap (λ (f : FileState). f.reads) (changes.others (file_of l p) (apart r layout p position differs))) was.holds;
+      lie = was.lie;
+    } in
+    subst (λ (bs : List Block). Stands (reads new.now) (file_of l (last_of r)) r (frames_of bs)) (sym blocks) here

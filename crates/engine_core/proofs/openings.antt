@@ -1,0 +1,4 @@
+pub mod OpeningLemmas
+pub mod EntryLaidLemmas
+pub mod RestartLemmas
+pub mod ReopenLemmas

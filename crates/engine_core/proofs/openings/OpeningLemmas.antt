@@ -1,0 +1,260 @@
+-- Files that are synced before they are read.
+use Rattle.std.proofs.Common.{take_all, ◌≡◌, ◌≢◌, ◌⊎◌, ◌∙◌, inl, inr, sym, ap, subst, refl, ℕ, ℤ, pos, ◌+◌, ◌<◌, ◌≤◌, IsSome, List, [], ◌∷◌, ◌++◌, Option, None, Some, Contains, get_or, length, length-append, replicate, take, ◌-◌, add-one, arith}
+use Rattle.std.proofs.lemmas.Int.{ints}
+use Rattle.std.specs.Prelude.{◌↔◌, IfErr, IfOk, IsErrOf, Result, Ok, Err}
+use Rattle.std.proofs.lemmas.List.Elements.{Contains-push_cases}
+use Rattle.std.proofs.Math.Seq.{take-suc}
+use Rattle.disk_core.specs.declared.file_id.FileId.{FileId}
+use Rattle.disk_core.specs.declared.file_id.FileId.TheVariants.{BankA, Segment}
+use Rattle.disk_core.specs.Calls.{IsSynced}
+use Rattle.disk_core.specs.DiskImage.{DiskImage, FileState, Files, MayLeave, bytes_of, durable, reads}
+use Rattle.disk_core.specs.FileNames.{AreFilesWith}
+use Rattle.disk_core.specs.Life.{HasFailed, IsQuiet, Life, LeavesOnly, Steps}
+use Rattle.disk_core.specs.Standing.{Holds}
+use Rattle.disk_core.proofs.CallerLemmas.{goes_on_part, goes_quiet, now_leaves, same_file, started, sync_moments}
+use Rattle.frame_core.specs.declared.frame.Frame.{Frame}
+use Rattle.frame_core.specs.declared.frame.FrameKind.{FrameKind}
+use Rattle.frame_core.specs.declared.frame.FrameKind.TheVariants.{Pad, Message, Heartbeat}
+use Rattle.frame_core.specs.declared.refusal.Refusal.{Refusal}
+use Rattle.frame_core.specs.declared.refusal.Refusal.TheVariants.{BadParameter, Damaged, DeviceFault, NewerVersion, NoMemory, NotCatalogue}
+use Rattle.frame_core.specs.FrameEncoding.{aligned_length, encoded, header_of, stored, stored_as}
+use Rattle.frame_core.proofs.FrameEncodingLemmas.{length-header_of}
+use Rattle.segment_store.specs.declared.layout.Layout.{Layout}
+use Rattle.segment_store.specs.Layout.{base_of, file_of, offset_of}
+use Rattle.segment_store.specs.Stored.{AreDurableFrames, HoldsFrames}
+use Rattle.archive_model.specs.Keyed.{Each}
+use Rattle.archive_model.specs.Register.{no_recordings}
+use Rattle.archive_model.specs.State.{State, empty}
+use Rattle.archive_model.specs.WellFormed.{IsKept, IsOfStream}
+use Rattle.catalogue_log.specs.declared.bank.BankHeader.{BankHeader}
+use Rattle.catalogue_log.specs.declared.entry.Entry.{Entry}
+use Rattle.catalogue_log.specs.Bank.{IsBank}
+use Rattle.catalogue_log.specs.Catalogue.{IsCatalogue, KeepsReads, RefusesBank, RefusesCatalogue, bank_in_use}
+use Rattle.catalogue_log.specs.Fold.{after_entries}
+use Rattle.catalogue_log.specs.LogState.{IsAtRest, IsLogOf, LogState}
+use Rattle.catalogue_log.proofs.OneLemmas.{bank_is_newer, bank_is_none, not_damaged, one_bank}
+use Rattle.engine_core.specs.Opening.{ReadsAsBefore, SyncsOnly}
+use Rattle.engine_core.specs.Recovery.{Folds, HoldsRecording, IsDurable, IsSound, Recovers, first_of, last_of, layout_of}
+use Rattle.engine_core.proofs.files.FrameLemmas.{each_both, each_then, read_durable}
+
+-- a file reads as before
+pub reads_same : (old new : Life) → SyncsOnly old new → (file : FileId)
+    → reads new.now file ≡ reads old.now file
+reads_same old new only file = elim (only.each file) [
+  | inl same ↦ ap (λ (state : FileState). state.reads) same
+  | inr synced ↦ ap (λ (state : FileState). state.reads) synced
+]
+
+-- one that is on the disk as it read stays so
+pub stays_synced : (old mid new : Life) → (file : FileId) → mid.now file ≡ durable (reads old.now file) → SyncsOnly mid new → new.now file ≡ durable (reads old.now file)
+stays_synced old mid new file synced only = elim (only.each file) [
+  | inl same ↦ same ∙ synced
+  | inr again ↦ again ∙ ap (λ (state : FileState). durable state.reads) synced
+]
+
+pub nothing_synced : (old new : Life) → IsQuiet old new → SyncsOnly old new
+nothing_synced old new quiet = record {
+  each = λ file. inl (ap (λ (files : Files). files file) quiet.now);
+  any_moment = goes_quiet old old new (MayLeave old.now) (started old (MayLeave old.now) (λ image left. left)) quiet;
+  obeyed = quiet.obeyed;
+  faults = quiet.faults;
+}
+
+unchanged : (life : Life) → SyncsOnly life life
+unchanged life = record {
+  each = λ file. inl refl;
+  any_moment = started life (MayLeave life.now) (λ image left. left);
+  obeyed = λ obeys. obeys;
+  faults = omega arith;
+}
+
+pub one_synced : (file : FileId) (old new : Life) → MayLeave old.now (reads old.now)
+    → Steps file IsSynced old new → SyncsOnly old new
+one_synced file old new may step = record {
+  each = λ other. elim (same_file other file) [
+    | inl same ↦ subst (λ (f : FileId). (new.now f ≡ old.now f) ⊎ (new.now f ≡ durable (reads old.now f))) (sym same) step.this
+    | inr differs ↦ inl (step.others other differs)
+  ];
+  any_moment = sync_moments file old new may step;
+  obeyed = step.obeyed;
+  faults = step.faults;
+}
+
+pub synced_more : (old mid new : Life) → SyncsOnly old mid → SyncsOnly mid new → SyncsOnly old new
+synced_more old mid new first then = record {
+  each = λ file. elim (first.each file) [
+    | inl same ↦ (elim (then.each file) [
+      | inl again ↦ inl (again ∙ same)
+      | inr synced ↦ inr (synced ∙ ap (λ (state : FileState). durable state.reads) same)
+    ])
+    | inr synced ↦ inr (stays_synced old mid new file synced then)
+  ];
+  any_moment = goes_on_part old mid new (MayLeave old.now) (MayLeave mid.now) first.any_moment then.any_moment (now_leaves old mid (MayLeave old.now) first.any_moment);
+  obeyed = λ obeys. first.obeyed (then.obeyed obeys);
+  faults = omega (arith, first.faults, then.faults);
+}
+
+-- the first so many of the listed segment files are on the disk as they read
+pub record AreSynced (old new : Life) (files : List FileId) : Type 0 where
+  pub only : SyncsOnly old new
+  pub synced : (recording base : ℤ) → Contains files (Segment recording base)
+      → new.now (Segment recording base) ≡ durable (reads old.now (Segment recording base))
+
+pub none_synced : (life : Life) → AreSynced life life []
+none_synced life = record { only = unchanged life; synced = λ recording base has. absurd (omega (arith, has.1)) }
+
+pub next_synced : (old mid new : Life) (files : List FileId) (i : ℕ) (d : FileId)
+    → i < length files → AreSynced old mid (take i files) → SyncsOnly mid new
+    → ((recording base : ℤ) → get_or files i d ≡ Segment recording base → new.now (get_or files i d) ≡ durable (reads mid.now (get_or files i d))) → AreSynced old new (take (i + 1) files)
+next_synced old mid new files i d within so_far only here = record {
+  only = synced_more old mid new so_far.only only;
+  synced = λ recording base has.
+      let more : take (i + 1) files ≡ take i files ++ get_or files i d ∷ [] = rw (add-one, take-suc files i d within) refl in
+      let this : FileId = Segment recording base in
+      elim (Contains-push_cases (take i files) (get_or files i d) this (subst (λ (xs : List FileId). Contains xs this) more has)) [
+        | inl before ↦ stays_synced old mid new this (so_far.synced recording base before) only
+        | inr is ↦
+            let now : new.now this ≡ durable (reads mid.now this) = subst (λ (f : FileId). new.now f ≡ durable (reads mid.now f)) is (here recording base is) in
+            now ∙ ap durable (reads_same old mid so_far.only this)
+      ];
+}
+
+-- so each of the listed ones
+pub all_synced : (old new : Life) (files : List FileId) (i : ℕ) → AreSynced old new (take i files)
+    → length files ≤ i → AreFilesWith (λ file. IsSome (reads old.now file)) files
+    → (recording base : ℤ) → IsSome (reads old.now (Segment recording base)) → new.now (Segment recording base) ≡ durable (reads old.now (Segment recording base))
+all_synced old new files i so_far past all recording base there =
+    let this : FileId = Segment recording base in
+    so_far.synced recording base (subst (λ (xs : List FileId). Contains xs this) (sym (take_all i files past)) ((all.each this).1 there))
+
+-- bytes stand only in a file that is there
+is_there : (file : Option (List ℕ)) (at : ℕ) (bytes : List ℕ) → 0 < length bytes
+    → Holds (bytes_of file) at bytes → IsSome file
+is_there None at bytes some holds = absurd (omega (arith, (holds 0 some).0))
+is_there (Some x) at bytes some holds = refl
+
+stored_some : (kind : FrameKind) (f : Frame) → kind ≢ Heartbeat → 0 < length (stored_as kind f)
+stored_some Pad f other = omega (arith, length-header_of f)
+stored_some Message f other = omega (arith, length-append (encoded f) (replicate (aligned_length f - length (encoded f)) 0), length-append (header_of f) f.payload, length-header_of f)
+stored_some Heartbeat f other = absurd (other refl)
+
+-- each segment file that is there is on the disk as it reads
+abbrev Durable : Life → Life → Type 0
+Durable old new = (recording base : ℤ) → IsSome (reads old.now (Segment recording base)) → new.now (Segment recording base) ≡ durable (reads old.now (Segment recording base))
+
+frames_durable : (old new : Life) (l : Layout) (stream : ℤ) (fs : List Frame) (from to : ℕ) → Durable old new → Each (IsOfStream stream) fs → HoldsFrames (reads old.now) l from fs to → AreDurableFrames new.now l from fs to
+frames_durable old new l stream [] from to synced of_stream holds = holds
+frames_durable old new l stream (f ∷ fs) from to synced of_stream holds =
+    let there : IsSome (reads old.now (file_of l from)) = is_there (reads old.now (file_of l from)) (offset_of l from) (stored f) (stored_some f.kind f of_stream.0.kind) holds.0 in (
+      read_durable (reads old.now (file_of l from)) (new.now (file_of l from)) (offset_of l from) (stored f) (synced l.recording (pos (base_of l from)) there) holds.0,
+      frames_durable old new l stream fs (from + aligned_length f) to synced of_stream.1 holds.1,
+    )
+
+bank_same : (old mid : Life) (h : BankHeader) (entries : List Entry) → SyncsOnly old mid
+    → IsCatalogue (reads mid.now) h entries → IsCatalogue (reads old.now) h entries
+bank_same old mid h entries only catalogue = subst (λ (bank : Option (List ℕ)). IsBank (bytes_of bank) h entries) (reads_same old mid only BankA) catalogue
+
+-- an opened archive is sound for the state that its files recover to
+pub open_sound : (old mid new : Life) (log : LogState) (entries : List Entry) (x : State) → Durable old mid → SyncsOnly old mid → KeepsReads mid new → IsCatalogue (reads mid.now) log.header entries → IsAtRest new.now log entries
+    → Recovers (reads old.now) x → IsSound new.now log x × Folds entries x
+open_sound old mid new log entries x synced only kept found rests recovers = (
+  record {
+    entries = entries;
+    rests = rests;
+    folds = folds;
+    frames = each_then (λ r. IsKept r × HoldsRecording (reads old.now) r) (IsDurable new.now) x.recordings (each_both IsKept (HoldsRecording (reads old.now)) x.recordings recovers.well.kept recovers.frames)
+        (λ r both. frames_durable old new (layout_of r.descriptor) r.descriptor.stream_id r.frames (first_of r) (last_of r) all both.0.of_stream both.1);
+    well = recovers.well;
+  },
+  folds,
+)
+  where
+    folds : Folds entries x
+    folds =
+        let one = one_bank (bank_in_use (reads old.now)) log.header recovers.header entries recovers.entries (bank_same old mid log.header entries only found) recovers.catalogue in
+        ap (after_entries no_recordings) one.1 ∙ recovers.folds
+
+    all : Durable old new
+    all recording base there = kept.others (Segment recording base) (λ is. absurd cc) (λ is. absurd cc) ∙ synced recording base there
+
+-- what opening is refused by
+pub same_refusal : (old mid : Life) (refusal : Refusal) → SyncsOnly old mid
+    → RefusesCatalogue (reads mid.now) refusal → RefusesCatalogue (reads old.now) refusal
+same_refusal old mid refusal only refuses = subst (λ (bank : Option (List ℕ)). RefusesBank (bytes_of bank) refusal) (reads_same old mid only BankA) refuses
+
+pub fault_refuses : (image : DiskImage) (refusal : Refusal)
+    → (refusal ≡ DeviceFault) ⊎ (refusal ≡ NoMemory) → RefusesCatalogue image refusal
+fault_refuses image refusal (inl is) = subst (RefusesCatalogue image) (sym is) tt
+fault_refuses image refusal (inr is) = subst (RefusesCatalogue image) (sym is) tt
+
+-- a bank that has entries is refused by a fault or for want of memory alone
+whole_refusal : (bank : List ℕ) (h : BankHeader) (entries : List Entry) (refusal : Refusal) → IsBank bank h entries → RefusesBank bank refusal → (refusal ≡ DeviceFault) ⊎ (refusal ≡ NoMemory)
+whole_refusal bank h entries (Damaged recording offset) is refuses = absurd (not_damaged bank h entries offset is refuses.1)
+whole_refusal bank h entries NotCatalogue is refuses = absurd (bank_is_none bank h entries refuses is)
+whole_refusal bank h entries NewerVersion is refuses = absurd (bank_is_newer bank h entries refuses is)
+whole_refusal bank h entries DeviceFault is refuses = inl refl
+whole_refusal bank h entries NoMemory is refuses = inr refl
+whole_refusal bank h entries _ is refuses = absurd refuses
+
+pub whole_refused : (image : DiskImage) (x : State) (refusal : Refusal) → Recovers image x
+    → RefusesCatalogue image refusal → (refusal ≡ DeviceFault) ⊎ (refusal ≡ NoMemory)
+whole_refused image x refusal recovers refuses = whole_refusal (bank_in_use image) recovers.header recovers.entries refusal recovers.catalogue refuses
+
+-- each file reads as before
+
+pub read_synced : (old new : Life) → SyncsOnly old new → ReadsAsBefore old new
+read_synced old new only = record { same = reads_same old new only; any_moment = only.any_moment; obeyed = only.obeyed; faults = only.faults }
+
+pub read_opened : (old mid new : Life) → SyncsOnly old mid → KeepsReads mid new
+    → LeavesOnly mid new (MayLeave mid.now) → ReadsAsBefore old new
+read_opened old mid new only kept moments = record {
+  same = λ file. kept.reads file ∙ reads_same old mid only file;
+  any_moment = goes_on_part old mid new (MayLeave old.now) (MayLeave mid.now) only.any_moment moments (now_leaves old mid (MayLeave old.now) only.any_moment);
+  obeyed = λ obeys. only.obeyed (kept.obeyed obeys);
+  faults = omega (arith, only.faults, kept.faults);
+}
+
+-- the log is that of the bank as it read before
+pub log_read : (old new : Life) (log : LogState) (entries : List Entry) → ReadsAsBefore old new
+    → IsAtRest new.now log entries → IsLogOf (bank_in_use (reads old.now)) log entries
+log_read old new log entries before rests =
+    let same : rests.bank ≡ bank_in_use (reads old.now) = sym (ap (λ (state : FileState). bytes_of state.reads) rests.on_disk) ∙ ap bytes_of (before.same BankA) in
+    subst (λ (bank : List ℕ). IsLogOf bank log entries) same rests.is_log
+
+-- two facts of a value, where there is one
+pub ok_both : {X E : Type 0} (result : Result X E) (P Q R : X → Type 0)
+    → ((x : X) → P x → Q x → R x) → IfOk result P → IfOk result Q → IfOk result R
+ok_both (Ok x) P Q R follows here there = follows x here there
+ok_both (Err e) P Q R follows here there = tt
+
+-- an archive without recordings
+
+pub new_sound : (files : Files) (log : LogState) → IsAtRest files log [] → IsSound files log empty
+new_sound files log rests = record { entries = []; rests = rests; folds = refl; frames = tt; well = record { rising = omega (arith, ints); kept = tt } }
+
+-- no file is there where none is listed
+pub none_there : (life : Life) (files : List FileId) → files ≡ [] → AreFilesWith (λ file. IsSome (reads life.now file)) files → (file : FileId) → reads life.now file ≡ None
+none_there life files none all file = by (reads life.now file) refl
+  where
+    by : (o : Option (List ℕ)) → reads life.now file ≡ o → o ≡ None
+    by None is = refl
+    by (Some bytes) is =
+        let has : Contains files file = (all.each file).1 (subst (λ (x : Option (List ℕ)). IsSome x) (sym is) refl) in
+        absurd (omega (arith, has.1, ap length none))
+
+-- one is there where some are listed
+pub one_there : (life : Life) (files : List FileId) → (files ≡ [] → ⊥) → AreFilesWith (λ file. IsSome (reads life.now file)) files → (file : FileId) × IsSome (reads life.now file)
+one_there life [] some all = absurd (some refl)
+one_there life (file ∷ files) some all = (file, (all.each file).0 (0, omega arith, refl))
+
+-- a new catalogue is refused by a fault alone, where the limit is in its range
+pub only_fault : {X : Type 0} (result : Result X Refusal) (old new : Life) (limit : ℕ) → 1 ≤ limit
+    → limit ≤ 16777216 → (IsErrOf result BadParameter ↔ ((limit < 1) ⊎ (16777216 < limit)))
+    → IfErr result (λ refusal. ((refusal ≡ BadParameter) × (new ≡ old)) ⊎ ((refusal ≡ DeviceFault) × HasFailed old new)) → IfErr result (λ refusal. (refusal ≡ DeviceFault) × HasFailed old new)
+only_fault (Ok log) old new limit some most range refused = tt
+only_fault (Err refusal) old new limit some most range (inl bad) = absurd (elim (range.0 (ap Err bad.0)) [ inl low ↦ omega (arith, low, some) | inr high ↦ omega (arith, high, most) ])
+only_fault (Err refusal) old new limit some most range (inr fault) = fault
+
+pub empty_list : (files : List FileId) → length files ≡ 0 → files ≡ []
+empty_list [] none = refl
+empty_list (file ∷ files) none = absurd (omega (arith, none))
