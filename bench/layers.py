@@ -8,13 +8,12 @@ bytes are written to segment files and synced, and each of their 100,004 frames 
 64 bytes, with a sync after each ten, to one file and to 64 in turn. The best of five runs counts, less the run that only makes
 what is measured.
 """
-import os
 import subprocess
 import sys
 from pathlib import Path
 
 from measure import compiled, most_memory, seconds
-from tool import ROOT, Fault, room
+from tool import ROOT, Fault, needs, room
 
 PROGRAM = ROOT / "crates/layer_measures/out/layer_measures"
 RUNS, OPENINGS, ENTRIES = 5, 20, 100_000
@@ -54,8 +53,7 @@ def measure_disk() -> None:
 
 
 def main() -> int:
-    if not os.access(PROGRAM, os.X_OK):
-        sys.exit(f"there is no program {PROGRAM}")
+    needs(PROGRAM)
     with room() as work:
         measure_catalogue(work)
         measure_segments()

@@ -17,7 +17,7 @@ import sys
 from pathlib import Path
 
 from measure import most_memory
-from tool import ROOT, file_system, room
+from tool import ROOT, file_system, needs, room
 
 PROGRAM = ROOT / "crates/lock_trials/out/lock_trials"
 # Size, disk, blocks, and for each ratio what it has to be at least, if anything.
@@ -56,8 +56,7 @@ def main() -> int:
     words = argparse.ArgumentParser(description=__doc__, formatter_class=argparse.RawDescriptionHelpFormatter)
     words.add_argument("--runs", type=int, default=5)
     asked = words.parse_args()
-    if not os.access(PROGRAM, os.X_OK):
-        sys.exit(f"there is no program {PROGRAM}")
+    needs(PROGRAM)
     is_slow = False
     with room() as work:
         print(f"{file_system(work)}, {os.cpu_count()} processors, medians of {asked.runs}", flush=True)

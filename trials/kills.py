@@ -20,13 +20,12 @@ from collections.abc import Iterable, Iterator
 from contextlib import suppress
 from pathlib import Path
 
-from tool import MTU, Fault, Stream, aligned, file_system, program, room, run
+from tool import MOST_AT_ONCE, MTU, Fault, Stream, aligned, file_system, program, room, run
 
 STREAM = Stream(term_length=65_536, segment_length=131_072)
 LONGEST_LIFE = 0.3  # seconds from a writer's first answer, or one time in four from its start, to its kill
 LONGEST_OPENING = 0.02  # seconds from the start of an opening to its kill
 AHEAD = 0, 0, 2, 12  # lines that a writer is sent ahead of its answers, by chance one of these
-MOST_AT_ONCE = 4_096  # frames of a poll
 BATCHES = 0.3  # how often blocks are settled together
 MOST_IN_BATCH = 16  # blocks of these
 

@@ -12,7 +12,6 @@ ended, at the end of everything and by `verify`. Behind it there may be at most 
 and kills, and ends with status 1 where anything is wrong.
 """
 import argparse
-import os
 import random
 import signal
 import subprocess
@@ -20,7 +19,7 @@ import sys
 import time
 from pathlib import Path
 
-from tool import ROOT, Fault, Stream, expect, file_system, program, room, run
+from tool import ROOT, Fault, Stream, expect, file_system, needs, program, replayed, room, run
 
 THREADS = ROOT / "crates/lock_trials/out/lock_trials"
 STREAM = Stream(term_length=65_536, segment_length=65_536)
@@ -28,7 +27,6 @@ HISTORY = 16_777_216
 FRAME = 64  # bytes of a recorded frame
 MOST_TOGETHER = 6  # blocks of a settle
 WORDS = ["started", "extended", "settled", "stopped", "truncated", "purged", "purged-recording", "swept 1"]
-MOST_AT_ONCE = 4_096  # frames of a poll
 CHANNEL = "c"
 
 
@@ -54,11 +52,6 @@ class Recording:
         self.is_known = False
         self.settled = 0
         self.looked = 0  # up to where its frames were looked at
-
-    def frame(self, position: int) -> str:
-        """How a poll tells the frame at a position."""
-        payload = position.to_bytes(8, "little") + self.number.to_bytes(8, "little")
-        return f"frame {position} {STREAM.message(position, payload).hex()}"
 
 
 class Storm:
@@ -121,11 +114,8 @@ class Storm:
     def replay(self, recording: Recording, begin: int) -> None:
         """Replays a recording from a position to its end."""
         frames = (recording.settled - begin) // FRAME
-        polls = [f"poll 0 {MOST_AT_ONCE}"] * (frames // MOST_AT_ONCE + 1)
-        told = run([self.tool, "run", self.folder], [f"replay {recording.number} {begin} -1", *polls])
-        told = [line for line in told if line.startswith("frame ")]
-        right = [recording.frame(position) for position in range(begin, recording.settled, FRAME)]
-        if told != right:
+        right = [STREAM.numbered(recording.number, position) for position in range(begin, recording.settled, FRAME)]
+        if replayed(self.tool, self.folder, recording.number, begin, frames) != right:
             raise Fault(f"recording {recording.number}: not the {frames} frames from {begin} on that were answered")
         recording.looked = recording.settled
 
@@ -170,8 +160,7 @@ def main() -> int:
     words.add_argument("--kills", type=int, default=20)
     words.add_argument("--calls", type=int, default=100_000)
     asked = words.parse_args()
-    if not os.access(THREADS, os.X_OK):
-        sys.exit(f"there is no program {THREADS}")
+    needs(THREADS)
     print(f"seed {asked.seed}", flush=True)
     runs(asked.runs, asked.seed)
     killed(program(asked.program), asked.seed, asked.kills, asked.calls)

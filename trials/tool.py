@@ -13,6 +13,7 @@ from dataclasses import dataclass
 from pathlib import Path
 
 ROOT = Path(__file__).resolve().parent.parent
+MOST_AT_ONCE = 4_096  # frames of a poll
 STREAM_ID, SESSION_ID, INITIAL_TERM, MTU, TIMESTAMP = 1_001, 7, 42, 1_408, 1_000
 
 # What a command tells on standard error where nothing has failed: docs/CONTROL.md, "Standard error".
@@ -27,11 +28,17 @@ class Fault(Exception):
     """What a script found wrong."""
 
 
+def needs(*programs: Path) -> None:
+    """Ends the script where one of these programs isn't built."""
+    for path in programs:
+        if not os.access(path, os.X_OK):
+            sys.exit(f"there is no program {path}")
+
+
 def program(named: str | None) -> Path:
     """The program that was named, else that of ARCHIVE_TOOL, else the built one."""
     path = Path(named or os.environ.get("ARCHIVE_TOOL") or ROOT / "crates/archive_tool/out/archive_tool").resolve()
-    if not os.access(path, os.X_OK):
-        sys.exit(f"there is no program {path}")
+    needs(path)
     return path
 
 
@@ -86,6 +93,11 @@ class Stream:
     def message(self, position: int, payload: bytes) -> bytes:
         """The encoding of a data frame."""
         return self.header(position, 32 + len(payload), 1) + payload
+
+    def numbered(self, recording: int, position: int) -> str:
+        """How a poll tells the frame at a position, whose payload is that position and its recording's number."""
+        payload = position.to_bytes(8, "little") + recording.to_bytes(8, "little")
+        return f"frame {position} {self.message(position, payload).hex()}"
 
     def start(self, channel: str, position: int = 0) -> str:
         """The line that starts a recording."""
@@ -144,6 +156,13 @@ def run(words: Sequence[str | Path], lines: Iterable[str] = (), failed: Sequence
     if ended.returncode != 0 or not is_told:
         raise Fault(f"{' '.join(map(str, words[1:]))} ended with status {ended.returncode}: {ended.stderr.strip()}")
     return ended.stdout.splitlines()
+
+
+def replayed(tool: Path, folder: Path, recording: int, begin: int, frames: int) -> list[str]:
+    """The frames that a replay of a recording tells from a position on, by polls enough for so many."""
+    polls = [f"poll 0 {MOST_AT_ONCE}"] * (frames // MOST_AT_ONCE + 1)
+    told = run([tool, "run", folder], [f"replay {recording} {begin} -1", *polls])
+    return [line for line in told if line.startswith("frame ")]
 
 
 class Session:

@@ -1,0 +1,91 @@
+//! Receivers with their recorders, whose runs nothing ends from outside.
+
+ghost use Rattle.std.specs.Prelude.{◌≡◌};
+ghost use Rattle.agents_core.specs.Runs.{AreSeated};
+
+use agents_core::{
+    Agents, BlockSource, FrameSink, Gate, Receiver, Recorder, RecorderSeat, run_agents,
+};
+use archive_lock::{Naming, SharedArchive};
+use archive_model::PolledFrame;
+use disk_core::Disk;
+use frame_core::Refusal;
+use position_board::Board;
+use std::alloc::{AllocError, Global};
+use std::sync::Wait;
+use std::thread::Threads;
+
+/// A gate that is always open.
+struct Open;
+
+impl Gate for Open {
+    fn turn(&self, agent: u32) -> bool {
+        let _ = agent;
+        true
+    }
+}
+
+/// The sink of no replayer.
+#[derive(Drop)]
+struct NoSink;
+
+impl FrameSink for NoSink {
+    ghost use Rattle.std.specs.Prelude.{⊤};
+
+    ghost takes = { λ old frames more new. ⊤ };
+
+    fn take(&mut self, frames: &[PolledFrame]) -> bool {
+        let _ = frames;
+        false
+    }
+}
+
+/// One recorder more.
+#[tactic(auto, using(crate::proofs::EachLemmas::each_push))]
+pub(crate) fn add<A: Naming>(
+    recorders: &mut Vec<Recorder>,
+    board: &Board,
+    seat: RecorderSeat,
+) -> Result<(), AllocError>
+    requires seated { AreSeated A.table board.now recorders.old.items }
+    requires pass { seat.pass.table ≡ A.table }
+    requires writer { seat.writer.table ≡ board.now }
+    ensures { AreSeated A.table board.now recorders.new.items }
+{
+    recorders.push(Recorder {
+        seat,
+        refused: None,
+    })?;
+    Ok(())
+}
+
+/// Runs pairs until each has ended: the first refusal of a recorder, if there is one.
+pub(crate) fn run<
+    S: BlockSource + Drop + Send,
+    D: Disk + Drop + Send,
+    A: Naming + Send + Sync,
+    R: Threads + Wait + Sync,
+>(
+    rt: &R,
+    alloc: Global,
+    archive: &SharedArchive<D, A>,
+    board: &Board,
+    receivers: Vec<Receiver<S>>,
+    recorders: Vec<Recorder>,
+) -> Result<(), Refusal>
+    requires { AreSeated A.table board.now recorders.items }
+{
+    let agents = Agents::<S, NoSink> {
+        receivers,
+        recorders,
+        replayers: Vec::new(alloc),
+    };
+    let (agents, outcome) = run_agents(rt, alloc, archive, board, agents, &Open);
+    outcome?;
+    for recorder in agents.recorders {
+        if let Some(refusal) = recorder.refused {
+            return Err(refusal);
+        }
+    }
+    Ok(())
+}

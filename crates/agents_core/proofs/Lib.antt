@@ -1,0 +1,8 @@
+pub mod HandoffLemmas
+pub mod AnswerLemmas
+pub mod SeatLemmas
+pub mod ReceiverLemmas
+pub mod RecorderLemmas
+pub mod ReplayerLemmas
+pub mod RunLemmas
+mod SourceLemmas

@@ -1,0 +1,65 @@
+use Rattle.std.proofs.Common.{◌≡◌, ◌∙◌, ◌++◌, ◌∷◌, rules, arith, ℤ, List, inl, inr, w64, to_z, of_z, [], Ok, Err, None, Some, ap, refl, subst, sym, true≢false}
+use Rattle.std.proofs.lemmas.Int.{ints, to_z-of_z}
+use Rattle.std.proofs.lemmas.List.{append-nil}
+use Rattle.frame_core.specs.declared.refusal.Refusal.TheVariants.{NoMemory}
+use Rattle.control_core.specs.declared.event.Event.{Event}
+use Rattle.control_core.specs.declared.event.Event.TheVariants.{ReplayPoll}
+use Rattle.position_board.specs.Positions.{Seen}
+use Rattle.archive_lock.specs.History.{EndsWithAnswer}
+use Rattle.agents_core.specs.Replayers.{frames_of_reply}
+use Rattle.agents_core.proofs.AnswerLemmas.{poll_told}
+use Rattle.agents_core.proofs.ReplayerLemmas.{turn_polled, turn_refused}
+use Rattle.agents_core.proofs.replayer.Replayer.turn.Goals as goal
+
+pub returns-then-is_err : goal.returns-then-is_err
+returns-then-is_err g c =
+    let old = c.args.self.now in (
+      Some NoMemory,
+      record {
+        calls = [];
+        own = sym (append-nil old.pass.own);
+        polls = tt;
+        taken = refl;
+        added = [];
+        looked = ◌∙◌ {A = List ℤ} c.reserve.ensures.items (sym (append-nil old.looked.items));
+        looks = inl refl;
+        rising = omega (arith, ints);
+        stops = inr refl;
+        refused = refl;
+        replay = refl;
+        max = refl;
+        slot = refl;
+        pass = refl;
+        reader = refl;
+      },
+      λ on. absurd (true≢false (sym on)),
+    )
+
+pub polled-frames-requires : goal.polled-frames-requires
+polled-frames-requires g c = poll_told g.A.Naming.opening c.args.self.now.pass c.call.new.pass _ _ (Ok c.in-Ok.reply) c.in-Ok.ensures.answers
+
+pub returns-in-Ok : goal.returns-in-Ok
+returns-in-Ok g c =
+    let now = c.args.self.now in
+    let position : to_z w64 (of_z w64 c.look-position.result) ≡ c.look-position.result = to_z-of_z w64 c.look-position.result (search rules) in
+    let kept : c.push_reserved.new.self.items ≡ now.looked.items ++ c.look-position.result ∷ [] = ◌∙◌ {A = List ℤ} c.push_reserved.ensures.items (λ i. c.reserve.ensures.items i ++ position i ∷ []) in
+    let poll : ReplayPoll (to_z w64 (of_z w64 now.replay)) (to_z w64 (of_z w64 now.max)) ≡ ReplayPoll now.replay now.max = (λ i. ReplayPoll (to_z-of_z w64 now.replay (search rules) i) (to_z-of_z w64 now.max (search rules) i)) in
+    let table : c.look-position.new.reader.table ≡ now.reader.table = ap (λ (r : Seen). r.table) c.look-position.ensures.seen in
+    let frames : c.as_slice.result.now ≡ frames_of_reply c.in-Ok.reply = (search rules) in
+    let ran = turn_polled g.K.FrameSink.takes g.A.Naming.opening c.args.self.now
+    (record { pass = c.call.new.pass; replay = c.args.self.now.replay; max = c.args.self.now.max; reader = c.look-position.new.reader; slot = c.args.self.now.slot; sink = c.take.new.self; looked = c.push_reserved.new.self; refused = c.args.self.now.refused })
+    c.look-position.result kept c.look-position.ensures.rises c.look-position.ensures.now refl refl refl c.call.ensures.pass.0 table c.in-Ok.reply c.as_slice.result.now c.take.result (subst (λ (e : Event). EndsWithAnswer g.A.Naming.opening now.pass e (Ok c.in-Ok.reply) c.call.new.pass) poll (c.in-Ok.ensures.answers tt)) frames c.take.ensures refl in
+    (None, ran, λ on. refl)
+
+pub returns : goal.returns
+returns g c =
+    let now = c.args.self.now in
+    let position : to_z w64 (of_z w64 c.look-position.result) ≡ c.look-position.result = to_z-of_z w64 c.look-position.result (search rules) in
+    let kept : c.push_reserved.new.self.items ≡ now.looked.items ++ c.look-position.result ∷ [] = ◌∙◌ {A = List ℤ} c.push_reserved.ensures.items (λ i. c.reserve.ensures.items i ++ position i ∷ []) in
+    let poll : ReplayPoll (to_z w64 (of_z w64 now.replay)) (to_z w64 (of_z w64 now.max)) ≡ ReplayPoll now.replay now.max = (λ i. ReplayPoll (to_z-of_z w64 now.replay (search rules) i) (to_z-of_z w64 now.max (search rules) i)) in
+    let table : c.look-position.new.reader.table ≡ now.reader.table = ap (λ (r : Seen). r.table) c.look-position.ensures.seen in
+    let e = c.in-Err.ensures in
+    let ran = turn_refused g.K.FrameSink.takes g.A.Naming.opening c.args.self.now
+    (record { pass = c.call.new.pass; replay = c.args.self.now.replay; max = c.args.self.now.max; reader = c.look-position.new.reader; slot = c.args.self.now.slot; sink = c.args.self.now.sink; looked = c.push_reserved.new.self; refused = Some c.in-Err.refusal })
+    c.look-position.result kept c.look-position.ensures.rises c.look-position.ensures.now refl refl refl c.call.ensures.pass.0 table c.in-Err.refusal (λ noted. subst (λ (e : Event). EndsWithAnswer g.A.Naming.opening now.pass e (Err c.in-Err.refusal) c.call.new.pass) poll (e.answers noted)) (λ none. e.unnoted (ap Err none)) refl refl in
+    (Some c.in-Err.refusal, ran, λ on. absurd (true≢false (sym on)))

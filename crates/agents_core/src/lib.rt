@@ -1,0 +1,30 @@
+//! Agents, each in a thread of its own: receivers, recorders and replayers.
+#![tactic(auto)]
+
+mod agents;
+mod block_source;
+mod datagram_end;
+mod frame_sink;
+mod gate;
+mod handoff;
+mod image_source;
+mod item;
+mod receiver;
+mod recorder;
+mod replayer;
+mod run;
+mod seat;
+
+pub use agents::Agents;
+pub use block_source::BlockSource;
+pub use datagram_end::DatagramEnd;
+pub use frame_sink::FrameSink;
+pub use gate::Gate;
+pub use handoff::{Handoff, MAX_WAITING, Putter, Taker};
+pub use image_source::ImageSource;
+pub use item::Item;
+pub use receiver::Receiver;
+pub use recorder::Recorder;
+pub use replayer::Replayer;
+pub use run::run_agents;
+pub use seat::RecorderSeat;

@@ -1,0 +1,7 @@
+//! Tests of agents: what no clause says.
+#![tactic(auto)]
+
+#[cfg(test)]
+mod agents;
+#[cfg(test)]
+mod sources;

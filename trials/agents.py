@@ -1,0 +1,151 @@
+#!/usr/bin/env python3
+"""Agents in threads: the scenario of agents_tests in which they wait for each other, and followed positions behind a kill.
+
+Usage: trials/agents.py [--seed S] [--runs N] [--kills N] [program]. First: cd crates/agent_trials && rt run -- look 1, and
+cd crates/agents_tests && rt test
+
+Two recorders and two replayers, the first of each waiting for the other, run again and again: agents on one thread would end a
+wait by its limit. Then two recorders with their receivers record into a folder, and a follower writes each position down that
+it sees; the process is killed (SIGKILL) at a random moment. What was written down has to be there, by the program that was
+named: `list`, a replay of each recording from where the last look ended, and at the end of everything `verify`.
+"""
+import argparse
+import random
+import signal
+import subprocess
+import sys
+import time
+from pathlib import Path
+
+from tool import ROOT, Fault, Stream, expect, file_system, needs, program, replayed, room, run
+
+AGENTS = ROOT / "crates/agent_trials/out/agent_trials"
+TESTS = ROOT / "crates/agents_tests/out/agents_tests_tests"
+SCENARIO = "agents::two_recorders_and_two_replayers"
+STREAM = Stream(term_length=65_536, segment_length=65_536)
+HISTORY = 16_777_216
+FRAME = 64  # bytes of a recorded frame
+BLOCKS = 10**9  # more than a process comes to record
+FEW_BLOCKS = 50  # of a process that ends by itself
+
+
+def scenario(runs: int) -> None:
+    """Runs the scenario so often; each run has to end well."""
+    for index in range(runs):
+        ended = subprocess.run([TESTS, SCENARIO], capture_output=True, text=True)
+        if ended.returncode:
+            raise Fault(f"run {index} of {SCENARIO}: status {ended.returncode}, {ended.stdout}{ended.stderr}")
+    print(f"{runs} runs of {SCENARIO}", flush=True)
+
+
+class Followed:
+    """An archive that two recorders write, and the positions that their follower wrote down."""
+
+    def __init__(self, tool: Path, folder: Path, seed: int) -> None:
+        self.tool, self.folder = tool, folder
+        self.chance = random.Random(seed)
+        self.seen = [0, 0]
+        self.looked = [0, 0]  # up to where frames were looked at
+        self.lines = self.kills = self.more = 0
+
+    def note(self, line: str) -> None:
+        """Takes a position that was seen."""
+        word, slot, position = line.split()
+        number, at = int(slot), int(position)
+        expect("a line", word, "seen")
+        if at < self.seen[number] or at % FRAME:
+            raise Fault(f"{line.strip()}: it was at {self.seen[number]} before")
+        self.seen[number] = at
+        self.lines += 1
+
+    def follow(self, blocks: int, most: int | None) -> None:
+        """A process of so many blocks, which is killed behind so many lines, if a number is given."""
+        follower = subprocess.Popen([AGENTS, "folder", self.folder, str(blocks)], stdout=subprocess.PIPE, text=True)
+        told, last = 0, ""
+        for line in follower.stdout:
+            if not line.endswith("\n"):
+                break
+            if line == "ended\n":
+                last = line
+                continue
+            self.note(line)
+            told += 1
+            if told == most:
+                time.sleep(self.chance.uniform(0, 0.005))
+                follower.kill()
+        status = follower.wait()
+        right = ("", -signal.SIGKILL) if most else ("ended\n", 0)
+        expect("how a process ended", (last, status), right)
+
+    def look(self) -> None:
+        """What was seen is there; what was settled and not seen may be."""
+        stops = [int(line.split()[5]) for line in run([self.tool, "list", self.folder])[:-1]]
+        if len(stops) < 2 and max(self.seen) > 0:
+            raise Fault(f"{len(stops)} recordings are there")
+        for number, stop in enumerate(stops):
+            if stop < self.seen[number] or stop % FRAME:
+                raise Fault(f"recording {number}: seen at {self.seen[number]}, it stopped at {stop}")
+            self.more += stop > self.seen[number]
+            self.seen[number] = stop
+            self.replay(number, self.looked[number])
+            self.looked[number] = stop
+
+    def replay(self, number: int, begin: int) -> None:
+        """Replays a recording from a position to its end."""
+        frames = (self.seen[number] - begin) // FRAME
+        right = [STREAM.numbered(number, position) for position in range(begin, self.seen[number], FRAME)]
+        if replayed(self.tool, self.folder, number, begin, frames) != right:
+            raise Fault(f"recording {number}: not the {frames} frames from {begin} on that were recorded")
+
+    def round(self) -> None:
+        """A process that is killed, and what it left."""
+        self.follow(BLOCKS, self.chance.randint(20, 2_000))
+        self.kills += 1
+        self.look()
+
+    def end(self) -> None:
+        """A process that ends by itself: its last look saw all that it recorded."""
+        before = list(self.seen)
+        self.follow(FEW_BLOCKS, None)
+        expect("what was seen last", self.seen, [position + FEW_BLOCKS * FRAME for position in before])
+        self.look()
+        right = [f"verified {position // FRAME}" for position in self.seen]
+        expect("verify", run([self.tool, "verify", self.folder]), right)
+        for number in range(2):
+            self.replay(number, 0)
+
+
+def killed(tool: Path, seed: int, kills: int) -> None:
+    """Kills a process so often, and looks at what it left."""
+    with room() as folder:
+        followed = Followed(tool, folder, seed)
+        try:
+            run([tool, "create", folder, "--history", str(HISTORY)])
+            while followed.kills < kills:
+                followed.round()
+            followed.end()
+        except Fault as fault:
+            raise Fault(f"behind {followed.lines} positions and {followed.kills} kills: {fault}") from fault
+        print(f"two recorders and a follower over {file_system(folder)}: {followed.lines} positions written down, "
+              f"{followed.kills} kills, each is there; {followed.more} times more was recorded than was seen")
+
+
+def main() -> int:
+    words = argparse.ArgumentParser(description=__doc__, formatter_class=argparse.RawDescriptionHelpFormatter)
+    words.add_argument("program", nargs="?", help="else that of ARCHIVE_TOOL, else the built one")
+    words.add_argument("--seed", type=int, default=random.SystemRandom().randrange(10**6))
+    words.add_argument("--runs", type=int, default=100)
+    words.add_argument("--kills", type=int, default=20)
+    asked = words.parse_args()
+    needs(AGENTS, TESTS)
+    print(f"seed {asked.seed}", flush=True)
+    scenario(asked.runs)
+    killed(program(asked.program), asked.seed, asked.kills)
+    return 0
+
+
+if __name__ == "__main__":
+    try:
+        sys.exit(main())
+    except Fault as fault:
+        sys.exit(str(fault))
