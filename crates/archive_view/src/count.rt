@@ -1,0 +1,79 @@
+//! How many frames a recording has: docs/STORAGE.md, "Damaged frames".
+
+ghost use Rattle.std.specs.Prelude.{◌≡◌, ◌↔◌, IfErr, IfOk, None, Some};
+ghost use Rattle.frame_core.specs.declared.refusal.Refusal.TheVariants.{UnknownRecording};
+ghost use Rattle.archive_model.specs.Register.{registration_in};
+ghost use Rattle.control_core.specs.Orderly.{IsLaid};
+ghost use Rattle.archive_view.specs.View.{HasFrames};
+ghost use Rattle.archive_view.specs.ReadOnly.{Looks, Refuses};
+ghost use Rattle.engine_core.specs.Reading.{RefusesCount};
+ghost use Rattle.engine_core.specs.Recovery.{layout_of};
+ghost use Rattle.disk_core.specs.DiskImage.{reads};
+ghost use Rattle.disk_core.specs.Life.{HasFailed, IsQuiet};
+ghost use Rattle.std.specs.Prelude.{IsErrOf, IsTrue};
+ghost use Rattle.frame_core.specs.declared.refusal.Refusal.TheVariants.{DeviceFault};
+
+use crate::{ArchiveView, ReadOnly};
+use archive_model::{Descriptor, Registration};
+use disk_core::Disk;
+use frame_core::Refusal;
+use segment_store::{Layout, read_frame};
+use std::alloc::Global;
+
+impl<D: Disk> ArchiveView<D> {
+    ghost use Rattle.archive_view.specs.Viewed.{desk_of, read_of};
+    ghost use Rattle.archive_view.specs.Verified.{HasVerified};
+
+    /// How many frames a recording has, from its start to its recorded position: each is read.
+    ///
+    /// `UnknownRecording` where it isn't there; `Damaged` with the position at which the frames break off; `DeviceFault`;
+    /// `NoMemory`. The disk is only read. Costs what each frame costs. docs/STORAGE.md, "Damaged frames".
+    pub fn verify(&mut self, alloc: Global, recording: &i64) -> Result<i64, Refusal>
+        ensures { HasVerified D.life self.old self.new recording.now result }
+    {
+        let Some(known) = self.desk.recording(recording) else {
+            return Err(Refusal::UnknownRecording);
+        };
+        count_frames(alloc, &mut self.disk, known)
+    }
+}
+
+/// Where the frames of a recording lie.
+pub(crate) fn layout_of(descriptor: &Descriptor) -> Layout
+    ensures { result ≡ layout_of descriptor.now }
+{
+    Layout {
+        recording: descriptor.recording,
+        stream_id: descriptor.stream_id,
+        start_position: descriptor.start_position,
+        term_length: descriptor.term_length,
+        segment_length: descriptor.segment_length,
+    }
+}
+
+/// How many frames a recording has: each is read. `Damaged` with the position at which they break off; `DeviceFault`;
+/// `NoMemory`.
+fn count_frames<D: Disk>(
+    alloc: Global,
+    disk: &mut D,
+    registration: &Registration,
+) -> Result<i64, Refusal>
+    requires { IsLaid registration.now }
+    ensures count { IfOk result (λ count. IsTrue (D.life disk.new).obeys →
+        HasFrames (reads (D.life disk.old).now) registration.now count) }
+    ensures refused { IfErr result (RefusesCount (D.life disk.new).obeys (reads (D.life disk.old).now) registration.now) }
+    ensures quiet { IsQuiet (D.life disk.old) (D.life disk.new) }
+    ensures cause { IsErrOf result DeviceFault → HasFailed (D.life disk.old) (D.life disk.new) }
+{
+    let layout = layout_of(&registration.descriptor);
+    let geometry = registration.descriptor.geometry();
+    let recorded = registration.recorded;
+    let mut at = layout.start_position;
+    let mut count = 0;
+    'frames: while at < recorded {
+        let frame = read_frame(alloc, disk, &layout, &geometry, at, recorded)?;
+        at += frame.aligned_length() as i64;
+        count += 1;
+    }
+    Ok(count)
+}

@@ -1,0 +1,10 @@
+//! An archive as it stands on a disk that is only read.
+#![tactic(auto)]
+
+mod count;
+mod files;
+mod read_only;
+mod view;
+
+pub use read_only::ReadOnly;
+pub use view::{ArchiveView, ViewRefusal};

@@ -1,0 +1,112 @@
+//! An archive as it stands: docs/STORAGE.md, "Looking at an archive".
+
+ghost use Rattle.std.specs.Prelude.{◌≡◌, ◌⊎◌, ℕ, IfErr, IfOk, IsErrOf, IsTrue, MatchResult, length};
+ghost use Rattle.frame_core.specs.declared.refusal.Refusal.TheVariants.{DeviceFault};
+ghost use Rattle.catalogue_log.specs.Catalogue.{RefusesCatalogue};
+ghost use Rattle.archive_view.specs.View.{IsAsCatalogued, TellsMoved};
+ghost use Rattle.archive_view.specs.ReadOnly.{Looks, Refuses};
+
+use crate::ReadOnly;
+use catalogue_log::register_from;
+use control_core::Desk;
+use disk_core::Disk;
+use frame_core::Refusal;
+use std::alloc::Global;
+
+/// An archive as it stood when its catalogue was read: its recordings, of which some may be active, and its disk.
+#[derive(Drop)]
+pub struct ArchiveView<D> {
+    pub(crate) disk: ReadOnly<D>,
+    pub(crate) desk: Desk,
+    // How many entries its catalogue had, and its bank's epoch.
+    pub(crate) total: usize,
+    pub(crate) epoch: u64,
+}
+
+/// Why a disk gives no view of an archive, and the disk.
+#[derive(Drop)]
+pub struct ViewRefusal<D> {
+    /// Why.
+    pub refusal: Refusal,
+    /// The disk that was given.
+    pub disk: ReadOnly<D>,
+}
+
+// What a catalogue gives.
+#[derive(Drop)]
+struct Catalogued {
+    desk: Desk,
+    total: usize,
+    epoch: u64,
+}
+
+impl<D: Disk> ArchiveView<D> {
+    ghost use Rattle.archive_view.specs.ReadOnly.{Looks, Refuses};
+    ghost use Rattle.archive_view.specs.Viewed.{desk_of, epoch_of, read_of, total_of};
+
+    /// The archive of a disk as it stands: what its catalogue's entries make, with no recording stopped.
+    ///
+    /// `NotCatalogue`, `NewerVersion` and `Damaged` as `catalogue_log::open`; `DeviceFault`; `NoMemory`. The disk is only
+    /// read, and comes back. docs/STORAGE.md, "Looking at an archive". Costs a call of the disk for each 64 KiB of the
+    /// catalogue, and the memory of the entries and the recordings.
+    pub fn open(alloc: Global, disk: ReadOnly<D>) -> Result<ArchiveView<D>, ViewRefusal<D>>
+        ensures { MatchResult result
+            (λ view. Looks D.life (λ image. IsAsCatalogued image (desk_of view) (total_of view) (epoch_of view)) disk (read_of view))
+            (λ refused. Refuses D.life (λ image. RefusesCatalogue image refused.refusal) disk refused.disk refused.refusal) }
+    {
+        let mut disk = disk;
+        match catalogue_of(alloc, &mut disk) {
+            Ok(Catalogued { desk, total, epoch }) => Ok(ArchiveView {
+                disk,
+                desk,
+                total,
+                epoch,
+            }),
+            Err(refusal) => Err(ViewRefusal { refusal, disk }),
+        }
+    }
+
+    /// What the archive knows of its recordings and its history; nobody calls.
+    pub fn desk(&self) -> &Desk
+        ensures { result.now.state ≡ desk_of self.now }
+    {
+        &self.desk
+    }
+
+    /// Whether the catalogue has other entries by now, as it may over a folder that another process writes: then what was
+    /// read of the files since may be of no moment at all.
+    ///
+    /// The refusals of `open`. The disk is only read. Costs what `open` costs.
+    pub fn has_moved(&mut self, alloc: Global) -> Result<bool, Refusal>
+        ensures told { MatchResult result
+            (λ moved. Looks D.life (λ image. TellsMoved image (total_of self.old) (epoch_of self.old) moved) (read_of self.old) (read_of self.new))
+            (λ refusal. Refuses D.life (λ image. RefusesCatalogue image refusal) (read_of self.old) (read_of self.new) refusal) }
+        ensures desk { desk_of self.new ≡ desk_of self.old }
+    {
+        let found = catalogue_of(alloc, &mut self.disk)?;
+        Ok(found.total != self.total || found.epoch != self.epoch)
+    }
+
+    /// The disk, which was only read.
+    pub fn into_disk(self) -> ReadOnly<D>
+        ensures { result ≡ read_of self }
+    {
+        self.disk
+    }
+}
+
+/// What the catalogue of a disk gives, which is only read.
+fn catalogue_of<D: Disk>(alloc: Global, disk: &mut ReadOnly<D>) -> Result<Catalogued, Refusal>
+    ensures found { IfOk result (λ found. Looks D.life (λ image.
+        IsAsCatalogued image found.desk.state found.total found.epoch) disk.old disk.new) }
+    ensures refused { IfErr result (λ refusal.
+        Refuses D.life (λ image. RefusesCatalogue image refusal) disk.old disk.new refusal) }
+{
+    let (log, entries) = catalogue_log::open(alloc, disk)?;
+    let register = register_from(alloc, &entries)?;
+    Ok(Catalogued {
+        desk: Desk::opened(alloc, register, log.counted() as u64, log.limit()),
+        total: entries.len(),
+        epoch: log.epoch(),
+    })
+}
