@@ -28,3 +28,4 @@ module _ {D : Type 0} (life : D → Life) where
   pub record HasVerified (old new : ArchiveView D) (recording : ℤ) (result : Result ℤ Refusal) : Type 0 where
     pub answers : VerifyAnswers (read_of old) (read_of new) (registration_in (desk_of old).register recording) result
     pub desk : desk_of new ≡ desk_of old
+    pub same : reads (life (disk_of (read_of new))).now ≡ reads (life (disk_of (read_of old))).now

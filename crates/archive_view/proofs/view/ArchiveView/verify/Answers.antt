@@ -1,4 +1,5 @@
-use Rattle.std.proofs.Common.{◌≡◌, refl, subst, Option, Some}
+use Rattle.std.proofs.Common.{ap, ◌≡◌, refl, subst, Option, Some}
+use Rattle.disk_core.specs.DiskImage.{Files, reads}
 use Rattle.archive_model.specs.declared.registration.Registration.{Registration}
 use Rattle.archive_model.specs.Register.{registration_in}
 use Rattle.archive_view.specs.Verified.{VerifyAnswers}
@@ -16,4 +17,5 @@ returns g c =
       answers = subst (λ (found : Option Registration). VerifyAnswers g.D.Disk.life c.args.self.now.disk c.count_frames.new.disk found c.count_frames.result) known
           (counted_answers g.D.Disk.life c.args.self.now.disk c.count_frames.new.disk c.in-Some.known.now c.count_frames.result (g.met.D.Disk.reads_may_stay c.args.self.now.disk.disk) c.count_frames.ensures.quiet c.count_frames.ensures.count c.count_frames.ensures.refused c.count_frames.ensures.cause);
       desk = refl;
+      same = ap (λ (files : Files). reads files) c.count_frames.ensures.quiet.now;
     }

@@ -1,0 +1,3 @@
+-- what is told of an archive that is only looked at
+pub mod Viewing
+pub mod Verifying

@@ -1,0 +1,59 @@
+-- What `list` and `verify` tell of an archive that is only looked at: docs/CONTROL.md, "Looking without a change".
+use Rattle.std.specs.Prelude.{◌≡◌, ℕ, pos, IsTrue, List, Option}
+use Rattle.std.specs.Io.KnownBytes.{Appends}
+use Rattle.disk_core.specs.DiskImage.{reads}
+use Rattle.disk_core.specs.Life.{Life}
+use Rattle.archive_model.specs.declared.reply.Reply.TheVariants.{Recordings}
+use Rattle.catalogue_log.specs.Catalogue.{RefusesCatalogue}
+use Rattle.control_core.specs.Decisions.{listed}
+use Rattle.control_core.specs.Desk.{DeskState}
+use Rattle.control_lines.specs.ReplyText.{reply_text}
+use Rattle.tool_core.specs.declared.commands.Stopped.{Stopped}
+use Rattle.tool_core.specs.declared.commands.Stopped.TheVariants.{Refused, Cut}
+use Rattle.tool_core.specs.declared.fault.EarlyEnd.{EarlyEnd}
+use Rattle.tool_core.specs.Answering.{FailsToAnswer}
+use Rattle.archive_view.specs.declared.view.ArchiveView.{ArchiveView}
+use Rattle.archive_view.specs.ReadOnly.{IsOnlyRead, disk_of}
+use Rattle.archive_view.specs.View.{IsAsCatalogued}
+use Rattle.archive_view.specs.Viewed.{desk_of, epoch_of, read_of, total_of}
+
+-- A disk was only read, and the desk is that of its catalogue, if it obeys the crash model.
+pub record ShowsDesk (old new : Life) (desk : DeskState) : Type 0 where
+  pub inside : IsOnlyRead old new
+  pub total : ℕ
+  pub epoch : ℕ
+  pub seen : IsTrue new.obeys → IsAsCatalogued (reads old.now) desk total epoch
+
+-- a disk was only read, and its catalogue is refused so
+pub record RefusesDesk (old new : Life) (Why : Type 0) : Type 0 where
+  pub inside : IsOnlyRead old new
+  pub refused : IsTrue new.obeys → Why
+
+-- the desk was seen, and this is written of its recordings
+pub record HasListed (old new : Life) (contents written : Option (List ℕ)) : Type 0 where
+  pub desk : DeskState
+  pub shown : ShowsDesk old new desk
+  pub told : Appends contents written (reply_text (Recordings (listed (pos 0) (pos 1024) desk.register.recordings)))
+
+-- it was seen, and its recordings could not be written
+pub record HasNotListed (old new : Life) (contents written : Option (List ℕ)) (end : EarlyEnd) : Type 0 where
+  pub desk : DeskState
+  pub shown : ShowsDesk old new desk
+  pub told : FailsToAnswer end contents written
+
+module _ {D : Type 0} (life : D → Life) where
+  -- the disk of a view
+  abbrev pub inner : ArchiveView D → Life
+  inner view = life (disk_of (read_of view))
+
+  abbrev pub IsViewedBy : Life → ArchiveView D → Type 0
+  IsViewedBy old view = ShowsDesk old (inner view) (desk_of view)
+
+  abbrev pub IsUnviewedBy : Life → D → Stopped → Type 0
+  IsUnviewedBy old disk (Refused refusal) = RefusesDesk old (life disk) (RefusesCatalogue (reads old.now) refusal)
+  IsUnviewedBy old disk (Cut end) = ⊥
+
+  -- it was not seen, and nothing is written; or it was
+  abbrev pub FailsToList : Life → D → Stopped → Option (List ℕ) → Option (List ℕ) → Type 0
+  FailsToList old disk (Refused refusal) contents written = IsUnviewedBy old disk (Refused refusal) × (written ≡ contents)
+  FailsToList old disk (Cut end) contents written = HasNotListed old (life disk) contents written end

@@ -1,0 +1,109 @@
+//! What `verify --read-only` tells of an archive. docs/CONTROL.md, "Looking without a change".
+
+ghost use Rattle.std.specs.Prelude.{◌≡◌, ◌∷◌, [], IfErr, IfOk, map};
+ghost use Rattle.archive_model.specs.Register.{id_of};
+ghost use Rattle.archive_report.specs.Verifying.{FailsToVerify, HasVerified, VerifiesAll, VerifiesEach, VerifiesFirst, VerifiesOne};
+
+use crate::viewing::viewed;
+use archive_model::{Registration, Reply};
+use archive_view::ArchiveView;
+use disk_core::Disk;
+use frame_core::Refusal;
+use std::alloc::{AllocError, Global};
+use std::io::Write;
+use tool_core::{CommandFault, EarlyEnd, Observer, Stopped, Verdict, write_outcome};
+
+/// Verifies each recording of the archive of a disk as it stands, by rising id, and writes the answer to each:
+/// `verified <frames>`, or the line of its refusal. The disk is only read, and comes back with the verdict. An observer is
+/// told whether the archive is there, and of each answer before it is written.
+///
+/// Refused as `ArchiveView::open` refuses, and then nothing is written; cut by `Memory` where there is none for the list of
+/// ids or for a reply's text, and by `Write` where the writer fails: what was written before stays written. Costs what each
+/// recorded frame costs. docs/CONTROL.md, "Looking without a change".
+pub fn verify_view<W: Write, D: Disk, O: Observer>(
+    alloc: Global,
+    disk: D,
+    writer: &mut W,
+    observer: &mut O,
+) -> Result<(D, Verdict), CommandFault<D>>
+    ensures verified { IfOk result (λ found. HasVerified D.life (D.life disk) (D.life found.0)
+        (W.contents writer.old) (W.contents writer.new) found.1) }
+    ensures fault { IfErr result (λ fault. FailsToVerify D.life (D.life disk) fault.disk fault.why
+        (W.contents writer.old) (W.contents writer.new)) }
+{
+    let mut view = viewed(alloc, disk, observer)?;
+    let outcome = verify_each(alloc, &mut view, writer, observer);
+    let disk = view.into_disk().into_disk();
+    match outcome {
+        Ok(verdict) => Ok((disk, verdict)),
+        Err(end) => Err(CommandFault {
+            why: Stopped::Cut(end),
+            disk,
+        }),
+    }
+}
+
+/// Verifies each recording of an archive, by rising id, and writes the answer to each.
+fn verify_each<W: Write, D: Disk, O: Observer>(
+    alloc: Global,
+    view: &mut ArchiveView<D>,
+    writer: &mut W,
+    observer: &mut O,
+) -> Result<Verdict, EarlyEnd>
+    ensures whole { IfOk result
+        (VerifiesAll D.life view.old view.new (W.contents writer.old) (W.contents writer.new)) }
+    ensures early { IfErr result
+        (VerifiesFirst D.life view.old view.new (W.contents writer.old) (W.contents writer.new)) }
+{
+    let ids = ids_of(alloc, view.desk().recordings())?;
+    let mut is_whole = true;
+    for id in ids.as_slice() {
+        let is_verified = report(alloc, view, id, writer, observer)?;
+        is_whole = is_whole && is_verified;
+    }
+    Ok(if is_whole {
+        Verdict::Whole
+    } else {
+        Verdict::Refused
+    })
+}
+
+/// The ids of recordings.
+fn ids_of(alloc: Global, recordings: &[Registration]) -> Result<Vec<i64>, AllocError>
+    ensures { IfOk result (λ ids. ids.items ≡ map id_of recordings.now) }
+{
+    recordings
+        .iter()
+        .map(|known| known.descriptor.recording)
+        .collect(alloc)
+}
+
+/// Verifies a recording, writes the answer, and says whether it was verified.
+fn report<W: Write, D: Disk, O: Observer>(
+    alloc: Global,
+    view: &mut ArchiveView<D>,
+    recording: &i64,
+    writer: &mut W,
+    observer: &mut O,
+) -> Result<bool, EarlyEnd>
+    ensures { VerifiesOne D.life view.old view.new recording.now (W.contents writer.old) (W.contents writer.new) result }
+{
+    let outcome = verify(alloc, view, recording);
+    if let Some(known) = view.desk().recording(recording) {
+        observer.verified(known, &outcome);
+    }
+    write_outcome(alloc, &outcome, writer)?;
+    Ok(outcome.is_ok())
+}
+
+/// Verifies a recording.
+fn verify<D: Disk>(
+    alloc: Global,
+    view: &mut ArchiveView<D>,
+    recording: &i64,
+) -> Result<Reply, Refusal>
+    ensures { VerifiesEach D.life view.old view.new (recording.now ∷ []) (result ∷ []) }
+{
+    let frames = view.verify(alloc, recording)?;
+    Ok(Reply::Verified { frames })
+}

@@ -1,0 +1,34 @@
+//! An archive that is looked at. docs/CONTROL.md, "Looking without a change".
+
+ghost use Rattle.std.specs.Prelude.{IfErr, IfOk};
+ghost use Rattle.archive_report.specs.Viewing.{IsUnviewedBy, IsViewedBy};
+
+use archive_view::{ArchiveView, ReadOnly, ViewRefusal};
+use disk_core::Disk;
+use std::alloc::Global;
+use tool_core::{Beginning, CommandFault, Observer, Stopped};
+
+/// The archive of a disk as it stands, of which an observer is told; else why it cannot be looked at, and the disk. The disk
+/// is only read.
+pub(crate) fn viewed<D: Disk, O: Observer>(
+    alloc: Global,
+    disk: D,
+    observer: &mut O,
+) -> Result<ArchiveView<D>, CommandFault<D>>
+    ensures viewed { IfOk result (λ view. IsViewedBy D.life (D.life disk) view) }
+    ensures refused { IfErr result (λ fault. IsUnviewedBy D.life (D.life disk) fault.disk fault.why) }
+{
+    match ArchiveView::open(alloc, ReadOnly::new(disk)) {
+        Ok(view) => {
+            observer.began(&Beginning::Opened);
+            Ok(view)
+        }
+        Err(ViewRefusal { refusal, disk }) => {
+            observer.began(&Beginning::Refused(refusal));
+            Err(CommandFault {
+                why: Stopped::Refused(refusal),
+                disk: disk.into_disk(),
+            })
+        }
+    }
+}
