@@ -6,7 +6,7 @@ use Rattle.std.proofs.lemmas.List.Folds.{list_all-append}
 use Rattle.std.proofs.KnownBytes.{Appends-nil, Appends-trans, Appends-kept}
 use Rattle.std.specs.Io.KnownBytes.{Appends}
 use Rattle.std.specs.List.{AllZip, list_all}
-use Rattle.std.specs.Prelude.{Result, Ok, Err, IfErr, is_ok, ◌&&◌, if◌then◌else◌}
+use Rattle.std.specs.Prelude.{Result, Ok, Err, IfErr, MatchResult, is_ok, ◌&&◌, if◌then◌else◌}
 use Rattle.frame_core.specs.declared.refusal.Refusal.{Refusal}
 use Rattle.disk_core.specs.DiskImage.{DiskImage, MayLeave, reads}
 use Rattle.disk_core.specs.Life.{Life}
@@ -28,9 +28,13 @@ use Rattle.tool_core.specs.Answering.{FailsToAnswer, outcome_text}
 use Rattle.tool_core.specs.Reports.{IsWrittenBefore, outcomes_text}
 use Rattle.archive_view.specs.declared.read_only.ReadOnly.{ReadOnly}
 use Rattle.archive_view.specs.declared.view.ArchiveView.{ArchiveView}
-use Rattle.archive_view.specs.ReadOnly.{IsOnlyRead, disk_of}
+use Rattle.archive_view.specs.ReadOnly.{IsOnlyRead, Looks, Refuses, disk_of}
+use Rattle.catalogue_log.specs.Catalogue.{RefusesCatalogue}
+use Rattle.archive_view.specs.View.{TellsMoved}
 use Rattle.archive_view.specs.Verified.{HasVerified as WasVerified, VerifyAnswers}
 use Rattle.archive_view.specs.Viewed.{desk_of, read_of}
+use Rattle.archive_view.specs.Asked.{Answers, HasAsked}
+use Rattle.archive_report.specs.Describing.{IsLookedOn}
 use Rattle.archive_report.specs.Viewing.{FailsToList, IsUnviewedBy, inner}
 use Rattle.archive_report.specs.Verifying.{FailsToVerify, TellEach, Tells, VerifiesAll, VerifiesEach, VerifiesFirst, VerifiesOne, ids_of}
 
@@ -46,7 +50,7 @@ each_more R (i ∷ ids) (p ∷ os) id o all one = (all.0, each_more R ids os id 
 
 -- ---- a disk that is only read
 
-unread : (life : Life) → IsOnlyRead life life
+pub unread : (life : Life) → IsOnlyRead life life
 unread life = record { same = λ file. refl; any_moment = started life (MayLeave life.now) (λ image left. left); obeyed = λ obeys. obeys }
 
 pub read_on : (old mid new : Life) → IsOnlyRead old mid → IsOnlyRead mid new → IsOnlyRead old new
@@ -200,3 +204,26 @@ module _ {D X : Type 0} (life : D → Life) (old : Life) (contents : Option (Lis
       by : (why : Stopped) → IsUnviewedBy life old fault.disk why → FailsToVerify life old fault.disk why contents contents
       by (stops.Refused refusal) none = (none, refl)
       by (stops.Cut end) none = absurd none
+
+-- ---- files that are asked
+
+asked_inside : {D T : Type 0} (life : D → Life) (Seen : DiskImage → T → Type 0) (old new : ReadOnly D) (result : Result T Refusal) → Answers life Seen old new result → IsOnlyRead (life (disk_of old)) (life (disk_of new))
+asked_inside life Seen old new (Ok answer) answers = answers.inside
+asked_inside life Seen old new (Err refusal) answers = answers.0.look.inside
+
+module _ {D : Type 0} (life : D → Life) where
+  pub asked_look : {T : Type 0} (Seen : DiskImage → T → Type 0) (old new : ArchiveView D) (result : Result T Refusal) → HasAsked life Seen old new result → IsLookedOn life old new
+  asked_look Seen old new result asked = record { inside = asked_inside life Seen (read_of old) (read_of new) result asked.answers; desk = asked.desk }
+
+  pub look_on : (old mid new : ArchiveView D) → IsLookedOn life old mid → IsLookedOn life mid new → IsLookedOn life old new
+  look_on old mid new first last = record { inside = read_on (inner life old) (inner life mid) (inner life new) first.inside last.inside; desk = last.desk ∙ first.desk }
+
+  pub no_look : (view : ArchiveView D) → IsLookedOn life view view
+  no_look view = record { inside = unread (inner life view); desk = refl }
+
+-- the catalogue that was read again
+pub read_again : {D : Type 0} (life : D → Life) (old new : ReadOnly D) (total epoch : ℕ) (result : Result Bool Refusal)
+    → MatchResult result (λ moved. Looks life (λ image. TellsMoved image total epoch moved) old new) (λ refusal. Refuses life (λ image. RefusesCatalogue image refusal) old new refusal)
+    → IsOnlyRead (life (disk_of old)) (life (disk_of new))
+read_again life old new total epoch (Ok moved) looks = looks.inside
+read_again life old new total epoch (Err refusal) refuses = refuses.look.inside

@@ -1,3 +1,4 @@
 -- what is told of an archive that is only looked at
 pub mod Viewing
 pub mod Verifying
+pub mod Describing

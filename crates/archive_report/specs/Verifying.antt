@@ -70,20 +70,20 @@ module _ {D : Type 0} (life : D → Life) where
     pub answers : VerifiesEach old new (take (length outcomes) (ids_of (desk_of old))) outcomes
     pub told : IsWrittenBefore end contents written (outcomes_text outcomes)
 
-  -- the archive was seen, and so each of its recordings
+  -- the archive was seen, and then each of its recordings; behind that the disk was at most read
   pub record HasVerified (old new : Life) (contents written : Option (List ℕ)) (verdict : Verdict) : Type 0 where
     pub seen : ArchiveView D
     pub shown : ShowsDesk old (inner life seen) (desk_of seen)
     pub last : ArchiveView D
     pub verified : VerifiesAll seen last contents written verdict
-    pub left : new ≡ inner life last
+    pub left : IsOnlyRead (inner life last) new
 
   pub record HasVerifiedFirst (old new : Life) (contents written : Option (List ℕ)) (end : EarlyEnd) : Type 0 where
     pub seen : ArchiveView D
     pub shown : ShowsDesk old (inner life seen) (desk_of seen)
     pub last : ArchiveView D
     pub verified : VerifiesFirst seen last contents written end
-    pub left : new ≡ inner life last
+    pub left : IsOnlyRead (inner life last) new
 
   -- it was not seen, and nothing is written; or it was
   abbrev pub FailsToVerify : Life → D → Stopped → Option (List ℕ) → Option (List ℕ) → Type 0

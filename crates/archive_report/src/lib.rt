@@ -1,9 +1,15 @@
 //! What the program tells of an archive that is only looked at: its recordings, whether they are whole, and a page for people.
 #![tactic(auto)]
 
+mod dates;
+mod describe;
+mod document;
 mod list;
+mod page;
+mod summary;
 mod verify;
 mod viewing;
 
+pub use describe::{Form, describe_archive};
 pub use list::list_view;
-pub use verify::verify_view;
+pub use verify::{Finding, verify_view};

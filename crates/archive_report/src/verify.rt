@@ -1,7 +1,9 @@
 //! What `verify --read-only` tells of an archive. docs/CONTROL.md, "Looking without a change".
 
-ghost use Rattle.std.specs.Prelude.{◌≡◌, ◌∷◌, [], IfErr, IfOk, map};
+ghost use Rattle.std.specs.Prelude.{◌≡◌, ◌∷◌, [], IfErr, IfOk, IsTrue, map};
 ghost use Rattle.archive_model.specs.Register.{id_of};
+ghost use Rattle.archive_view.specs.ReadOnly.{IsOnlyRead};
+ghost use Rattle.archive_report.specs.Viewing.{inner};
 ghost use Rattle.archive_report.specs.Verifying.{FailsToVerify, HasVerified, VerifiesAll, VerifiesEach, VerifiesFirst, VerifiesOne};
 
 use crate::viewing::viewed;
@@ -13,8 +15,18 @@ use std::alloc::{AllocError, Global};
 use std::io::Write;
 use tool_core::{CommandFault, EarlyEnd, Observer, Stopped, Verdict, write_outcome};
 
+/// What the verifying of an archive found.
+#[derive(Clone, Copy, Debug, PartialEq, Eq)]
+pub struct Finding {
+    /// Whether each recording was verified.
+    pub verdict: Verdict,
+    /// One was not, and the catalogue has moved meanwhile: the archive is being written, and what was told of it may be of
+    /// no moment at all.
+    pub is_moving: bool,
+}
+
 /// Verifies each recording of the archive of a disk as it stands, by rising id, and writes the answer to each:
-/// `verified <frames>`, or the line of its refusal. The disk is only read, and comes back with the verdict. An observer is
+/// `verified <frames>`, or the line of its refusal. The disk is only read, and comes back with what was found. An observer is
 /// told whether the archive is there, and of each answer before it is written.
 ///
 /// Refused as `ArchiveView::open` refuses, and then nothing is written; cut by `Memory` where there is none for the list of
@@ -25,21 +37,38 @@ pub fn verify_view<W: Write, D: Disk, O: Observer>(
     disk: D,
     writer: &mut W,
     observer: &mut O,
-) -> Result<(D, Verdict), CommandFault<D>>
+) -> Result<(D, Finding), CommandFault<D>>
     ensures verified { IfOk result (λ found. HasVerified D.life (D.life disk) (D.life found.0)
-        (W.contents writer.old) (W.contents writer.new) found.1) }
+        (W.contents writer.old) (W.contents writer.new) found.1.verdict) }
+    ensures moving { IfOk result (λ found. IsTrue found.1.is_moving → found.1.verdict ≡ Verdict.Refused) }
     ensures fault { IfErr result (λ fault. FailsToVerify D.life (D.life disk) fault.disk fault.why
         (W.contents writer.old) (W.contents writer.new)) }
 {
     let mut view = viewed(alloc, disk, observer)?;
     let outcome = verify_each(alloc, &mut view, writer, observer);
+    let is_moving = is_moving(alloc, &mut view, &outcome);
     let disk = view.into_disk().into_disk();
     match outcome {
-        Ok(verdict) => Ok((disk, verdict)),
+        Ok(verdict) => Ok((disk, Finding { verdict, is_moving })),
         Err(end) => Err(CommandFault {
             why: Stopped::Cut(end),
             disk,
         }),
+    }
+}
+
+/// Whether one recording was refused and the catalogue has moved since it was read, or can't be read any more.
+fn is_moving<D: Disk>(
+    alloc: Global,
+    view: &mut ArchiveView<D>,
+    outcome: &Result<Verdict, EarlyEnd>,
+) -> bool
+    ensures inside { IsOnlyRead (inner D.life view.old) (inner D.life view.new) }
+    ensures refused { IfOk outcome.now (λ verdict. IsTrue result → verdict ≡ Verdict.Refused) }
+{
+    match outcome {
+        Ok(Verdict::Refused) => view.has_moved(alloc).unwrap_or(true),
+        _ => false,
     }
 }
 

@@ -3,6 +3,7 @@
 ghost use Rattle.std.specs.Prelude.{◌≡◌};
 ghost use Rattle.archive_tool.specs.Status.{ending_of};
 
+use crate::looking;
 use crate::outcome::Ended;
 use crate::reason::Reason;
 use crate::status::Ending;
@@ -40,8 +41,23 @@ fn obey<W: Write>(rt: HostRuntime, command: &ToolCommand<'_>, writer: &mut W) ->
         ToolCommand::Run {
             folder: Some(folder),
         } => run(rt, folder, writer),
-        ToolCommand::List { folder } => list(rt, folder, writer),
-        ToolCommand::Verify { folder } => verify(rt, folder, writer),
+        ToolCommand::List {
+            folder,
+            read_only: false,
+        } => list(rt, folder, writer),
+        ToolCommand::List {
+            folder,
+            read_only: true,
+        } => looking::list(rt, folder, writer),
+        ToolCommand::Verify {
+            folder,
+            read_only: false,
+        } => verify(rt, folder, writer),
+        ToolCommand::Verify {
+            folder,
+            read_only: true,
+        } => looking::verify(rt, folder, writer),
+        ToolCommand::Describe { folder, json } => looking::describe(rt, folder, *json, writer),
         ToolCommand::Frames { file } => frames(rt, file, writer),
     }
 }

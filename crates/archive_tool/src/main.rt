@@ -5,6 +5,7 @@ ghost use Rattle.std.specs.Prelude.{◌≡◌};
 ghost use Rattle.archive_tool.specs.Status.{IsStatus, IsTold, status_of};
 
 mod commands;
+mod looking;
 mod outcome;
 mod outlet;
 mod reason;

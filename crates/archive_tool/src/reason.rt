@@ -24,6 +24,8 @@ pub enum Reason {
     File(io::Error),
     /// Its file could not be read on.
     FileRead,
+    /// Its archive was being written while it was read.
+    Moving,
     /// Standard input could not be read on.
     Input,
     /// Standard output took no more; what the system told of it, if it told anything.
@@ -47,6 +49,10 @@ impl fmt::Display for Reason {
             Reason::Call(fault) => write!(f, "{}", FaultLine(*fault)),
             Reason::File(error) => write!(f, "the file cannot be opened: {}", SystemText(*error)),
             Reason::FileRead => write!(f, "the file cannot be read on"),
+            Reason::Moving => write!(
+                f,
+                "the archive is being written: what is told to be damaged may be whole, so look again"
+            ),
             Reason::Input => write!(f, "standard input cannot be read on"),
             Reason::Output(Some(error)) if !is_closed(error) => {
                 write!(f, "standard output: {}", SystemText(*error))

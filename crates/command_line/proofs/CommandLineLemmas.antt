@@ -1,6 +1,6 @@
 -- Which command the words ask for.
-use Rattle.std.proofs.Common.{◌≡◌, ◌≢◌, ◌∙◌, inl, inr, refl, sym, ap, ap₂, subst, arith, ℕ, true, List, [], ◌∷◌, Option, Some, None, Result, Ok, Err, option_map, codes, Bor, slice_index, rules, ne_eqb}
-use Rattle.std.specs.Prelude.{IfErr, IfOk, IsSomeAnd}
+use Rattle.std.proofs.Common.{◌≡◌, ◌≢◌, ◌∙◌, inl, inr, refl, sym, ap, ap₂, subst, arith, ℕ, Bool, true, false, List, [], ◌∷◌, Option, Some, None, Result, Ok, Err, option_map, codes, Bor, slice_index, rules, ne_eqb}
+use Rattle.std.specs.Prelude.{IfErr, IfOk, IsSomeAnd, unwrap_or}
 use Rattle.std.specs.Str.Parse.{ParsesUnsigned}
 use Rattle.clap.specs.Words.{AddsSubcommand, App, FailsBy, HasKind, HasMatchesOf, Kinds, ReadsOne, Row, Text, app_of, fault_of, first_of, first_value, is_simple, is_simple_and_free, kind_of, one_of, one_text, rows_of, subcommand_of, subcommand_rows_of, with_subcommand}
 use Rattle.clap.specs.declared.builder.command.Command.{Command}
@@ -11,8 +11,8 @@ use Rattle.clap.proofs.OnLiterals.{clap_on_literals}
 use Rattle.clap.specs.declared.parser.matches.Found.{Found}
 use Rattle.clap.proofs.WalkLemmas.{first_value-rows, one_text-rows}
 use Rattle.command_line.specs.declared.command.ToolCommand.{ToolCommand}
-use Rattle.command_line.specs.declared.command.ToolCommand.TheVariants.{Create, Run, List as AskList, Verify, Frames}
-use Rattle.command_line.specs.CommandLine.{IsAsked, IsCommand, IsHeld, IsMet, IsNumber, IsPlain, IsPlainWord, IsWordsFault, tool_app, words_of}
+use Rattle.command_line.specs.declared.command.ToolCommand.TheVariants.{Create, Run, List as AskList, Verify, Describe, Frames}
+use Rattle.command_line.specs.CommandLine.{IsAsked, IsCommand, IsFlag, IsHeld, IsMet, IsNumber, IsPlain, IsPlainWord, IsWordsFault, tool_app, words_of}
 
 -- what a getter gave is what the rows hold
 pub text_given : (f : Found) (id : Text) (given got : Option (Bor Text)) → option_map (λ s. s.now) given ≡ first_value f id → given ≡ got → first_of id (rows_of f) ≡ option_map (λ s. s.now) got
@@ -48,30 +48,54 @@ differ a b letters same = letters (ap (λ t. slice_index t 0) same)
 pub no_create : (name : Text) (rows : List Row) → name ≡ codes "create" → ((n : ℕ) → first_of (codes "folder") rows ≢ None → IsSomeAnd (one_of (codes "history") rows) (IsNumber n) → ⊥) → (command : ToolCommand) → IsAsked name rows command → ⊥
 no_create name rows is none (Create folder history) asked = none history (λ e. let bad = sym e ∙ asked.words.0 in cc) asked.words.1
 no_create name rows is none (Run folder) asked = absurd (differ (codes "create") (codes "run") (λ e. omega arith) (sym is ∙ asked.named))
-no_create name rows is none (AskList folder) asked = absurd (differ (codes "create") (codes "list") (λ e. omega arith) (sym is ∙ asked.named))
-no_create name rows is none (Verify folder) asked = absurd (differ (codes "create") (codes "verify") (λ e. omega arith) (sym is ∙ asked.named))
+no_create name rows is none (AskList folder read_only) asked = absurd (differ (codes "create") (codes "list") (λ e. omega arith) (sym is ∙ asked.named))
+no_create name rows is none (Verify folder read_only) asked = absurd (differ (codes "create") (codes "verify") (λ e. omega arith) (sym is ∙ asked.named))
+no_create name rows is none (Describe folder json) asked = absurd (differ (codes "create") (codes "describe") (λ e. omega arith) (sym is ∙ asked.named))
 no_create name rows is none (Frames file) asked = absurd (differ (codes "create") (codes "frames") (λ e. omega arith) (sym is ∙ asked.named))
 
 pub no_list : (name : Text) (rows : List Row) → name ≡ codes "list" → first_of (codes "folder") rows ≡ None → (command : ToolCommand) → IsAsked name rows command → ⊥
 no_list name rows is none (Create folder history) asked = absurd (differ (codes "list") (codes "create") (λ e. omega arith) (sym is ∙ asked.named))
 no_list name rows is none (Run folder) asked = absurd (differ (codes "list") (codes "run") (λ e. omega arith) (sym is ∙ asked.named))
-no_list name rows is none (AskList folder) asked = let bad = sym none ∙ asked.words in cc
-no_list name rows is none (Verify folder) asked = absurd (differ (codes "list") (codes "verify") (λ e. omega arith) (sym is ∙ asked.named))
+no_list name rows is none (AskList folder read_only) asked = let bad = sym none ∙ asked.words.0 in cc
+no_list name rows is none (Verify folder read_only) asked = absurd (differ (codes "list") (codes "verify") (λ e. omega arith) (sym is ∙ asked.named))
+no_list name rows is none (Describe folder json) asked = absurd (differ (codes "list") (codes "describe") (λ e. omega arith) (sym is ∙ asked.named))
 no_list name rows is none (Frames file) asked = absurd (differ (codes "list") (codes "frames") (λ e. omega arith) (sym is ∙ asked.named))
 
 pub no_verify : (name : Text) (rows : List Row) → name ≡ codes "verify" → first_of (codes "folder") rows ≡ None → (command : ToolCommand) → IsAsked name rows command → ⊥
 no_verify name rows is none (Create folder history) asked = absurd (differ (codes "verify") (codes "create") (λ e. omega arith) (sym is ∙ asked.named))
 no_verify name rows is none (Run folder) asked = absurd (differ (codes "verify") (codes "run") (λ e. omega arith) (sym is ∙ asked.named))
-no_verify name rows is none (AskList folder) asked = absurd (differ (codes "verify") (codes "list") (λ e. omega arith) (sym is ∙ asked.named))
-no_verify name rows is none (Verify folder) asked = let bad = sym none ∙ asked.words in cc
+no_verify name rows is none (AskList folder read_only) asked = absurd (differ (codes "verify") (codes "list") (λ e. omega arith) (sym is ∙ asked.named))
+no_verify name rows is none (Verify folder read_only) asked = let bad = sym none ∙ asked.words.0 in cc
+no_verify name rows is none (Describe folder json) asked = absurd (differ (codes "verify") (codes "describe") (λ e. omega arith) (sym is ∙ asked.named))
 no_verify name rows is none (Frames file) asked = absurd (differ (codes "verify") (codes "frames") (λ e. omega arith) (sym is ∙ asked.named))
 
 pub no_frames : (name : Text) (rows : List Row) → name ≡ codes "frames" → first_of (codes "file") rows ≡ None → (command : ToolCommand) → IsAsked name rows command → ⊥
 no_frames name rows is none (Create folder history) asked = absurd (differ (codes "frames") (codes "create") (λ e. omega arith) (sym is ∙ asked.named))
 no_frames name rows is none (Run folder) asked = absurd (differ (codes "frames") (codes "run") (λ e. omega arith) (sym is ∙ asked.named))
-no_frames name rows is none (AskList folder) asked = absurd (differ (codes "frames") (codes "list") (λ e. omega arith) (sym is ∙ asked.named))
-no_frames name rows is none (Verify folder) asked = absurd (differ (codes "frames") (codes "verify") (λ e. omega arith) (sym is ∙ asked.named))
+no_frames name rows is none (AskList folder read_only) asked = absurd (differ (codes "frames") (codes "list") (λ e. omega arith) (sym is ∙ asked.named))
+no_frames name rows is none (Verify folder read_only) asked = absurd (differ (codes "frames") (codes "verify") (λ e. omega arith) (sym is ∙ asked.named))
+no_frames name rows is none (Describe folder json) asked = absurd (differ (codes "frames") (codes "describe") (λ e. omega arith) (sym is ∙ asked.named))
 no_frames name rows is none (Frames file) asked = let bad = sym none ∙ asked.words in cc
+
+pub no_describe : (name : Text) (rows : List Row) → name ≡ codes "describe" → first_of (codes "folder") rows ≡ None → (command : ToolCommand) → IsAsked name rows command → ⊥
+no_describe name rows is none (Create folder history) asked = absurd (differ (codes "describe") (codes "create") (λ e. omega arith) (sym is ∙ asked.named))
+no_describe name rows is none (Run folder) asked = absurd (differ (codes "describe") (codes "run") (λ e. omega arith) (sym is ∙ asked.named))
+no_describe name rows is none (AskList folder read_only) asked = absurd (differ (codes "describe") (codes "list") (λ e. omega arith) (sym is ∙ asked.named))
+no_describe name rows is none (Verify folder read_only) asked = absurd (differ (codes "describe") (codes "verify") (λ e. omega arith) (sym is ∙ asked.named))
+no_describe name rows is none (Describe folder json) asked = let bad = sym none ∙ asked.words.0 in cc
+no_describe name rows is none (Frames file) asked = absurd (differ (codes "describe") (codes "frames") (λ e. omega arith) (sym is ∙ asked.named))
+
+-- a flag that was read is that of the text that the rows hold
+pub flag_given : (f : Found) (id : Text) (flag : Bool) → (one_text f id ≡ None → flag ≡ false) → (one_text f id ≡ Some (codes "true") → flag ≡ true)
+    → (one_text f id ≡ Some (codes "false") → flag ≡ false) → IsFlag (one_of id (rows_of f)) flag
+flag_given f id flag none set unset = subst (λ text. IsFlag text flag) (one_text-rows f id) (record { none = none; set = set; unset = unset })
+
+-- a flag of which no word is said is not set
+not_set : IsFlag (Some (codes "false")) false
+not_set = record { none = λ e. refl; set = λ e. absurd (differ (codes "false") (codes "true") (λ same. omega arith) (some_same e)); unset = λ e. refl }
+  where
+    some_same : Some (codes "false") ≡ Some (codes "true") → codes "false" ≡ codes "true"
+    some_same e = ap (λ (o : Option Text). unwrap_or o []) e
 
 -- the program's command after one more subcommand, which a result holds
 pub adds_one : {E : Type 0} (old new : Command) (sub : Result Command E) (a s : App) → (one : Command) × (sub ≡ Ok one) × AddsSubcommand old one new → app_of old ≡ a → IfOk sub (IsCommand s) → app_of new ≡ with_subcommand a s.top
@@ -125,20 +149,30 @@ unfolding clap_on_literals
 list_taken program [] plain = absurd plain
 list_taken program (byte ∷ bytes) plain = simp (ne_eqb byte 45 plain) refl
 
-list_met : (program text : Text) (folder : Bor Text) → IsPlainWord text → folder.now ≡ text → IsMet (subcommand_of tool_app (program ∷ codes "list" ∷ text ∷ [])) (AskList folder)
+list_met : (program text : Text) (folder : Bor Text) → IsPlainWord text → folder.now ≡ text → IsMet (subcommand_of tool_app (program ∷ codes "list" ∷ text ∷ [])) (AskList folder false)
 unfolding clap_on_literals
 list_met program [] folder plain is = absurd plain
-list_met program (byte ∷ bytes) folder plain is = simp (ne_eqb byte 45 plain) (record { named = refl; words = ap (λ t. Some t) (sym is) })
+list_met program (byte ∷ bytes) folder plain is = simp (ne_eqb byte 45 plain) (record { named = refl; words = (ap (λ t. Some t) (sym is), not_set) })
 
 verify_taken : (program text : Text) → IsPlainWord text → fault_of tool_app (program ∷ codes "verify" ∷ text ∷ []) ≡ []
 unfolding clap_on_literals
 verify_taken program [] plain = absurd plain
 verify_taken program (byte ∷ bytes) plain = simp (ne_eqb byte 45 plain) refl
 
-verify_met : (program text : Text) (folder : Bor Text) → IsPlainWord text → folder.now ≡ text → IsMet (subcommand_of tool_app (program ∷ codes "verify" ∷ text ∷ [])) (Verify folder)
+verify_met : (program text : Text) (folder : Bor Text) → IsPlainWord text → folder.now ≡ text → IsMet (subcommand_of tool_app (program ∷ codes "verify" ∷ text ∷ [])) (Verify folder false)
 unfolding clap_on_literals
 verify_met program [] folder plain is = absurd plain
-verify_met program (byte ∷ bytes) folder plain is = simp (ne_eqb byte 45 plain) (record { named = refl; words = ap (λ t. Some t) (sym is) })
+verify_met program (byte ∷ bytes) folder plain is = simp (ne_eqb byte 45 plain) (record { named = refl; words = (ap (λ t. Some t) (sym is), not_set) })
+
+describe_taken : (program text : Text) → IsPlainWord text → fault_of tool_app (program ∷ codes "describe" ∷ text ∷ []) ≡ []
+unfolding clap_on_literals
+describe_taken program [] plain = absurd plain
+describe_taken program (byte ∷ bytes) plain = simp (ne_eqb byte 45 plain) refl
+
+describe_met : (program text : Text) (folder : Bor Text) → IsPlainWord text → folder.now ≡ text → IsMet (subcommand_of tool_app (program ∷ codes "describe" ∷ text ∷ [])) (Describe folder false)
+unfolding clap_on_literals
+describe_met program [] folder plain is = absurd plain
+describe_met program (byte ∷ bytes) folder plain is = simp (ne_eqb byte 45 plain) (record { named = refl; words = (ap (λ t. Some t) (sym is), not_set) })
 
 frames_taken : (program text : Text) → IsPlainWord text → fault_of tool_app (program ∷ codes "frames" ∷ text ∷ []) ≡ []
 unfolding clap_on_literals
@@ -155,8 +189,12 @@ held_alone program (Create folder history) plain = subst (λ n. IsHeld (program 
     (record { taken = create_taken program folder.now plain.0; met = create_met program folder.now folder plain.0 refl })
 held_alone program (Run None) plain = record { taken = run_alone_taken program; met = run_alone_met program }
 held_alone program (Run (Some folder)) plain = record { taken = run_taken program folder.now plain; met = run_met program folder.now folder plain refl }
-held_alone program (AskList folder) plain = record { taken = list_taken program folder.now plain; met = list_met program folder.now folder plain refl }
-held_alone program (Verify folder) plain = record { taken = verify_taken program folder.now plain; met = verify_met program folder.now folder plain refl }
+held_alone program (AskList folder read_only) plain = subst (λ set. IsHeld (program ∷ codes "list" ∷ folder.now ∷ []) (AskList folder set)) (sym plain.1)
+    (record { taken = list_taken program folder.now plain.0; met = list_met program folder.now folder plain.0 refl })
+held_alone program (Verify folder read_only) plain = subst (λ set. IsHeld (program ∷ codes "verify" ∷ folder.now ∷ []) (Verify folder set)) (sym plain.1)
+    (record { taken = verify_taken program folder.now plain.0; met = verify_met program folder.now folder plain.0 refl })
+held_alone program (Describe folder json) plain = subst (λ set. IsHeld (program ∷ codes "describe" ∷ folder.now ∷ []) (Describe folder set)) (sym plain.1)
+    (record { taken = describe_taken program folder.now plain.0; met = describe_met program folder.now folder plain.0 refl })
 held_alone program (Frames file) plain = record { taken = frames_taken program file.now plain; met = frames_met program file.now file plain refl }
 
 pub plain_is_held : (words : List Text) (program : Text) (command : ToolCommand) → IsPlain command → words ≡ program ∷ words_of command → IsHeld words command

@@ -1,15 +1,16 @@
 -- The program's command line: docs/CONTROL.md, "The program".
-use Rattle.std.specs.Prelude.{◌≡◌, ◌≢◌, ◌⊎◌, ◌<◌, ◌^◌, ℕ, pos, true, false, List, [], ◌∷◌, Option, Some, None, IsSomeAnd, codes, option_map}
+use Rattle.std.specs.Prelude.{◌≡◌, ◌≢◌, ◌⊎◌, ◌<◌, ◌^◌, ℕ, pos, Bool, true, false, List, [], ◌∷◌, Option, Some, None, IsSomeAnd, codes, option_map}
 use Rattle.std.specs.Str.Parse.{IsNumeral, digits_value, without_leading_plus}
 use Rattle.clap.specs.Simple.{on_top}
 use Rattle.clap.specs.Words.{App, IsAmong, Kinds, Row, Rule, Text, app_of, fault_of, first_of, new_app, new_rule, one_of, subcommand_of, with_rule, with_subcommand}
+use Rattle.clap.specs.declared.builder.action.ArgAction.TheVariants.{SetTrue}
 use Rattle.clap.specs.declared.builder.command.Command.{Command}
 use Rattle.clap.specs.declared.builder.command.Command.TheViews.{out-Command as fields_of}
 use Rattle.clap.specs.declared.builder.value_parser.ValueParser.TheVariants as parser
 use Rattle.clap.specs.declared.error.ErrorKind.{ErrorKind}
 use Rattle.clap.specs.declared.error.ErrorKind.TheVariants as kinds
 use Rattle.command_line.specs.declared.command.ToolCommand.{ToolCommand}
-use Rattle.command_line.specs.declared.command.ToolCommand.TheVariants.{Create, Run, List as AskList, Verify, Frames}
+use Rattle.command_line.specs.declared.command.ToolCommand.TheVariants.{Create, Run, List as AskList, Verify, Describe, Frames}
 
 -- a word that has to be given
 abbrev pub required_word : Text → Rule
@@ -24,12 +25,20 @@ history_option = record (new_rule (codes "history")) {
   parser = Some (parser.Signed (pos 0) (pos 4294967295));
 }
 
+-- a flag, which is a word of its own
+abbrev pub flag_option : Text → Rule
+flag_option id = record (new_rule id) { long = Some id; action = Some SetTrue }
+
 -- a command of one word, which has to be given
 abbrev pub word_app : Text → Text → App
 word_app name id = with_rule (new_app name) (required_word id)
 
 abbrev pub create_app : App
 create_app = with_rule (word_app (codes "create") (codes "folder")) history_option
+
+-- a command of a folder, with a flag
+abbrev pub flag_app : Text → Text → App
+flag_app name flag = with_rule (word_app name (codes "folder")) (flag_option flag)
 
 abbrev pub run_app : App
 run_app = with_rule (new_app (codes "run")) (new_rule (codes "folder"))
@@ -40,9 +49,9 @@ named_tool = on_top (λ s. record s { has_version = true; subcommand_required = 
 
 -- and its commands
 abbrev pub tool_app : App
-tool_app = with_subcommand (with_subcommand (with_subcommand (with_subcommand (with_subcommand named_tool create_app.top) run_app.top)
-    (word_app (codes "list") (codes "folder")).top) (word_app (codes "verify") (codes "folder")).top)
-    (word_app (codes "frames") (codes "file")).top
+tool_app = with_subcommand (with_subcommand (with_subcommand (with_subcommand (with_subcommand (with_subcommand named_tool create_app.top) run_app.top)
+    (flag_app (codes "list") (codes "read-only")).top) (flag_app (codes "verify") (codes "read-only")).top)
+    (word_app (codes "frames") (codes "file")).top) (flag_app (codes "describe") (codes "json")).top
 
 -- the command is that one, and has no argument that its subcommands have too
 pub record IsCommand (app : App) (command : Command) : Type 0 where
@@ -53,20 +62,28 @@ pub record IsCommand (app : App) (command : Command) : Type 0 where
 abbrev pub command_word : ToolCommand → Text
 command_word (Create folder history) = codes "create"
 command_word (Run folder) = codes "run"
-command_word (AskList folder) = codes "list"
-command_word (Verify folder) = codes "verify"
+command_word (AskList folder read_only) = codes "list"
+command_word (Verify folder read_only) = codes "verify"
+command_word (Describe folder json) = codes "describe"
 command_word (Frames file) = codes "frames"
 
 -- the text is a u32 in decimal, and this number
 abbrev pub IsNumber : ℕ → Text → Type 0
 IsNumber n text = IsNumeral 10 (without_leading_plus text) × (n ≡ digits_value 10 (without_leading_plus text)) × (n < 2 ^ 32)
 
+-- a flag is set, or not; where its text is another, nothing is said
+pub record IsFlag (text : Option Text) (flag : Bool) : Type 0 where
+  pub none : text ≡ None → flag ≡ false
+  pub set : text ≡ Some (codes "true") → flag ≡ true
+  pub unset : text ≡ Some (codes "false") → flag ≡ false
+
 -- the words of a command are those that its subcommand's entries hold
 abbrev pub HasWords : List Row → ToolCommand → Type 0
 HasWords rows (Create folder history) = (first_of (codes "folder") rows ≡ Some folder.now) × IsSomeAnd (one_of (codes "history") rows) (IsNumber history)
 HasWords rows (Run folder) = first_of (codes "folder") rows ≡ option_map (λ f. f.now) folder
-HasWords rows (AskList folder) = first_of (codes "folder") rows ≡ Some folder.now
-HasWords rows (Verify folder) = first_of (codes "folder") rows ≡ Some folder.now
+HasWords rows (AskList folder read_only) = (first_of (codes "folder") rows ≡ Some folder.now) × IsFlag (one_of (codes "read-only") rows) read_only
+HasWords rows (Verify folder read_only) = (first_of (codes "folder") rows ≡ Some folder.now) × IsFlag (one_of (codes "read-only") rows) read_only
+HasWords rows (Describe folder json) = (first_of (codes "folder") rows ≡ Some folder.now) × IsFlag (one_of (codes "json") rows) json
 HasWords rows (Frames file) = first_of (codes "file") rows ≡ Some file.now
 
 -- a subcommand of that name, with those entries, is the command
@@ -88,13 +105,14 @@ abbrev pub IsPlainWord : Text → Type 0
 IsPlainWord [] = ⊥
 IsPlainWord (byte ∷ bytes) = byte ≢ 45
 
--- the folder or file of a command is such a word, and its history is the one of which no word is said
+-- the folder or file of a command is such a word, its history is the one of which no word is said, and no flag is set
 abbrev pub IsPlain : ToolCommand → Type 0
 IsPlain (Create folder history) = IsPlainWord folder.now × (history ≡ 1048576)
 IsPlain (Run None) = Unit {0}
 IsPlain (Run (Some folder)) = IsPlainWord folder.now
-IsPlain (AskList folder) = IsPlainWord folder.now
-IsPlain (Verify folder) = IsPlainWord folder.now
+IsPlain (AskList folder read_only) = IsPlainWord folder.now × (read_only ≡ false)
+IsPlain (Verify folder read_only) = IsPlainWord folder.now × (read_only ≡ false)
+IsPlain (Describe folder json) = IsPlainWord folder.now × (json ≡ false)
 IsPlain (Frames file) = IsPlainWord file.now
 
 -- the word of a command, and its folder or file where it has one
@@ -102,8 +120,9 @@ abbrev pub words_of : ToolCommand → List Text
 words_of (Create folder history) = codes "create" ∷ folder.now ∷ []
 words_of (Run None) = codes "run" ∷ []
 words_of (Run (Some folder)) = codes "run" ∷ folder.now ∷ []
-words_of (AskList folder) = codes "list" ∷ folder.now ∷ []
-words_of (Verify folder) = codes "verify" ∷ folder.now ∷ []
+words_of (AskList folder read_only) = codes "list" ∷ folder.now ∷ []
+words_of (Verify folder read_only) = codes "verify" ∷ folder.now ∷ []
+words_of (Describe folder json) = codes "describe" ∷ folder.now ∷ []
 words_of (Frames file) = codes "frames" ∷ file.now ∷ []
 
 -- The kind of the error: one of those that clap gives to the words, or none that a command is missing where it takes

@@ -2,11 +2,11 @@
 
 ghost use Rattle.std.specs.Prelude.{◌≡◌, ◌∷◌, [], ℕ, List, Ok, IfOk, IfErr, MatchOption, codes, false, map, string_bytes};
 ghost use Rattle.clap.specs.Words.{AddsSubcommand, app_of, fault_of, found_of, kind_of, rows_of, rule_of, subcommand_rows_of};
-ghost use Rattle.command_line.specs.CommandLine.{IsAsked, IsCommand, IsHeld, IsMet, IsPlain, IsWordsFault, create_app, history_option, named_tool, required_word, run_app, tool_app, word_app, words_of};
+ghost use Rattle.command_line.specs.CommandLine.{IsAsked, IsCommand, IsHeld, IsMet, IsPlain, IsWordsFault, create_app, flag_app, flag_option, history_option, named_tool, required_word, run_app, tool_app, word_app, words_of};
 
 use crate::version::VERSION;
 use clap::error::ErrorKind;
-use clap::{Arg, ArgMatches, Command, Error, value_parser};
+use clap::{Arg, ArgAction, ArgMatches, Command, Error, value_parser};
 use std::alloc::{AllocError, Global};
 
 /// What the program is asked to do. Folders and files are words of the command line, as they were given.
@@ -16,10 +16,12 @@ pub enum ToolCommand<'a> {
     Create { folder: &'a str, history: u32 },
     /// Answer control lines from standard input on standard output, over the archive of a folder or over memory.
     Run { folder: Option<&'a str> },
-    /// Print the recordings of the archive of a folder.
-    List { folder: &'a str },
-    /// Read each recorded frame of the archive of a folder.
-    Verify { folder: &'a str },
+    /// Print the recordings of the archive of a folder, which is changed by nothing but its opening, or not at all.
+    List { folder: &'a str, read_only: bool },
+    /// Read each recorded frame of the archive of a folder, which is changed by nothing but its opening, or not at all.
+    Verify { folder: &'a str, read_only: bool },
+    /// Print what is known of the archive of a folder, which is only read, as a page or as JSON.
+    Describe { folder: &'a str, json: bool },
     /// Print the frames of a segment file.
     Frames { file: &'a str },
 }
@@ -80,6 +82,22 @@ const FRAMES_EXAMPLE: &str = "Example: archive_tool frames /var/lib/recorder/0-0
 
 Statuses: 0 done, 2 a wrong command line, 3 a device fault or a line `error ..`, or standard output failed.";
 
+const DESCRIBE_HELP: &str =
+    "Prints what is known of the archive in a folder: of each recording, by rising id, its state, channel, stream and session, \
+when it was started and stopped as dates in UTC, its first and its recorded position, its bytes and segment files, and the \
+lengths of its terms and segments and its MTU; and then totals, how many entries of the history are used, the segment files \
+that a sweep would remove, and why, and those that no recording knows. Positions and lengths are in bytes. The folder is \
+only read, also while another process has it open: nothing is locked, written or stopped.";
+
+const DESCRIBE_EXAMPLE: &str = "Example: archive_tool describe /var/lib/recorder --json
+
+Statuses: 0 done, 1 refused, 2 a wrong command line, 3 a device fault or damage, or standard output failed.";
+
+const READ_ONLY_HELP: &str =
+    "Only reads the folder, also while another process has it open: nothing is locked, written, synced or stopped";
+
+const JSON_HELP: &str = "Prints it as one JSON text";
+
 const FOLDER_HELP: &str = "The archive's folder, on a local file system";
 
 /// The word `name` of a command, which has to be given.
@@ -101,6 +119,17 @@ fn history<'a>(alloc: Global) -> Arg<'a>
         .value_parser(value_parser!(u32))
         .default_value("1048576")
         .help("How many entries the archive's history may have, from 1 to 16777216")
+}
+
+/// A flag, which is a word of its own.
+fn flag<'a>(alloc: Global, name: &'a str, help: &'a str) -> Arg<'a>
+    ensures rule { rule_of result ≡ flag_option name.entry.now }
+    ensures local { result.global ≡ false }
+{
+    Arg::new(alloc, name)
+        .long(name)
+        .action(ArgAction::SetTrue)
+        .help(help)
 }
 
 fn create<'a>(alloc: Global) -> Result<Command<'a>, AllocError>
@@ -125,23 +154,36 @@ fn run<'a>(alloc: Global) -> Result<Command<'a>, AllocError>
 }
 
 fn list<'a>(alloc: Global) -> Result<Command<'a>, AllocError>
-    ensures { IfOk result (IsCommand (word_app (codes "list") (codes "folder"))) }
+    ensures { IfOk result (IsCommand (flag_app (codes "list") (codes "read-only"))) }
 {
     Command::new(alloc, "list")
         .about("Prints the recordings of an archive")
         .long_about(LIST_HELP)
         .after_help(LIST_EXAMPLE)
-        .arg(required(alloc, "folder", FOLDER_HELP))
+        .arg(required(alloc, "folder", FOLDER_HELP))?
+        .arg(flag(alloc, "read-only", READ_ONLY_HELP))
 }
 
 fn verify<'a>(alloc: Global) -> Result<Command<'a>, AllocError>
-    ensures { IfOk result (IsCommand (word_app (codes "verify") (codes "folder"))) }
+    ensures { IfOk result (IsCommand (flag_app (codes "verify") (codes "read-only"))) }
 {
     Command::new(alloc, "verify")
         .about("Reads each recorded frame of an archive")
         .long_about(VERIFY_HELP)
         .after_help(VERIFY_EXAMPLE)
-        .arg(required(alloc, "folder", FOLDER_HELP))
+        .arg(required(alloc, "folder", FOLDER_HELP))?
+        .arg(flag(alloc, "read-only", READ_ONLY_HELP))
+}
+
+fn describe<'a>(alloc: Global) -> Result<Command<'a>, AllocError>
+    ensures { IfOk result (IsCommand (flag_app (codes "describe") (codes "json"))) }
+{
+    Command::new(alloc, "describe")
+        .about("Prints what is known of an archive, which is only read")
+        .long_about(DESCRIBE_HELP)
+        .after_help(DESCRIBE_EXAMPLE)
+        .arg(required(alloc, "folder", FOLDER_HELP))?
+        .arg(flag(alloc, "json", JSON_HELP))
 }
 
 fn frames<'a>(alloc: Global) -> Result<Command<'a>, AllocError>
@@ -184,7 +226,8 @@ fn tool<'a>(alloc: Global) -> Result<Command<'a>, AllocError>
     let tool = with(tool, run(alloc))?;
     let tool = with(tool, list(alloc))?;
     let tool = with(tool, verify(alloc))?;
-    with(tool, frames(alloc))
+    let tool = with(tool, frames(alloc))?;
+    with(tool, describe(alloc))
 }
 
 /// The command that a subcommand's name and matches hold, if it is one of the program's.
@@ -203,9 +246,15 @@ fn asked<'a>(name: &str, own: &ArgMatches<'a>) -> Option<ToolCommand<'a>>
         }),
         "list" => Some(ToolCommand::List {
             folder: own.get_str("folder")?,
+            read_only: own.get_flag("read-only"),
         }),
         "verify" => Some(ToolCommand::Verify {
             folder: own.get_str("folder")?,
+            read_only: own.get_flag("read-only"),
+        }),
+        "describe" => Some(ToolCommand::Describe {
+            folder: own.get_str("folder")?,
+            json: own.get_flag("json"),
         }),
         "frames" => Some(ToolCommand::Frames {
             file: own.get_str("file")?,

@@ -2,7 +2,7 @@
 use Rattle.std.proofs.Common.{rules, refl, codes}
 use Rattle.std.specs.Str.Parse.{ParsesUnsigned, ExplainsUnsignedError, HasUnsignedDigitsIfOk}
 use Rattle.clap.specs.Words.{found_of}
-use Rattle.command_line.proofs.CommandLineLemmas.{text_given, number_given, number_lacks, no_create, no_list, no_verify, no_frames}
+use Rattle.command_line.proofs.CommandLineLemmas.{text_given, number_given, number_lacks, no_create, no_list, no_verify, no_describe, no_frames, flag_given}
 use Rattle.command_line.proofs.command.asked.Goals as goal
 
 pub returns-in_err-get_str-in-create : goal.returns-in_err-get_str-in-create
@@ -35,7 +35,10 @@ returns-in_err-get_str-in-list c = rw c.from_residual-in_err-get_str-in-list.ens
 pub returns-in_ok-get_str-in-list : goal.returns-in_ok-get_str-in-list
 returns-in_ok-get_str-in-list c = record {
   named = search rules;
-  words = text_given (found_of c.args.own.now) (codes "folder") _ _ c.get_str-in-list.ensures c.in_ok-get_str-in-list.was;
+  words = (
+    text_given (found_of c.args.own.now) (codes "folder") _ _ c.get_str-in-list.ensures c.in_ok-get_str-in-list.was,
+    flag_given (found_of c.args.own.now) (codes "read-only") _ c.get_flag.ensures.none c.get_flag.ensures.value c.get_flag.ensures.other,
+  );
 }
 
 pub returns-in_err-get_str-in-verify : goal.returns-in_err-get_str-in-verify
@@ -45,7 +48,10 @@ returns-in_err-get_str-in-verify c = rw c.from_residual-in_err-get_str-in-verify
 pub returns-in_ok-get_str-in-verify : goal.returns-in_ok-get_str-in-verify
 returns-in_ok-get_str-in-verify c = record {
   named = search rules;
-  words = text_given (found_of c.args.own.now) (codes "folder") _ _ c.get_str-in-verify.ensures c.in_ok-get_str-in-verify.was;
+  words = (
+    text_given (found_of c.args.own.now) (codes "folder") _ _ c.get_str-in-verify.ensures c.in_ok-get_str-in-verify.was,
+    flag_given (found_of c.args.own.now) (codes "read-only") _ c.get_flag-in-verify.ensures.none c.get_flag-in-verify.ensures.value c.get_flag-in-verify.ensures.other,
+  );
 }
 
 pub returns-in_err-get_str-in-frames : goal.returns-in_err-get_str-in-frames
@@ -56,4 +62,17 @@ pub returns-in_ok-get_str-in-frames : goal.returns-in_ok-get_str-in-frames
 returns-in_ok-get_str-in-frames c = record {
   named = search rules;
   words = text_given (found_of c.args.own.now) (codes "file") _ _ c.get_str-in-frames.ensures c.in_ok-get_str-in-frames.was;
+}
+
+pub returns-in_err-get_str-in-describe : goal.returns-in_err-get_str-in-describe
+returns-in_err-get_str-in-describe c = rw c.from_residual-in_err-get_str-in-describe.ensures
+    (no_describe _ _ (search rules) (text_given (found_of c.args.own.now) (codes "folder") _ _ c.get_str-in-describe.ensures c.in_err-get_str-in-describe.was))
+
+pub returns-in_ok-get_str-in-describe : goal.returns-in_ok-get_str-in-describe
+returns-in_ok-get_str-in-describe c = record {
+  named = search rules;
+  words = (
+    text_given (found_of c.args.own.now) (codes "folder") _ _ c.get_str-in-describe.ensures c.in_ok-get_str-in-describe.was,
+    flag_given (found_of c.args.own.now) (codes "json") _ c.get_flag-in-describe.ensures.none c.get_flag-in-describe.ensures.value c.get_flag-in-describe.ensures.other,
+  );
 }

@@ -1,0 +1,86 @@
+//! What `describe` tells of an archive. docs/CONTROL.md, "A page for people".
+
+ghost use Rattle.std.specs.Prelude.{IfErr, IfOk};
+ghost use Rattle.archive_view.specs.ReadOnly.{IsOnlyRead};
+ghost use Rattle.archive_report.specs.Describing.{IsLookedOn};
+
+use crate::document::document_of;
+use crate::page::page_of;
+use crate::summary::Summary;
+use crate::viewing::viewed;
+use archive_view::ArchiveView;
+use control_core::Desk;
+use disk_core::Disk;
+use std::alloc::Global;
+use std::io::Write;
+use tool_core::{CommandFault, EarlyEnd, Observer, Stopped};
+
+/// In which form an archive is described.
+#[derive(Clone, Copy, Debug, PartialEq, Eq)]
+pub enum Form {
+    /// As a page for people.
+    Page,
+    /// As one JSON text.
+    Json,
+}
+
+/// Writes what is known of the archive of a disk as it stands: each recording with its files, totals, which files a sweep
+/// would remove and why, files that no recording knows, and how much of the history is used. The disk is only read, and
+/// comes back. An observer is told whether the archive is there.
+///
+/// Refused as `ArchiveView::open` refuses, and by `DeviceFault` and `NoMemory` of its files, and then nothing is written;
+/// cut by `Memory` where there is none for the text, and by `Write` where the writer fails. docs/CONTROL.md, "A page for
+/// people". Costs a call of the disk for each file, and a step for each file and recording.
+pub fn describe_archive<W: Write, D: Disk, O: Observer>(
+    alloc: Global,
+    disk: D,
+    form: Form,
+    writer: &mut W,
+    observer: &mut O,
+) -> Result<D, CommandFault<D>>
+    ensures read { IfOk result (λ back. IsOnlyRead (D.life disk) (D.life back)) }
+    ensures fault { IfErr result (λ fault. IsOnlyRead (D.life disk) (D.life fault.disk)) }
+{
+    let mut view = viewed(alloc, disk, observer)?;
+    let outcome = described(alloc, &mut view, form, writer);
+    let disk = view.into_disk().into_disk();
+    match outcome {
+        Ok(()) => Ok(disk),
+        Err(why) => Err(CommandFault { why, disk }),
+    }
+}
+
+/// Writes what is known of an archive.
+fn described<W: Write, D: Disk>(
+    alloc: Global,
+    view: &mut ArchiveView<D>,
+    form: Form,
+    writer: &mut W,
+) -> Result<(), Stopped>
+    ensures { IsLookedOn D.life view.old view.new }
+{
+    let summary = match Summary::of(alloc, view) {
+        Ok(summary) => summary,
+        Err(refusal) => return Err(Stopped::Refused(refusal)),
+    };
+    match text_of(alloc, view.desk(), &summary, form) {
+        Some(text) => written(text.as_str(), writer),
+        None => Err(Stopped::Cut(EarlyEnd::Memory)),
+    }
+}
+
+/// Writes a text. `Write` where the writer fails.
+fn written<W: Write>(text: &str, writer: &mut W) -> Result<(), Stopped> {
+    match writer.write_all(text.as_bytes()) {
+        Ok(()) => Ok(()),
+        Err(_) => Err(Stopped::Cut(EarlyEnd::Write)),
+    }
+}
+
+/// What is told of a desk and of its archive's files, if there is memory for it.
+fn text_of(alloc: Global, desk: &Desk, summary: &Summary, form: Form) -> Option<String> {
+    match form {
+        Form::Page => page_of(alloc, desk, summary).ok(),
+        Form::Json => document_of(alloc, desk, summary).ok(),
+    }
+}

@@ -1,0 +1,79 @@
+//! An archive as a page for people. docs/CONTROL.md, "A page for people".
+
+use crate::dates::Date;
+use crate::summary::{Staleness, Summary, recorded_bytes};
+use archive_model::Registration;
+use control_core::Desk;
+use disk_core::FileId;
+use std::alloc::{AllocError, Global};
+
+/// The page: a part for each recording, and then one for the archive. An error where there is no memory for it.
+pub(crate) fn page_of(alloc: Global, desk: &Desk, summary: &Summary) -> Result<String, AllocError> {
+    let mut page = String::new(alloc);
+    for known in desk.recordings() {
+        add_stream(known, &mut page)?;
+        add_extent(known, summary, &mut page)?;
+    }
+    add_totals(desk, summary, &mut page)?;
+    for file in summary.stale.as_slice() {
+        let why = Staleness::of(desk, file).text();
+        writeln!(page, "stale      {file}: {why}")?;
+    }
+    add_unknown(desk, summary, &mut page)?;
+    Ok(page)
+}
+
+/// What is recorded.
+fn add_stream(known: &Registration, page: &mut String) -> Result<(), AllocError> {
+    let found = &known.descriptor;
+    let state = if known.is_active() {
+        "active"
+    } else {
+        "stopped"
+    };
+    writeln!(page, "recording {}, {state}", found.recording)?;
+    writeln!(page, "  channel    {}", found.channel.as_str())?;
+    writeln!(page, "  stream     {}", found.stream_id)?;
+    writeln!(page, "  session    {}", found.session_id)?;
+    writeln!(page, "  started    {}", Date(found.start_timestamp))?;
+    writeln!(page, "  stopped    {}", Date(found.stop_timestamp))
+}
+
+/// How much of it is recorded, and in which files.
+fn add_extent(known: &Registration, summary: &Summary, page: &mut String) -> Result<(), AllocError> {
+    let found = &known.descriptor;
+    let total = summary.of_recording(&found.recording);
+    writeln!(page, "  positions  {} to {}", found.start_position, known.recorded)?;
+    writeln!(page, "  recorded   {} bytes", recorded_bytes(known))?;
+    writeln!(page, "  on disk    {} bytes in {} segment files", total.bytes, total.files)?;
+    writeln!(page, "  lengths    term {}, segment {}, MTU {}", found.term_length, found.segment_length, found.mtu)?;
+    writeln!(page)
+}
+
+/// The totals, and how much of the history is used.
+fn add_totals(desk: &Desk, summary: &Summary, page: &mut String) -> Result<(), AllocError> {
+    let total = summary.of_all();
+    let recordings = desk.recordings().len();
+    let active = desk.active_count();
+    writeln!(page, "archive    {recordings} recordings, {active} of them active")?;
+    writeln!(page, "on disk    {} bytes in {} segment files", total.bytes, total.files)?;
+    writeln!(page, "history    {} of {} entries", desk.counted(), desk.limit())
+}
+
+/// The files that no recording knows.
+fn add_unknown(desk: &Desk, summary: &Summary, page: &mut String) -> Result<(), AllocError> {
+    for found in summary.files.as_slice() {
+        if is_unknown(desk, &found.file) {
+            writeln!(page, "unknown    {}", found.file)?;
+        }
+    }
+    Ok(())
+}
+
+/// Whether a file is a segment of no recording that the archive has, or ever had.
+pub(crate) fn is_unknown(desk: &Desk, file: &FileId) -> bool {
+    match file {
+        FileId::BankA | FileId::BankB => false,
+        FileId::Segment { recording, .. } => *recording >= desk.next_recording(),
+    }
+}
