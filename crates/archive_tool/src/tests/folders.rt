@@ -74,12 +74,12 @@ fn an_archive_outlives_its_process(rt: HostRuntime) -> Result<(), Fail> {
     let history = 16;
     check(rt, ToolCommand::Create { folder, history }, "created\n", 0)?;
     check(rt, ToolCommand::Create { folder, history }, "", 1)?;
-    check(rt, ToolCommand::List { folder }, "end 0\n", 0)?;
-    check(rt, ToolCommand::Verify { folder }, "", 0)?;
+    check(rt, ToolCommand::List { folder, read_only: false }, "end 0\n", 0)?;
+    check(rt, ToolCommand::Verify { folder, read_only: false }, "", 0)?;
     record(rt, folder)?;
     let listed = "recording 0 1000 -1 0 64 42 131072 65536 1408 7 1001 c\nend 1\n";
-    check(rt, ToolCommand::List { folder }, listed, 0)?;
-    check(rt, ToolCommand::Verify { folder }, "verified 1\n", 0)?;
+    check(rt, ToolCommand::List { folder, read_only: false }, listed, 0)?;
+    check(rt, ToolCommand::Verify { folder, read_only: false }, "verified 1\n", 0)?;
     let file = within(rt, folder, "0-0.rec")?;
     let file = file.as_str();
     check(
@@ -88,6 +88,25 @@ fn an_archive_outlives_its_process(rt: HostRuntime) -> Result<(), Fail> {
         "frame 42 0 1 37 c0\nend 1\n",
         0,
     )?;
+    fs::remove_dir_all(&rt, folder)?;
+    Ok(())
+}
+
+/// Also while another disk has the folder open, which a command that opens it may not.
+#[test]
+fn looking_stops_no_recording(rt: HostRuntime) -> Result<(), Fail> {
+    let path = unused(rt, "looked-at")?;
+    let folder = path.as_str();
+    let history = 16;
+    check(rt, ToolCommand::Create { folder, history }, "created\n", 0)?;
+    record(rt, folder)?;
+    let held = disk_of(rt, folder)?;
+    let active = "recording 0 1000 -1 0 -1 42 131072 65536 1408 7 1001 c\nend 1\n";
+    check(rt, ToolCommand::List { folder, read_only: true }, active, 0)?;
+    check(rt, ToolCommand::Verify { folder, read_only: true }, "verified 1\n", 0)?;
+    check(rt, ToolCommand::List { folder, read_only: true }, active, 0)?;
+    check(rt, ToolCommand::List { folder, read_only: false }, "", 3)?;
+    drop(held);
     fs::remove_dir_all(&rt, folder)?;
     Ok(())
 }
@@ -112,7 +131,7 @@ fn damage_in_a_folder_is_told(rt: HostRuntime) -> Result<(), Fail> {
     drop(disk);
     check(
         rt,
-        ToolCommand::Verify { folder },
+        ToolCommand::Verify { folder, read_only: false },
         "error 15 Damaged 0 0\n",
         3,
     )?;
@@ -122,11 +141,11 @@ fn damage_in_a_folder_is_told(rt: HostRuntime) -> Result<(), Fail> {
     let mut disk = disk_of(rt, folder)?;
     disk.cut(FileId::BankA, 40)?;
     drop(disk);
-    check(rt, ToolCommand::List { folder }, "", 3)?;
+    check(rt, ToolCommand::List { folder, read_only: false }, "", 3)?;
     let mut disk = disk_of(rt, folder)?;
     disk.cut(FileId::BankA, 31)?;
     drop(disk);
-    check(rt, ToolCommand::List { folder }, "", 1)?;
+    check(rt, ToolCommand::List { folder, read_only: false }, "", 1)?;
     fs::remove_dir_all(&rt, folder)?;
     Ok(())
 }
@@ -136,13 +155,13 @@ fn folders_that_hold_no_archive(rt: HostRuntime) -> Result<(), Fail> {
     let path = unused(rt, "empty")?;
     let folder = path.as_str();
     let file = folder;
-    check(rt, ToolCommand::List { folder }, "", 3)?;
+    check(rt, ToolCommand::List { folder, read_only: false }, "", 3)?;
     check(rt, ToolCommand::Frames { file }, "", 3)?;
     check(rt, ToolCommand::Create { folder, history: 0 }, "", 1)?;
-    check(rt, ToolCommand::List { folder }, "", 1)?;
-    check(rt, ToolCommand::Verify { folder }, "", 1)?;
+    check(rt, ToolCommand::List { folder, read_only: false }, "", 1)?;
+    check(rt, ToolCommand::Verify { folder, read_only: false }, "", 1)?;
     let disk = disk_of(rt, folder)?;
-    check(rt, ToolCommand::List { folder }, "", 3)?;
+    check(rt, ToolCommand::List { folder, read_only: false }, "", 3)?;
     drop(disk);
     fs::remove_dir_all(&rt, folder)?;
     Ok(())

@@ -1,0 +1,84 @@
+//! What `describe` tells of the archives of disks: docs/CONTROL.md, "A page for people".
+
+use super::views::{SCRIPT, after};
+use archive_report::{Form, describe_archive};
+use disk_core::{Disk, FileId, MemoryDisk};
+use std::alloc::Global;
+use std::test::*;
+use tool_core::Unobserved;
+
+/// The disk behind a script, with a file more behind its recording's end, and one of no recording.
+fn with_further_files(alloc: Global) -> Result<MemoryDisk, Fail> {
+    let mut disk = after(alloc, SCRIPT)?;
+    for (recording, base) in [(0, 131_072), (7, 0)] {
+        disk.write_at(FileId::Segment { recording, base }, 0, &[0])?;
+    }
+    Ok(disk)
+}
+
+/// Fails where the description of the archive of a disk is another.
+fn check(alloc: Global, form: Form, told: &str) -> Result<(), Fail> {
+    let mut out = Vec::new(alloc);
+    let disk = with_further_files(alloc)?;
+    if describe_archive(alloc, disk, form, &mut out, &mut Unobserved).is_err() {
+        return Err(Fail::new("the description ended early"));
+    }
+    if out.as_slice() == told.as_bytes() {
+        return Ok(());
+    }
+    Err(Fail::new(String::from_str(alloc, std::str::from_utf8(out.as_slice())?)?))
+}
+
+#[test]
+fn a_page(rt: HostRuntime) -> Result<(), Fail> {
+    check(
+        rt.alloc(),
+        Form::Page,
+        "recording 0, stopped\n\
+        \x20 channel    c\n\
+        \x20 stream     1001\n\
+        \x20 session    7\n\
+        \x20 started    1970-01-01T00:00:01Z\n\
+        \x20 stopped    1970-01-01T00:00:02Z\n\
+        \x20 positions  0 to 64\n\
+        \x20 recorded   64 bytes\n\
+        \x20 on disk    65 bytes in 2 segment files\n\
+        \x20 lengths    term 65536, segment 131072, MTU 1408\n\
+        \n\
+        recording 1, active\n\
+        \x20 channel    d\n\
+        \x20 stream     1001\n\
+        \x20 session    7\n\
+        \x20 started    1970-01-01T00:00:01Z\n\
+        \x20 stopped    -\n\
+        \x20 positions  0 to 64\n\
+        \x20 recorded   64 bytes\n\
+        \x20 on disk    64 bytes in 1 segment files\n\
+        \x20 lengths    term 65536, segment 131072, MTU 1408\n\
+        \n\
+        archive    2 recordings, 1 of them active\n\
+        on disk    130 bytes in 4 segment files\n\
+        history    5 of 1048576 entries\n\
+        stale      0-131072.rec: it lies behind the recorded position\n\
+        unknown    7-0.rec\n",
+    )
+}
+
+#[test]
+fn a_document(rt: HostRuntime) -> Result<(), Fail> {
+    check(
+        rt.alloc(),
+        Form::Json,
+        "{\"disk_bytes\":130,\"history_entries\":5,\"history_limit\":1048576,\"recordings\":[\
+        {\"active\":false,\"channel\":\"c\",\"disk_bytes\":65,\"initial_term_id\":42,\"mtu\":1408,\
+        \"recorded_bytes\":64,\"recorded_position\":64,\"recording\":0,\"segment_files\":2,\"segment_length\":131072,\
+        \"session_id\":7,\"start_position\":0,\"start_timestamp\":1000,\"started\":\"1970-01-01T00:00:01Z\",\
+        \"stop_timestamp\":2000,\"stopped\":\"1970-01-01T00:00:02Z\",\"stream_id\":1001,\"term_length\":65536},\
+        {\"active\":true,\"channel\":\"d\",\"disk_bytes\":64,\"initial_term_id\":42,\"mtu\":1408,\
+        \"recorded_bytes\":64,\"recorded_position\":64,\"recording\":1,\"segment_files\":1,\"segment_length\":131072,\
+        \"session_id\":7,\"start_position\":0,\"start_timestamp\":1000,\"started\":\"1970-01-01T00:00:01Z\",\
+        \"stop_timestamp\":-1,\"stopped\":null,\"stream_id\":1001,\"term_length\":65536}],\
+        \"segment_files\":4,\"stale_files\":[{\"file\":\"0-131072.rec\",\"why\":\"it lies behind the recorded position\"}],\
+        \"unknown_files\":[\"7-0.rec\"]}\n",
+    )
+}

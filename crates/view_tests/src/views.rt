@@ -1,0 +1,113 @@
+//! What `list --read-only` and `verify --read-only` tell of the archives of disks: docs/CONTROL.md, "Looking without a change".
+
+use archive_report::{list_view, verify_view};
+use archive_view::{ArchiveView, ReadOnly};
+use disk_core::{Disk, FileId, MemoryDisk};
+use std::alloc::Global;
+use std::test::*;
+use tool_core::{Unobserved, Verdict, run_script};
+
+/// A frame in a recording that was stopped, and one in another that is active.
+pub const SCRIPT: &str = "start 1001 7 42 65536 1408 131072 0 1000 c\n\
+    start 1001 7 42 65536 1408 131072 0 1000 d\n\
+    block 0 2500000000c001000000000007000000e90300002a000000000000000000000068656c6c6f\n\
+    block 1 2500000000c001000000000007000000e90300002a000000000000000000000068656c6c6f\n\
+    stop 0 2000\n";
+
+/// The disk behind these lines of a script.
+pub fn after(alloc: Global, lines: &str) -> Result<MemoryDisk, Fail> {
+    let mut out = Vec::new(alloc);
+    let disk = MemoryDisk::new(alloc);
+    match run_script(alloc, lines.as_bytes(), &mut out, disk, &mut Unobserved) {
+        Ok(disk) => Ok(disk),
+        Err(_) => Err(Fail::new("the script ended early")),
+    }
+}
+
+/// The disk, of which a file is read as this many bytes of 0 from an offset on.
+fn zeroed(disk: MemoryDisk, file: FileId, at: u64, bytes: &[u8]) -> Result<MemoryDisk, Fail> {
+    let mut disk = disk;
+    disk.write_at(file, at, bytes)?;
+    Ok(disk)
+}
+
+/// What is listed of the archive of a disk, and the disk.
+fn listed(alloc: Global, disk: MemoryDisk) -> Result<(Vec<u8>, MemoryDisk), Fail> {
+    let mut out = Vec::new(alloc);
+    match list_view(alloc, disk, &mut out, &mut Unobserved) {
+        Ok(disk) => Ok((out, disk)),
+        Err(_) => Err(Fail::new("the list ended early")),
+    }
+}
+
+/// Fails where the verifying of the archive of a disk tells another text or verdict.
+fn check_verified(
+    alloc: Global,
+    disk: MemoryDisk,
+    told: &str,
+    verdict: Verdict,
+) -> Result<(), Fail> {
+    let mut out = Vec::new(alloc);
+    let Ok((_, finding)) = verify_view(alloc, disk, &mut out, &mut Unobserved) else {
+        return Err(Fail::new("the verification ended early"));
+    };
+    if out.as_slice() == told.as_bytes() && finding.verdict == verdict && !finding.is_moving {
+        return Ok(());
+    }
+    Err(Fail::new(told))
+}
+
+#[test]
+fn an_active_recording_is_listed_as_active(rt: HostRuntime) -> Result<(), Fail> {
+    let told = b"recording 0 1000 2000 0 64 42 131072 65536 1408 7 1001 c\n\
+        recording 1 1000 -1 0 -1 42 131072 65536 1408 7 1001 d\nend 2\n";
+    let (first, disk) = listed(rt.alloc(), after(rt.alloc(), SCRIPT)?)?;
+    assert!(rt; first.as_slice() == told.as_slice());
+    let (again, _) = listed(rt.alloc(), disk)?;
+    assert!(rt; again.as_slice() == told.as_slice());
+    Ok(())
+}
+
+#[test]
+fn nothing_is_changed(rt: HostRuntime) -> Result<(), Fail> {
+    let disk = after(rt.alloc(), SCRIPT)?;
+    let changes = disk.changes();
+    let (_, disk) = listed(rt.alloc(), disk)?;
+    assert!(rt; disk.changes() == changes);
+    Ok(())
+}
+
+#[test]
+fn each_recording_is_verified(rt: HostRuntime) -> Result<(), Fail> {
+    let disk = after(rt.alloc(), SCRIPT)?;
+    check_verified(rt.alloc(), disk, "verified 1\nverified 1\n", Verdict::Whole)
+}
+
+#[test]
+fn damage_is_told(rt: HostRuntime) -> Result<(), Fail> {
+    let file = FileId::Segment {
+        recording: 0,
+        base: 0,
+    };
+    let disk = zeroed(after(rt.alloc(), SCRIPT)?, file, 0, &[0])?;
+    let told = "error 15 Damaged 0 0\nverified 1\n";
+    check_verified(rt.alloc(), disk, told, Verdict::Refused)
+}
+
+#[test]
+fn no_archive_is_refused(rt: HostRuntime) -> Result<(), Fail> {
+    let disk = ReadOnly::new(MemoryDisk::new(rt.alloc()));
+    assert!(rt; ArchiveView::open(rt.alloc(), disk).is_err());
+    Ok(())
+}
+
+#[test]
+fn a_disk_that_is_only_read_refuses_changes(rt: HostRuntime) -> Result<(), Fail> {
+    let mut disk = ReadOnly::new(after(rt.alloc(), SCRIPT)?);
+    assert!(rt; disk.write_at(FileId::BankA, 0, &[0]).is_err());
+    assert!(rt; disk.cut(FileId::BankA, 0).is_err());
+    assert!(rt; disk.remove(FileId::BankA).is_err());
+    assert!(rt; disk.sync(FileId::BankA).is_ok());
+    assert!(rt; disk.faults() == 3);
+    Ok(())
+}
