@@ -14,7 +14,7 @@ use Rattle.disk_core.proofs.CallerLemmas.{goes_on_part, now_leaves, started}
 use Rattle.archive_model.specs.declared.registration.Registration.{Registration}
 use Rattle.archive_model.specs.declared.reply.Reply.{Reply}
 use Rattle.archive_model.specs.declared.reply.Reply.TheVariants.{Verified}
-use Rattle.archive_model.specs.Register.{RegisterState, registration_in}
+use Rattle.archive_model.specs.Register.{registration_in}
 use Rattle.control_core.specs.Desk.{DeskState}
 use Rattle.engine_core.specs.Reading.{RefusesCount}
 use Rattle.tool_core.specs.declared.commands.CommandFault.{CommandFault}
@@ -36,7 +36,7 @@ use Rattle.archive_view.specs.Viewed.{desk_of, read_of}
 use Rattle.archive_view.specs.Asked.{Answers, HasAsked}
 use Rattle.archive_report.specs.Describing.{IsLookedOn}
 use Rattle.archive_report.specs.Viewing.{FailsToList, IsUnviewedBy, inner}
-use Rattle.archive_report.specs.Verifying.{FailsToVerify, TellEach, Tells, VerifiesAll, VerifiesEach, VerifiesFirst, VerifiesOne, ids_of}
+use Rattle.archive_report.specs.Verifying.{FailsToVerify, Tells, VerifiesAll, VerifiesEach, VerifiesFirst, VerifiesOne, ids_of}
 
 and-true : (b : Bool) → (b && true) ≡ b
 and-true true = refl

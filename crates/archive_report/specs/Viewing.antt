@@ -15,7 +15,7 @@ use Rattle.tool_core.specs.Answering.{FailsToAnswer}
 use Rattle.archive_view.specs.declared.view.ArchiveView.{ArchiveView}
 use Rattle.archive_view.specs.ReadOnly.{IsOnlyRead, disk_of}
 use Rattle.archive_view.specs.View.{IsAsCatalogued}
-use Rattle.archive_view.specs.Viewed.{desk_of, epoch_of, read_of, total_of}
+use Rattle.archive_view.specs.Viewed.{desk_of, read_of}
 
 -- A disk was only read, and the desk is that of its catalogue, if it obeys the crash model.
 pub record ShowsDesk (old new : Life) (desk : DeskState) : Type 0 where

@@ -40,13 +40,29 @@ fn add_stream(known: &Registration, page: &mut String) -> Result<(), AllocError>
 }
 
 /// How much of it is recorded, and in which files.
-fn add_extent(known: &Registration, summary: &Summary, page: &mut String) -> Result<(), AllocError> {
+fn add_extent(
+    known: &Registration,
+    summary: &Summary,
+    page: &mut String,
+) -> Result<(), AllocError> {
     let found = &known.descriptor;
     let total = summary.of_recording(&found.recording);
-    writeln!(page, "  positions  {} to {}", found.start_position, known.recorded)?;
+    writeln!(
+        page,
+        "  positions  {} to {}",
+        found.start_position, known.recorded
+    )?;
     writeln!(page, "  recorded   {} bytes", recorded_bytes(known))?;
-    writeln!(page, "  on disk    {} bytes in {} segment files", total.bytes, total.files)?;
-    writeln!(page, "  lengths    term {}, segment {}, MTU {}", found.term_length, found.segment_length, found.mtu)?;
+    writeln!(
+        page,
+        "  on disk    {} bytes in {} segment files",
+        total.bytes, total.files
+    )?;
+    writeln!(
+        page,
+        "  lengths    term {}, segment {}, MTU {}",
+        found.term_length, found.segment_length, found.mtu
+    )?;
     writeln!(page)
 }
 
@@ -55,9 +71,21 @@ fn add_totals(desk: &Desk, summary: &Summary, page: &mut String) -> Result<(), A
     let total = summary.of_all();
     let recordings = desk.recordings().len();
     let active = desk.active_count();
-    writeln!(page, "archive    {recordings} recordings, {active} of them active")?;
-    writeln!(page, "on disk    {} bytes in {} segment files", total.bytes, total.files)?;
-    writeln!(page, "history    {} of {} entries", desk.counted(), desk.limit())
+    writeln!(
+        page,
+        "archive    {recordings} recordings, {active} of them active"
+    )?;
+    writeln!(
+        page,
+        "on disk    {} bytes in {} segment files",
+        total.bytes, total.files
+    )?;
+    writeln!(
+        page,
+        "history    {} of {} entries",
+        desk.counted(),
+        desk.limit()
+    )
 }
 
 /// The files that no recording knows.

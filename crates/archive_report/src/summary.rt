@@ -83,10 +83,7 @@ impl Staleness {
 impl Summary {
     /// The files of an archive with their lengths, and which are stale. `DeviceFault`; `NoMemory`. The disk is only read.
     /// Costs a call of the disk for each file, and a step for each file and recording.
-    pub(crate) fn of<D: Disk>(
-        alloc: Global,
-        view: &mut ArchiveView<D>,
-    ) -> Result<Summary, Refusal>
+    pub(crate) fn of<D: Disk>(alloc: Global, view: &mut ArchiveView<D>) -> Result<Summary, Refusal>
         ensures { IsLookedOn D.life view.old view.new }
     {
         let stale = view.stale_files(alloc)?;

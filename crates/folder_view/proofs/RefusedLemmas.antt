@@ -1,5 +1,5 @@
 -- A call that is refused changes nothing.
-use Rattle.std.proofs.Common.{◌≡◌, refl, sym, subst, inl, inr, ℕ, ◌≤◌, List, ◌∷◌}
+use Rattle.std.proofs.Common.{◌≡◌, refl, sym, subst, inr, ℕ, ◌≤◌, List, ◌∷◌}
 use Rattle.disk_core.specs.declared.file_id.FileId.{FileId}
 use Rattle.disk_core.specs.DiskImage.{FileState}
 use Rattle.disk_core.specs.Life.{Steps}

@@ -188,10 +188,7 @@ impl Looked {
 /// The path of a folder that is there, with a slash behind it. What is none is not opened: a pipe would wait.
 fn real_folder(rt: &HostRuntime, alloc: Global, path: Path<'_>) -> Result<String, OpenFault> {
     let real = fs::canonicalize(rt, path).map_err(fault_of)?;
-    if !fs::metadata(rt, real.as_path())
-        .map_err(fault_of)?
-        .is_dir()
-    {
+    if !fs::metadata(rt, real.as_path()).map_err(fault_of)?.is_dir() {
         return Err(OpenFault::NoFolder);
     }
     format!(in alloc; "{}/", real.display()).map_err(|_| OpenFault::NoMemory)

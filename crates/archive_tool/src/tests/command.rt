@@ -262,26 +262,47 @@ fn each_command_has_its_words(rt: HostRuntime) -> Result<(), Fail> {
     for (line, command) in [
         ("archive_tool run", ToolCommand::Run { folder: None }),
         ("archive_tool run a", ToolCommand::Run { folder: Some("a") }),
-        ("archive_tool list a", ToolCommand::List { folder: "a", read_only: false }),
+        (
+            "archive_tool list a",
+            ToolCommand::List {
+                folder: "a",
+                read_only: false,
+            },
+        ),
         (
             "archive_tool verify a/b",
-            ToolCommand::Verify { folder: "a/b", read_only: false },
+            ToolCommand::Verify {
+                folder: "a/b",
+                read_only: false,
+            },
         ),
         (
             "archive_tool list a --read-only",
-            ToolCommand::List { folder: "a", read_only: true },
+            ToolCommand::List {
+                folder: "a",
+                read_only: true,
+            },
         ),
         (
             "archive_tool verify --read-only a",
-            ToolCommand::Verify { folder: "a", read_only: true },
+            ToolCommand::Verify {
+                folder: "a",
+                read_only: true,
+            },
         ),
         (
             "archive_tool describe a",
-            ToolCommand::Describe { folder: "a", json: false },
+            ToolCommand::Describe {
+                folder: "a",
+                json: false,
+            },
         ),
         (
             "archive_tool describe a --json",
-            ToolCommand::Describe { folder: "a", json: true },
+            ToolCommand::Describe {
+                folder: "a",
+                json: true,
+            },
         ),
         (
             "archive_tool frames a/0-0.rec",
@@ -289,11 +310,17 @@ fn each_command_has_its_words(rt: HostRuntime) -> Result<(), Fail> {
         ),
         (
             "archive_tool list -- -a",
-            ToolCommand::List { folder: "-a", read_only: false },
+            ToolCommand::List {
+                folder: "-a",
+                read_only: false,
+            },
         ),
         (
             "archive_tool list list",
-            ToolCommand::List { folder: "list", read_only: false },
+            ToolCommand::List {
+                folder: "list",
+                read_only: false,
+            },
         ),
     ] {
         assert!(rt; asks_for(rt.alloc(), line, command)?, "{line}");

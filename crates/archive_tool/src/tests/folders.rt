@@ -74,12 +74,44 @@ fn an_archive_outlives_its_process(rt: HostRuntime) -> Result<(), Fail> {
     let history = 16;
     check(rt, ToolCommand::Create { folder, history }, "created\n", 0)?;
     check(rt, ToolCommand::Create { folder, history }, "", 1)?;
-    check(rt, ToolCommand::List { folder, read_only: false }, "end 0\n", 0)?;
-    check(rt, ToolCommand::Verify { folder, read_only: false }, "", 0)?;
+    check(
+        rt,
+        ToolCommand::List {
+            folder,
+            read_only: false,
+        },
+        "end 0\n",
+        0,
+    )?;
+    check(
+        rt,
+        ToolCommand::Verify {
+            folder,
+            read_only: false,
+        },
+        "",
+        0,
+    )?;
     record(rt, folder)?;
     let listed = "recording 0 1000 -1 0 64 42 131072 65536 1408 7 1001 c\nend 1\n";
-    check(rt, ToolCommand::List { folder, read_only: false }, listed, 0)?;
-    check(rt, ToolCommand::Verify { folder, read_only: false }, "verified 1\n", 0)?;
+    check(
+        rt,
+        ToolCommand::List {
+            folder,
+            read_only: false,
+        },
+        listed,
+        0,
+    )?;
+    check(
+        rt,
+        ToolCommand::Verify {
+            folder,
+            read_only: false,
+        },
+        "verified 1\n",
+        0,
+    )?;
     let file = within(rt, folder, "0-0.rec")?;
     let file = file.as_str();
     check(
@@ -102,10 +134,42 @@ fn looking_stops_no_recording(rt: HostRuntime) -> Result<(), Fail> {
     record(rt, folder)?;
     let held = disk_of(rt, folder)?;
     let active = "recording 0 1000 -1 0 -1 42 131072 65536 1408 7 1001 c\nend 1\n";
-    check(rt, ToolCommand::List { folder, read_only: true }, active, 0)?;
-    check(rt, ToolCommand::Verify { folder, read_only: true }, "verified 1\n", 0)?;
-    check(rt, ToolCommand::List { folder, read_only: true }, active, 0)?;
-    check(rt, ToolCommand::List { folder, read_only: false }, "", 3)?;
+    check(
+        rt,
+        ToolCommand::List {
+            folder,
+            read_only: true,
+        },
+        active,
+        0,
+    )?;
+    check(
+        rt,
+        ToolCommand::Verify {
+            folder,
+            read_only: true,
+        },
+        "verified 1\n",
+        0,
+    )?;
+    check(
+        rt,
+        ToolCommand::List {
+            folder,
+            read_only: true,
+        },
+        active,
+        0,
+    )?;
+    check(
+        rt,
+        ToolCommand::List {
+            folder,
+            read_only: false,
+        },
+        "",
+        3,
+    )?;
     drop(held);
     fs::remove_dir_all(&rt, folder)?;
     Ok(())
@@ -131,7 +195,10 @@ fn damage_in_a_folder_is_told(rt: HostRuntime) -> Result<(), Fail> {
     drop(disk);
     check(
         rt,
-        ToolCommand::Verify { folder, read_only: false },
+        ToolCommand::Verify {
+            folder,
+            read_only: false,
+        },
         "error 15 Damaged 0 0\n",
         3,
     )?;
@@ -141,11 +208,27 @@ fn damage_in_a_folder_is_told(rt: HostRuntime) -> Result<(), Fail> {
     let mut disk = disk_of(rt, folder)?;
     disk.cut(FileId::BankA, 40)?;
     drop(disk);
-    check(rt, ToolCommand::List { folder, read_only: false }, "", 3)?;
+    check(
+        rt,
+        ToolCommand::List {
+            folder,
+            read_only: false,
+        },
+        "",
+        3,
+    )?;
     let mut disk = disk_of(rt, folder)?;
     disk.cut(FileId::BankA, 31)?;
     drop(disk);
-    check(rt, ToolCommand::List { folder, read_only: false }, "", 1)?;
+    check(
+        rt,
+        ToolCommand::List {
+            folder,
+            read_only: false,
+        },
+        "",
+        1,
+    )?;
     fs::remove_dir_all(&rt, folder)?;
     Ok(())
 }
@@ -155,13 +238,45 @@ fn folders_that_hold_no_archive(rt: HostRuntime) -> Result<(), Fail> {
     let path = unused(rt, "empty")?;
     let folder = path.as_str();
     let file = folder;
-    check(rt, ToolCommand::List { folder, read_only: false }, "", 3)?;
+    check(
+        rt,
+        ToolCommand::List {
+            folder,
+            read_only: false,
+        },
+        "",
+        3,
+    )?;
     check(rt, ToolCommand::Frames { file }, "", 3)?;
     check(rt, ToolCommand::Create { folder, history: 0 }, "", 1)?;
-    check(rt, ToolCommand::List { folder, read_only: false }, "", 1)?;
-    check(rt, ToolCommand::Verify { folder, read_only: false }, "", 1)?;
+    check(
+        rt,
+        ToolCommand::List {
+            folder,
+            read_only: false,
+        },
+        "",
+        1,
+    )?;
+    check(
+        rt,
+        ToolCommand::Verify {
+            folder,
+            read_only: false,
+        },
+        "",
+        1,
+    )?;
     let disk = disk_of(rt, folder)?;
-    check(rt, ToolCommand::List { folder, read_only: false }, "", 3)?;
+    check(
+        rt,
+        ToolCommand::List {
+            folder,
+            read_only: false,
+        },
+        "",
+        3,
+    )?;
     drop(disk);
     fs::remove_dir_all(&rt, folder)?;
     Ok(())
