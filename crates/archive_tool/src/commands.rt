@@ -6,6 +6,7 @@ ghost use Rattle.archive_tool.specs.Status.{ending_of};
 use crate::looking;
 use crate::outcome::Ended;
 use crate::reason::Reason;
+use crate::serving::{bound, serve};
 use crate::status::Ending;
 use crate::teller::{FaultTeller, OpeningTeller, ScriptTeller, VerifyTeller};
 use command_line::ToolCommand;
@@ -14,28 +15,45 @@ use frame_core::Refusal;
 use frame_core::limits::MAX_HISTORY;
 use host_disk::HostDisk;
 use std::fs::{self, File};
-use std::io::{self, IsTerminal, Write};
+use std::io::{self, Eprint, IsTerminal, Write};
+use std::net::{Net, TcpListener, TcpStream};
 use std::path::Path;
+use std::rt::Clock;
+use std::sync::Wait;
+use std::thread::Threads;
 use tool_core::{
     CommandFault, Listing, OpeningProgress, Progress, Screen, Stage, Stopped, Unobserved, Verdict,
     Watched, create_archive, list_archive, list_frames, run_script, verify_archive,
 };
 
 /// Does what a command asks for, hands on what it writes, and answers how that ended.
-pub(crate) fn obeyed<W: Write>(
-    rt: HostRuntime,
-    command: &ToolCommand<'_>,
-    writer: &mut W,
-) -> Ended {
-    let ended = match obey(rt, command, writer) {
+pub(crate) fn obeyed<
+    R: Threads + Wait + Clock + Eprint + Net<Listener = TcpListener, Stream = TcpStream> + Sync,
+    W: Write,
+>(net: &R, rt: HostRuntime, command: &ToolCommand<'_>, writer: &mut W) -> Ended {
+    let ended = match obey(net, rt, command, writer) {
         Ok(()) => Ended::told(Ending::Done),
         Err(ended) => ended,
     };
     ended.handed_on(writer.flush().is_ok())
 }
 
-fn obey<W: Write>(rt: HostRuntime, command: &ToolCommand<'_>, writer: &mut W) -> Result<(), Ended> {
+fn obey<
+    R: Threads + Wait + Clock + Eprint + Net<Listener = TcpListener, Stream = TcpStream> + Sync,
+    W: Write,
+>(net: &R, rt: HostRuntime, command: &ToolCommand<'_>, writer: &mut W) -> Result<(), Ended> {
     match command {
+        ToolCommand::Serve {
+            folder,
+            control,
+            receive,
+            receive_on,
+            idle,
+            is_quiet,
+        } => {
+            let ports = bound(net, *control, receive_on, *receive)?;
+            serve(net, rt, ports, disk_of(rt, folder)?, *idle, *is_quiet)
+        }
         ToolCommand::Create { folder, history } => create(rt, folder, *history, writer),
         ToolCommand::Run { folder: None } => run_in_memory(rt, writer),
         ToolCommand::Run {

@@ -9,6 +9,7 @@ mod looking;
 mod outcome;
 mod outlet;
 mod reason;
+mod serving;
 mod status;
 mod teller;
 
@@ -24,23 +25,29 @@ use reason::Reason;
 use status::Ending;
 use std::cell::Cell;
 use std::env;
-use std::io::{self, BufWriter, Write};
+use std::io::{self, BufWriter, Eprint, Write};
+use std::net::{Net, TcpListener, TcpStream};
 use std::process::ExitCode;
-use std::rt::Env;
+use std::rt::{Clock, Env};
+use std::sync::Wait;
+use std::thread::Threads;
 use tool_core::EarlyEnd;
 
 /// Bytes of standard output that are written at once at most, but for longer texts.
 const WRITTEN_AT_ONCE: usize = 65_536;
 
 fn main(rt: HostRuntime) -> ExitCode {
-    ExitCode::from(ended(rt))
+    ExitCode::from(ended(&rt, rt))
 }
 
-/// Does what the command line asks for, tells on standard error why it could not, and answers the status.
-fn ended(rt: HostRuntime) -> u8
+/// Does what the command line asks for, tells on standard error why it could not, and answers the status. Threads and
+/// sockets are made by the handle, folders opened by the runtime.
+fn ended<
+    R: Threads + Wait + Clock + Eprint + Net<Listener = TcpListener, Stream = TcpStream> + Sync,
+>(net: &R, rt: HostRuntime) -> u8
     ensures { IsStatus result }
 {
-    concluded(&rt, commanded(rt))
+    concluded(&rt, commanded(net, rt))
 }
 
 /// Tells on standard error why the program ended early, if it did, and answers its status.
@@ -60,7 +67,9 @@ fn concluded<R: Eprint>(rt: &R, ended: Ended) -> u8
 }
 
 /// Does what the command line asks for. A word that is no UTF-8 is a wrong one.
-fn commanded(rt: HostRuntime) -> Ended {
+fn commanded<
+    R: Threads + Wait + Clock + Eprint + Net<Listener = TcpListener, Stream = TcpStream> + Sync,
+>(net: &R, rt: HostRuntime) -> Ended {
     let words = match words_of(&rt) {
         Ok(words) => words,
         Err(error) if error.kind() == io::ErrorKind::InvalidData => {
@@ -75,7 +84,7 @@ fn commanded(rt: HostRuntime) -> Ended {
     let fault = Cell::new(None);
     let outlet = Outlet::new(io::writer(&rt), &fault);
     match BufWriter::with_capacity(rt.alloc(), WRITTEN_AT_ONCE, outlet) {
-        Ok(mut writer) => obeyed(rt, &command, &mut writer).with_output_fault(fault.get()),
+        Ok(mut writer) => obeyed(net, rt, &command, &mut writer).with_output_fault(fault.get()),
         Err(_) => Ended::told(Ending::Cut(EarlyEnd::Memory)),
     }
 }

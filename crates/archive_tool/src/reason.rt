@@ -26,6 +26,12 @@ pub enum Reason {
     FileRead,
     /// Its archive was being written while it was read.
     Moving,
+    /// A port was not bound.
+    Port(u16, io::Error),
+    /// The word of `--receive-on` is no address.
+    Address,
+    /// The listener of control lines or the socket of datagrams failed.
+    Ends,
     /// Standard input could not be read on.
     Input,
     /// Standard output took no more; what the system told of it, if it told anything.
@@ -53,6 +59,11 @@ impl fmt::Display for Reason {
                 f,
                 "the archive is being written: what is told to be damaged may be whole, so look again"
             ),
+            Reason::Port(port, error) => {
+                write!(f, "the port {port} cannot be bound: {}", SystemText(*error))
+            }
+            Reason::Address => write!(f, "--receive-on wants an IPv4 address"),
+            Reason::Ends => write!(f, "a port failed"),
             Reason::Input => write!(f, "standard input cannot be read on"),
             Reason::Output(Some(error)) if !is_closed(error) => {
                 write!(f, "standard output: {}", SystemText(*error))

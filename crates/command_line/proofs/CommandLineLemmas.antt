@@ -1,18 +1,19 @@
 -- Which command the words ask for.
 use Rattle.std.proofs.Common.{◌≡◌, ◌≢◌, ◌∙◌, inl, inr, refl, sym, ap, ap₂, subst, arith, ℕ, Bool, true, false, List, [], ◌∷◌, Option, Some, None, Result, Ok, Err, option_map, codes, Bor, slice_index, rules, ne_eqb}
-use Rattle.std.specs.Prelude.{IfErr, IfOk, IsSomeAnd, unwrap_or}
+use Rattle.std.specs.Prelude.{◌||◌, IfErr, IfOk, IsSomeAnd, unwrap_or}
 use Rattle.std.specs.Str.Parse.{ParsesUnsigned}
-use Rattle.clap.specs.Words.{AddsSubcommand, App, FailsBy, HasKind, HasMatchesOf, Kinds, ReadsOne, Row, Text, app_of, fault_of, first_of, first_value, is_simple, is_simple_and_free, kind_of, one_of, one_text, rows_of, subcommand_of, subcommand_rows_of, with_subcommand}
+use Rattle.clap.specs.Words.{AddsArg, AddsSubcommand, App, FailsBy, HasKind, HasMatchesOf, Kinds, ReadsOne, Row, Text, app_of, fault_of, first_of, first_value, is_simple, is_simple_and_free, kind_of, one_of, one_text, rows_of, rule_of, Rule, subcommand_of, subcommand_rows_of, with_rule, with_subcommand}
+use Rattle.clap.specs.declared.builder.arg.Arg.{Arg}
 use Rattle.clap.specs.declared.builder.command.Command.{Command}
 use Rattle.clap.specs.declared.error.Error.{Error}
-use Rattle.clap.specs.declared.error.ErrorKind.TheVariants.{OutOfMemory}
+use Rattle.clap.specs.declared.error.ErrorKind.TheVariants.{MissingSubcommand, OutOfMemory}
 use Rattle.clap.specs.declared.parser.matches.ArgMatches.{ArgMatches}
 use Rattle.clap.proofs.OnLiterals.{clap_on_literals}
 use Rattle.clap.specs.declared.parser.matches.Found.{Found}
 use Rattle.clap.proofs.WalkLemmas.{first_value-rows, one_text-rows}
 use Rattle.command_line.specs.declared.command.ToolCommand.{ToolCommand}
-use Rattle.command_line.specs.declared.command.ToolCommand.TheVariants.{Create, Run, List as AskList, Verify, Describe, Frames}
-use Rattle.command_line.specs.CommandLine.{IsAsked, IsCommand, IsFlag, IsHeld, IsMet, IsNumber, IsPlain, IsPlainWord, IsWordsFault, tool_app, words_of}
+use Rattle.command_line.specs.declared.command.ToolCommand.TheVariants.{Create, Run, Serve, List as AskList, Verify, Describe, Frames}
+use Rattle.command_line.specs.CommandLine.{IsAsked, IsCommand, IsFlag, IsHeld, IsMet, IsNumber, IsPlain, IsPlainWord, IsServing, IsWordsFault, tool_app, words_of}
 
 -- what a getter gave is what the rows hold
 pub text_given : (f : Found) (id : Text) (given got : Option (Bor Text)) → option_map (λ s. s.now) given ≡ first_value f id → given ≡ got → first_of id (rows_of f) ≡ option_map (λ s. s.now) got
@@ -48,6 +49,7 @@ differ a b letters same = letters (ap (λ t. slice_index t 0) same)
 pub no_create : (name : Text) (rows : List Row) → name ≡ codes "create" → ((n : ℕ) → first_of (codes "folder") rows ≢ None → IsSomeAnd (one_of (codes "history") rows) (IsNumber n) → ⊥) → (command : ToolCommand) → IsAsked name rows command → ⊥
 no_create name rows is none (Create folder history) asked = none history (λ e. let bad = sym e ∙ asked.words.0 in cc) asked.words.1
 no_create name rows is none (Run folder) asked = absurd (differ (codes "create") (codes "run") (λ e. omega arith) (sym is ∙ asked.named))
+no_create name rows is none (Serve folder control receive receive_on idle is_quiet) asked = absurd (differ (codes "create") (codes "serve") (λ e. omega arith) (sym is ∙ asked.named))
 no_create name rows is none (AskList folder read_only) asked = absurd (differ (codes "create") (codes "list") (λ e. omega arith) (sym is ∙ asked.named))
 no_create name rows is none (Verify folder read_only) asked = absurd (differ (codes "create") (codes "verify") (λ e. omega arith) (sym is ∙ asked.named))
 no_create name rows is none (Describe folder json) asked = absurd (differ (codes "create") (codes "describe") (λ e. omega arith) (sym is ∙ asked.named))
@@ -56,6 +58,7 @@ no_create name rows is none (Frames file) asked = absurd (differ (codes "create"
 pub no_list : (name : Text) (rows : List Row) → name ≡ codes "list" → first_of (codes "folder") rows ≡ None → (command : ToolCommand) → IsAsked name rows command → ⊥
 no_list name rows is none (Create folder history) asked = absurd (differ (codes "list") (codes "create") (λ e. omega arith) (sym is ∙ asked.named))
 no_list name rows is none (Run folder) asked = absurd (differ (codes "list") (codes "run") (λ e. omega arith) (sym is ∙ asked.named))
+no_list name rows is none (Serve folder control receive receive_on idle is_quiet) asked = absurd (differ (codes "list") (codes "serve") (λ e. omega arith) (sym is ∙ asked.named))
 no_list name rows is none (AskList folder read_only) asked = let bad = sym none ∙ asked.words.0 in cc
 no_list name rows is none (Verify folder read_only) asked = absurd (differ (codes "list") (codes "verify") (λ e. omega arith) (sym is ∙ asked.named))
 no_list name rows is none (Describe folder json) asked = absurd (differ (codes "list") (codes "describe") (λ e. omega arith) (sym is ∙ asked.named))
@@ -64,6 +67,7 @@ no_list name rows is none (Frames file) asked = absurd (differ (codes "list") (c
 pub no_verify : (name : Text) (rows : List Row) → name ≡ codes "verify" → first_of (codes "folder") rows ≡ None → (command : ToolCommand) → IsAsked name rows command → ⊥
 no_verify name rows is none (Create folder history) asked = absurd (differ (codes "verify") (codes "create") (λ e. omega arith) (sym is ∙ asked.named))
 no_verify name rows is none (Run folder) asked = absurd (differ (codes "verify") (codes "run") (λ e. omega arith) (sym is ∙ asked.named))
+no_verify name rows is none (Serve folder control receive receive_on idle is_quiet) asked = absurd (differ (codes "verify") (codes "serve") (λ e. omega arith) (sym is ∙ asked.named))
 no_verify name rows is none (AskList folder read_only) asked = absurd (differ (codes "verify") (codes "list") (λ e. omega arith) (sym is ∙ asked.named))
 no_verify name rows is none (Verify folder read_only) asked = let bad = sym none ∙ asked.words.0 in cc
 no_verify name rows is none (Describe folder json) asked = absurd (differ (codes "verify") (codes "describe") (λ e. omega arith) (sym is ∙ asked.named))
@@ -72,18 +76,32 @@ no_verify name rows is none (Frames file) asked = absurd (differ (codes "verify"
 pub no_frames : (name : Text) (rows : List Row) → name ≡ codes "frames" → first_of (codes "file") rows ≡ None → (command : ToolCommand) → IsAsked name rows command → ⊥
 no_frames name rows is none (Create folder history) asked = absurd (differ (codes "frames") (codes "create") (λ e. omega arith) (sym is ∙ asked.named))
 no_frames name rows is none (Run folder) asked = absurd (differ (codes "frames") (codes "run") (λ e. omega arith) (sym is ∙ asked.named))
+no_frames name rows is none (Serve folder control receive receive_on idle is_quiet) asked = absurd (differ (codes "frames") (codes "serve") (λ e. omega arith) (sym is ∙ asked.named))
 no_frames name rows is none (AskList folder read_only) asked = absurd (differ (codes "frames") (codes "list") (λ e. omega arith) (sym is ∙ asked.named))
 no_frames name rows is none (Verify folder read_only) asked = absurd (differ (codes "frames") (codes "verify") (λ e. omega arith) (sym is ∙ asked.named))
 no_frames name rows is none (Describe folder json) asked = absurd (differ (codes "frames") (codes "describe") (λ e. omega arith) (sym is ∙ asked.named))
 no_frames name rows is none (Frames file) asked = let bad = sym none ∙ asked.words in cc
 
 pub no_describe : (name : Text) (rows : List Row) → name ≡ codes "describe" → first_of (codes "folder") rows ≡ None → (command : ToolCommand) → IsAsked name rows command → ⊥
+no_describe name rows is none (Serve folder control receive receive_on idle is_quiet) asked = absurd (differ (codes "describe") (codes "serve") (λ e. omega arith) (sym is ∙ asked.named))
 no_describe name rows is none (Create folder history) asked = absurd (differ (codes "describe") (codes "create") (λ e. omega arith) (sym is ∙ asked.named))
 no_describe name rows is none (Run folder) asked = absurd (differ (codes "describe") (codes "run") (λ e. omega arith) (sym is ∙ asked.named))
 no_describe name rows is none (AskList folder read_only) asked = absurd (differ (codes "describe") (codes "list") (λ e. omega arith) (sym is ∙ asked.named))
 no_describe name rows is none (Verify folder read_only) asked = absurd (differ (codes "describe") (codes "verify") (λ e. omega arith) (sym is ∙ asked.named))
 no_describe name rows is none (Describe folder json) asked = let bad = sym none ∙ asked.words.0 in cc
 no_describe name rows is none (Frames file) asked = absurd (differ (codes "describe") (codes "frames") (λ e. omega arith) (sym is ∙ asked.named))
+
+-- where the words of `serve` lack one, the rows hold no command of its name
+pub no_serve : (rows : List Row)
+    → ((folder : Text) (control receive : ℕ) (receive_on : Text) (idle : ℕ) (is_quiet : Bool) → IsServing rows folder control receive receive_on idle is_quiet → ⊥)
+    → (command : ToolCommand) → IsAsked (codes "serve") rows command → ⊥
+no_serve rows none (Create folder history) asked = absurd (differ (codes "serve") (codes "create") (λ e. omega arith) asked.named)
+no_serve rows none (Run folder) asked = absurd (differ (codes "serve") (codes "run") (λ e. omega arith) asked.named)
+no_serve rows none (Serve folder control receive receive_on idle is_quiet) asked = none folder.now control receive receive_on.now idle is_quiet asked.words
+no_serve rows none (AskList folder read_only) asked = absurd (differ (codes "serve") (codes "list") (λ e. omega arith) asked.named)
+no_serve rows none (Verify folder read_only) asked = absurd (differ (codes "serve") (codes "verify") (λ e. omega arith) asked.named)
+no_serve rows none (Describe folder json) asked = absurd (differ (codes "serve") (codes "describe") (λ e. omega arith) asked.named)
+no_serve rows none (Frames file) asked = absurd (differ (codes "serve") (codes "frames") (λ e. omega arith) asked.named)
 
 -- a flag that was read is that of the text that the rows hold
 pub flag_given : (f : Found) (id : Text) (flag : Bool) → (one_text f id ≡ None → flag ≡ false) → (one_text f id ≡ Some (codes "true") → flag ≡ true)
@@ -96,6 +114,13 @@ not_set = record { none = λ e. refl; set = λ e. absurd (differ (codes "false")
   where
     some_same : Some (codes "false") ≡ Some (codes "true") → codes "false" ≡ codes "true"
     some_same e = ap (λ (o : Option Text). unwrap_or o []) e
+
+-- a command after one more argument, which its subcommands don't have too
+pub adds_arg : (old new : Command) (a : Arg) (x : App) (r : Rule) → AddsArg old a new → a.global ≡ false → rule_of a ≡ r → IsCommand x old → IsCommand (with_rule x r) new
+adds_arg old new a x r added local rule is = record {
+  app_is = added.shape local ∙ ap₂ with_rule is.app_is rule;
+  local = added.globals ∙ ap₂ (λ (p q : Bool). p || q) is.local local;
+}
 
 -- the program's command after one more subcommand, which a result holds
 pub adds_one : {E : Type 0} (old new : Command) (sub : Result Command E) (a s : App) → (one : Command) × (sub ≡ Ok one) × AddsSubcommand old one new → app_of old ≡ a → IfOk sub (IsCommand s) → app_of new ≡ with_subcommand a s.top
@@ -189,6 +214,7 @@ held_alone program (Create folder history) plain = subst (λ n. IsHeld (program 
     (record { taken = create_taken program folder.now plain.0; met = create_met program folder.now folder plain.0 refl })
 held_alone program (Run None) plain = record { taken = run_alone_taken program; met = run_alone_met program }
 held_alone program (Run (Some folder)) plain = record { taken = run_taken program folder.now plain; met = run_met program folder.now folder plain refl }
+held_alone program (Serve folder control receive receive_on idle is_quiet) plain = absurd plain
 held_alone program (AskList folder read_only) plain = subst (λ set. IsHeld (program ∷ codes "list" ∷ folder.now ∷ []) (AskList folder set)) (sym plain.1)
     (record { taken = list_taken program folder.now plain.0; met = list_met program folder.now folder plain.0 refl })
 held_alone program (Verify folder read_only) plain = subst (λ set. IsHeld (program ∷ codes "verify" ∷ folder.now ∷ []) (Verify folder set)) (sym plain.1)
@@ -222,6 +248,10 @@ words_fault (k ∷ ks) e (inr among) = inl among
 pub memory_fault : {A : Type 0} (kinds : Kinds) (r : Result A Error) → IfErr r (λ e. kind_of e ≡ OutOfMemory) → IfErr r (λ e. IsWordsFault kinds (kind_of e))
 memory_fault kinds (Ok x) h = tt
 memory_fault kinds (Err e) h = words_fault kinds e (inl h)
+
+-- where clap takes the words, that a command is missing is the fault
+pub missing_fault : (kinds : Kinds) (e : Error) → kinds ≡ [] → kind_of e ≡ MissingSubcommand → IsWordsFault kinds (kind_of e)
+missing_fault kinds e none is = subst (λ ks. IsWordsFault ks (kind_of e)) (sym none) (inl is)
 
 pub fails_by : {A : Type 0} (app : App) (words : List Text) (r : Result A Error) → app ≡ tool_app
     → (is_simple_and_free app ≡ true → FailsBy (fault_of app words) r) → FailsBy (fault_of tool_app words) r

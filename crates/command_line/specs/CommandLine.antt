@@ -10,7 +10,7 @@ use Rattle.clap.specs.declared.builder.value_parser.ValueParser.TheVariants as p
 use Rattle.clap.specs.declared.error.ErrorKind.{ErrorKind}
 use Rattle.clap.specs.declared.error.ErrorKind.TheVariants as kinds
 use Rattle.command_line.specs.declared.command.ToolCommand.{ToolCommand}
-use Rattle.command_line.specs.declared.command.ToolCommand.TheVariants.{Create, Run, List as AskList, Verify, Describe, Frames}
+use Rattle.command_line.specs.declared.command.ToolCommand.TheVariants.{Create, Run, Serve, List as AskList, Verify, Describe, Frames}
 
 -- a word that has to be given
 abbrev pub required_word : Text → Rule
@@ -25,9 +25,39 @@ history_option = record (new_rule (codes "history")) {
   parser = Some (parser.Signed (pos 0) (pos 4294967295));
 }
 
+-- `--quiet`
+abbrev pub quiet_flag : Rule
+quiet_flag = record (new_rule (codes "quiet")) { long = Some (codes "quiet"); action = Some SetTrue }
+
 -- a flag, which is a word of its own
 abbrev pub flag_option : Text → Rule
 flag_option id = record (new_rule id) { long = Some id; action = Some SetTrue }
+
+-- a port, which has to be given, from 1 to 65535
+abbrev pub port_option : Text → Rule
+port_option id = record (new_rule id) {
+  long = Some id;
+  value_names = 1;
+  parser = Some (parser.Signed (pos 1) (pos 65535));
+  required = true;
+}
+
+-- `--receive-on`, which is 127.0.0.1 where it is not given
+abbrev pub address_option : Rule
+address_option = record (new_rule (codes "receive-on")) {
+  long = Some (codes "receive-on");
+  value_names = 1;
+  defaults = codes "127.0.0.1" ∷ [];
+}
+
+-- `--idle`, a u32, which is 60 where it is not given
+abbrev pub idle_option : Rule
+idle_option = record (new_rule (codes "idle")) {
+  long = Some (codes "idle");
+  value_names = 1;
+  defaults = codes "60" ∷ [];
+  parser = Some (parser.Signed (pos 0) (pos 4294967295));
+}
 
 -- a command of one word, which has to be given
 abbrev pub word_app : Text → Text → App
@@ -43,15 +73,18 @@ flag_app name flag = with_rule (word_app name (codes "folder")) (flag_option fla
 abbrev pub run_app : App
 run_app = with_rule (new_app (codes "run")) (new_rule (codes "folder"))
 
+abbrev pub serve_app : App
+serve_app = with_rule (with_rule (with_rule (with_rule (with_rule (word_app (codes "serve") (codes "folder")) (port_option (codes "control"))) (port_option (codes "receive"))) address_option) idle_option) quiet_flag
+
 -- the program, which tells its version, and of which one command has to be asked for
 abbrev pub named_tool : App
 named_tool = on_top (λ s. record s { has_version = true; subcommand_required = true; arg_required_else_help = true }) (new_app (codes "archive_tool"))
 
 -- and its commands
 abbrev pub tool_app : App
-tool_app = with_subcommand (with_subcommand (with_subcommand (with_subcommand (with_subcommand (with_subcommand named_tool create_app.top) run_app.top)
+tool_app = with_subcommand (with_subcommand (with_subcommand (with_subcommand (with_subcommand (with_subcommand (with_subcommand named_tool create_app.top) run_app.top)
     (flag_app (codes "list") (codes "read-only")).top) (flag_app (codes "verify") (codes "read-only")).top)
-    (word_app (codes "frames") (codes "file")).top) (flag_app (codes "describe") (codes "json")).top
+    (word_app (codes "frames") (codes "file")).top) (flag_app (codes "describe") (codes "json")).top) serve_app.top
 
 -- the command is that one, and has no argument that its subcommands have too
 pub record IsCommand (app : App) (command : Command) : Type 0 where
@@ -62,6 +95,7 @@ pub record IsCommand (app : App) (command : Command) : Type 0 where
 abbrev pub command_word : ToolCommand → Text
 command_word (Create folder history) = codes "create"
 command_word (Run folder) = codes "run"
+command_word (Serve folder control receive receive_on idle is_quiet) = codes "serve"
 command_word (AskList folder read_only) = codes "list"
 command_word (Verify folder read_only) = codes "verify"
 command_word (Describe folder json) = codes "describe"
@@ -77,10 +111,20 @@ pub record IsFlag (text : Option Text) (flag : Bool) : Type 0 where
   pub set : text ≡ Some (codes "true") → flag ≡ true
   pub unset : text ≡ Some (codes "false") → flag ≡ false
 
+-- the words of `serve`
+pub record IsServing (rows : List Row) (folder : Text) (control receive : ℕ) (receive_on : Text) (idle : ℕ) (is_quiet : Bool) : Type 0 where
+  pub folder_is : first_of (codes "folder") rows ≡ Some folder
+  pub control_is : IsSomeAnd (one_of (codes "control") rows) (IsNumber control)
+  pub receive_is : IsSomeAnd (one_of (codes "receive") rows) (IsNumber receive)
+  pub address_is : first_of (codes "receive-on") rows ≡ Some receive_on
+  pub idle_is : IsSomeAnd (one_of (codes "idle") rows) (IsNumber idle)
+  pub quiet_is : IsFlag (one_of (codes "quiet") rows) is_quiet
+
 -- the words of a command are those that its subcommand's entries hold
 abbrev pub HasWords : List Row → ToolCommand → Type 0
 HasWords rows (Create folder history) = (first_of (codes "folder") rows ≡ Some folder.now) × IsSomeAnd (one_of (codes "history") rows) (IsNumber history)
 HasWords rows (Run folder) = first_of (codes "folder") rows ≡ option_map (λ f. f.now) folder
+HasWords rows (Serve folder control receive receive_on idle is_quiet) = IsServing rows folder.now control receive receive_on.now idle is_quiet
 HasWords rows (AskList folder read_only) = (first_of (codes "folder") rows ≡ Some folder.now) × IsFlag (one_of (codes "read-only") rows) read_only
 HasWords rows (Verify folder read_only) = (first_of (codes "folder") rows ≡ Some folder.now) × IsFlag (one_of (codes "read-only") rows) read_only
 HasWords rows (Describe folder json) = (first_of (codes "folder") rows ≡ Some folder.now) × IsFlag (one_of (codes "json") rows) json
@@ -105,11 +149,13 @@ abbrev pub IsPlainWord : Text → Type 0
 IsPlainWord [] = ⊥
 IsPlainWord (byte ∷ bytes) = byte ≢ 45
 
--- the folder or file of a command is such a word, its history is the one of which no word is said, and no flag is set
+-- the folder or file of a command is such a word, its history is the one of which no word is said, and no flag is set; `serve`
+-- has more words
 abbrev pub IsPlain : ToolCommand → Type 0
 IsPlain (Create folder history) = IsPlainWord folder.now × (history ≡ 1048576)
 IsPlain (Run None) = Unit {0}
 IsPlain (Run (Some folder)) = IsPlainWord folder.now
+IsPlain (Serve folder control receive receive_on idle is_quiet) = ⊥
 IsPlain (AskList folder read_only) = IsPlainWord folder.now × (read_only ≡ false)
 IsPlain (Verify folder read_only) = IsPlainWord folder.now × (read_only ≡ false)
 IsPlain (Describe folder json) = IsPlainWord folder.now × (json ≡ false)
@@ -120,6 +166,7 @@ abbrev pub words_of : ToolCommand → List Text
 words_of (Create folder history) = codes "create" ∷ folder.now ∷ []
 words_of (Run None) = codes "run" ∷ []
 words_of (Run (Some folder)) = codes "run" ∷ folder.now ∷ []
+words_of (Serve folder control receive receive_on idle is_quiet) = codes "serve" ∷ folder.now ∷ []
 words_of (AskList folder read_only) = codes "list" ∷ folder.now ∷ []
 words_of (Verify folder read_only) = codes "verify" ∷ folder.now ∷ []
 words_of (Describe folder json) = codes "describe" ∷ folder.now ∷ []

@@ -2,9 +2,10 @@
 
 ghost use Rattle.std.specs.Prelude.{◌≡◌, ◌∷◌, [], ℕ, List, Ok, IfOk, IfErr, MatchOption, codes, false, map, string_bytes};
 ghost use Rattle.clap.specs.Words.{AddsSubcommand, app_of, fault_of, found_of, kind_of, rows_of, rule_of, subcommand_rows_of};
-ghost use Rattle.command_line.specs.CommandLine.{IsAsked, IsCommand, IsHeld, IsMet, IsPlain, IsWordsFault, create_app, flag_app, flag_option, history_option, named_tool, required_word, run_app, tool_app, word_app, words_of};
+ghost use Rattle.command_line.specs.CommandLine.{IsAsked, IsCommand, IsHeld, IsMet, IsPlain, IsWordsFault, address_option, create_app, flag_app, flag_option, history_option, idle_option, named_tool, port_option, quiet_flag, required_word, run_app, serve_app, tool_app, word_app, words_of};
 
 use crate::version::VERSION;
+use clap::builder::ValueParser;
 use clap::error::ErrorKind;
 use clap::{Arg, ArgAction, ArgMatches, Command, Error, value_parser};
 use std::alloc::{AllocError, Global};
@@ -13,17 +14,47 @@ use std::alloc::{AllocError, Global};
 #[derive(Clone, Copy, Debug, PartialEq, Eq)]
 pub enum ToolCommand<'a> {
     /// Make an empty archive in a folder, with a history of at most so many entries.
-    Create { folder: &'a str, history: u32 },
+    Create {
+        folder: &'a str,
+        history: u32,
+    },
     /// Answer control lines from standard input on standard output, over the archive of a folder or over memory.
-    Run { folder: Option<&'a str> },
+    Run {
+        folder: Option<&'a str>,
+    },
+    /// Answer control lines of connections, over the archive of a folder, and record what datagrams bring.
+    Serve {
+        folder: &'a str,
+        /// The port that control lines come to, of 127.0.0.1.
+        control: u32,
+        /// The port that datagrams come to.
+        receive: u32,
+        /// The address that datagrams come to.
+        receive_on: &'a str,
+        /// Seconds for which a client may be idle while another waits.
+        idle: u32,
+        /// Whether faults alone are told.
+        is_quiet: bool,
+    },
     /// Print the recordings of the archive of a folder, which is changed by nothing but its opening, or not at all.
-    List { folder: &'a str, read_only: bool },
+    List {
+        folder: &'a str,
+        read_only: bool,
+    },
     /// Read each recorded frame of the archive of a folder, which is changed by nothing but its opening, or not at all.
-    Verify { folder: &'a str, read_only: bool },
+    Verify {
+        folder: &'a str,
+        read_only: bool,
+    },
     /// Print what is known of the archive of a folder, which is only read, as a page or as JSON.
-    Describe { folder: &'a str, json: bool },
+    Describe {
+        folder: &'a str,
+        json: bool,
+    },
     /// Print the frames of a segment file.
-    Frames { file: &'a str },
+    Frames {
+        file: &'a str,
+    },
 }
 
 const TOOL_HELP: &str =
@@ -52,6 +83,17 @@ const RUN_EXAMPLE: &str = "Example: archive_tool run /var/lib/recorder
 
 Statuses: 0 done, refused lines too, 1 refused, 2 a wrong command line, 3 a device fault or damage, or standard input \
 or output failed.";
+
+const SERVE_HELP: &str =
+    "Records the datagrams of Aeron publications that come by UDP into the archive of a folder, and asks their senders by NAK \
+frames for what is missing. Control lines come by TCP, one connection after another, and are answered as those of `run`; the \
+line `quit` ends it. What happens is told on standard error. Control lines have no authentication, so they come to \
+127.0.0.1 alone. The folder has to be on a local file system, and one process may have it open at a time.";
+
+const SERVE_EXAMPLE: &str =
+    "Example: archive_tool serve /var/lib/recorder --control 8010 --receive 40123
+
+Statuses: 0 done, refused lines too, 1 refused, 2 a wrong command line, 3 a device fault or damage, or a port failed.";
 
 const LIST_HELP: &str =
     "Prints a line `recording ..` for each recording of the archive in a folder, by rising id and for at most 1024 of \
@@ -95,6 +137,12 @@ Statuses: 0 done, 1 refused, 2 a wrong command line, 3 a device fault or damage,
 
 const READ_ONLY_HELP: &str =
     "Only reads the folder, also while another process has it open: nothing is locked, written, synced or stopped";
+
+const CONTROL_HELP: &str = "The TCP port of 127.0.0.1 that control lines come to";
+
+const RECEIVE_HELP: &str = "The UDP port that datagrams come to";
+
+const QUIET_HELP: &str = "Tells faults alone on standard error";
 
 const JSON_HELP: &str = "Prints it as one JSON text";
 
@@ -151,6 +199,78 @@ fn run<'a>(alloc: Global) -> Result<Command<'a>, AllocError>
         .long_about(RUN_HELP)
         .after_help(RUN_EXAMPLE)
         .arg(Arg::new(alloc, "folder").help(FOLDER_HELP))
+}
+
+/// A port of `serve`, which has to be given.
+fn port<'a>(alloc: Global, name: &'a str, help: &'a str) -> Arg<'a>
+    ensures rule { rule_of result ≡ port_option name.entry.now }
+    ensures local { result.global ≡ false }
+{
+    Arg::new(alloc, name)
+        .long(name)
+        .value_name("port")
+        .value_parser(ValueParser::signed(1, 65_535))
+        .required(true)
+        .help(help)
+}
+
+/// The option `--receive-on`, an address.
+fn receive_on<'a>(alloc: Global) -> Arg<'a>
+    ensures rule { rule_of result ≡ address_option }
+    ensures local { result.global ≡ false }
+{
+    Arg::new(alloc, "receive-on")
+        .long("receive-on")
+        .value_name("address")
+        .default_value("127.0.0.1")
+        .help("The IPv4 address that datagrams come to, for senders on other hosts")
+}
+
+/// The option `--idle`, in seconds.
+fn idle<'a>(alloc: Global) -> Arg<'a>
+    ensures rule { rule_of result ≡ idle_option }
+    ensures local { result.global ≡ false }
+{
+    Arg::new(alloc, "idle")
+        .long("idle")
+        .value_name("seconds")
+        .value_parser(value_parser!(u32))
+        .default_value("60")
+        .help("For how long a client may be idle while another one waits")
+}
+
+/// The flag `--quiet`.
+fn quiet<'a>(alloc: Global) -> Arg<'a>
+    ensures rule { rule_of result ≡ quiet_flag }
+    ensures local { result.global ≡ false }
+{
+    Arg::new(alloc, "quiet")
+        .long("quiet")
+        .action(ArgAction::SetTrue)
+        .help(QUIET_HELP)
+}
+
+/// The command `serve` with its folder.
+fn serve_folder<'a>(alloc: Global) -> Result<Command<'a>, AllocError>
+    ensures { IfOk result (IsCommand (word_app (codes "serve") (codes "folder"))) }
+{
+    Command::new(alloc, "serve")
+        .about("Records datagrams and answers control lines, until a line quits")
+        .long_about(SERVE_HELP)
+        .after_help(SERVE_EXAMPLE)
+        .arg(required(alloc, "folder", FOLDER_HELP))
+}
+
+fn serve<'a>(alloc: Global) -> Result<Command<'a>, AllocError>
+    ensures { IfOk result (IsCommand serve_app) }
+{
+    let command = serve_folder(alloc)?;
+    command
+        .arg(port(alloc, "control", CONTROL_HELP))?
+        .arg(port(alloc, "receive", RECEIVE_HELP))?
+        .arg(receive_on(alloc))?
+        .arg(idle(alloc))?
+        .arg(quiet(alloc))
 }
 
 fn list<'a>(alloc: Global) -> Result<Command<'a>, AllocError>
@@ -227,7 +347,29 @@ fn tool<'a>(alloc: Global) -> Result<Command<'a>, AllocError>
     let tool = with(tool, list(alloc))?;
     let tool = with(tool, verify(alloc))?;
     let tool = with(tool, frames(alloc))?;
-    with(tool, describe(alloc))
+    let tool = with(tool, describe(alloc))?;
+    with(tool, serve(alloc))
+}
+
+/// The command `serve` that its matches hold.
+fn served<'a>(own: &ArgMatches<'a>) -> Option<ToolCommand<'a>>
+    ensures { MatchOption result
+        ((command : ToolCommand) → IsAsked (codes "serve") (rows_of (found_of own.now)) command → ⊥)
+        (IsAsked (codes "serve") (rows_of (found_of own.now))) }
+{
+    let folder = own.get_str("folder")?;
+    let control = own.get_one::<u32>("control")?;
+    let receive = own.get_one::<u32>("receive")?;
+    let receive_on = own.get_str("receive-on")?;
+    let idle = own.get_one::<u32>("idle")?;
+    Some(ToolCommand::Serve {
+        folder,
+        control,
+        receive,
+        receive_on,
+        idle,
+        is_quiet: own.get_flag("quiet"),
+    })
 }
 
 /// The command that a subcommand's name and matches hold, if it is one of the program's.
@@ -244,6 +386,7 @@ fn asked<'a>(name: &str, own: &ArgMatches<'a>) -> Option<ToolCommand<'a>>
         "run" => Some(ToolCommand::Run {
             folder: own.get_str("folder"),
         }),
+        "serve" => served(own),
         "list" => Some(ToolCommand::List {
             folder: own.get_str("folder")?,
             read_only: own.get_flag("read-only"),

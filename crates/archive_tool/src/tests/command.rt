@@ -145,6 +145,11 @@ fn help(rt: HostRuntime) -> Result<(), Fail> {
             "Reads control lines from standard input, one a line,",
         ),
         (
+            "archive_tool serve --help",
+            ErrorKind::DisplayHelp,
+            "Records the datagrams of Aeron publications that come by UDP",
+        ),
+        (
             "archive_tool list --help",
             ErrorKind::DisplayHelp,
             "Prints a line `recording ..` for each recording",
@@ -219,6 +224,30 @@ fn a_missing_folder_or_file(rt: HostRuntime) -> Result<(), Fail> {
         let text = format!(in rt.alloc(); "{missing}{word}\n")?;
         let kind = ErrorKind::MissingRequiredArgument;
         check_refused(&rt, rt.alloc(), line, kind, text.as_str(), 2)?;
+    }
+    Ok(())
+}
+
+#[test]
+fn ports_of_a_server(rt: HostRuntime) -> Result<(), Fail> {
+    for (line, kind, text) in [
+        (
+            "archive_tool serve a --control 1",
+            ErrorKind::MissingRequiredArgument,
+            "error: the following required arguments were not provided:\n  --receive <port>\n",
+        ),
+        (
+            "archive_tool serve a --control 0 --receive 1",
+            ErrorKind::ValueValidation,
+            "error: invalid value '0' for '--control <port>': ",
+        ),
+        (
+            "archive_tool serve a --control 1 --receive 65536",
+            ErrorKind::ValueValidation,
+            "error: invalid value '65536' for '--receive <port>': ",
+        ),
+    ] {
+        check_refused(&rt, rt.alloc(), line, kind, text, 2)?;
     }
     Ok(())
 }
@@ -307,6 +336,28 @@ fn each_command_has_its_words(rt: HostRuntime) -> Result<(), Fail> {
         (
             "archive_tool frames a/0-0.rec",
             ToolCommand::Frames { file: "a/0-0.rec" },
+        ),
+        (
+            "archive_tool serve a --control 1 --receive 65535",
+            ToolCommand::Serve {
+                folder: "a",
+                control: 1,
+                receive: 65_535,
+                receive_on: "127.0.0.1",
+                idle: 60,
+                is_quiet: false,
+            },
+        ),
+        (
+            "archive_tool serve a --control 1 --receive 2 --receive-on 10.0.0.1 --idle 1 --quiet",
+            ToolCommand::Serve {
+                folder: "a",
+                control: 1,
+                receive: 2,
+                receive_on: "10.0.0.1",
+                idle: 1,
+                is_quiet: true,
+            },
         ),
         (
             "archive_tool list -- -a",

@@ -5,9 +5,13 @@ use crate::commands::obeyed;
 use command_line::ToolCommand;
 use disk_core::{Disk, FileId};
 use host_disk::HostDisk;
-use std::io::{self, Write};
+use std::io::{self, Eprint, Write};
+use std::net::{Net, TcpListener, TcpStream};
 use std::path::Path;
+use std::rt::Clock;
+use std::sync::Wait;
 use std::test::*;
+use std::thread::Threads;
 use std::{env, fs};
 use tool_core::{Unobserved, run_script};
 
@@ -33,9 +37,11 @@ fn within(rt: HostRuntime, folder: &str, name: &str) -> Result<String, Fail> {
 }
 
 /// What a command writes has to be this, and its status that.
-fn check(rt: HostRuntime, command: ToolCommand<'_>, told: &str, status: u8) -> Result<(), Fail> {
+fn check<
+    R: Threads + Wait + Clock + Eprint + Net<Listener = TcpListener, Stream = TcpStream> + Sync,
+>(net: &R, rt: HostRuntime, command: ToolCommand<'_>, told: &str, status: u8) -> Result<(), Fail> {
     let mut out = Vec::new(rt.alloc());
-    let ended = obeyed(rt, &command, &mut out);
+    let ended = obeyed(net, rt, &command, &mut out);
     if ended.ending.status() == status && out.as_slice() == told.as_bytes() {
         Ok(())
     } else {
@@ -72,9 +78,16 @@ fn an_archive_outlives_its_process(rt: HostRuntime) -> Result<(), Fail> {
     let path = unused(rt, "whole")?;
     let folder = path.as_str();
     let history = 16;
-    check(rt, ToolCommand::Create { folder, history }, "created\n", 0)?;
-    check(rt, ToolCommand::Create { folder, history }, "", 1)?;
     check(
+        &rt,
+        rt,
+        ToolCommand::Create { folder, history },
+        "created\n",
+        0,
+    )?;
+    check(&rt, rt, ToolCommand::Create { folder, history }, "", 1)?;
+    check(
+        &rt,
         rt,
         ToolCommand::List {
             folder,
@@ -84,6 +97,7 @@ fn an_archive_outlives_its_process(rt: HostRuntime) -> Result<(), Fail> {
         0,
     )?;
     check(
+        &rt,
         rt,
         ToolCommand::Verify {
             folder,
@@ -95,6 +109,7 @@ fn an_archive_outlives_its_process(rt: HostRuntime) -> Result<(), Fail> {
     record(rt, folder)?;
     let listed = "recording 0 1000 -1 0 64 42 131072 65536 1408 7 1001 c\nend 1\n";
     check(
+        &rt,
         rt,
         ToolCommand::List {
             folder,
@@ -104,6 +119,7 @@ fn an_archive_outlives_its_process(rt: HostRuntime) -> Result<(), Fail> {
         0,
     )?;
     check(
+        &rt,
         rt,
         ToolCommand::Verify {
             folder,
@@ -115,6 +131,7 @@ fn an_archive_outlives_its_process(rt: HostRuntime) -> Result<(), Fail> {
     let file = within(rt, folder, "0-0.rec")?;
     let file = file.as_str();
     check(
+        &rt,
         rt,
         ToolCommand::Frames { file },
         "frame 42 0 1 37 c0\nend 1\n",
@@ -130,11 +147,18 @@ fn looking_stops_no_recording(rt: HostRuntime) -> Result<(), Fail> {
     let path = unused(rt, "looked-at")?;
     let folder = path.as_str();
     let history = 16;
-    check(rt, ToolCommand::Create { folder, history }, "created\n", 0)?;
+    check(
+        &rt,
+        rt,
+        ToolCommand::Create { folder, history },
+        "created\n",
+        0,
+    )?;
     record(rt, folder)?;
     let held = disk_of(rt, folder)?;
     let active = "recording 0 1000 -1 0 -1 42 131072 65536 1408 7 1001 c\nend 1\n";
     check(
+        &rt,
         rt,
         ToolCommand::List {
             folder,
@@ -144,6 +168,7 @@ fn looking_stops_no_recording(rt: HostRuntime) -> Result<(), Fail> {
         0,
     )?;
     check(
+        &rt,
         rt,
         ToolCommand::Verify {
             folder,
@@ -153,6 +178,7 @@ fn looking_stops_no_recording(rt: HostRuntime) -> Result<(), Fail> {
         0,
     )?;
     check(
+        &rt,
         rt,
         ToolCommand::List {
             folder,
@@ -162,6 +188,7 @@ fn looking_stops_no_recording(rt: HostRuntime) -> Result<(), Fail> {
         0,
     )?;
     check(
+        &rt,
         rt,
         ToolCommand::List {
             folder,
@@ -180,6 +207,7 @@ fn damage_in_a_folder_is_told(rt: HostRuntime) -> Result<(), Fail> {
     let path = unused(rt, "damaged")?;
     let folder = path.as_str();
     check(
+        &rt,
         rt,
         ToolCommand::Create {
             folder,
@@ -194,6 +222,7 @@ fn damage_in_a_folder_is_told(rt: HostRuntime) -> Result<(), Fail> {
     disk.sync(SEGMENT)?;
     drop(disk);
     check(
+        &rt,
         rt,
         ToolCommand::Verify {
             folder,
@@ -204,11 +233,18 @@ fn damage_in_a_folder_is_told(rt: HostRuntime) -> Result<(), Fail> {
     )?;
     let file = within(rt, folder, "0-0.rec")?;
     let file = file.as_str();
-    check(rt, ToolCommand::Frames { file }, "error 21 BadFrame 0\n", 3)?;
+    check(
+        &rt,
+        rt,
+        ToolCommand::Frames { file },
+        "error 21 BadFrame 0\n",
+        3,
+    )?;
     let mut disk = disk_of(rt, folder)?;
     disk.cut(FileId::BankA, 40)?;
     drop(disk);
     check(
+        &rt,
         rt,
         ToolCommand::List {
             folder,
@@ -221,6 +257,7 @@ fn damage_in_a_folder_is_told(rt: HostRuntime) -> Result<(), Fail> {
     disk.cut(FileId::BankA, 31)?;
     drop(disk);
     check(
+        &rt,
         rt,
         ToolCommand::List {
             folder,
@@ -239,6 +276,7 @@ fn folders_that_hold_no_archive(rt: HostRuntime) -> Result<(), Fail> {
     let folder = path.as_str();
     let file = folder;
     check(
+        &rt,
         rt,
         ToolCommand::List {
             folder,
@@ -247,9 +285,10 @@ fn folders_that_hold_no_archive(rt: HostRuntime) -> Result<(), Fail> {
         "",
         3,
     )?;
-    check(rt, ToolCommand::Frames { file }, "", 3)?;
-    check(rt, ToolCommand::Create { folder, history: 0 }, "", 1)?;
+    check(&rt, rt, ToolCommand::Frames { file }, "", 3)?;
+    check(&rt, rt, ToolCommand::Create { folder, history: 0 }, "", 1)?;
     check(
+        &rt,
         rt,
         ToolCommand::List {
             folder,
@@ -259,6 +298,7 @@ fn folders_that_hold_no_archive(rt: HostRuntime) -> Result<(), Fail> {
         1,
     )?;
     check(
+        &rt,
         rt,
         ToolCommand::Verify {
             folder,
@@ -269,6 +309,7 @@ fn folders_that_hold_no_archive(rt: HostRuntime) -> Result<(), Fail> {
     )?;
     let disk = disk_of(rt, folder)?;
     check(
+        &rt,
         rt,
         ToolCommand::List {
             folder,
@@ -304,7 +345,7 @@ fn what_is_not_handed_on_is_told(rt: HostRuntime) -> Result<(), Fail> {
         folder,
         history: 16,
     };
-    let ended = obeyed(rt, &command, &mut Holding);
+    let ended = obeyed(&rt, rt, &command, &mut Holding);
     assert!(rt; ended.ending.status() == 3);
     fs::remove_dir_all(&rt, folder)?;
     Ok(())

@@ -2,7 +2,7 @@
 use Rattle.std.proofs.Common.{map, Result, Ok, Err, rules}
 use Rattle.std.specs.Prelude.{string_bytes, IfErr}
 use Rattle.clap.specs.declared.parser.matches.ArgMatches.{ArgMatches}
-use Rattle.command_line.proofs.CommandLineLemmas.{fails_by, memory_fault, holds, holds_none, only_memory, plain_is_held, words_fault}
+use Rattle.command_line.proofs.CommandLineLemmas.{fails_by, memory_fault, missing_fault, holds, holds_none, only_memory, plain_is_held, words_fault}
 use Rattle.command_line.proofs.command.command_of.Goals as goal
 
 -- a fact of every error is one of the error that is answered
@@ -48,3 +48,10 @@ returns-clause-refused c = λ command held.
 pub returns-clause-alone : goal.returns-clause-alone
 returns-clause-alone c = λ program command plain is.
     absurd (holds_none (map string_bytes c.args.words.now) _ c.in-Ok.matches c.in_ok-tool.ensures c.in-Ok.ensures.ok.2 c.in-None.ensures command (plain_is_held _ program command plain is))
+
+pub returns-in_err-error-in-None-clause-kind : goal.returns-in_err-error-in-None-clause-kind
+returns-in_err-error-in-None-clause-kind c = memory_fault _ c.from_residual-in_err-error-in-None.result (search rules)
+
+pub returns-clause-kind : goal.returns-clause-kind
+returns-clause-kind c = missing_fault _ c.in_ok-error-in-None.field-0
+    (fails_by _ (map string_bytes c.args.words.now) (Ok c.in-Ok.matches) c.in_ok-tool.ensures c.in-Ok.ensures.kinds) c.in_ok-error-in-None.ensures.kind

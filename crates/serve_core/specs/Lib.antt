@@ -1,0 +1,8 @@
+-- What a reader has to believe: what becomes of a disk, how lines are answered, what becomes of datagrams, and what pairs are
+-- told.
+pub mod Serving
+pub mod Answering
+pub mod Datagrams
+pub mod Noting
+-- Seats.
+pub mod Seats

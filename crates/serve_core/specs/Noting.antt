@@ -1,0 +1,41 @@
+-- What pairs are told of a call that was answered: docs/ARCHITECTURE.md, "Images and recorder sessions".
+use Rattle.std.specs.Prelude.{ℤ, pos, int_lt, unsigned_abs, if◌then◌else◌}
+use Rattle.archive_model.specs.declared.command.ExtendFields.{ExtendFields}
+use Rattle.archive_model.specs.declared.command.StartFields.{StartFields}
+use Rattle.archive_model.specs.declared.reply.Reply.{Reply}
+use Rattle.archive_model.specs.declared.reply.Reply.TheVariants as replies
+use Rattle.control_core.specs.declared.event.Event.{Event}
+use Rattle.control_core.specs.declared.event.Event.TheVariants.{Ask, Settle}
+use Rattle.control_core.specs.declared.request.Request.TheVariants as requests
+use Rattle.stream_pairs.specs.declared.points.StreamPoint.{StreamPoint}
+use Rattle.stream_pairs.specs.Pairs.{PairsState, after_opened, after_settled, after_stopped}
+
+-- where a recording stands once it was started, or extended
+abbrev pub start_point : StartFields → StreamPoint
+start_point f = record {
+  publication = record { session_id = f.session_id; stream_id = f.stream_id };
+  geometry = record { initial_term_id = f.initial_term_id; term_length = f.term_length; mtu = f.mtu };
+  position = f.start_position;
+}
+
+abbrev pub extend_point : ExtendFields → StreamPoint
+extend_point f = record {
+  publication = record { session_id = f.session_id; stream_id = f.stream_id };
+  geometry = record { initial_term_id = f.initial_term_id; term_length = f.term_length; mtu = f.mtu };
+  position = f.join_position;
+}
+
+-- the session of a number was opened, or settled; numbers are not below 0
+abbrev pub after_opening : ℤ → ℤ → StreamPoint → PairsState → PairsState
+after_opening session recording point s = if int_lt session (pos 0) then s else after_opened (unsigned_abs session) recording point s
+
+abbrev pub after_settling : ℤ → ℤ → PairsState → PairsState
+after_settling session position s = if int_lt session (pos 0) then s else after_settled (unsigned_abs session) position s
+
+-- the call was answered by this reply
+abbrev pub after_noted : Event → Reply → PairsState → PairsState
+after_noted (Ask (requests.Start fields)) (replies.Started recording session) s = after_opening session recording (start_point fields) s
+after_noted (Ask (requests.Extend fields)) (replies.Extended session) s = after_opening session fields.recording (extend_point fields) s
+after_noted (Settle session) (replies.Settled position) s = after_settling session position s
+after_noted (Ask (requests.Stop recording timestamp)) (replies.Stopped position) s = after_stopped recording s
+after_noted event reply s = s

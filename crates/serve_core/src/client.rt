@@ -1,0 +1,131 @@
+//! A client's connection, whose reads and writes end where it is idle for too long and another waits.
+
+use crate::door::Door;
+use crate::shared::Shared;
+use crate::teller::Teller;
+use memchr::memchr;
+use std::cell::Cell;
+use std::io::{self, ErrorKind, Read, Write};
+use std::net::TcpStream;
+use std::rt::Clock;
+use std::sync::Wait;
+use std::time::{Duration, Instant};
+
+/// Milliseconds that a read or a write waits at once at most.
+const PATIENCE: u64 = 250;
+
+/// Gives a connection its time-outs, by which a read or a write waits for 250 milliseconds at once. Whether it has them.
+pub(crate) fn is_timed(stream: &TcpStream) -> bool {
+    let patience = Some(Duration::from_millis(PATIENCE));
+    stream.set_read_timeout(patience).is_ok()
+        && stream.set_write_timeout(patience).is_ok()
+        && stream.set_nodelay(true).is_ok()
+}
+
+/// A connection, and when it was not idle last: a whole line came, or a byte of a reply went out.
+#[derive(Drop)]
+pub(crate) struct Client<'a, R, T> {
+    rt: &'a R,
+    shared: &'a Shared<T>,
+    door: &'a Door<'a>,
+    idle: Duration,
+    stream: TcpStream,
+    last: Cell<Option<Instant>>,
+}
+
+impl<'a, R: Wait + Clock, T: Teller> Client<'a, R, T> {
+    /// A connection that was just taken, and has time-outs.
+    pub fn new(
+        rt: &'a R,
+        shared: &'a Shared<T>,
+        door: &'a Door<'a>,
+        idle: Duration,
+        stream: TcpStream,
+    ) -> Client<'a, R, T> {
+        Client {
+            rt,
+            shared,
+            door,
+            idle,
+            stream,
+            last: Cell::new(Instant::now(rt).ok()),
+        }
+    }
+
+    /// It is not idle now.
+    fn touch(&self) {
+        self.last.set(Instant::now(self.rt).ok());
+    }
+
+    /// Whether it is served further: the server does not end, and it was not idle for too long, or nobody waits.
+    fn goes_on(&self) -> bool {
+        !self.shared.has_ended() && !(self.is_idle() && self.door.another_waits(self.rt))
+    }
+
+    /// Whether it was idle for too long. Where the clock can't be read it was not.
+    fn is_idle(&self) -> bool {
+        match (self.last.get(), Instant::now(self.rt)) {
+            (Some(last), Ok(now)) => now.duration_since(last) > self.idle,
+            _ => false,
+        }
+    }
+}
+
+/// What a client sends.
+#[derive(Drop)]
+pub(crate) struct ClientReader<'a, R, T>(pub &'a Client<'a, R, T>);
+
+impl<R: Wait + Clock, T: Teller> Read for ClientReader<'_, R, T> {
+    fn read(&mut self, buf: &mut [u8]) -> io::Result<usize> {
+        let client = self.0;
+        for _ in client.rt.forever() {
+            if !client.goes_on() {
+                return Err(io::Error::from(ErrorKind::TimedOut));
+            }
+            match (&client.stream).read(buf) {
+                Ok(count) => {
+                    if memchr(b'\n', &buf[..count]).is_some() {
+                        client.touch();
+                    }
+                    return Ok(count);
+                }
+                Err(error) if is_late(&error) => {}
+                Err(error) => return Err(error),
+            }
+        }
+        unreachable!()
+    }
+}
+
+/// What a client is answered.
+#[derive(Drop)]
+pub(crate) struct ClientWriter<'a, R, T>(pub &'a Client<'a, R, T>);
+
+impl<R: Wait + Clock, T: Teller> Write for ClientWriter<'_, R, T> {
+    fn write(&mut self, buf: &[u8]) -> io::Result<usize> {
+        let client = self.0;
+        for _ in client.rt.forever() {
+            if !client.goes_on() {
+                return Err(io::Error::from(ErrorKind::TimedOut));
+            }
+            match (&client.stream).write(buf) {
+                Ok(count) => {
+                    client.touch();
+                    return Ok(count);
+                }
+                Err(error) if is_late(&error) => {}
+                Err(error) => return Err(error),
+            }
+        }
+        unreachable!()
+    }
+
+    fn flush(&mut self) -> io::Result<()> {
+        Ok(())
+    }
+}
+
+/// Whether a read or a write has only waited as long as it may at once.
+fn is_late(error: &io::Error) -> bool {
+    error.kind() == ErrorKind::WouldBlock
+}

@@ -1,0 +1,103 @@
+//! Connections, one after another, and their lines. docs/SERVING.md, "Clients".
+
+ghost use Rattle.std.specs.Prelude.{◌≡◌, IfErr, OnOk};
+ghost use Rattle.tool_core.specs.Answering.{AnswersFirstLines, AnswersLines, EndsEarly};
+ghost use Rattle.tool_core.specs.Transcript.{WritesText};
+
+use crate::client::{Client, ClientReader, ClientWriter, is_timed};
+use crate::door::Door;
+use crate::shared::Shared;
+use crate::teller::Teller;
+use archive_model::Reply;
+use frame_core::Refusal;
+use std::alloc::Global;
+use std::io::{BufWriter, Read, Write};
+use std::net::TcpStream;
+use std::rt::Clock;
+use std::sync::Wait;
+use std::time::Duration;
+use tool_core::{Answerer, EarlyEnd, Observer, answer_lines};
+
+/// Bytes of replies that are written at once at most, but for longer texts.
+const WRITTEN_AT_ONCE: usize = 65_536;
+
+/// Who answers the lines of connections.
+pub(crate) trait Server: Answerer {
+    /// A connection has ended.
+    fn end_connection(&mut self)
+        ensures { self.new ≡ self.old };
+}
+
+/// Sees whether a line quits.
+#[derive(Clone, Copy, Drop)]
+struct QuitObserver {
+    has_quit: bool,
+}
+
+impl Observer for QuitObserver {
+    fn answered(&mut self, outcome: &Result<Reply, Refusal>) {
+        if let Ok(Reply::Bye) = outcome {
+            self.has_quit = true;
+        }
+    }
+}
+
+/// Serves connections, one after another, until a line quits. `Read` where the server ends otherwise, or the listener fails.
+pub(crate) fn serve_connections<'x, R: Wait + Clock, T: Teller, S: Server + Drop>(
+    rt: &'x R,
+    alloc: Global,
+    shared: &'x Shared<T>,
+    door: &'x Door<'x>,
+    idle: Duration,
+    server: S,
+) -> (S, Result<(), EarlyEnd>) {
+    let mut server = server;
+    for _ in rt.forever() {
+        let Some(stream) = door.next(rt, shared) else {
+            return (server, Err(EarlyEnd::Read));
+        };
+        shared.counts.connections.add(1);
+        if !is_timed(&stream) {
+            continue;
+        }
+        let client = Client::new(rt, shared, door, idle, stream);
+        let (next, has_quit) = serve_client(alloc, &client, server);
+        server = next;
+        server.end_connection();
+        if has_quit {
+            return (server, Ok(()));
+        }
+    }
+    unreachable!()
+}
+
+/// Answers the lines of a client until one quits, the client ends or fails, or is idle for too long. Whether one quit.
+fn serve_client<R: Wait + Clock, T: Teller, S: Answerer>(
+    alloc: Global,
+    client: &Client<'_, R, T>,
+    server: S,
+) -> (S, bool) {
+    let writer = ClientWriter(client);
+    let Ok(mut writer) = BufWriter::with_capacity(alloc, WRITTEN_AT_ONCE, writer) else {
+        return (server, false);
+    };
+    let (server, _, has_quit) = answer_client(alloc, ClientReader(client), &mut writer, server);
+    (server, has_quit)
+}
+
+/// Answers the lines of a reader on a writer, as `answer_lines`, and whether one quit.
+fn answer_client<R: Read + Drop, W: Write, S: Answerer>(
+    alloc: Global,
+    reader: R,
+    writer: &mut W,
+    server: S,
+) -> (S, Result<(), EarlyEnd>, bool)
+    ensures whole { OnOk result.1 (WritesText (R.remaining reader) (W.contents writer.old) (W.contents writer.new)
+        (AnswersLines S.ways server result.0)) }
+    ensures early { IfErr result.1 (λ end. EndsEarly end (AnswersFirstLines S.ways server result.0)
+        (R.remaining reader) (W.contents writer.old) (W.contents writer.new)) }
+{
+    let mut observer = QuitObserver { has_quit: false };
+    let (server, outcome) = answer_lines(alloc, reader, writer, server, &mut observer);
+    (server, outcome, observer.has_quit)
+}

@@ -1,0 +1,58 @@
+//! A socket as the end that datagrams come from, and requests go to.
+
+use agents_core::DatagramEnd;
+use std::io::ErrorKind;
+use std::net::{SocketAddr, UdpSocket};
+
+/// Datagrams of any sender; a request goes to the sender of the last one.
+#[derive(Drop)]
+pub(crate) struct UdpEnd<'a> {
+    socket: &'a UdpSocket,
+    sender: Option<SocketAddr>,
+}
+
+impl<'a> UdpEnd<'a> {
+    /// No datagram came yet.
+    pub fn new(socket: &'a UdpSocket) -> UdpEnd<'a> {
+        UdpEnd {
+            socket,
+            sender: None,
+        }
+    }
+
+    /// The sender of the last datagram.
+    pub fn sender(&self) -> Option<SocketAddr> {
+        self.sender
+    }
+}
+
+/// Where no datagram comes for the socket's time-out, or a signal comes before one, it is an empty one without a sender.
+impl DatagramEnd for UdpEnd<'_> {
+    ghost use Rattle.std.specs.Prelude.{⊤};
+
+    ghost receives = { λ old given new. ⊤ };
+
+    ghost sends = { λ old bytes new. ⊤ };
+
+    fn receive(&mut self, into: &mut [u8]) -> Option<usize> {
+        match self.socket.recv_from(into) {
+            Ok((count, sender)) => {
+                self.sender = Some(sender);
+                Some(count)
+            }
+            Err(error) => {
+                self.sender = None;
+                match error.kind() {
+                    ErrorKind::WouldBlock | ErrorKind::Interrupted => Some(0),
+                    _ => None,
+                }
+            }
+        }
+    }
+
+    fn send(&mut self, nak: &[u8; 28]) {
+        if let Some(sender) = self.sender {
+            let _ = self.socket.send_to(nak, sender);
+        }
+    }
+}

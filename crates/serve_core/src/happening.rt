@@ -1,0 +1,223 @@
+//! What is told of a server: docs/SERVING.md, "What is told".
+
+use control_lines::print_refusal;
+use frame_core::Refusal;
+use std::fmt;
+use std::net::SocketAddr;
+use stream_pairs::StreamPoint;
+use tool_core::Beginning;
+
+/// What was counted of an image.
+#[derive(Clone, Copy, Debug, PartialEq, Eq)]
+pub struct ImageCounted {
+    /// Bytes of the stream that were recorded.
+    pub recorded: u64,
+    /// Datagrams that were lost past the stock.
+    pub lost: u64,
+    /// NAK frames that were sent.
+    pub requests: u64,
+}
+
+/// What was counted of a server.
+#[derive(Clone, Copy, Debug, PartialEq, Eq)]
+pub struct Counted {
+    /// Connections that were taken.
+    pub connections: u64,
+    /// Datagrams that came.
+    pub datagrams: u64,
+    /// Images that joined.
+    pub images: u64,
+    /// What was counted of all images.
+    pub all: ImageCounted,
+}
+
+/// What happened.
+#[derive(Clone, Copy, Drop)]
+pub enum Happening<'a> {
+    /// The ports are bound, for control lines and for datagrams.
+    Bound {
+        /// Where control lines come to.
+        control: SocketAddr,
+        /// Where datagrams come to.
+        receive: SocketAddr,
+    },
+    /// How the archive began.
+    Began(Beginning),
+    /// An image joined.
+    Joined {
+        /// Its number, counted from 0.
+        image: usize,
+        /// Where it joined.
+        point: StreamPoint,
+        /// Who sent the setup frame.
+        sender: Option<SocketAddr>,
+    },
+    /// An image feeds a recorder session.
+    Paired {
+        /// The image's number.
+        image: usize,
+        /// The session's number.
+        session: usize,
+    },
+    /// A recorder session lost its image.
+    Lost {
+        /// The image's number.
+        image: usize,
+        /// The session's number.
+        session: usize,
+        /// Why: what the session's `Write` or `Settle` was refused by.
+        cause: Refusal,
+        /// What was counted of the image.
+        counted: ImageCounted,
+    },
+    /// The last of 64 images was used.
+    LastImage,
+    /// The last of 64 recorder sessions that images feed was used.
+    LastSession,
+    /// A connection ended, and replays that it opened are open.
+    LeftReplays(&'a [i64]),
+    /// A call was answered by a device fault, the first time.
+    DeviceFault,
+    /// How many entries of the history count, and how many may.
+    HistoryUsed {
+        /// How many count.
+        counted: u64,
+        /// How many may.
+        limit: u32,
+    },
+    /// The server ends.
+    Ended(Counted),
+}
+
+impl Happening<'_> {
+    /// Whether it is a fault, of which also a quiet teller tells.
+    pub fn is_fault(&self) -> bool {
+        match self {
+            Happening::Began(Beginning::Refused(_)) => true,
+            Happening::Lost { .. } => true,
+            Happening::DeviceFault => true,
+            _ => false,
+        }
+    }
+}
+
+impl fmt::Display for Happening<'_> {
+    fn fmt<W: fmt::Write>(&self, f: &mut fmt::Formatter<W>) -> fmt::Result {
+        match self {
+            Happening::Bound { control, receive } => {
+                write!(f, "control lines on {control}, datagrams on {receive}")
+            }
+            Happening::Began(beginning) => write_beginning(f, beginning),
+            Happening::Joined {
+                image,
+                point,
+                sender,
+            } => write_joined(f, image, point, sender),
+            Happening::Paired { image, session } => {
+                write!(f, "image {image} feeds session {session}")
+            }
+            Happening::Lost {
+                image,
+                session,
+                cause,
+                counted,
+            } => {
+                write!(
+                    f,
+                    "image {image} is lost, as session {session} was refused: "
+                )?;
+                write!(f, "{}, {counted}", RefusalText(*cause))
+            }
+            Happening::LastImage => f.write_str(
+                "the last of 64 images is used: further publications are ignored until a restart",
+            ),
+            Happening::LastSession => f.write_str(
+                "the last of 64 sessions that images feed is used: further ones get no datagrams until a restart",
+            ),
+            Happening::LeftReplays(replays) => write_replays(f, replays),
+            Happening::DeviceFault => f.write_str("a call was answered by a device fault"),
+            Happening::HistoryUsed { counted, limit } => write!(
+                f,
+                "{counted} of the {limit} entries of the history are used, {} are left",
+                u64::from(*limit).saturating_sub(*counted)
+            ),
+            Happening::Ended(counted) => write!(f, "ended: {counted}"),
+        }
+    }
+}
+
+impl fmt::Display for ImageCounted {
+    fn fmt<W: fmt::Write>(&self, f: &mut fmt::Formatter<W>) -> fmt::Result {
+        write!(
+            f,
+            "bytes recorded {}, datagrams lost {}, NAKs {}",
+            self.recorded, self.lost, self.requests
+        )
+    }
+}
+
+impl fmt::Display for Counted {
+    fn fmt<W: fmt::Write>(&self, f: &mut fmt::Formatter<W>) -> fmt::Result {
+        write!(
+            f,
+            "connections {}, datagrams {}, images {}, {}",
+            self.connections, self.datagrams, self.images, self.all
+        )
+    }
+}
+
+/// The line of a refusal, without its end.
+#[derive(Clone, Copy, Drop)]
+struct RefusalText(Refusal);
+
+impl fmt::Display for RefusalText {
+    fn fmt<W: fmt::Write>(&self, f: &mut fmt::Formatter<W>) -> fmt::Result {
+        let line = print_refusal(&self.0);
+        match std::str::from_utf8(line.as_bytes()) {
+            Ok(text) => f.write_str(text.trim_end()),
+            Err(_) => Ok(()),
+        }
+    }
+}
+
+fn write_beginning<W: fmt::Write>(f: &mut fmt::Formatter<W>, beginning: &Beginning) -> fmt::Result {
+    match beginning {
+        Beginning::Made => f.write_str("a new archive was made, as there was none"),
+        Beginning::Opened => f.write_str("the archive is open"),
+        Beginning::Refused(refusal) => write!(
+            f,
+            "the archive is not open: {}; lines that need it are Broken, and nothing is recorded",
+            RefusalText(*refusal)
+        ),
+    }
+}
+
+fn write_joined<W: fmt::Write>(
+    f: &mut fmt::Formatter<W>,
+    image: &usize,
+    point: &StreamPoint,
+    sender: &Option<SocketAddr>,
+) -> fmt::Result {
+    write!(f, "image {image} joined")?;
+    if let Some(sender) = sender {
+        write!(f, " from {sender}")?;
+    }
+    write!(
+        f,
+        ": stream {}, session id {}, initial term {}",
+        point.publication.stream_id, point.publication.session_id, point.geometry.initial_term_id
+    )?;
+    write!(
+        f,
+        ", term length {}, mtu {}, position {}",
+        point.geometry.term_length, point.geometry.mtu, point.position
+    )
+}
+
+fn write_replays<W: fmt::Write>(f: &mut fmt::Formatter<W>, replays: &[i64]) -> fmt::Result {
+    f.write_str("a connection ended and left replays open:")?;
+    for replay in replays {
+        write!(f, " {replay}")?;
+    }
+    Ok(())
+}

@@ -1,0 +1,28 @@
+//! An archive behind a control listener and a socket of datagrams: what comes is recorded, and lines are answered.
+#![tactic(auto)]
+
+mod answering;
+mod client;
+mod connections;
+mod counts;
+mod door;
+mod ends;
+mod giving;
+mod happening;
+mod images;
+mod noting;
+mod options;
+mod pairing;
+mod queue;
+mod receiving;
+mod recording;
+mod seats;
+mod serving;
+mod shared;
+mod teller;
+mod unopened;
+
+pub use happening::{Counted, Happening, ImageCounted};
+pub use options::{IDLE_SECONDS, ServeOptions};
+pub use serving::{serve_on, serve_with};
+pub use teller::{LineTeller, Teller, Untold};

@@ -1,0 +1,441 @@
+//! The archive of a disk behind a control listener and a socket of datagrams. docs/SERVING.md.
+
+ghost use Rattle.std.specs.Prelude.{◌≡◌, [], Err, false, IfErr, IfOk, IsOk, MatchResult};
+ghost use Rattle.archive_lock.specs.Held.{engine_seen, view_of};
+ghost use Rattle.call_history.specs.Passes.{AllOfTable};
+ghost use Rattle.engine_core.specs.Seen.{seen};
+ghost use Rattle.tool_core.specs.Archives.{disk_of, early_end_of};
+ghost use Rattle.serve_core.specs.Serving.{EndsHistory, EndsOrLacks, EndsUpTo, IsServed, IsServedUpTo};
+
+use crate::answering::Controller;
+use crate::connections::{Server, serve_connections};
+use crate::door::Door;
+use crate::happening::Happening;
+use crate::images::Images;
+use crate::options::ServeOptions;
+use crate::queue::{FedBlock, MAX_WAITING};
+use crate::receiving::receive_all;
+use crate::recording::{Recording, record_all};
+use crate::seats::{Benches, PASSES, Seats};
+use crate::shared::Shared;
+use crate::teller::{Teller, Untold};
+use crate::unopened::Unopened;
+use archive_lock::{Closed, Made, Naming, SharedArchive};
+use call_history::{Opened, Pass};
+use disk_core::Disk;
+use engine_core::Engine;
+use std::alloc::{AllocError, Global};
+use std::collections::VecDeque;
+use std::marker::Brand;
+use std::net::{TcpListener, UdpSocket};
+use std::rt::Clock;
+use std::sync::Wait;
+use std::thread::{self, Threads};
+use std::time::Duration;
+use tool_core::{Beginning, EarlyEnd, ScriptArchive, ScriptFault};
+
+/// Bytes that a datagram has at most, and more.
+const LONGEST_DATAGRAM: usize = 65_536;
+
+/// Milliseconds for which the thread that receives sleeps at most.
+const DOZE: u64 = 100;
+
+/// What threads work with, beside what they share.
+#[derive(Drop)]
+struct Tools {
+    images: Images,
+    buffer: Vec<u8>,
+    batch: VecDeque<FedBlock>,
+}
+
+impl Tools {
+    fn new(alloc: Global) -> Result<Tools, AllocError> {
+        Ok(Tools {
+            images: Images::new(alloc),
+            buffer: vec![in alloc; 0; LONGEST_DATAGRAM]?,
+            batch: VecDeque::with_capacity(alloc, MAX_WAITING)?,
+        })
+    }
+}
+
+/// Serves the archive of a disk as `serve_with`: a client may be idle for 60 seconds while another waits, and nobody is told
+/// what happens.
+pub fn serve_on<R: Threads + Wait + Clock + Sync, D: Disk + Drop + Send>(
+    rt: &R,
+    alloc: Global,
+    listener: TcpListener,
+    socket: UdpSocket,
+    disk: D,
+) -> Result<D, ScriptFault<D>>
+    ensures served { IfOk result (λ back. IsServed D.life (D.life disk) (D.life back)) }
+    ensures early { IfErr result (λ fault.
+        IsServedUpTo D.life (D.life disk) (D.life (disk_of fault)) (early_end_of fault)) }
+{
+    serve_with(
+        rt,
+        alloc,
+        listener,
+        socket,
+        disk,
+        &ServeOptions::new(),
+        Untold,
+    )
+}
+
+/// Serves the archive of a disk until a line quits. Where no file is there it is made, with a history of 1,048,576 entries;
+/// else it is opened, and where that is refused every line is `Broken` but those that need no archive. The disk comes back,
+/// as the last of the calls left it, which are one legal history of the passes of the control thread and of 64 seats.
+///
+/// Three threads: the caller's answers the lines of connections, one after another; one receives datagrams, and sends a NAK
+/// frame behind each that its image doesn't refuse while something is missing; one writes and settles blocks of images that
+/// recorder sessions have. docs/SERVING.md.
+///
+/// `Memory` where the opening finds none, or a thread; `Read` where the listener or the socket fails. A reply that finds no
+/// memory ends its connection. Costs memory for 64 images, each of which holds 1,048,576 bytes of its stream at most, and for
+/// 32 blocks.
+#[tactic(auto, using(crate::proofs::ServingLemmas::served_ok))]
+pub fn serve_with<
+    R: Threads + Wait + Clock + Sync,
+    D: Disk + Drop + Send,
+    T: Teller + Drop + Send + Sync,
+>(
+    rt: &R,
+    alloc: Global,
+    listener: TcpListener,
+    socket: UdpSocket,
+    disk: D,
+    options: &ServeOptions,
+    teller: T,
+) -> Result<D, ScriptFault<D>>
+    ensures served { IfOk result (λ back. IsServed D.life (D.life disk) (D.life back)) }
+    ensures early { IfErr result (λ fault.
+        IsServedUpTo D.life (D.life disk) (D.life (disk_of fault)) (early_end_of fault)) }
+{
+    let Ok(shared) = Shared::new(alloc, teller) else {
+        return Err(ScriptFault::Memory(disk));
+    };
+    let (Ok(tools), Ok(benches)) = (Tools::new(alloc), Benches::new(alloc)) else {
+        return Err(ScriptFault::Memory(disk));
+    };
+    let (archive, beginning) = match ScriptArchive::of_disk(alloc, disk) {
+        Ok(found) => found,
+        Err(disk) => return Err(ScriptFault::Memory(disk)),
+    };
+    let idle = Duration::from_secs(options.idle_seconds);
+    begin(&listener, &socket, &shared, beginning);
+    let (disk, end) = serve_archive(
+        rt, alloc, &listener, &socket, idle, &shared, tools, benches, archive,
+    );
+    shared.tell_end();
+    handed_back(disk, end)
+}
+
+/// Serves an archive, or where none is open: the disk, and how that ended.
+fn serve_archive<
+    R: Threads + Wait + Clock + Sync,
+    D: Disk + Drop + Send,
+    T: Teller + Drop + Send + Sync,
+>(
+    rt: &R,
+    alloc: Global,
+    listener: &TcpListener,
+    socket: &UdpSocket,
+    idle: Duration,
+    shared: &Shared<T>,
+    tools: Tools,
+    benches: Benches,
+    archive: ScriptArchive<D>,
+) -> (D, Result<(), EarlyEnd>)
+    ensures { EndsUpTo D.life archive (D.life result.0) result.1 }
+{
+    match archive {
+        ScriptArchive::Open(engine) => serve_open(
+            rt, alloc, listener, socket, idle, shared, tools, benches, engine,
+        ),
+        ScriptArchive::Closed(disk) => {
+            let end = serve_closed(rt, alloc, listener, socket, idle, shared, tools);
+            (disk, end)
+        }
+    }
+}
+
+/// The disk of a server that ended so.
+fn handed_back<D>(disk: D, end: Result<(), EarlyEnd>) -> Result<D, ScriptFault<D>>
+    ensures { MatchResult result
+        (λ back. (back ≡ disk) × IsOk end)
+        (λ fault. (disk_of fault ≡ disk) × (end ≡ Err (early_end_of fault))) }
+{
+    match end {
+        Ok(()) => Ok(disk),
+        Err(end) => Err(ScriptFault::new(end, disk)),
+    }
+}
+
+/// Tells where the server is, and how its archive began.
+fn begin<T: Teller>(
+    listener: &TcpListener,
+    socket: &UdpSocket,
+    shared: &Shared<T>,
+    beginning: Beginning,
+) {
+    if let (Ok(control), Ok(receive)) = (listener.local_addr(), socket.local_addr()) {
+        shared.tell(&Happening::Bound { control, receive });
+    }
+    shared.tell(&Happening::Began(beginning));
+}
+
+/// Serves an archive that is open: how that ended, and the disk.
+#[tactic(auto, using(crate::proofs::ServingLemmas::counted_alone))]
+fn serve_open<
+    R: Threads + Wait + Clock + Sync,
+    D: Disk + Drop + Send,
+    T: Teller + Drop + Send + Sync,
+>(
+    rt: &R,
+    alloc: Global,
+    listener: &TcpListener,
+    socket: &UdpSocket,
+    idle: Duration,
+    shared: &Shared<T>,
+    tools: Tools,
+    benches: Benches,
+    engine: Engine<D>,
+) -> (D, Result<(), EarlyEnd>)
+    ensures { EndsOrLacks (D.life engine.storage.disk) (seen D.life engine) false (D.life result.0) result.1 }
+{
+    let Ok(opened) = Opened::new(alloc, false) else {
+        return (engine.into_disk(), Err(EarlyEnd::Memory));
+    };
+    serve_named::<D, Brand, R, T>(
+        rt, alloc, listener, socket, idle, shared, tools, benches, opened, engine,
+    )
+}
+
+#[tactic(auto, using(crate::proofs::SeatLemmas::all_new))]
+fn serve_named<
+    D: Disk + Drop + Send,
+    A: Naming + Send + Sync,
+    R: Threads + Wait + Clock + Sync,
+    T: Teller + Drop + Send + Sync,
+>(
+    rt: &R,
+    alloc: Global,
+    listener: &TcpListener,
+    socket: &UdpSocket,
+    idle: Duration,
+    shared: &Shared<T>,
+    tools: Tools,
+    benches: Benches,
+    opened: Opened<Made>,
+    engine: Engine<D>,
+) -> (D, Result<(), EarlyEnd>)
+    requires named { opened.table ≡ A.table }
+    requires stores { opened.keeps ≡ A.keeps }
+    requires opens { engine_seen D.life (view_of engine []) ≡ A.opening }
+    ensures { EndsOrLacks (D.life engine.storage.disk) A.opening A.keeps (D.life result.0) result.1 }
+{
+    let made = SharedArchive::<D, A>::new(alloc, opened, engine, PASSES as u64);
+    let (archive, mut passes) = match made {
+        Ok(made) => made,
+        Err(refused) => return (refused.engine.into_disk(), Err(EarlyEnd::Memory)),
+    };
+    let Some(pass) = passes.pop() else {
+        unreachable!();
+    };
+    let seats = benches.seated::<A>(passes);
+    let (passes, end) = serve_shared(
+        rt, alloc, listener, socket, idle, shared, tools, &archive, pass, seats,
+    );
+    (closed(rt, archive, passes), end)
+}
+
+/// Serves an archive by three threads: all its passes, and how that ended.
+fn serve_shared<
+    D: Disk + Drop + Send,
+    A: Naming + Send + Sync,
+    R: Threads + Wait + Clock + Sync,
+    T: Teller + Drop + Send + Sync,
+>(
+    rt: &R,
+    alloc: Global,
+    listener: &TcpListener,
+    socket: &UdpSocket,
+    idle: Duration,
+    shared: &Shared<T>,
+    tools: Tools,
+    archive: &SharedArchive<D, A>,
+    pass: Pass<Made>,
+    seats: Seats<A>,
+) -> (Vec<Pass<Made>>, Result<(), EarlyEnd>)
+    requires { pass.table ≡ A.table }
+    ensures { AllOfTable A.table result.0.items }
+{
+    let Tools {
+        images,
+        buffer,
+        batch,
+    } = tools;
+    thread::scope(
+        thread::scope_env(),
+        rt,
+        |scope| -> (Vec<Pass<Made>>, Result<(), EarlyEnd>)
+            requires { pass.table ≡ A.table }
+            ensures { AllOfTable A.table result.0.items }
+        {
+            let recorder = match scope.spawn(move || record(
+                rt, alloc, archive, shared, socket, seats, batch,
+            )) {
+                Ok(recorder) => recorder,
+                Err(refused) => {
+                    // It has nothing to record, and gives back the seats.
+                    shared.queue.end(rt);
+                    let seats = (refused.value)();
+                    return (seats.into_passes(pass), Err(EarlyEnd::Memory));
+                }
+            };
+            let receiver = scope.spawn(move || receive(rt, shared, socket, images, buffer));
+            let Ok(receiver) = receiver else {
+                shared.queue.end(rt);
+                return (recorder.join(rt).into_passes(pass), Err(EarlyEnd::Memory));
+            };
+            let (pass, served) = control(rt, alloc, listener, socket, idle, shared, archive, pass);
+            shared.end(socket);
+            let is_whole = receiver.join(rt);
+            (
+                recorder.join(rt).into_passes(pass),
+                ended_by(served, is_whole),
+            )
+        },
+    )
+}
+
+/// Serves lines alone, and receives datagrams that no session has.
+fn serve_closed<R: Threads + Wait + Clock + Sync, T: Teller + Drop + Send + Sync>(
+    rt: &R,
+    alloc: Global,
+    listener: &TcpListener,
+    socket: &UdpSocket,
+    idle: Duration,
+    shared: &Shared<T>,
+    tools: Tools,
+) -> Result<(), EarlyEnd> {
+    let Tools {
+        images,
+        buffer,
+        batch: _,
+    } = tools;
+    thread::scope(thread::scope_env(), rt, |scope| {
+        let receiver = scope.spawn(move || receive(rt, shared, socket, images, buffer));
+        let Ok(receiver) = receiver else {
+            return Err(EarlyEnd::Memory);
+        };
+        let (_, served) = serve_lines(rt, alloc, listener, idle, shared, Unopened);
+        shared.end(socket);
+        ended_by(served, receiver.join(rt))
+    })
+}
+
+/// Records until no more blocks come. The seats.
+fn record<'x, D: Disk, A: Naming, R: Wait, T: Teller>(
+    rt: &'x R,
+    alloc: Global,
+    archive: &'x SharedArchive<D, A>,
+    shared: &'x Shared<T>,
+    socket: &'x UdpSocket,
+    mut seats: Seats<A>,
+    mut batch: VecDeque<FedBlock>,
+) -> Seats<A> {
+    let recording = Recording {
+        rt,
+        alloc,
+        archive,
+        shared,
+        socket,
+    };
+    record_all(&recording, &mut seats, &mut batch);
+    seats
+}
+
+/// Receives until the server ends, and ends it where no more can be received. Whether more could be.
+fn receive<R: Wait, T: Teller>(
+    rt: &R,
+    shared: &Shared<T>,
+    socket: &UdpSocket,
+    mut images: Images,
+    mut buffer: Vec<u8>,
+) -> bool {
+    let is_timed = socket
+        .set_read_timeout(Some(Duration::from_millis(DOZE)))
+        .is_ok();
+    let is_whole = is_timed && receive_all(rt, shared, socket, &mut images, buffer.as_mut_slice());
+    if !is_whole {
+        shared.end(socket);
+    }
+    shared.queue.end(rt);
+    is_whole
+}
+
+/// Answers lines by a pass of the archive, until one quits: the pass, and how that ended.
+fn control<'x, D: Disk + Drop, A: Naming, R: Wait + Clock, T: Teller>(
+    rt: &'x R,
+    alloc: Global,
+    listener: &'x TcpListener,
+    socket: &'x UdpSocket,
+    idle: Duration,
+    shared: &'x Shared<T>,
+    archive: &'x SharedArchive<D, A>,
+    pass: Pass<Made>,
+) -> (Pass<Made>, Result<(), EarlyEnd>)
+    requires { pass.table ≡ A.table }
+    ensures { result.0.table ≡ A.table }
+{
+    let controller = Controller::new(rt, alloc, archive, shared, socket, pass);
+    let (controller, served) = serve_lines(rt, alloc, listener, idle, shared, controller);
+    (controller.into_pass(), served)
+}
+
+/// Serves connections, one after another, until a line quits. `Read` where the listener fails, or the server ends otherwise.
+fn serve_lines<'x, R: Wait + Clock, T: Teller, S: Server + Drop>(
+    rt: &'x R,
+    alloc: Global,
+    listener: &'x TcpListener,
+    idle: Duration,
+    shared: &'x Shared<T>,
+    server: S,
+) -> (S, Result<(), EarlyEnd>) {
+    if listener.set_nonblocking(true).is_err() {
+        return (server, Err(EarlyEnd::Read));
+    }
+    let door = Door::new(listener);
+    serve_connections(rt, alloc, shared, &door, idle, server)
+}
+
+fn ended_by(served: Result<(), EarlyEnd>, is_whole: bool) -> Result<(), EarlyEnd> {
+    if is_whole {
+        served
+    } else {
+        Err(EarlyEnd::Read)
+    }
+}
+
+/// The disk of an archive that is closed with all its passes. Where a call were of none of them, it would wait for ever.
+#[tactic(auto, using(crate::proofs::ServingLemmas::ends_history))]
+fn closed<D: Disk + Drop, A: Naming, R: Wait>(
+    rt: &R,
+    archive: SharedArchive<D, A>,
+    passes: Vec<Pass<Made>>,
+) -> D
+    requires { AllOfTable A.table passes.items }
+    ensures { EndsHistory A.opening A.keeps (D.life result) }
+{
+    match archive.close(passes) {
+        Ok(Closed { engine, .. }) => engine.into_disk(),
+        Err(_) => {
+            // All passes were given, so no call is of another; but no clause says so, and without them there is no disk.
+            for _ in rt.forever() {
+                thread::yield_now();
+            }
+            unreachable!()
+        }
+    }
+}

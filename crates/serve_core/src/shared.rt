@@ -1,0 +1,196 @@
+//! What the three threads of a server share, beside the archive.
+
+use crate::counts::Counts;
+use crate::happening::Happening;
+use crate::pairing::Pairing;
+use crate::queue::Queue;
+use crate::teller::Teller;
+use archive_model::Reply;
+use control_core::Event;
+use frame_core::Refusal;
+use std::alloc::{AllocError, Global};
+use std::net::UdpSocket;
+use std::sync::atomic::{AtomicBool, AtomicU8, Ordering};
+use std::sync::{Mutex, Wait};
+use stream_pairs::{FED_SESSIONS, MAX_IMAGES, Pairs, StreamPoint};
+
+/// What the threads share. A method takes one lock at most, and tells what happened when it has none.
+#[derive(Drop)]
+pub(crate) struct Shared<T> {
+    pairing: Mutex<Pairing>,
+    /// Blocks on their way.
+    pub queue: Queue,
+    /// What is counted.
+    pub counts: Counts,
+    ends: AtomicBool,
+    looks_round: AtomicBool,
+    has_faulted: AtomicBool,
+    history: AtomicU8,
+    teller: T,
+}
+
+impl<T: Teller> Shared<T> {
+    /// Nothing came yet. Costs memory for tables and for 16 blocks.
+    pub fn new(alloc: Global, teller: T) -> Result<Shared<T>, AllocError>
+    where
+        T: Drop,
+    {
+        let Ok(pairs) = Pairs::new(alloc) else {
+            return Err(AllocError);
+        };
+        Ok(Shared {
+            pairing: Mutex::new(Pairing::new(pairs)),
+            queue: Queue::new(alloc)?,
+            counts: Counts::new(alloc)?,
+            ends: AtomicBool::new(false),
+            looks_round: AtomicBool::new(false),
+            has_faulted: AtomicBool::new(false),
+            history: AtomicU8::new(0),
+            teller,
+        })
+    }
+
+    /// Tells what happened.
+    pub fn tell(&self, happening: &Happening<'_>) {
+        self.teller.tell(happening);
+    }
+
+    /// Tells what was counted.
+    pub fn tell_end(&self) {
+        let counted = self.counts.all();
+        self.tell(&Happening::Ended(counted));
+    }
+
+    /// Whether the server ends.
+    pub fn has_ended(&self) -> bool {
+        self.ends.load(Ordering::SeqCst)
+    }
+
+    /// The server ends from now on; who sleeps on the socket is woken.
+    pub fn end(&self, socket: &UdpSocket) {
+        self.ends.store(true, Ordering::SeqCst);
+        wake(socket);
+    }
+
+    /// The thread that receives is to look for blocks of all images; it is woken.
+    pub fn look_round(&self, socket: &UdpSocket) {
+        self.looks_round.store(true, Ordering::SeqCst);
+        wake(socket);
+    }
+
+    /// Whether it is to look for blocks of all images; it is told once.
+    pub fn takes_round(&self) -> bool {
+        self.looks_round.swap(false, Ordering::SeqCst)
+    }
+
+    /// A call was answered so: who is to know it is told. Whether a session was opened.
+    pub fn note<R: Wait>(&self, rt: &R, event: &Event, outcome: &Result<Reply, Refusal>) -> bool {
+        match outcome {
+            Ok(reply) => {
+                self.pairing.lock(rt).note(event, reply);
+                match reply {
+                    Reply::Started { session, .. } | Reply::Extended { session } => {
+                        self.tell_session(rt, *session);
+                        true
+                    }
+                    _ => false,
+                }
+            }
+            Err(refusal) => {
+                self.note_refusal(refusal);
+                false
+            }
+        }
+    }
+
+    fn tell_session<R: Wait>(&self, rt: &R, session: i64) {
+        self.tell_pairs(rt);
+        if session == FED_SESSIONS as i64 - 1 {
+            self.tell(&Happening::LastSession);
+        }
+    }
+
+    /// A device fault is told, the first time.
+    pub fn note_refusal(&self, refusal: &Refusal) {
+        if *refusal == Refusal::DeviceFault && !self.has_faulted.swap(true, Ordering::SeqCst) {
+            self.tell(&Happening::DeviceFault);
+        }
+    }
+
+    /// So many entries of the history count, and so many may: told at 90, 95 and 99 hundredths, each once.
+    pub fn note_history(&self, counted: u64, limit: u32) {
+        let level = level_of(counted, limit);
+        if level > 0 && self.history.fetch_max(level, Ordering::SeqCst) < level {
+            self.tell(&Happening::HistoryUsed { counted, limit });
+        }
+    }
+
+    /// An image joined.
+    pub fn joined<R: Wait>(&self, rt: &R, point: StreamPoint) -> Option<usize> {
+        let image = self.pairing.lock(rt).pairs.joined(point);
+        if let Some(image) = image {
+            self.counts.images.add(1);
+            if image == MAX_IMAGES - 1 {
+                self.tell(&Happening::LastImage);
+            }
+        }
+        image
+    }
+
+    /// Tells the pairs of which was not told.
+    pub fn tell_pairs<R: Wait>(&self, rt: &R) {
+        for _ in 0..FED_SESSIONS {
+            let untold = self.pairing.lock(rt).next_untold();
+            match untold {
+                Some((session, image)) => self.tell(&Happening::Paired { image, session }),
+                None => return,
+            }
+        }
+    }
+
+    /// The session that an image feeds.
+    pub fn session_of<R: Wait>(&self, rt: &R, image: usize) -> Option<usize> {
+        self.pairing.lock(rt).pairs.session_of_image(image)
+    }
+
+    /// A session settled, and is recorded up to a position.
+    pub fn settled<R: Wait>(&self, rt: &R, session: usize, position: i64) {
+        self.pairing.lock(rt).pairs.settled(session, position);
+    }
+
+    /// A session was refused: it loses its image, if it has one.
+    pub fn refused<R: Wait>(&self, rt: &R, session: usize, cause: Refusal) {
+        self.note_refusal(&cause);
+        let lost = self.pairing.lock(rt).refused(session);
+        if let Some(image) = lost {
+            self.tell(&Happening::Lost {
+                image,
+                session,
+                cause,
+                counted: self.counts.counted(image),
+            });
+        }
+    }
+}
+
+/// An empty datagram to the socket's own port. Where it is lost, the socket's time-out wakes who sleeps.
+fn wake(socket: &UdpSocket) {
+    if let Ok(address) = socket.local_addr() {
+        let _ = socket.send_to(&[], address);
+    }
+}
+
+/// 0, or how many hundredths of the history's limit were reached: 90, 95 or 99.
+fn level_of(counted: u64, limit: u32) -> u8 {
+    let limit = u64::from(limit);
+    let reached = |hundredths: u64| counted.saturating_mul(100) >= limit.saturating_mul(hundredths);
+    if reached(99) {
+        99
+    } else if reached(95) {
+        95
+    } else if reached(90) {
+        90
+    } else {
+        0
+    }
+}

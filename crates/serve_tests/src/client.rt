@@ -1,0 +1,124 @@
+//! A client of a server, on a thread of its own, and the server that it talks to.
+
+use std::alloc::Global;
+use std::io::{BufRead, BufReader, Write};
+use std::net::{Net, SocketAddr, TcpListener, TcpStream, UdpSocket};
+use std::rt::Clock;
+use std::thread;
+use std::time::Duration;
+
+/// Where a server is.
+#[derive(Clone, Copy)]
+pub(crate) struct Ports {
+    pub control: SocketAddr,
+    pub receive: SocketAddr,
+}
+
+/// A client's connection and socket, which wait for 10 seconds at most.
+#[derive(Drop)]
+pub(crate) struct Client {
+    lines: BufReader<TcpStream>,
+    socket: UdpSocket,
+    receive: SocketAddr,
+}
+
+/// Bytes that are read at once at most.
+const READ_AHEAD: usize = 65_536;
+
+const PATIENCE: u64 = 10;
+
+/// A connection that waits for 10 seconds at most.
+pub(crate) fn connected<R: Net<Listener = TcpListener, Stream = TcpStream>>(
+    rt: &R,
+    ports: Ports,
+) -> Option<TcpStream> {
+    let stream = TcpStream::connect(rt, ports.control).ok()?;
+    stream
+        .set_read_timeout(Some(Duration::from_secs(PATIENCE)))
+        .ok()?;
+    stream
+        .set_write_timeout(Some(Duration::from_secs(PATIENCE)))
+        .ok()?;
+    Some(stream)
+}
+
+impl Client {
+    /// A client of a server.
+    pub(crate) fn new<R: Net<Listener = TcpListener, Stream = TcpStream>>(
+        rt: &R,
+        alloc: Global,
+        ports: Ports,
+    ) -> Option<Client> {
+        let stream = connected(rt, ports)?;
+        let lines = BufReader::with_capacity(alloc, READ_AHEAD, stream).ok()?;
+        let socket = UdpSocket::bind(rt, "127.0.0.1:0").ok()?;
+        socket
+            .set_read_timeout(Some(Duration::from_secs(PATIENCE)))
+            .ok()?;
+        Some(Client {
+            lines,
+            socket,
+            receive: ports.receive,
+        })
+    }
+
+    /// Sends bytes.
+    pub(crate) fn send(&mut self, text: &[u8]) -> bool {
+        self.lines.get_mut().write_all(text).is_ok()
+    }
+
+    /// Sends a line.
+    pub(crate) fn say(&mut self, line: &str) -> bool {
+        self.send(line.as_bytes()) && self.send(b"\n")
+    }
+
+    /// Whether the next line that comes is this one.
+    pub(crate) fn hears(&mut self, alloc: Global, line: &str) -> bool {
+        let mut text = Vec::new(alloc);
+        match self.lines.read_until(b'\n', &mut text) {
+            Ok(_) => text.as_slice().strip_suffix(b"\n") == Some(line.as_bytes()),
+            Err(_) => false,
+        }
+    }
+
+    /// Sends a line, and whether this one is answered.
+    pub(crate) fn asks(&mut self, alloc: Global, line: &str, answer: &str) -> bool {
+        self.say(line) && self.hears(alloc, answer)
+    }
+
+    /// Asks at most 1,000 times until this is answered. Whether it was.
+    pub(crate) fn awaits<R: Clock>(
+        &mut self,
+        rt: &R,
+        alloc: Global,
+        line: &str,
+        answer: &str,
+    ) -> bool {
+        for _ in 0..1_000 {
+            if self.asks(alloc, line, answer) {
+                return true;
+            }
+            thread::sleep(rt, Duration::from_millis(2));
+        }
+        false
+    }
+
+    /// Sends a datagram.
+    pub(crate) fn casts(&self, datagram: &[u8]) -> bool {
+        self.socket.send_to(datagram, self.receive).is_ok()
+    }
+
+    /// Whether the next datagram that comes is this one.
+    pub(crate) fn receives(&self, datagram: &[u8]) -> bool {
+        let mut buffer = [0u8; 128];
+        match self.socket.recv_from(&mut buffer) {
+            Ok((count, _)) => &buffer[..count] == datagram,
+            Err(_) => false,
+        }
+    }
+
+    /// Whether `quit` is answered by `bye`.
+    pub(crate) fn quits(&mut self, alloc: Global) -> bool {
+        self.asks(alloc, "quit", "bye")
+    }
+}

@@ -1,0 +1,116 @@
+//! A server and who talks to it, in one process.
+
+use crate::client::{Client, Ports};
+use disk_core::Disk;
+use serve_core::{Happening, ServeOptions, Teller, serve_with};
+use std::alloc::Global;
+use std::net::{Net, TcpListener, TcpStream, UdpSocket};
+use std::rt::Clock;
+use std::sync::Wait;
+use std::sync::atomic::{AtomicU32, Ordering};
+use std::thread::{self, Threads};
+use std::time::Duration;
+
+/// What is told of a server, counted.
+#[derive(Drop)]
+pub(crate) struct Told {
+    pub joined: AtomicU32,
+    pub paired: AtomicU32,
+    pub lost: AtomicU32,
+}
+
+impl Told {
+    /// Nothing was told.
+    pub(crate) fn new() -> Told {
+        Told {
+            joined: AtomicU32::new(0),
+            paired: AtomicU32::new(0),
+            lost: AtomicU32::new(0),
+        }
+    }
+
+    /// Waits for 10 seconds at most until an image was lost. Whether one was.
+    pub(crate) fn awaits_loss<R: Clock>(&self, rt: &R) -> bool {
+        for _ in 0..1_000 {
+            if self.lost.load(Ordering::SeqCst) > 0 {
+                return true;
+            }
+            thread::sleep(rt, Duration::from_millis(10));
+        }
+        false
+    }
+}
+
+/// Counts what is told.
+#[derive(Clone, Copy, Drop)]
+struct Counting<'a>(&'a Told);
+
+impl Teller for Counting<'_> {
+    fn tell(&self, happening: &Happening<'_>) {
+        let count = match happening {
+            Happening::Joined { .. } => &self.0.joined,
+            Happening::Paired { .. } => &self.0.paired,
+            Happening::Lost { .. } => &self.0.lost,
+            _ => return,
+        };
+        count.fetch_add(1, Ordering::SeqCst);
+    }
+}
+
+/// What is said to a server, but `quit`.
+pub(crate) trait Conversation {
+    /// Talks to the server. Whether all was answered as it has to be.
+    fn hold<R: Clock + Net<Listener = TcpListener, Stream = TcpStream>>(
+        &self,
+        rt: &R,
+        alloc: Global,
+        ports: Ports,
+        told: &Told,
+    ) -> bool;
+}
+
+/// Serves a disk while a conversation is held, and then quits. The disk, where all was answered as it has to be.
+pub(crate) fn served<
+    R: Threads + Wait + Clock + Net<Listener = TcpListener, Stream = TcpStream> + Sync,
+    D: Disk + Drop + Send,
+    C: Conversation + Drop + Send + Sync,
+>(rt: &R, alloc: Global, disk: D, idle_seconds: u64, conversation: &C) -> Option<D> {
+    let (listener, socket, ports) = bound(rt)?;
+    let told = Told::new();
+    let told = &told;
+    let options = ServeOptions { idle_seconds };
+    let (back, is_right) = thread::join(
+        rt,
+        move || { serve_with(rt, alloc, listener, socket, disk, &options, Counting(told)).ok() },
+        move || {
+            let is_right = conversation.hold(rt, alloc, ports, told);
+            quits(rt, alloc, ports) && is_right
+        },
+    );
+    if is_right { back } else { None }
+}
+
+/// Whether `quit` is answered by `bye`.
+fn quits<R: Net<Listener = TcpListener, Stream = TcpStream>>(
+    rt: &R,
+    alloc: Global,
+    ports: Ports,
+) -> bool {
+    match Client::new(rt, alloc, ports) {
+        Some(mut client) => client.asks(alloc, "quit", "bye"),
+        None => false,
+    }
+}
+
+/// A listener and a socket on free ports.
+fn bound<R: Net<Listener = TcpListener, Stream = TcpStream>>(
+    rt: &R,
+) -> Option<(TcpListener, UdpSocket, Ports)> {
+    let listener = TcpListener::bind(rt, "127.0.0.1:0").ok()?;
+    let socket = UdpSocket::bind(rt, "127.0.0.1:0").ok()?;
+    let ports = Ports {
+        control: listener.local_addr().ok()?,
+        receive: socket.local_addr().ok()?,
+    };
+    Some((listener, socket, ports))
+}
