@@ -1,5 +1,6 @@
 //! Threads that share an archive: what trials/threads.py and bench/threads.py run. The first word says what, and the rest how
-//! much: `memory RUNS SEED`, or `census` with what was answered; `folder FOLDER SEED TURNS`; `speed HOW DISK SIZE BLOCKS`.
+//! much: `memory RUNS SEED`, or `census` with what was answered; `folder FOLDER SEED TURNS`; `speed HOW DISK SIZE BLOCKS`, and
+//! how many blocks a settle has where that is not one.
 #![tactic(auto)]
 
 mod blocks;
@@ -14,6 +15,7 @@ mod storm;
 mod text;
 
 use anyhow::{Context, Result, bail};
+use speed::Load;
 use std::alloc::Global;
 use std::env;
 use std::io::Print;
@@ -118,8 +120,12 @@ fn measured<R: Threads + Wait + Clock + Print + Sync>(
     words: &[String],
 ) -> Result<()> {
     let (how, disk) = (word(words, 2)?, word(words, 3)?);
-    let is_large = word(words, 4)? == "large";
-    match speed::measured(rt, host, how, disk, is_large, number(words, 5)?) {
+    let load = Load {
+        is_large: word(words, 4)? == "large",
+        blocks: number(words, 5)?,
+        to_a_settle: number(words, 6).unwrap_or(1),
+    };
+    match speed::measured(rt, host, how, disk, load) {
         Ok(microseconds) => {
             println!(rt; "{microseconds}")?;
             Ok(())

@@ -23,11 +23,12 @@ use std::time::Instant;
 /// How many entries the history of an archive takes.
 const LIMIT: u32 = 1_000_000;
 
-/// What is written: blocks of nearly 64 KiB, or of 64 bytes.
+/// What is written: blocks of nearly 64 KiB, or of 64 bytes, so many to a settle.
 #[derive(Clone, Copy)]
-struct Load {
-    is_large: bool,
-    blocks: u32,
+pub(crate) struct Load {
+    pub is_large: bool,
+    pub blocks: u32,
+    pub to_a_settle: u32,
 }
 
 /// Microseconds that so many blocks take: by the engine alone (`engine`), under a lock by one thread (`call`; `counted`
@@ -37,10 +38,8 @@ pub(crate) fn measured<R: Threads + Wait + Clock + Sync>(
     host: HostRuntime,
     how: &str,
     disk: &str,
-    is_large: bool,
-    blocks: u32,
+    load: Load,
 ) -> Result<u128, Refusal> {
-    let load = Load { is_large, blocks };
     if disk == "memory" {
         let disk = MemoryDisk::new(host.alloc());
         return timed(rt, host.alloc(), how, disk, load);
@@ -79,7 +78,9 @@ fn events_of(alloc: Global, session: i64, load: Load) -> Result<Vec<Event>, Allo
     for index in 0..load.blocks {
         let block = block_at(alloc, load, i64::from(index))?;
         events.push(Event::Write { session, block })?;
-        events.push(Event::Settle { session })?;
+        if index.wrapping_add(1).checked_rem(load.to_a_settle) == Some(0) {
+            events.push(Event::Settle { session })?;
+        }
     }
     Ok(events)
 }
