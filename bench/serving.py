@@ -6,7 +6,7 @@ Usage: bench/serving.py [--frames N] [--runs N] [program], on the file system of
 cd crates/lock_trials && rt run -- memory 1 1
 
 The sender (sender.rs) sends as fast as what is recorded keeps up, at most 768 KiB ahead of it, and again what is asked for; it
-is done when every byte is recorded. Runs come in turn with runs of the library, whose batches are 16 blocks of 46 frames.
+is done when every byte is recorded. The system's receive buffer should hold that much (docs/SERVING.md). Runs come in turn with runs of the library, whose batches are 16 blocks of 46 frames.
 """
 import argparse
 import os
