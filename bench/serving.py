@@ -6,7 +6,8 @@ Usage: bench/serving.py [--frames N] [--runs N] [program], on the file system of
 cd crates/lock_trials && rt run -- memory 1 1
 
 The sender (sender.rs) sends as fast as what is recorded keeps up, at most 768 KiB ahead of it, and again what is asked for; it
-is done when every byte is recorded. The system's receive buffer should hold that much (docs/SERVING.md). Runs come in turn with runs of the library, whose batches are 16 blocks of 46 frames.
+is done when every byte is recorded. The system's receive buffer should hold that much (docs/SERVING.md). Runs come in turn with
+runs of the library, whose batches are 16 blocks of 46 frames.
 """
 import argparse
 import os
@@ -26,8 +27,7 @@ LIBRARY = ROOT / "crates/lock_trials/out/lock_trials"
 FRAME = 1_408
 BLOCK = 46 * FRAME
 BATCH = 16
-GOAL = 0.5
-LEAST = GOAL, 0.8
+LEAST, GOAL = 0.5, 0.8
 
 
 def dropped(port: int) -> int:
@@ -102,8 +102,8 @@ def main() -> int:
                   f"sent again {found['repeats']}; {found['told']}", flush=True)
         ratio = statistics.median(ours) / statistics.median(theirs)
         print(f"medians: {statistics.median(ours):,.0f} and {statistics.median(theirs):,.0f} frames a second, "
-              f"{ratio:.2f} (goal {LEAST[1]}, at least {LEAST[0]})")
-        return 0 if ratio >= GOAL else 1
+              f"{ratio:.2f} (goal {GOAL}, at least {LEAST})")
+        return 0 if ratio >= LEAST else 1
 
 
 if __name__ == "__main__":
