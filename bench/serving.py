@@ -18,7 +18,7 @@ import time
 from pathlib import Path
 
 from measure import compiled
-from tool import ROOT, Fault, expect, file_system, program, room, run
+from tool import ROOT, Fault, conclude, expect, file_system, program, room, run
 
 sys.path.insert(0, str(ROOT / "trials"))
 from serving import Server  # noqa: E402
@@ -107,7 +107,4 @@ def main() -> int:
 
 
 if __name__ == "__main__":
-    try:
-        sys.exit(main())
-    except Fault as fault:
-        sys.exit(str(fault))
+    conclude(main)

@@ -9,15 +9,13 @@ wait by its limit. Then two recorders with their receivers record into a folder,
 it sees; the process is killed (SIGKILL) at a random moment. What was written down has to be there, by the program that was
 named: `list`, a replay of each recording from where the last look ended, and at the end of everything `verify`.
 """
-import argparse
 import random
 import signal
 import subprocess
-import sys
 import time
 from pathlib import Path
 
-from tool import ROOT, Fault, Stream, expect, file_system, needs, program, replayed, room, run
+from tool import ROOT, Fault, Stream, conclude, expect, file_system, go_round, needs, program, replayed, room, run, trial_words
 
 AGENTS = ROOT / "crates/agent_trials/out/agent_trials"
 TESTS = ROOT / "crates/agents_tests/out/agents_tests_tests"
@@ -41,8 +39,8 @@ def scenario(runs: int) -> None:
 class Followed:
     """An archive that two recorders write, and the positions that their follower wrote down."""
 
-    def __init__(self, tool: Path, folder: Path, seed: int) -> None:
-        self.tool, self.folder = tool, folder
+    def __init__(self, tool: Path, folder: Path, seed: int, most_kills: int) -> None:
+        self.tool, self.folder, self.most_kills = tool, folder, most_kills
         self.chance = random.Random(seed)
         self.seen = [0, 0]
         self.looked = [0, 0]  # up to where frames were looked at
@@ -97,6 +95,12 @@ class Followed:
         if replayed(self.tool, self.folder, number, begin, frames) != right:
             raise Fault(f"recording {number}: not the {frames} frames from {begin} on that were recorded")
 
+    def is_done(self) -> bool:
+        return self.kills >= self.most_kills
+
+    def so_far(self) -> str:
+        return f"{self.lines} positions and {self.kills} kills"
+
     def round(self) -> None:
         """A process that is killed, and what it left."""
         self.follow(BLOCKS, self.chance.randint(20, 2_000))
@@ -118,22 +122,14 @@ class Followed:
 def killed(tool: Path, seed: int, kills: int) -> None:
     """Kills a process so often, and looks at what it left."""
     with room() as folder:
-        followed = Followed(tool, folder, seed)
-        try:
-            run([tool, "create", folder, "--history", str(HISTORY)])
-            while followed.kills < kills:
-                followed.round()
-            followed.end()
-        except Fault as fault:
-            raise Fault(f"behind {followed.lines} positions and {followed.kills} kills: {fault}") from fault
+        followed = Followed(tool, folder, seed, kills)
+        go_round(tool, folder, HISTORY, followed)
         print(f"two recorders and a follower over {file_system(folder)}: {followed.lines} positions written down, "
               f"{followed.kills} kills, each is there; {followed.more} times more was recorded than was seen")
 
 
 def main() -> int:
-    words = argparse.ArgumentParser(description=__doc__, formatter_class=argparse.RawDescriptionHelpFormatter)
-    words.add_argument("program", nargs="?", help="else that of ARCHIVE_TOOL, else the built one")
-    words.add_argument("--seed", type=int, default=random.SystemRandom().randrange(10**6))
+    words = trial_words(__doc__)
     words.add_argument("--runs", type=int, default=100)
     words.add_argument("--kills", type=int, default=20)
     asked = words.parse_args()
@@ -145,7 +141,4 @@ def main() -> int:
 
 
 if __name__ == "__main__":
-    try:
-        sys.exit(main())
-    except Fault as fault:
-        sys.exit(str(fault))
+    conclude(main)

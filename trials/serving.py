@@ -21,16 +21,18 @@ import tempfile
 import time
 from collections.abc import Iterator
 from contextlib import contextmanager
+from dataclasses import replace
 from pathlib import Path
 
-from tool import ROOT, Fault, Stream, expect, file_system, program, replayed, room, run
+from tool import (
+    INITIAL_TERM, ROOT, SESSION_ID, STREAM_ID, Fault, Stream, conclude, expect, file_system, program, replayed, room, run, trial_words
+)
 
 sys.path.insert(0, str(ROOT / "examples"))
 from client import Client  # noqa: E402
-from sender import HEADER_LENGTH, MESSAGE, Publication, aligned  # noqa: E402
+from sender import HEADER_LENGTH, Publication  # noqa: E402
 
 STREAM = Stream(term_length=1_048_576, segment_length=1_048_576)
-STREAM_ID, SESSION_ID, INITIAL_TERM = 1_001, 7, 42
 IN_FLIGHT = 262_144  # bytes that a sender lets stand past the recorded position
 MOST_MEMORY = 400  # megabytes, while nobody polls: docs/SERVING.md, "Memory"
 PATIENCE = 60  # seconds that a trial waits for what has to come
@@ -110,11 +112,16 @@ def served(tool: Path, *options: str) -> Iterator[tuple[Server, Path]]:
                 server.process.kill()
 
 
+def publication_of(session_id: int) -> Publication:
+    """A publication of the trials' stream."""
+    return Publication(session_id, STREAM_ID, INITIAL_TERM, STREAM.term_length, STREAM.mtu)
+
+
 class Sender:
     """Sends a publication; of a hundred datagrams it loses, doubles and swaps some."""
 
     def __init__(self, server: Server, session_id: int, chance: random.Random, faults: float = 0.0) -> None:
-        self.publication = Publication(session_id, STREAM_ID, INITIAL_TERM, STREAM.term_length, STREAM.mtu)
+        self.publication = publication_of(session_id)
         self.address, self.chance, self.faults = server.address(), chance, faults
         self.socket = socket.socket(socket.AF_INET, socket.SOCK_DGRAM)
         self.socket.setblocking(False)
@@ -192,8 +199,7 @@ def recorded_position(client: Client, recording: int) -> int:
 
 def start_line(session_id: int) -> str:
     """The line that starts a recording of a session's stream from its beginning."""
-    geometry = f"{INITIAL_TERM} {STREAM.term_length} {STREAM.mtu} {STREAM.segment_length}"
-    return f"start {STREAM_ID} {session_id} {geometry} 0 1000 c{session_id}"
+    return replace(STREAM, session_id=session_id).start(f"c{session_id}")
 
 
 def compare(tool: Path, archive: Path, recording: int, sent: Publication, begin: int = 0) -> int:
@@ -230,8 +236,7 @@ def two_publications(tool: Path, chance: random.Random) -> None:
         for line in ("reopen", "compact"):
             expect(line, list(client.ask(line)), ["error 22 BadLine"])
         mine = second.publication.position
-        block = STREAM.header(mine, 48, MESSAGE)
-        block = struct.pack("<iBBHiiiiq", 48, 0, 0xC0, MESSAGE, mine, 8, STREAM_ID, INITIAL_TERM, 0) + b"by the client..."
+        block = replace(STREAM, session_id=8).message(mine, b"by the client...")
         expect("block", list(client.ask(f"block 1 {block.hex()}")), [f"settled {mine + 64}"])
         for _ in range(10):
             second.message(200)
@@ -270,8 +275,7 @@ def slow_clients(tool: Path) -> None:
         payload = bytes(1_376)
         at = 0
         for _ in range(400):
-            block = struct.pack("<iBBHiiiiq", 1_408, 0, 0xC0, MESSAGE, at, 7, STREAM_ID, INITIAL_TERM, 0) + payload
-            expect("block", list(client.ask(f"block 0 {block.hex()}")), [f"settled {at + 1_408}"])
+            expect("block", list(client.ask(f"block 0 {STREAM.message(at, payload).hex()}")), [f"settled {at + 1_408}"])
             at += 1_408
         client.close()
         greedy = socket.create_connection(("127.0.0.1", server.control))
@@ -393,7 +397,7 @@ class Killed:
         fed = int(next(iter(client.ask(start_line(SESSION_ID)))).split()[1])
         own = int(next(iter(client.ask(start_line(SESSION_ID + 1)))).split()[1])
         sender = Sender(server, SESSION_ID, self.chance, faults=0.01)
-        other = Publication(SESSION_ID + 1, STREAM_ID, INITIAL_TERM, STREAM.term_length, STREAM.mtu)
+        other = publication_of(SESSION_ID + 1)
         self.sent[fed], self.sent[own] = sender.publication, other
         sender.send(sender.publication.setup())
         until = time.monotonic() + self.chance.uniform(0.01, 0.6)
@@ -481,8 +485,9 @@ def mutated(chance: random.Random, good: list[bytes]) -> bytes:
         return chance.randbytes(chance.choice((0, 1, 7, 8, 31, 32, 40, 1_408, 9_000)))
     if what < 0.4:
         session, stream = chance.randint(-100, 100), chance.randint(-100, 100)
-        terms = chance.randint(-5, 5), chance.randint(-5, 5), 2 ** chance.randint(14, 31) % 2**31, chance.choice((1_408, 64, 33, 65_504)), 0
-        return struct.pack("<iBBHiii5i", 40, 0, 0, 5, chance.choice((0, 32, 64, 31)), session, stream, *terms)
+        ids = chance.randint(-5, 5), chance.randint(-5, 5)
+        lengths = 2 ** chance.randint(14, 31) % 2**31, chance.choice((1_408, 64, 33, 65_504))
+        return struct.pack("<iBBHiii5i", 40, 0, 0, 5, chance.choice((0, 32, 64, 31)), session, stream, *ids, *lengths, 0)
     datagram = bytearray(chance.choice(good))
     for _ in range(chance.randint(1, 4)):
         datagram[chance.randrange(len(datagram))] = chance.randrange(256)
@@ -535,7 +540,7 @@ def flooded(tool: Path) -> None:
 def flood(port: int) -> None:
     """Sends a stream without end, as fast as it can."""
     out = socket.socket(socket.AF_INET, socket.SOCK_DGRAM)
-    publication = Publication(SESSION_ID, STREAM_ID, INITIAL_TERM, STREAM.term_length, STREAM.mtu)
+    publication = publication_of(SESSION_ID)
     out.sendto(publication.setup(), ("127.0.0.1", port))
     while True:
         for frame in publication.add(bytes(1_000)):
@@ -547,9 +552,7 @@ def flood(port: int) -> None:
 
 
 def main() -> int:
-    words = argparse.ArgumentParser(description=__doc__, formatter_class=argparse.RawDescriptionHelpFormatter)
-    words.add_argument("program", nargs="?", help="else that of ARCHIVE_TOOL, else the built one")
-    words.add_argument("--seed", type=int, default=random.SystemRandom().randrange(10**6))
+    words = trial_words(__doc__)
     words.add_argument("--frames", type=int, default=10**6)
     words.add_argument("--kills", type=int, default=200)
     words.add_argument("--datagrams", type=int, default=10**6)
@@ -578,7 +581,4 @@ def main() -> int:
 
 
 if __name__ == "__main__":
-    try:
-        sys.exit(main())
-    except Fault as fault:
-        sys.exit(str(fault))
+    conclude(main)

@@ -11,15 +11,13 @@ and again. What was answered has to be there, by the program that was named: `li
 ended, at the end of everything and by `verify`. Behind it there may be at most one more settle of each. Prints runs, calls
 and kills, and ends with status 1 where anything is wrong.
 """
-import argparse
 import random
 import signal
 import subprocess
-import sys
 import time
 from pathlib import Path
 
-from tool import ROOT, Fault, Stream, expect, file_system, needs, program, replayed, room, run
+from tool import ROOT, Fault, Stream, conclude, expect, file_system, go_round, needs, program, replayed, room, run, trial_words
 
 THREADS = ROOT / "crates/lock_trials/out/lock_trials"
 STREAM = Stream(term_length=65_536, segment_length=65_536)
@@ -59,6 +57,7 @@ class Storm:
 
     def __init__(self, tool: Path, folder: Path, seed: int, calls: int, kills: int) -> None:
         self.tool, self.folder = tool, folder
+        self.most_calls, self.most_kills = calls, kills
         self.chance = random.Random(seed)
         self.recordings = [Recording(number) for number in range(8)]
         self.calls = self.kills = self.more = 0
@@ -119,6 +118,12 @@ class Storm:
             raise Fault(f"recording {recording.number}: not the {frames} frames from {begin} on that were answered")
         recording.looked = recording.settled
 
+    def is_done(self) -> bool:
+        return self.kills >= self.most_kills and self.calls >= self.most_calls
+
+    def so_far(self) -> str:
+        return f"{self.calls} calls and {self.kills} kills"
+
     def round(self) -> None:
         """Writes, is killed, and is looked at. A settle with its blocks is about three and a half calls."""
         self.write(10**9, self.chance.randint(self.least // 5, self.least // 2))
@@ -141,21 +146,13 @@ def killed(tool: Path, seed: int, kills: int, calls: int) -> None:
     """Kills a process of eight threads so often at least, until it has made so many calls."""
     with room() as folder:
         storm = Storm(tool, folder, seed, calls, kills)
-        try:
-            run([tool, "create", folder, "--history", str(HISTORY)])
-            while storm.kills < kills or storm.calls < calls:
-                storm.round()
-            storm.end()
-        except Fault as fault:
-            raise Fault(f"behind {storm.calls} calls and {storm.kills} kills: {fault}") from fault
+        go_round(tool, folder, HISTORY, storm)
         print(f"eight threads over {file_system(folder)}: {storm.calls} calls, {storm.kills} kills, nothing lost; "
               f"{storm.more} settles more were there")
 
 
 def main() -> int:
-    words = argparse.ArgumentParser(description=__doc__, formatter_class=argparse.RawDescriptionHelpFormatter)
-    words.add_argument("program", nargs="?", help="else that of ARCHIVE_TOOL, else the built one")
-    words.add_argument("--seed", type=int, default=random.SystemRandom().randrange(10**6))
+    words = trial_words(__doc__)
     words.add_argument("--runs", type=int, default=100)
     words.add_argument("--kills", type=int, default=20)
     words.add_argument("--calls", type=int, default=100_000)
@@ -168,7 +165,4 @@ def main() -> int:
 
 
 if __name__ == "__main__":
-    try:
-        sys.exit(main())
-    except Fault as fault:
-        sys.exit(str(fault))
+    conclude(main)

@@ -1,5 +1,7 @@
 """The built program, the bytes that scripts give it and the folders that they work in: what trials and measures share."""
+import argparse
 import os
+import random
 import re
 import shutil
 import signal
@@ -7,10 +9,11 @@ import struct
 import subprocess
 import sys
 import tempfile
-from collections.abc import Iterable, Iterator, Sequence
+from collections.abc import Callable, Iterable, Iterator, Sequence
 from contextlib import contextmanager
 from dataclasses import dataclass
 from pathlib import Path
+from typing import NoReturn, Protocol
 
 ROOT = Path(__file__).resolve().parent.parent
 MOST_AT_ONCE = 4_096  # frames of a poll
@@ -40,6 +43,22 @@ def program(named: str | None) -> Path:
     path = Path(named or os.environ.get("ARCHIVE_TOOL") or ROOT / "crates/archive_tool/out/archive_tool").resolve()
     needs(path)
     return path
+
+
+def trial_words(doc: str | None) -> argparse.ArgumentParser:
+    """The words of a trial: a program, and the seed of what is random."""
+    words = argparse.ArgumentParser(description=doc, formatter_class=argparse.RawDescriptionHelpFormatter)
+    words.add_argument("program", nargs="?", help="else that of ARCHIVE_TOOL, else the built one")
+    words.add_argument("--seed", type=int, default=random.SystemRandom().randrange(10**6))
+    return words
+
+
+def conclude(main: Callable[[], int]) -> NoReturn:
+    """Runs a script, and ends it with its status; what it found wrong is its last word, with status 1."""
+    try:
+        sys.exit(main())
+    except Fault as fault:
+        sys.exit(str(fault))
 
 
 @contextmanager
@@ -82,12 +101,13 @@ class Stream:
     term_length: int
     segment_length: int
     mtu: int = MTU
+    session_id: int = SESSION_ID
 
     def header(self, position: int, length: int, kind: int) -> bytes:
         """The header of the frame at a position."""
         term, offset = divmod(position, self.term_length)
         return struct.pack(
-            "<iBBHiiiiq", length, 0, 0xC0, kind, offset, SESSION_ID, STREAM_ID, INITIAL_TERM + term, 0
+            "<iBBHiiiiq", length, 0, 0xC0, kind, offset, self.session_id, STREAM_ID, INITIAL_TERM + term, 0
         )
 
     def message(self, position: int, payload: bytes) -> bytes:
@@ -102,22 +122,22 @@ class Stream:
     def start(self, channel: str, position: int = 0) -> str:
         """The line that starts a recording."""
         geometry = f"{INITIAL_TERM} {self.term_length} {self.mtu} {self.segment_length}"
-        return f"start {STREAM_ID} {SESSION_ID} {geometry} {position} {TIMESTAMP} {channel}"
+        return f"start {STREAM_ID} {self.session_id} {geometry} {position} {TIMESTAMP} {channel}"
 
     def extend(self, recording: int, position: int) -> str:
         """The line that goes on with a recording which stopped at a position."""
-        return f"extend {recording} {STREAM_ID} {SESSION_ID} {INITIAL_TERM} {self.term_length} {self.mtu} {position}"
+        return f"extend {recording} {STREAM_ID} {self.session_id} {INITIAL_TERM} {self.term_length} {self.mtu} {position}"
 
     def descriptor(self, recording: int, stop_timestamp: int, stop: int, channel: str) -> str:
         """A recording from position 0, as a listing tells it."""
         geometry = f"{INITIAL_TERM} {self.segment_length} {self.term_length} {self.mtu}"
         return (
-            f"recording {recording} {TIMESTAMP} {stop_timestamp} 0 {stop} {geometry} {SESSION_ID} {STREAM_ID} {channel}"
+            f"recording {recording} {TIMESTAMP} {stop_timestamp} 0 {stop} {geometry} {self.session_id} {STREAM_ID} {channel}"
         )
 
     def start_entry(self, recording: int, channel: bytes) -> bytes:
         """The catalogue's entry of a start at position 0: docs/STORAGE.md, "Entries"."""
-        fields = INITIAL_TERM, self.segment_length, self.term_length, self.mtu, SESSION_ID, STREAM_ID, len(channel)
+        fields = INITIAL_TERM, self.segment_length, self.term_length, self.mtu, self.session_id, STREAM_ID, len(channel)
         return entry(1, struct.pack("<qqq6iH", recording, TIMESTAMP, 0, *fields) + channel)
 
 
@@ -189,3 +209,28 @@ class Session:
         self.process.stdin.close()
         self.process.stdout.read()
         return self.process.wait()
+
+
+class Rounds(Protocol):
+    """Work over an archive that goes on round by round, and then ends."""
+
+    def is_done(self) -> bool:
+        """Whether it is to end."""
+
+    def round(self) -> None: ...
+
+    def end(self) -> None: ...
+
+    def so_far(self) -> str:
+        """How far it came."""
+
+
+def go_round(tool: Path, folder: Path, history: int, work: Rounds) -> None:
+    """Makes an archive with a history of so many entries, and does the work over it. A fault tells how far it came."""
+    try:
+        run([tool, "create", folder, "--history", str(history)])
+        while not work.is_done():
+            work.round()
+        work.end()
+    except Fault as fault:
+        raise Fault(f"behind {work.so_far()}: {fault}") from fault
