@@ -1,0 +1,10 @@
+//! Frames as a capture file: datagrams of UDP over IPv4 in pcap's savefile format.
+#![tactic(auto)]
+
+mod destination;
+mod file;
+mod packet;
+
+pub use destination::Destination;
+pub use file::{file_header, record};
+pub use packet::fits_datagram;
