@@ -28,10 +28,10 @@ MARK = "• "
 # Words of the same thing over two types, as the id of a recording with its frames and of its registration.
 SHARED = frozenset(
     """
-    AreWell Ends Fits IsChain IsWell OfArchive OfMerge Records Stays ThenSettles WritesBytes active_count after append_tests base_of
-    changed counts encoded extend_tests geometry_of has_room header_of id_of is_active is_among life_at life_of name_of
-    publication_of purge_segments_tests purge_tests refusal_of restarted segments_before start_tests stop_tests takes_memory
-    truncate_tests
+    AreWell Compacts Ends Fits IsChain IsLookedOn IsWell OfArchive OfMerge Records Stays ThenSettles WritesBytes active_count
+    after append_tests base_of changed counts encoded epoch_of extend_tests geometry_of has_publication has_room header_of id_of
+    image_with inner is_active is_among life_at life_of may_join name_of publication_of purge_segments_tests purge_tests
+    refusal_of restarted segments_before start_tests stop_tests takes_memory truncate_tests
     """.split()
 )
 

@@ -3,7 +3,9 @@
 is proved beside it; then the minutes and processor seconds of each crate's proof, tests and edits, the longest chain of these
 that wait for one another, and the dearest edits.
 
-Usage: tools/gate.py [NAME..]            runs `rt ci --anew [NAME..]` at the top of the repository; its status is that of rt ci
+Usage: tools/gate.py [NAME..]            runs `rt ci` from nothing at the top of the repository; its status is that of rt ci
+Where `rt ci` keeps what it passed (rattle-kit-13f) that is `rt ci --anew [NAME..]`; where it proves from nothing each time
+(rattle-kit-13b) it takes no crate's name.
 The whole has to stay under 90 units, so that two slow cores run it in 180 minutes. The processors should be idle: minutes are
 by the clock. Processor seconds are sampled twice a second from /proc, so up to half a second of each process is missed.
 """
@@ -25,8 +27,14 @@ PERIOD = 0.5
 PARTS = ("proof", "tests", "edits")
 UNIT, UNIT_CRATE, MOST_UNITS = "426571b", "frame_core", 90
 DEAREST = 20
-# What processes work at beside a crate's proof and tests: the check that its edits begin with, and the one that ends them.
-BEGIN, END = "begin", "end"
+# What processes work at beside a crate's proof and tests: the check that its edits begin with, and the one that ends them. Of an
+# edit that is tried in turn, over what those before it left, the number is known by its folder alone.
+BEGIN, END, IN_TURN = "begin", "end", "in turn"
+
+
+def keeps() -> bool:
+    """Whether `rt ci` keeps what it passed, and takes nothing of it with --anew; it tries edits side by side then."""
+    return "--anew" in subprocess.run(["rt", "help"], capture_output=True, text=True).stdout
 
 
 def edits_of(crate: str) -> list[str]:
@@ -44,7 +52,8 @@ class Process:
         if "/rt-edit-" in folder + "/":
             self.part = "edits"
             seed = os.path.basename(words[words.index("--incremental") + 1]) if "--incremental" in words else ""
-            self.number = int(seed) if seed.isdigit() else BEGIN if seed == "seed" else None
+            in_turn = IN_TURN if seed.startswith("rt-edits-") else None
+            self.number = int(seed) if seed.isdigit() else BEGIN if seed == "seed" else in_turn
 
 
 class Samples:
@@ -53,6 +62,7 @@ class Samples:
     def __init__(self) -> None:
         self.spent: dict[tuple[int, int], tuple[Process, float]] = {}
         self.begun: dict[str, str] = {}  # of each crate, the folder of the check that its edits begin with
+        self.turns: dict[str, list[str]] = defaultdict(list)  # and those of edits that are tried in turn
         self.seen: dict[tuple[str, str], list[float]] = {}
 
     def take(self, top: int) -> None:
@@ -80,9 +90,19 @@ class Samples:
     def note(self, name: tuple[int, int], process: Process, seconds: float) -> None:
         if process.number == BEGIN and self.begun.setdefault(process.crate, process.folder) != process.folder:
             process.number = END
+        if process.number == IN_TURN:
+            process.number = self.turn(process)
         self.spent[name] = process, seconds
         part = BEGIN if process.number == BEGIN else process.part
         self.seen.setdefault((process.crate, part), [time.time(), 0.0])[1] = time.time()
+
+    def turn(self, process: Process) -> int | str:
+        """The number of an edit that is tried in turn: each has a folder, and so has the check that ends them."""
+        folders = self.turns[process.crate]
+        if process.folder not in folders:
+            folders.append(process.folder)
+        number = folders.index(process.folder)
+        return number if number < len(edits_of(process.crate)) else END
 
     def seconds(self) -> dict[tuple[str, str], float]:
         """The processor seconds of each part of each crate."""
@@ -108,7 +128,10 @@ class Samples:
         return (last - first) / 60
 
     def minutes_of_edits(self, crate: str) -> float:
-        """From where a crate is proved, and what its edits begin with is, to its last edit."""
+        """From where a crate is proved, and what its edits begin with is, to its last edit; of edits in turn, which begin once
+        its tests are proved too, from the first."""
+        if crate in self.turns:
+            return self.minutes(crate, "edits")
         known = [self.seen[crate, it][1] for it in ("proof", BEGIN) if (crate, it) in self.seen]
         last = self.seen.get((crate, "edits"), (0.0, 0.0))[1]
         return max(0.0, last - max(known, default=last)) / 60
@@ -116,7 +139,7 @@ class Samples:
 
 def longest_chain(samples: Samples) -> tuple[float, list[str]]:
     """The chain of parts that wait for one another and take longest, by the clock. What a crate's edits begin with is checked
-    beside its own proof."""
+    beside its own proof; edits in turn wait for its tests."""
     below, known = dependencies(), {}
 
     def proof(crate: str) -> tuple[float, list[str]]:
@@ -129,10 +152,11 @@ def longest_chain(samples: Samples) -> tuple[float, list[str]]:
         minutes, names = proof(crate)
         start = max((proof(it)[0] for it in below[crate]), default=0.0)
         edits = samples.minutes_of_edits(crate)
+        tests = samples.minutes(crate, "tests") if crate in samples.turns else 0.0
         ends = [
             (minutes, names),
             (start + samples.minutes(crate, "tests"), [*names[:-1], f"{crate} tests"]),
-            (max(minutes, start + samples.minutes(crate, BEGIN)) + edits, [*names, f"{crate} edits"]),
+            (max(minutes, start + samples.minutes(crate, BEGIN), start + tests) + edits, [*names, f"{crate} edits"]),
         ]
         return max(ends, key=lambda it: it[0])
 
@@ -160,7 +184,7 @@ class Run:
 
     def __init__(self, top: Path, names: list[str]) -> None:
         self.samples, self.begun = Samples(), time.time()
-        words = ["rt", "ci", "--anew", *names]
+        words = ["rt", "ci", *(["--anew"] if keeps() else []), *names]
         self.ran = subprocess.Popen(words, cwd=top, stdout=subprocess.PIPE, stderr=subprocess.STDOUT, text=True)
         self.watcher = threading.Thread(target=self.watch)
         self.watcher.start()
@@ -201,6 +225,8 @@ def unit():
 
 
 def main() -> int:
+    if sys.argv[1:] and not keeps():
+        sys.exit("rt ci of this toolchain takes no crate's name: it proves all")
     kept = re.compile(r"^rt: |passed|FAILED|NOT ")
     with unit() as unit_seconds:
         run = Run(ROOT, sys.argv[1:])

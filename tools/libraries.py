@@ -3,8 +3,8 @@
 
 Usage: tools/libraries.py            status 0 where each library is proved
 `rt` lets one call at a time work in a library and in all below it, so `rt run` proves one after another and leaves half of four
-processors idle. So calls work in copies of the repository, side by side; what is proved in one `rt` takes for the others, and
-at the end for this checkout, before the copies go.
+processors idle. So calls work in copies of the repository, side by side; what is proved in one is linked into those that need it,
+and at the end into this checkout, before the copies go.
 """
 import os
 import shutil
@@ -44,8 +44,20 @@ def copied(copy: Path, crates: list[str]) -> Path:
     return copy
 
 
-def prove(crate: str, copy: Path) -> tuple[str, int, str]:
-    """Proves a library in a copy: its name, rt's status and what rt said."""
+def link(crate: str, top: Path, to: Path) -> None:
+    """What is proved of a library below one folder stands below another, unless the same does there."""
+    own, other = (it / "crates" / crate / "out/rlib" for it in (top, to))
+    if not (own / "stamp").is_file() or ((other / "stamp").is_file() and (own / "stamp").read_bytes() == (other / "stamp").read_bytes()):
+        return
+    shutil.rmtree(other, ignore_errors=True)
+    shutil.copytree(own, other, copy_function=os.link)
+
+
+def prove(crate: str, copy: Path, proved: dict[str, Path]) -> tuple[str, int, str]:
+    """Proves a library in a copy, over what was proved in others: its name, rt's status and what rt said."""
+    link(crate, ROOT, copy)
+    for it, top in proved.items():
+        link(it, top, copy)
     began = time.monotonic()
     ran = subprocess.run(["rt", "lib", "--jobs", "2"], cwd=copy / "crates" / crate, capture_output=True, text=True)
     if ran.returncode == 0:
@@ -56,21 +68,25 @@ def prove(crate: str, copy: Path) -> tuple[str, int, str]:
 def prove_all(left: list[str], uses: dict[str, list[str]], copies: list[Path]) -> str:
     """Proves libraries, as many at once as there are copies. Gives what rt said where one is not proved."""
     running: dict[Future, Path] = {}
-    proved: set[str] = set()
+    proved: dict[str, Path] = {}
+    refused = ""
     with ThreadPoolExecutor(len(copies)) as pool:
-        while left or running:
-            ready = sorted((it for it in left if set(uses[it]) <= proved), key=lambda it: levels(it, uses))
-            while ready and copies:
+        while running or (left and not refused):
+            ready = sorted((it for it in left if set(uses[it]) <= set(proved)), key=lambda it: levels(it, uses))
+            while ready and copies and not refused:
                 crate, copy = ready.pop(), copies.pop()
                 left.remove(crate)
-                running[pool.submit(prove, crate, copy)] = copy
+                running[pool.submit(prove, crate, copy, dict(proved))] = copy
             for done in wait(running, return_when=FIRST_COMPLETED).done:
-                copies.append(running.pop(done))
+                copies.append(copy := running.pop(done))
                 crate, status, said = done.result()
                 if status:
-                    return said
-                proved.add(crate)
-    return ""
+                    refused = refused or said
+                else:
+                    proved[crate] = copy
+    for crate, copy in proved.items():
+        link(crate, copy, ROOT)
+    return refused
 
 
 def main() -> int:

@@ -1,5 +1,6 @@
 #!/usr/bin/env python3
-"""Asks that README.md and docs/ show what the program prints, name the toolchain that is here, and link to what is there.
+"""Asks that README.md and docs/ show what the program prints, that README.md names a toolchain which the one here may stand for,
+and that links lead to what is there.
 
 Usage: tools/sessions.py [program]            without a program the one in crates/archive_tool/out
 Each block of `console` is a session, which begins at the top of the repository: lines that begin with `$ ` are commands for
@@ -21,7 +22,7 @@ from repository import ROOT
 PAGES = [ROOT / "README.md", ROOT / "CONTRIBUTING.md", *sorted((ROOT / "docs").glob("*.md"))]
 BLOCK = re.compile(r"^```console\n(.*?)^```$", re.M | re.S)
 LINK = re.compile(r"\[[^\]]*\]\(([^)\s]+)\)")
-TOOLCHAIN = re.compile(r"rattle-kit-\w+ logic \w+")
+TOOLCHAIN = re.compile(r"rattle-kit-(\d+)([a-z]*)( or later|)`?,?(?: of|) logic `?(\w+)")
 PROVES = re.compile(r"^rt (ci|check|test)\b|\brt try\b")
 PROGRAM = re.compile(r"\brt run (--jobs \d+ )?-- |(?<![\w/])(out/)?archive_tool ")
 
@@ -70,13 +71,20 @@ def dead_links(page: Path) -> Iterator[str]:
 
 
 def other_toolchains(program: Path) -> Iterator[str]:
-    """Where another toolchain is named than the one that is here."""
+    """Where a toolchain is named which the one that is here may not stand for: of another logic, or a later one. The program
+    names the one that it was written with, of which the logic counts."""
     own = subprocess.run(["rt", "version"], capture_output=True, text=True).stdout.strip()
+    number, letters, _, logic = TOOLCHAIN.search(own).groups()
     version = subprocess.run([program, "--version"], capture_output=True, text=True).stdout
-    for where, text in [("README.md", (ROOT / "README.md").read_text()), (f"{program.name} --version", version)]:
-        named = set(TOOLCHAIN.findall(text))
-        if named != {own}:
-            yield f"{where} names {', '.join(sorted(named)) or 'no toolchain'}, and here is {own}"
+    for where, text, any_kit in [("README.md", (ROOT / "README.md").read_text(), False), (f"{program.name} --version", version, True)]:
+        named = TOOLCHAIN.findall(text)
+        for least_number, least_letters, or_later, its_logic in named:
+            same = (least_number, least_letters) == (number, letters)
+            later = (int(least_number), least_letters) <= (int(number), letters)
+            if its_logic != logic or not (any_kit or same or (or_later and later)):
+                yield f"{where} names rattle-kit-{least_number}{least_letters}{or_later} of logic {its_logic}, and here is {own}"
+        if not named:
+            yield f"{where} names no toolchain, and here is {own}"
 
 
 def main() -> int:

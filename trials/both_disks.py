@@ -120,6 +120,11 @@ def make_short_history(trial: Trial, folder: Path) -> None:
     trial.ended("create", folder, "--history", "3")
 
 
+def make_without_spare(trial: Trial, folder: Path) -> None:
+    make_recorded(trial, folder)
+    (folder / "catalogue-b.bank").unlink()
+
+
 def make_no_catalogue(trial: Trial, folder: Path) -> None:
     (folder / "catalogue-a.bank").write_bytes(bytes(32))
 
@@ -129,6 +134,7 @@ MADE: dict[str, Callable[[Trial, Path], None]] = {
     "damaged(recorded(rt.alloc(), MemoryDisk::new(rt.alloc()))?)?": make_damaged,
     "with_short_history(rt.alloc())?": make_short_history,
     "without_catalogue(rt.alloc())?": make_no_catalogue,
+    "without_spare(rt.alloc())?": make_without_spare,
 }
 # The refusal of an opening, where a folder is so.
 UNOPENED = {make_no_catalogue: NOT_CATALOGUE}
@@ -136,7 +142,7 @@ UNOPENED = {make_no_catalogue: NOT_CATALOGUE}
 
 def try_scripts(trial: Trial) -> None:
     """Each script of the tests, over memory and a folder, or over a folder that is like its disk."""
-    source = "".join((CRATES / "tool_tests/src" / name).read_text() for name in ("scenarios.rt", "disks.rt"))
+    source = "".join((CRATES / "tool_tests/src" / name).read_text() for name in ("scenarios.rt", "disks.rt", "compactions.rt"))
     vectors = dict(VECTOR.findall(source))
     empty = [(name, text_of(lines, vectors), text_of(told, vectors)) for name, lines, told in OVER_EMPTY.findall(source)]
     empty.append(("stdin", (CRATES / "archive_tool/stdin").read_text(), (CRATES / "archive_tool/stdout").read_text()))
@@ -182,17 +188,17 @@ def try_creation(trial: Trial) -> None:
 def try_absence(trial: Trial) -> None:
     """A folder or a file that is not there, which `create` alone makes, and a folder without an archive."""
     with trial.folder() as folder:
-        for command in ("run", "list", "verify"):
+        for command in ("run", "compact", "list", "verify"):
             trial.expect(f"{command} of nothing", trial.ended(command, folder / "gone"), (3, "", DEVICE_FAULT))
         trial.expect("frames of nothing", trial.ended("frames", folder / "gone"), (3, "", DEVICE_FAULT))
         trial.expect("create of nothing in nothing", trial.ended("create", folder / "gone" / "new"), (3, "", DEVICE_FAULT))
-        for command in ("list", "verify"):
+        for command in ("compact", "list", "verify"):
             trial.expect(f"{command} without an archive", trial.ended(command, folder), (1, "", NOT_CATALOGUE))
         trial.expect("nothing is made", list(folder.iterdir()), [])
         trial.expect("create of nothing", trial.ended("create", folder / "new"), (0, "created\n", ""))
         trial.expect("list of what was made", trial.ended("list", folder / "new"), (0, "end 0\n", ""))
         (folder / "file").touch()
-        for command in ("create", "run", "list", "verify"):
+        for command in ("create", "run", "compact", "list", "verify"):
             trial.expect(f"{command} of a file", trial.ended(command, folder / "file"), (3, "", DEVICE_FAULT))
         trial.expect("frames of a folder", trial.ended("frames", folder), (3, "", DEVICE_FAULT))
         trial.expect("create beside another file", trial.ended("create", folder), (0, "created\n", ""))
@@ -203,7 +209,7 @@ def try_use_by_two(trial: Trial) -> None:
     with trial.folder(RECORDED) as folder:
         first = Session(trial.tool, folder)
         trial.expect("the first process", first.ask("positions 0"), ["positions 0 64 64"])
-        for command in ("create", "run", "list", "verify"):
+        for command in ("create", "run", "compact", "list", "verify"):
             trial.expect(f"{command} in use", trial.ended(command, folder), (3, "", DEVICE_FAULT))
         trial.expect("frames in use", trial.ended("frames", folder / "0-0.rec"), (0, "frame 42 0 1 37 c0\nend 1\n", ""))
         trial.expect("the first process goes on", first.ask("verify 0"), ["verified 1"])
@@ -285,13 +291,13 @@ def try_words(trial: Trial) -> None:
     """Command lines that are none end with status 2 and a text on standard error, help with 0 and one on standard output."""
     with trial.folder() as folder:
         path = str(folder)
-        wrong = [(), ("play",), ("create",), ("list",), ("verify",), ("frames",), ("create", path, path), ("run", path, path)]
+        wrong = [(), ("play",), ("create",), ("compact",), ("list",), ("verify",), ("frames",), ("create", path, path), ("run", path, path)]
         wrong += [("list", path, path), ("create", path, "--history"), ("create", path, "--history", "x")]
         wrong += [("create", path, "--history", "4294967296"), ("create", path, "--history", "-1"), ("list", path, "--history", "1")]
         for words in wrong:
             status, told, fault = trial.streams(*words)
             trial.expect(f"wrong words {words}", (status, told, fault != ""), (2, "", True))
-        for words in [("--help",), *((word, "--help") for word in ("create", "run", "list", "verify", "frames"))]:
+        for words in [("--help",), *((word, "--help") for word in ("create", "run", "compact", "list", "verify", "frames"))]:
             status, told, fault = trial.streams(*words)
             trial.expect(f"help {words}", (status, told != "", fault), (0, True, ""))
         trial.expect("nothing is made", list(folder.iterdir()), [])
@@ -300,12 +306,29 @@ def try_words(trial: Trial) -> None:
 def try_full_output(trial: Trial) -> None:
     """A standard output that takes nothing is a fault of the device."""
     with trial.folder(RECORDED) as folder:
-        for words in [("list", folder), ("verify", folder), ("frames", folder / "0-0.rec"), ("--help",)]:
+        for words in [("compact", folder), ("list", folder), ("verify", folder), ("frames", folder / "0-0.rec"), ("--help",)]:
             trial.expect(f"{words[0]} into a full output", trial.ended(*words, into="/dev/full"), (3, "", DEVICE_FAULT))
         answer = trial.ended("run", folder, given="list 0 1\n", into="/dev/full")
         trial.expect("run into a full output", answer, (3, "", DEVICE_FAULT))
     with trial.folder() as folder:
         trial.expect("create into a full output", trial.ended("create", folder, into="/dev/full"), (3, "", DEVICE_FAULT))
+
+
+def try_compaction(trial: Trial) -> None:
+    """A full history goes on behind a compaction, which stops what is active; refused, it leaves the archive as it was."""
+    with trial.folder() as folder:
+        trial.ended("create", folder, "--history", "2")
+        trial.expect("a full history", trial.ended("run", folder, given=RECORDED + "stop 0 1\n"), (0, "started 0 0\nsettled 64\nerror 11 HistoryFull\n", ""))
+        trial.expect("compact", trial.ended("compact", folder), (0, "compacted\n", ""))
+        trial.expect("list behind it", trial.ended("list", folder), (0, STOPPED + "end 1\n", ""))
+        trial.expect("a start behind it", trial.ended("run", folder, given=RECORDED), (0, "started 1 0\nsettled 64\n", ""))
+        for number in range(3):
+            trial.expect(f"compact again {number}", trial.ended("compact", folder), (0, "compacted\n", ""))
+        trial.expect("verify behind them", trial.ended("verify", folder), (0, "verified 1\nverified 1\n", ""))
+        (folder / "catalogue-b.bank").write_bytes(b"\x01")
+        before = (folder / "catalogue-a.bank").read_bytes()
+        trial.expect("compact beside a bank that may not be written", trial.ended("compact", folder), (1, "", NOT_CATALOGUE))
+        trial.expect("the bank in use", (folder / "catalogue-a.bank").read_bytes(), before)
 
 
 def try_retention(trial: Trial) -> None:
@@ -360,7 +383,7 @@ def try_version(trial: Trial) -> None:
 
 
 PARTS = (try_scripts, try_creation, try_absence, try_use_by_two, try_reports, try_catalogues, try_frames, try_words,
-         try_full_output, try_retention, try_older_catalogue, try_blind_spots, try_version)
+         try_full_output, try_compaction, try_retention, try_older_catalogue, try_blind_spots, try_version)
 
 
 def main() -> int:

@@ -4,8 +4,8 @@
 Usage: trials/full_disks.py [program]. It mounts a tmpfs of 4 MiB and an ext4 of 8 MiB; what may not be mounted here is skipped,
 and said to be.
 
-The disk runs full under the writing of a block, of an entry of the catalogue, and of the entry by which an opening stops the
-recordings that were active. Each time the line that meets it is DeviceFault, further changes are Broken, what was settled is
+The disk runs full under the writing of a block, of an entry of the catalogue, of the entry by which an opening stops the
+recordings that were active, and of what a compaction writes. Each time the line that meets it is DeviceFault, further changes are Broken, what was settled is
 read, and `reopen` within the process works once there is room (docs/STORAGE.md, "Folders"). The next process finds what was
 settled, and with room again it goes on. Ends with status 1 where anything is wrong.
 """
@@ -177,7 +177,38 @@ def full_at_an_opening(archive: Archive) -> str:
     return "full at an opening: it is refused until there is room, and then nothing is lost"
 
 
-PARTS = full_in_a_segment, full_in_the_catalogue, full_at_an_opening
+def full_in_a_compaction(archive: Archive) -> str:
+    """What a compaction writes into the other bank meets the full disk: nothing is lost, and with room it is compacted."""
+    session, channel, count = archive.begun(), "d" * 512, 20
+    expect("block", session.ask(block(0, 0)), [f"settled {BLOCK}"])
+    for number in range(1, count):
+        expect("start", session.ask(STREAM.start(channel)), [f"started {number} {number}"])
+    expect("the status", session.end(), 0)
+    right = [STREAM.descriptor(0, -1, BLOCK, "c")] + [STREAM.descriptor(number, -1, 0, channel) for number in range(1, count)]
+    right.append(f"end {count}")
+    expect("list", run([archive.tool, "list", archive.folder]), right)
+    archive.fill(sys.maxsize)
+    ended = subprocess.run([archive.tool, "compact", archive.folder], capture_output=True, text=True)
+    why = [*DEVICE_FAULT, "catalogue-b.bank: write: No space left on device"]
+    expect("compact, still full", (ended.returncode, ended.stdout, ended.stderr.splitlines()), (3, "", why))
+    expect("list, still full", run([archive.tool, "list", archive.folder]), right)
+    archive.expect_recorded("still full", BLOCK)
+    session = archive.session()
+    expect("compact in a script, still full", session.ask("compact"), DEVICE_FAULT)
+    expect("behind it", session.ask("positions 0"), BROKEN)
+    expect("reopen, still full", session.ask("reopen"), ["reopened 0"])
+    expect("verify 0, reopened", session.ask("verify 0"), ["verified 46"])
+    archive.make_room()
+    expect("compact, with room", session.ask("compact"), ["compacted"])
+    archive.expect_ended(session)
+    expect("compact, in the next process", run([archive.tool, "compact", archive.folder]), ["compacted"])
+    expect("list, with room", run([archive.tool, "list", archive.folder]), right)
+    archive.expect_recorded("compacted", BLOCK)
+    archive.expect_extended(BLOCK)
+    return f"full in a compaction: {count} recordings are there, before it and behind it"
+
+
+PARTS = full_in_a_segment, full_in_the_catalogue, full_at_an_opening, full_in_a_compaction
 
 
 def try_all(tool: Path, work: Path, disk: Path) -> None:

@@ -224,8 +224,13 @@ def script_of(chance: random.Random) -> list[str]:
             ends[recording] = 0
         elif what < 0.92 and len(active) < len(ends):
             lines.append(f"purge {chance.choice([each for each in range(len(ends)) if each not in dict(active)])}")
-        elif what < 0.97:
+        elif what < 0.95:
             lines.append("sweep")
+        elif what < 0.98:
+            lines.append("compact")
+            # What was active is stopped where it was settled, and sessions are numbered anew.
+            ends = [unsettled.get(recording, end) for recording, end in enumerate(ends)]
+            sessions, active, unsettled = [], [], {}
         else:
             lines.append(f"verify {chance.randrange(len(ends))}")
     return lines

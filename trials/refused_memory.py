@@ -26,7 +26,7 @@ HELLO = "2500000000c00100%s00000007000000e90300002a000000000000000000000068656c6
 LINES = ["start 1001 7 42 65536 1408 131072 0 1000 c", "block 0 " + HELLO % "00", "write 0 " + HELLO % "40", "settle 0",
          "list 0 10", "find 0 1001 7 c", "positions 0", "replay 0 0 -1", "poll 0 1", "poll 0 5", "close 0", "verify 0",
          "merge 42 65536 0", "merge-replay " + HELLO % "00", "merge-live " + HELLO % "40", "merge-take", "merge-state", "no line",
-         "reopen", "truncate 0 64", "extend 0 1001 7 42 65536 1408 64", "block 0 " + HELLO % "40", "stop 0 2000",
+         "compact", "reopen", "truncate 0 64", "extend 0 1001 7 42 65536 1408 64", "block 0 " + HELLO % "40", "stop 0 2000",
          "purge-segments 0 131072", "purge 0", "sweep", "quit"]
 SCRIPT = "\n".join(LINES).encode()
 WANT = b"error 18 NoMemory\n"

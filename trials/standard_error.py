@@ -25,15 +25,16 @@ BLOCK = f"block 0 {STREAM.message(0, b'hello').hex()}"
 NEXT = f"block 0 {STREAM.message(64, b'hello').hex()}"
 LONG = f"block 0 {STREAM.message(0, bytes(1_000)).hex()}"
 RECORDED = [START, BLOCK]
+FILLING = [START, "stop 0 1", *["truncate 0 0"] * 97]  # 99 entries
 NOBODY = 65_534
 
 MADE = "a new archive was made, as the folder had none\n"
 CLOSED = "the archive is not open: lines that need it are Broken until reopen opens it\n"
 FULL = (
-    "the history is full: nothing is recorded here any more, and what is recorded stays and is read; "
-    "go on with an archive in another folder, made with a greater --history\n"
+    "the history is full: nothing is recorded until compact makes room, which stops all recordings\n"
 )
 FAULT = "error 17 DeviceFault\n"
+NO_SPARE = "error 19 NotCatalogue\nthere is no catalogue, or no other bank that a compaction may write\n"
 BROKEN = "error 16 Broken\n"
 BAD_PARAMETER = "error 10 BadParameter\n"
 
@@ -137,6 +138,10 @@ def rows(tool: Program) -> list[Row]:
     short: Make = lambda folder: subprocess.run(
         [tool.path, "create", folder, "--history", "2"], check=True, capture_output=True
     )
+    hundred: Make = lambda folder: subprocess.run(
+        [tool.path, "create", folder, "--history", "100"], check=True, capture_output=True
+    )
+    used = lambda n: f"{n} of the 100 entries of the history are used, {100 - n} are left\n"
     two: Make = lambda folder: tool.script(folder, *RECORDED, NEXT, STREAM.start("d"))
     big = f"{START}\nblock 0 {STREAM.header(0, 65_536, 0).hex()}".splitlines()
     two_files: Make = lambda folder: tool.script(
@@ -176,6 +181,19 @@ def rows(tool: Program) -> list[Row]:
             "started 0 0\nsettled 64\nerror 11 HistoryFull\nerror 11 HistoryFull\n", FULL, [short],
             [*RECORDED, START, "stop 0 1"],
         ),
+        Row(
+            "run with a history that fills up", ["run", "."], 0, "started 0 0\nstopped 0\n" + "truncated 0\n" * 97,
+            used(90) + used(95) + used(99), [hundred], FILLING,
+        ),
+        Row(
+            "run on a history that is nearly full", ["run", "."], 0, "truncated 0\n", used(99),
+            [hundred, lambda folder: tool.script(folder, *FILLING)], ["truncate 0 0"],
+        ),
+        # compact
+        Row("compact", ["compact", "."], 0, "compacted\n", "", [recorded]),
+        Row("compact without an archive", ["compact", "."], 1, "", NO_SPARE),
+        Row("compact without another bank", ["compact", "."], 1, "", NO_SPARE, [recorded, lambda folder: (folder / "catalogue-b.bank").unlink()]),
+        Row("compact of a damaged catalogue", ["compact", "."], 3, "", "error 15 Damaged -1 32\n", [write("catalogue-a.bank", bank(3, [])[:32])]),
         # create
         Row("create", ["create", "./new"], 0, "created\n", ""),
         Row(

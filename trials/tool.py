@@ -22,6 +22,7 @@ STREAM_ID, SESSION_ID, INITIAL_TERM, MTU, TIMESTAMP = 1_001, 7, 42, 1_408, 1_000
 # What a command tells on standard error where nothing has failed: docs/CONTROL.md, "Standard error".
 CALM = re.compile(
     r"a new archive was made, as the folder had none"
+    r"|\d+ of the \d+ entries of the history are used, \d+ are left"
     r"|the history is full: .*"
     r"|recordings \d+, frames \d+, bytes \d+, damaged 0, not read 0"
 )

@@ -132,6 +132,7 @@ fn shared<D: Disk + Drop + Send, A: Naming + Send + Sync, R: Threads + Wait + Pr
     blocks: u32,
 ) -> Result<(), Refusal>
     requires named { opened.table ≡ A.table }
+    requires counts { A.passes ≡ 2 }
     requires stores { opened.keeps ≡ A.keeps }
     requires opens { engine_seen D.life (view_of engine []) ≡ A.opening }
 {

@@ -154,6 +154,7 @@ fn shared<D: Disk + Drop + Send, A: Naming + Send + Sync, R: Threads + Wait + Cl
     end: MadeEnd,
 ) -> Result<u128, Refusal>
     requires named { opened.table ≡ A.table }
+    requires counts { A.passes ≡ 1 }
     requires stores { opened.keeps ≡ A.keeps }
     requires opens { engine_seen D.life (view_of engine []) ≡ A.opening }
 {

@@ -85,6 +85,7 @@ impl RecorderSeat {
             (Write self.old.session block) result self.new.pass }
         ensures unnoted { IsErrOf result NoMemory → self.new.pass ≡ self.old.pass }
         ensures pass { self.new.pass.table ≡ self.old.pass.table }
+        ensures number { self.new.pass.number ≡ self.old.pass.number }
         ensures same { self.new ≡ record self.old { pass = self.new.pass } }
     {
         let session = self.session;
@@ -111,6 +112,7 @@ impl RecorderSeat {
             self.new.writer ≡ raised_unless_below position self.old.writer) }
         ensures refused { IfErr result (λ _. self.new.writer ≡ self.old.writer) }
         ensures pass { self.new.pass.table ≡ self.old.pass.table }
+        ensures number { self.new.pass.number ≡ self.old.pass.number }
         ensures session { self.new.session ≡ self.old.session }
     {
         let session = self.session;

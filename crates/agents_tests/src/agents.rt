@@ -172,6 +172,7 @@ fn shared<D: Disk + Drop + Send, A: Naming + Send + Sync, R: Threads + Wait + Sy
     engine: Engine<D>,
 ) -> Option<Told>
     requires named { opened.table ≡ A.table }
+    requires counts { A.passes ≡ 4 }
     requires stores { opened.keeps ≡ A.keeps }
     requires opens { engine_seen D.life (view_of engine []) ≡ A.opening }
 {

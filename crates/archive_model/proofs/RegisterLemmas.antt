@@ -1,10 +1,10 @@
 -- Recordings that stand under their ids, and what becomes of them there.
-use Rattle.std.proofs.Common.{subst, negsuc, ◌≡◌, ◌<◌, ◌≤◌, ◌+◌, ◌+ℤ◌, ◌≤ℤ◌, ℕ, zero, suc, ℤ, pos, Bool, true, false, cond, nat_lt, List, [], ◌∷◌, ◌++◌, length, map, Some, None, refl, sym, ap, ◌∙◌, arith, slice_get, slice_set, remove, not}
+use Rattle.std.proofs.Common.{rules, subst, negsuc, ◌≡◌, ◌<◌, ◌≤◌, ◌+◌, ◌+ℤ◌, ◌<ℤ◌, ◌≤ℤ◌, ◌&&◌, int_le, int_lt, ℕ, zero, suc, ℤ, pos, Bool, true, false, cond, nat_lt, List, [], ◌∷◌, ◌++◌, length, map, Some, None, refl, sym, ap, ◌∙◌, arith, slice_get, slice_set, remove, not}
 use Rattle.std.proofs.lemmas.Int.{ints}
 use Rattle.std.proofs.lemmas.List.{length-map}
 use Rattle.std.proofs.lemmas.Bool.Decides.{nat_tests, Decides-int_eq}
 use Rattle.std.specs.Prelude.{MatchOption, position}
-use Rattle.std.specs.List.{position_or_len}
+use Rattle.std.specs.List.{list_all, position_or_len}
 use Rattle.std.specs.Ordering.{int_eq}
 use Rattle.std.specs.Map.{keys_of, values_of}
 use Rattle.indexmap.specs.Layout.{set_value_at}
@@ -13,9 +13,20 @@ use Rattle.archive_model.specs.declared.registration.Registration.{Registration}
 use Rattle.archive_model.specs.declared.registration.Change.{Change}
 use Rattle.archive_model.specs.declared.registration.Change.TheVariants.{Settle, Stop, Extend, Truncate, PurgeSegments}
 use Rattle.archive_model.specs.Keyed.{find, change, without, Each, Rise}
-use Rattle.archive_model.specs.Register.{HasLayout, changed_by, id_of, is_active, restarted}
+use Rattle.archive_model.specs.Register.{HasLayout, changed_by, id_of, is_active, is_behind, restarted}
+use Rattle.archive_model.proofs.CopyLemmas.{rise_more}
 use Rattle.archive_model.specs.Registered.{KeepsRegister}
 use Rattle.archive_model.specs.Numbered.{IsIndexOf, IsNone}
+
+le_true : (a b : ℤ) → int_le a b ≡ true → a ≤ℤ b
+le_true a b is = search rules
+
+both : {a b : Bool} → a && b ≡ true → (a ≡ true) × (b ≡ true)
+both {a = true} {b = b} h = (refl, h)
+both {a = false} {b = b} h = absurd cc
+
+lt_true : (a b : ℤ) → int_lt a b ≡ true → a <ℤ b
+lt_true a b is = search rules
 
 module _ {X : Type 0} (number : X → ℤ) where
   first_index : (n : ℤ) (x : X) (xs : List X) → int_eq n (number x) ≡ true → IsIndexOf number n (x ∷ xs) 0
@@ -76,6 +87,13 @@ module _ {X : Type 0} (number : X → ℤ) where
   rise_lower : (low least next : ℤ) (xs : List X) → least ≤ℤ low → Rise number low xs next → Rise number least xs next
   rise_lower low least next [] lower rising = omega (arith, ints)
   rise_lower low least next (y ∷ ys) lower rising = (omega (arith, ints, rising.0), rising.1)
+
+  -- up to an id that is above all of them
+  pub rise_to : (low next id : ℤ) (xs : List X) → Rise number low xs next → low ≤ℤ id → list_all (λ x. int_lt (number x) id) xs ≡ true → Rise number low xs id
+  rise_to low next id [] rising above below = above
+  rise_to low next id (y ∷ ys) rising above below =
+      let parts = both below in
+      (rising.0, rise_to (number y +ℤ pos 1) next id ys rising.1 (omega (arith, ints, lt_true (number y) id parts.0)) parts.1)
 
   pub rise_remove : (low next : ℤ) (xs : List X) (i : ℕ) → Rise number low xs next → Rise number low (remove xs i) next
   rise_remove low next [] zero rising = rising
@@ -255,6 +273,18 @@ keeps_added es next r keeps is laid =
       rising = rw values (rise_push id_of (pos 0) next (values_of es) r keeps.rising is);
       layouts = rw values (each_push Laid (values_of es) r keeps.layouts laid);
     }
+
+-- a recording that stands behind the others goes last, and the next id stays
+
+pub keeps_behind : (es : List (ℤ × Registration)) (next id : ℤ) → KeepsRegister es next → is_behind (values_of es) id ≡ true → KeepsRegister es id
+keeps_behind es next id keeps behind =
+    let parts = both behind in
+    record { keyed = keeps.keyed; rising = rise_to id_of (pos 0) next id (values_of es) keeps.rising (le_true (pos 0) id parts.0) parts.1; layouts = keeps.layouts }
+
+pub keeps_restored : (es : List (ℤ × Registration)) (next id : ℤ) (r : Registration) → KeepsRegister es next → is_behind (values_of es) id ≡ true → id_of r ≡ id → id <ℤ next → Laid r → KeepsRegister (es ++ (id, r) ∷ []) next
+keeps_restored es next id r keeps behind is below laid =
+    let kept = keeps_added es id r (keeps_behind es next id keeps behind) is laid in
+    record { keyed = kept.keyed; rising = rise_more id_of (pos 0) (id +ℤ pos 1) next (values_of (es ++ (id, r) ∷ [])) kept.rising (omega (arith, ints, below)); layouts = kept.layouts }
 
 pub values_added : (es : List (ℤ × Registration)) (next : ℤ) (r : Registration) → values_of (es ++ (next, r) ∷ []) ≡ values_of es ++ r ∷ []
 values_added es next r = map-push (λ e. e.1) es (next, r)

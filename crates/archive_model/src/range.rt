@@ -24,7 +24,7 @@ impl StartFields {
         if self.timestamp < 0 {
             return false;
         }
-        is_named(&self.channel)
+        is_channel(&self.channel)
     }
 }
 
@@ -76,9 +76,9 @@ fn is_start(position: &i64, term_length: &i32) -> bool
     position < 0x8000_0000 * term_length.unsigned_abs() as u64
 }
 
-/// Whether a text is a channel.
+/// Whether a text is a channel: docs/CONTROL.md, "Limits". Costs the text.
 #[tactic(auto, unfolding(crate::specs::Descriptor::is_channel))]
-fn is_named(channel: &Channel) -> bool
+pub fn is_channel(channel: &Channel) -> bool
     ensures { result ≡ is_channel channel.now }
 {
     let text = channel.as_str();

@@ -1,11 +1,12 @@
 //! The recordings of an archive without their frames, by rising id. docs/CONTROL.md, "Recordings".
 
-ghost use Rattle.std.specs.Prelude.{◌≡◌, ◌<◌, ◌<ℤ◌, ◌≤ℤ◌, ◌^◌, ℤ, pos, length, IfOk, IfSome, IsOk, IfErr, OnOk, OnErr, MatchOption, count_by};
+ghost use Rattle.std.specs.Prelude.{◌≡◌, ◌<◌, ◌<ℤ◌, ◌≤ℤ◌, ◌^◌, ℤ, pos, length, IfOk, IfSome, IsOk, IfErr, OnOk, OnErr, MatchOption, count_by, int_lt, IsTrue};
+ghost use Rattle.std.specs.List.{list_all};
 ghost use Rattle.std.specs.Option.{option_copied};
 ghost use Rattle.frame_core.specs.declared.refusal.Refusal.TheVariants.{NoMemory};
 ghost use Rattle.archive_model.specs.Keyed.{Rise};
 ghost use Rattle.archive_model.specs.Numbered.{IsNone, IsIndexOf};
-ghost use Rattle.archive_model.specs.Register.{HasLayout, active_count, all_stopped, changed, id_of, is_active, may_begin, may_record, no_recordings, registration_in, with_one, with_out};
+ghost use Rattle.archive_model.specs.Register.{HasLayout, active_count, all_stopped, changed, id_of, is_active, is_behind, may_begin, may_record, no_recordings, registration_in, restored, with_next, with_one, with_out};
 
 use crate::registration::{Change, Registration};
 use frame_core::Refusal;
@@ -45,6 +46,17 @@ impl Register {
         }
     }
 
+    /// No recordings, and this id for the next, as an archive kept it. Does not allocate. docs/STORAGE.md, "Compaction".
+    pub fn with_next(alloc: Global, next: i64) -> Register
+        requires { pos 0 ≤ℤ next }
+        ensures { result.state ≡ with_next next }
+    {
+        Register {
+            map: IndexMap::new(alloc),
+            next,
+        }
+    }
+
     /// The recordings, by rising id.
     pub fn recordings(&self) -> &[Registration]
         ensures all { result.now ≡ self.now.state.recordings }
@@ -77,6 +89,14 @@ impl Register {
         self.map.get_index_of(id)
     }
 
+    /// Whether a recording of this id may stand behind the others: its id is from 0, and above each of theirs. Costs a lookup
+    /// at each recording.
+    pub fn is_behind(&self, id: &i64) -> bool
+        ensures { result ≡ is_behind self.now.state.recordings id.now }
+    {
+        *id >= 0 && are_below(self.recordings(), id)
+    }
+
     /// Whether one more recording may begin: there are fewer than 1,024, and there is an id for it.
     pub fn may_begin(&self) -> bool
         ensures { result ≡ may_begin self.now.state }
@@ -98,6 +118,13 @@ impl Register {
     {
         count_active(self.map.values().as_slice())
     }
+}
+
+/// Whether an id is above those of these recordings.
+fn are_below(recordings: &[Registration], id: &i64) -> bool
+    ensures { result ≡ list_all (λ r. int_lt (id_of r) id.now) recordings.now }
+{
+    recordings.iter().all(|r| r.descriptor.recording < *id)
 }
 
 /// How many recordings are active.
@@ -132,6 +159,20 @@ impl Register {
     {
         self.map.insert(self.next, begun)?;
         self.next += 1;
+        Ok(())
+    }
+
+    /// One recording more behind the others, as an archive kept it; the next id stays. `NoMemory` leaves the register as it
+    /// was. docs/STORAGE.md, "Compaction".
+    pub fn restore(&mut self, kept: Registration) -> Result<(), Refusal>
+        requires behind { IsTrue (is_behind self.old.state.recordings (id_of kept)) }
+        requires below { id_of kept <ℤ self.old.state.next }
+        requires layout { HasLayout kept.descriptor }
+        ensures ok { OnOk result (self.new.state ≡ restored kept self.old.state) }
+        ensures same { OnErr result (self.new.state ≡ self.old.state) }
+        ensures err { IfErr result (λ refusal. refusal ≡ NoMemory) }
+    {
+        self.map.insert(kept.descriptor.recording, kept)?;
         Ok(())
     }
 

@@ -2,3 +2,4 @@
 pub mod Viewing
 pub mod Verifying
 pub mod Describing
+pub mod Exported

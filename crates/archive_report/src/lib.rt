@@ -4,6 +4,7 @@
 mod dates;
 mod describe;
 mod document;
+mod export;
 mod list;
 mod page;
 mod summary;
@@ -11,5 +12,6 @@ mod verify;
 mod viewing;
 
 pub use describe::{Form, describe_archive};
+pub use export::export_view;
 pub use list::list_view;
 pub use verify::{Finding, verify_view};

@@ -3,12 +3,13 @@
 ghost use Rattle.std.specs.Prelude.{◌≡◌};
 ghost use Rattle.archive_tool.specs.Status.{ending_of};
 
-use crate::looking;
 use crate::outcome::Ended;
 use crate::reason::Reason;
 use crate::serving::{bound, serve};
 use crate::status::Ending;
 use crate::teller::{FaultTeller, OpeningTeller, ScriptTeller, VerifyTeller};
+use crate::{capture, looking};
+use archive_export::Span;
 use command_line::ToolCommand;
 use disk_core::MemoryDisk;
 use frame_core::Refusal;
@@ -23,7 +24,8 @@ use std::sync::Wait;
 use std::thread::Threads;
 use tool_core::{
     CommandFault, Listing, OpeningProgress, Progress, Screen, Stage, Stopped, Unobserved, Verdict,
-    Watched, create_archive, list_archive, list_frames, run_script, verify_archive,
+    Watched, compact_archive, create_archive, list_archive, list_frames, run_script,
+    verify_archive,
 };
 
 /// Does what a command asks for, hands on what it writes, and answers how that ended.
@@ -55,6 +57,7 @@ fn obey<
             serve(net, rt, ports, disk_of(rt, folder)?, *idle, *is_quiet)
         }
         ToolCommand::Create { folder, history } => create(rt, folder, *history, writer),
+        ToolCommand::Compact { folder } => compact(rt, folder, writer),
         ToolCommand::Run { folder: None } => run_in_memory(rt, writer),
         ToolCommand::Run {
             folder: Some(folder),
@@ -76,6 +79,19 @@ fn obey<
             read_only: true,
         } => looking::verify(rt, folder, writer),
         ToolCommand::Describe { folder, json } => looking::describe(rt, folder, *json, writer),
+        ToolCommand::Export {
+            folder,
+            recording,
+            from,
+            to,
+            pcap,
+        } => {
+            let span = Span {
+                from: *from,
+                to: *to,
+            };
+            capture::export(rt, folder, *recording, &span, pcap, writer)
+        }
         ToolCommand::Frames { file } => frames(rt, file, writer),
     }
 }
@@ -132,7 +148,7 @@ fn make_folder(rt: HostRuntime, folder: &str) -> io::Result<()> {
 }
 
 /// Syncs the name of a folder.
-fn sync_name(rt: HostRuntime, folder: &str) -> io::Result<()> {
+pub(crate) fn sync_name(rt: HostRuntime, folder: &str) -> io::Result<()> {
     match fs::canonicalize(&rt, folder)?.parent() {
         Some(above) => File::open(&rt, above)?.sync_all(),
         None => Ok(()),
@@ -158,6 +174,29 @@ fn run<W: Write>(rt: HostRuntime, folder: &str, writer: &mut W) -> Result<(), En
     match run_script(rt.alloc(), rt.reader(), writer, disk, &mut teller) {
         Ok(_) => Ok(()),
         Err(fault) => Err(Ended::from(fault.end())),
+    }
+}
+
+/// Writes the catalogue of the archive in a folder anew.
+fn compact<W: Write>(rt: HostRuntime, folder: &str, writer: &mut W) -> Result<(), Ended> {
+    let screen = Screen::new(&rt);
+    let disk = Watched::new(disk_of(rt, folder)?, opening_of(&rt, &screen));
+    match compact_archive(rt.alloc(), disk, writer, &mut OpeningTeller::new(&screen)) {
+        Ok(_) => Ok(()),
+        Err(CommandFault { why, disk }) => Err(uncompacted(why, disk)),
+    }
+}
+
+/// Why the archive of a watched disk was not compacted, or was not told to be.
+fn uncompacted<V: Drop>(why: Stopped, disk: Watched<HostDisk, V>) -> Ended
+    ensures { result.ending ≡ ending_of why }
+{
+    if why != Stopped::Refused(Refusal::NotCatalogue) {
+        return stopped(why, disk);
+    }
+    Ended {
+        ending: Ending::Refused(Refusal::NotCatalogue),
+        reason: Reason::NoSpare,
     }
 }
 

@@ -61,12 +61,12 @@ pub(crate) fn describe<W: Write>(
 }
 
 /// A folder that is only read.
-fn folder_of(rt: HostRuntime, folder: &str) -> Result<ReadFolder, Ended> {
+pub(crate) fn folder_of(rt: HostRuntime, folder: &str) -> Result<ReadFolder, Ended> {
     Ok(ReadFolder::open(rt, rt.alloc(), Path::new(folder))?)
 }
 
 /// Why a command over a folder that is only read ended before it was done.
-fn stopped(why: Stopped, disk: &ReadFolder) -> Ended
+pub(crate) fn stopped(why: Stopped, disk: &ReadFolder) -> Ended
     ensures { result.ending ≡ ending_of why }
 {
     Ended::stopped(why, disk.last_fault())

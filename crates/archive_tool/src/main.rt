@@ -4,6 +4,7 @@
 ghost use Rattle.std.specs.Prelude.{◌≡◌};
 ghost use Rattle.archive_tool.specs.Status.{IsStatus, IsTold, status_of};
 
+mod capture;
 mod commands;
 mod looking;
 mod outcome;

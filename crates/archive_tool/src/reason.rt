@@ -18,12 +18,16 @@ pub enum Reason {
     HasFiles,
     /// The history that was asked for is out of its range.
     History(u32),
+    /// An archive was to be compacted that has no catalogue, or no other bank that may be written.
+    NoSpare,
     /// A call of the disk failed.
     Call(LastFault),
     /// Its file was not opened.
     File(io::Error),
     /// Its file could not be read on.
     FileRead,
+    /// The capture file could not be written; what the system told of it, if that is known.
+    Capture(Option<io::Error>),
     /// Its archive was being written while it was read.
     Moving,
     /// A port was not bound.
@@ -52,9 +56,21 @@ impl fmt::Display for Reason {
             Reason::History(entries) => {
                 write!(f, "a history has 1 to 16777216 entries, and not {entries}")
             }
+            Reason::NoSpare => write!(
+                f,
+                "there is no catalogue, or no other bank that a compaction may write"
+            ),
             Reason::Call(fault) => write!(f, "{}", FaultLine(*fault)),
             Reason::File(error) => write!(f, "the file cannot be opened: {}", SystemText(*error)),
             Reason::FileRead => write!(f, "the file cannot be read on"),
+            Reason::Capture(Some(error)) => {
+                write!(
+                    f,
+                    "the capture file cannot be written: {}",
+                    SystemText(*error)
+                )
+            }
+            Reason::Capture(None) => write!(f, "the capture file cannot be written"),
             Reason::Moving => write!(
                 f,
                 "the archive is being written: what is told to be damaged may be whole, so look again"

@@ -7,7 +7,7 @@ use frame_core::{Refusal, segment_base};
 use host_disk::{HostDisk, LastFault};
 use std::alloc::Global;
 use std::io::Eprint;
-use tool_core::{Beginning, Observer, Screen, Stage, Viewer};
+use tool_core::{Beginning, HistoryUse, Observer, Screen, Stage, Viewer};
 
 /// Tells each call of a folder that fails, once for each file and cause.
 #[derive(Drop)]
@@ -71,10 +71,12 @@ impl<R: Eprint> Observer for OpeningTeller<'_, R> {
     }
 }
 
-/// Tells how a script's archive began, and that its history is full.
+/// Tells how a script's archive began, that its history fills up, and that it is full.
 #[derive(Drop)]
 pub(crate) struct ScriptTeller<'a, R> {
     screen: &'a Screen<'a, R>,
+    /// The hundredths of the history's limit that were told last.
+    told_level: u8,
     has_told_full: bool,
 }
 
@@ -82,6 +84,7 @@ impl<'a, R: Eprint> ScriptTeller<'a, R> {
     pub(crate) fn new(screen: &'a Screen<'a, R>) -> ScriptTeller<'a, R> {
         ScriptTeller {
             screen,
+            told_level: 0,
             has_told_full: false,
         }
     }
@@ -109,10 +112,17 @@ impl<R: Eprint> Observer for ScriptTeller<'_, R> {
             if !self.has_told_full {
                 self.has_told_full = true;
                 self.screen.tell(
-                    "the history is full: nothing is recorded here any more, and what is recorded stays and is read; \
-                    go on with an archive in another folder, made with a greater --history",
+                    "the history is full: nothing is recorded until compact makes room, which stops all recordings",
                 );
             }
+        }
+    }
+
+    fn used(&mut self, history: &HistoryUse) {
+        let level = history.level();
+        if level > self.told_level {
+            self.told_level = level;
+            self.screen.tell(*history);
         }
     }
 }

@@ -1,1 +1,3 @@
-pub mod LookLemmas
+mod KnownLemmas
+mod CountLemmas
+mod LookLemmas

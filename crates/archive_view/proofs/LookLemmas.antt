@@ -1,6 +1,5 @@
 -- A disk that is only read leaves what it might have left before, and what is counted on it.
-use Rattle.std.proofs.Common.{◌≡◌, ◌⊎◌, ◌∙◌, refl, sym, ap, subst, ℕ, ℤ, ◌≤ℤ◌, List, [], ◌∷◌, ◌++◌, drop, append_assoc, inl, inr, IsTrue, arith}
-use Rattle.std.proofs.lemmas.Int.{ints}
+use Rattle.std.proofs.Common.{◌≡◌, ◌⊎◌, ◌∙◌, refl, sym, ap, subst, ℕ, ℤ, ◌≤ℤ◌, List, [], ◌∷◌, ◌++◌, drop, append_assoc, inl, inr, IsTrue}
 use Rattle.std.proofs.Math.Seq.{drop-append_seam}
 use Rattle.std.specs.Prelude.{unsigned_abs, Result, Ok, Err, IfErr, IfOk, IsErrOf, count_by, length, Some}
 use Rattle.frame_core.specs.declared.refusal.Refusal.{Refusal}
@@ -12,24 +11,26 @@ use Rattle.disk_core.proofs.CallerLemmas.{durable_left, goes_quiet, started}
 use Rattle.archive_model.specs.declared.registration.Registration.{Registration}
 use Rattle.archive_model.specs.Register.{RegisterState, no_recordings}
 use Rattle.archive_model.specs.State.{geometry_of}
-use Rattle.catalogue_log.specs.declared.entry.Entry.{Entry}
+use Rattle.catalogue_entries.specs.declared.entry.Entry.{Entry}
 use Rattle.catalogue_log.specs.Catalogue.{IsCatalogue, KeepsReads, RefusesCatalogue}
-use Rattle.catalogue_log.specs.Fold.{after_entries, counts}
+use Rattle.catalogue_entries.specs.Fold.{after_entries, counts}
 use Rattle.catalogue_log.specs.LogState.{IsAtRest, LogState}
 use Rattle.control_core.specs.Desk.{DeskState, opened_desk}
-use Rattle.control_core.specs.Orderly.{IsLaid}
 use Rattle.engine_core.specs.Reading.{RefusesCount}
-use Rattle.engine_core.proofs.openings.ReopenLemmas.{same_desk}
 use Rattle.archive_view.specs.declared.read_only.ReadOnly.{ReadOnly}
 use Rattle.archive_view.specs.Asked.{Answers}
 use Rattle.archive_view.specs.Verified.{VerifyAnswers}
 use Rattle.engine_core.specs.Recovery.{layout_of}
-use Rattle.engine_core.proofs.calls.KnownLemmas.{laid_low}
-use Rattle.engine_core.proofs.replays.CountLemmas.{HasCounted}
-use Rattle.segment_store.specs.Boundary.{IsChain}
 use Rattle.archive_view.specs.ReadLife.{read_life}
 use Rattle.archive_view.specs.ReadOnly.{IsOnlyRead, Looks, Refuses, life_of}
+use Rattle.archive_view.specs.ShownFrames.{Bounds, BoundaryAnswers, FrameAnswers, RefusesShown, Shows}
 use Rattle.archive_view.specs.View.{HasFrames, IsAsCatalogued}
+use Rattle.frame_core.specs.declared.frame.Frame.{Frame}
+use Rattle.frame_core.specs.declared.refusal.Refusal.TheVariants.{BadPosition}
+use Rattle.frame_core.specs.FrameEncoding.{aligned_length}
+use Rattle.segment_store.specs.Boundary.{RefusesBoundary}
+use Rattle.segment_store.specs.DamagedFrame.{RefusesFrame}
+use Rattle.std.specs.Prelude.{◌<◌, ◌<ℤ◌, ◌+◌, pos, Bool}
 
 -- a list that begins with another and one thing more, without its own last: what stands behind the other
 record Behind {T : Type 0} (xs : List T) (x : T) (ys : List T) (y : T) (zs : List T) : Type 0 where
@@ -95,18 +96,11 @@ quiet_read old new refused more stays quiet =
     only_read old new refused more stays (λ file. ap (λ (files : Files). reads files file) quiet.now) quiet.obeyed
     (goes_quiet seen seen (read_life new more) (MayLeave seen.now) (started seen (MayLeave seen.now) (λ image left. left)) quiet)
 
--- once the recorded position is reached, all frames are counted
-pub all_shown : (old new : Life) (g : Registration) (at count : ℤ) → IsLaid g → HasCounted old new g at count → g.recorded ≤ℤ at → IsTrue new.obeys → HasFrames (reads old.now) g count
-all_shown old new g at count laid counted past obeys =
-    let before = counted.stand obeys in
-    let high : at ≤ℤ g.recorded = elim counted.within [ inl within ↦ within | inr same ↦ omega (arith, ints, same, laid.from_start) ] in
-    let low = laid_low g laid in
-    let end : unsigned_abs at ≡ unsigned_abs g.recorded = omega (arith, ints, past, high, low.1) in
-    record {
-      frames = before.0;
-      chain = subst (IsChain (reads old.now) (layout_of g.descriptor) (geometry_of g.descriptor) g.recorded (unsigned_abs g.descriptor.start_position) before.0) end before.1;
-      is = before.2;
-    }
+-- a desk that was opened is of its register, its counts and its limit
+same_desk : (g h : RegisterState) (counted more limit most : ℕ) → g ≡ h → counted ≡ more
+    → limit ≡ most → opened_desk g counted limit ≡ opened_desk h more most
+same_desk g h counted more limit most one two three =
+    ap (λ (r : RegisterState). opened_desk r counted limit) one ∙ ap (λ (n : ℕ). opened_desk h n limit) two ∙ ap (λ (n : ℕ). opened_desk h more n) three
 
 module _ {D : Type 0} (life : D → Life) where
   -- a catalogue was read
@@ -176,3 +170,29 @@ module _ {D : Type 0} (life : D → Life) where
     record { look = quiet_look old new (λ image. Unit {0}) stays quiet (λ obeys. tt); cause = λ fault. cause (ap Err fault) },
     refused,
   )
+
+  -- a recording was asked for a boundary, or not
+  pub bounded_answers : (old new : ReadOnly D) (g : Registration) (position : ℤ) (result : Result Bool Refusal) → MayLeave (life old.disk).now (reads (life old.disk).now) → IsQuiet (life_of life old) (life_of life new)
+      → IfOk result (λ told. IsTrue (life new.disk).obeys → Bounds g position told (reads (life old.disk).now))
+      → IfErr result (RefusesBoundary (life new.disk).obeys (reads (life old.disk).now) (layout_of g.descriptor) (geometry_of g.descriptor) g.recorded position)
+      → (IsErrOf result DeviceFault → HasFailed (life_of life old) (life_of life new)) → BoundaryAnswers life old new (Some g) position result
+  bounded_answers old new g position (Ok told) stays quiet seen refused cause = quiet_look old new (Bounds g position told) stays quiet seen
+  bounded_answers old new g position (Err refusal) stays quiet seen refused cause = (
+    record { look = quiet_look old new (λ image. Unit {0}) stays quiet (λ obeys. tt); cause = λ fault. cause (ap Err fault) },
+    refused,
+  )
+
+  -- it was asked for a frame, or not
+  frame_refused : (old new : ReadOnly D) (g : Registration) (position : ℤ) (refusal : Refusal) → g.descriptor.start_position ≤ℤ position → position <ℤ g.recorded → Refuses life (λ image. Unit {0}) old new refusal
+      → RefusesFrame (life new.disk).obeys (reads (life old.disk).now) (layout_of g.descriptor) (geometry_of g.descriptor) g.recorded position refusal → RefusesShown life old new g position refusal
+  frame_refused old new g position BadPosition start due refuses none = absurd none
+  frame_refused old new g position refusal start due refuses why = (start, due, refuses, why)
+
+  pub shown_answers : (old new : ReadOnly D) (g : Registration) (position : ℤ) (result : Result Frame Refusal) → MayLeave (life old.disk).now (reads (life old.disk).now) → IsQuiet (life_of life old) (life_of life new)
+      → g.descriptor.start_position ≤ℤ position → pos 0 ≤ℤ position → position <ℤ g.recorded → IfOk result (λ frame. IsTrue (life new.disk).obeys → Shows g position frame (reads (life old.disk).now))
+      → IfOk result (λ frame. pos (unsigned_abs position + aligned_length frame) ≤ℤ g.recorded) → IfOk result (λ frame. 0 < aligned_length frame)
+      → IfErr result (RefusesFrame (life new.disk).obeys (reads (life old.disk).now) (layout_of g.descriptor) (geometry_of g.descriptor) g.recorded position)
+      → (IsErrOf result DeviceFault → HasFailed (life_of life old) (life_of life new)) → FrameAnswers life old new (Some g) position result
+  shown_answers old new g position (Ok frame) stays quiet start low due seen ends covers refused cause = record { look = quiet_look old new (Shows g position frame) stays quiet seen; from_start = start; low = low; ends = ends; covers = covers }
+  shown_answers old new g position (Err refusal) stays quiet start low due seen ends covers refused cause =
+      frame_refused old new g position refusal start due (record { look = quiet_look old new (λ image. Unit {0}) stays quiet (λ obeys. tt); cause = λ fault. cause (ap Err fault) }) refused

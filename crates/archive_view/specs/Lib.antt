@@ -4,4 +4,5 @@ pub mod ReadOnly
 pub mod View
 pub mod Viewed
 pub mod Verified
+pub mod ShownFrames
 pub mod Asked

@@ -9,9 +9,9 @@ use Rattle.archive_model.specs.declared.registration.Registration.{Registration}
 use Rattle.archive_model.specs.Register.{RegisterState, no_recordings}
 use Rattle.archive_model.specs.State.{geometry_of}
 use Rattle.catalogue_log.specs.declared.bank.BankHeader.{BankHeader}
-use Rattle.catalogue_log.specs.declared.entry.Entry.{Entry}
+use Rattle.catalogue_entries.specs.declared.entry.Entry.{Entry}
 use Rattle.catalogue_log.specs.Catalogue.{IsCatalogue}
-use Rattle.catalogue_log.specs.Fold.{after_entries, counts}
+use Rattle.catalogue_entries.specs.Fold.{after_entries, counts}
 use Rattle.control_core.specs.Desk.{DeskState, opened_desk}
 use Rattle.engine_core.specs.Recovery.{layout_of}
 

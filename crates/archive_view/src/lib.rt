@@ -3,6 +3,7 @@
 
 mod count;
 mod files;
+mod frames;
 mod read_only;
 mod view;
 

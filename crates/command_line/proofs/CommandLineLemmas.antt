@@ -1,7 +1,8 @@
 -- Which command the words ask for.
-use Rattle.std.proofs.Common.{◌≡◌, ◌≢◌, ◌∙◌, inl, inr, refl, sym, ap, ap₂, subst, arith, ℕ, Bool, true, false, List, [], ◌∷◌, Option, Some, None, Result, Ok, Err, option_map, codes, Bor, slice_index, rules, ne_eqb}
-use Rattle.std.specs.Prelude.{◌||◌, IfErr, IfOk, IsSomeAnd, unwrap_or}
-use Rattle.std.specs.Str.Parse.{ParsesUnsigned}
+use Rattle.std.proofs.Common.{◌≡◌, ◌≢◌, ◌∙◌, inl, inr, refl, sym, ap, ap₂, subst, arith, ℕ, ℤ, Bool, true, false, List, [], ◌∷◌, Option, Some, None, Result, Ok, Err, option_map, codes, Bor, slice_index, rules, ne_eqb}
+use Rattle.std.specs.Prelude.{◌||◌, bytes_eq, IfErr, IfOk, IsSomeAnd, unwrap_or}
+use Rattle.std.specs.Str.Parse.{ParsesSigned, ParsesUnsigned}
+use Rattle.std.specs.Int.{w64}
 use Rattle.clap.specs.Words.{AddsArg, AddsSubcommand, App, FailsBy, HasKind, HasMatchesOf, Kinds, ReadsOne, Row, Text, app_of, fault_of, first_of, first_value, is_simple, is_simple_and_free, kind_of, one_of, one_text, rows_of, rule_of, Rule, subcommand_of, subcommand_rows_of, with_rule, with_subcommand}
 use Rattle.clap.specs.declared.builder.arg.Arg.{Arg}
 use Rattle.clap.specs.declared.builder.command.Command.{Command}
@@ -12,8 +13,8 @@ use Rattle.clap.proofs.OnLiterals.{clap_on_literals}
 use Rattle.clap.specs.declared.parser.matches.Found.{Found}
 use Rattle.clap.proofs.WalkLemmas.{first_value-rows, one_text-rows}
 use Rattle.command_line.specs.declared.command.ToolCommand.{ToolCommand}
-use Rattle.command_line.specs.declared.command.ToolCommand.TheVariants.{Create, Run, Serve, List as AskList, Verify, Describe, Frames}
-use Rattle.command_line.specs.CommandLine.{IsAsked, IsCommand, IsFlag, IsHeld, IsMet, IsNumber, IsPlain, IsPlainWord, IsServing, IsWordsFault, tool_app, words_of}
+use Rattle.command_line.specs.declared.command.ToolCommand.TheVariants.{Create, Run, Serve, Compact, List as AskList, Verify, Describe, Export, Frames}
+use Rattle.command_line.specs.CommandLine.{HasWords, IsAsked, IsCommand, IsExporting, IsFlag, IsHeld, IsMet, IsNumber, IsSigned, IsSignedIf, IsPlain, IsPlainWord, IsServing, IsWordsFault, command_word, tool_app, words_of}
 
 -- what a getter gave is what the rows hold
 pub text_given : (f : Found) (id : Text) (given got : Option (Bor Text)) → option_map (λ s. s.now) given ≡ first_value f id → given ≡ got → first_of id (rows_of f) ≡ option_map (λ s. s.now) got
@@ -41,67 +42,90 @@ module _ {E : Type 0} (gives : List ℕ → Result ℕ E → Type 0) (reads : (t
   number_lacks f id n got value is number =
       lacks_number n (one_text f id) (λ t e. subst (ReadsOne gives t) is (value t e)) (subst (λ text. IsSomeAnd text (IsNumber n)) (sym (one_text-rows f id)) number)
 
--- texts that begin with different letters are two
-differ : (a b : Text) → slice_index a 0 ≢ slice_index b 0 → a ≢ b
-differ a b letters same = letters (ap (λ t. slice_index t 0) same)
+-- the same of a signed number, and of one that may be left out
+module _ {E : Type 0} (gives : List ℕ → Result ℤ E → Type 0) (reads : (text : List ℕ) (x : Result ℤ E) → gives text x → ParsesSigned w64 10 text x) where
+  given_signed : (z : ℤ) (text : Option Text) (got : Option ℤ) → (text ≡ None → got ≡ None) → ((t : List ℕ) → text ≡ Some t → ReadsOne gives t got) → got ≡ Some z → IsSomeAnd text (IsSigned z)
+  given_signed z None got none value is = let bad = sym (none refl) ∙ is in cc
+  given_signed z (Some t) got none value is =
+      let read : gives t (Ok z) = subst (ReadsOne gives t) is (value t refl) in
+      let parsed = reads t (Ok z) read in
+      (parsed.0.0, parsed.0.1, parsed.1)
 
--- a command of each name has its words in the rows
-pub no_create : (name : Text) (rows : List Row) → name ≡ codes "create" → ((n : ℕ) → first_of (codes "folder") rows ≢ None → IsSomeAnd (one_of (codes "history") rows) (IsNumber n) → ⊥) → (command : ToolCommand) → IsAsked name rows command → ⊥
-no_create name rows is none (Create folder history) asked = none history (λ e. let bad = sym e ∙ asked.words.0 in cc) asked.words.1
-no_create name rows is none (Run folder) asked = absurd (differ (codes "create") (codes "run") (λ e. omega arith) (sym is ∙ asked.named))
-no_create name rows is none (Serve folder control receive receive_on idle is_quiet) asked = absurd (differ (codes "create") (codes "serve") (λ e. omega arith) (sym is ∙ asked.named))
-no_create name rows is none (AskList folder read_only) asked = absurd (differ (codes "create") (codes "list") (λ e. omega arith) (sym is ∙ asked.named))
-no_create name rows is none (Verify folder read_only) asked = absurd (differ (codes "create") (codes "verify") (λ e. omega arith) (sym is ∙ asked.named))
-no_create name rows is none (Describe folder json) asked = absurd (differ (codes "create") (codes "describe") (λ e. omega arith) (sym is ∙ asked.named))
-no_create name rows is none (Frames file) asked = absurd (differ (codes "create") (codes "frames") (λ e. omega arith) (sym is ∙ asked.named))
+  pub signed_given : (f : Found) (id : Text) (z : ℤ) (got : Option ℤ) → (one_text f id ≡ None → got ≡ None) → ((t : List ℕ) → one_text f id ≡ Some t → ReadsOne gives t got) → got ≡ Some z → IsSomeAnd (one_of id (rows_of f)) (IsSigned z)
+  signed_given f id z got none value is = subst (λ text. IsSomeAnd text (IsSigned z)) (one_text-rows f id) (given_signed z (one_text f id) got none value is)
 
-pub no_list : (name : Text) (rows : List Row) → name ≡ codes "list" → first_of (codes "folder") rows ≡ None → (command : ToolCommand) → IsAsked name rows command → ⊥
-no_list name rows is none (Create folder history) asked = absurd (differ (codes "list") (codes "create") (λ e. omega arith) (sym is ∙ asked.named))
-no_list name rows is none (Run folder) asked = absurd (differ (codes "list") (codes "run") (λ e. omega arith) (sym is ∙ asked.named))
-no_list name rows is none (Serve folder control receive receive_on idle is_quiet) asked = absurd (differ (codes "list") (codes "serve") (λ e. omega arith) (sym is ∙ asked.named))
-no_list name rows is none (AskList folder read_only) asked = let bad = sym none ∙ asked.words.0 in cc
-no_list name rows is none (Verify folder read_only) asked = absurd (differ (codes "list") (codes "verify") (λ e. omega arith) (sym is ∙ asked.named))
-no_list name rows is none (Describe folder json) asked = absurd (differ (codes "list") (codes "describe") (λ e. omega arith) (sym is ∙ asked.named))
-no_list name rows is none (Frames file) asked = absurd (differ (codes "list") (codes "frames") (λ e. omega arith) (sym is ∙ asked.named))
+  lacks_signed : (z : ℤ) (text : Option Text) → ((t : List ℕ) → text ≡ Some t → ReadsOne gives t None) → IsSomeAnd text (IsSigned z) → ⊥
+  lacks_signed z None value number = absurd number
+  lacks_signed z (Some t) value number =
+      let unread = value t refl in
+      reads t (Err unread.0) unread.1 (number.0, number.1)
 
-pub no_verify : (name : Text) (rows : List Row) → name ≡ codes "verify" → first_of (codes "folder") rows ≡ None → (command : ToolCommand) → IsAsked name rows command → ⊥
-no_verify name rows is none (Create folder history) asked = absurd (differ (codes "verify") (codes "create") (λ e. omega arith) (sym is ∙ asked.named))
-no_verify name rows is none (Run folder) asked = absurd (differ (codes "verify") (codes "run") (λ e. omega arith) (sym is ∙ asked.named))
-no_verify name rows is none (Serve folder control receive receive_on idle is_quiet) asked = absurd (differ (codes "verify") (codes "serve") (λ e. omega arith) (sym is ∙ asked.named))
-no_verify name rows is none (AskList folder read_only) asked = absurd (differ (codes "verify") (codes "list") (λ e. omega arith) (sym is ∙ asked.named))
-no_verify name rows is none (Verify folder read_only) asked = let bad = sym none ∙ asked.words.0 in cc
-no_verify name rows is none (Describe folder json) asked = absurd (differ (codes "verify") (codes "describe") (λ e. omega arith) (sym is ∙ asked.named))
-no_verify name rows is none (Frames file) asked = absurd (differ (codes "verify") (codes "frames") (λ e. omega arith) (sym is ∙ asked.named))
+  pub signed_lacks : (f : Found) (id : Text) (z : ℤ) (got : Option ℤ) → ((t : List ℕ) → one_text f id ≡ Some t → ReadsOne gives t got) → got ≡ None → IsSomeAnd (one_of id (rows_of f)) (IsSigned z) → ⊥
+  signed_lacks f id z got value is number =
+      lacks_signed z (one_text f id) (λ t e. subst (ReadsOne gives t) is (value t e)) (subst (λ text. IsSomeAnd text (IsSigned z)) (sym (one_text-rows f id)) number)
 
-pub no_frames : (name : Text) (rows : List Row) → name ≡ codes "frames" → first_of (codes "file") rows ≡ None → (command : ToolCommand) → IsAsked name rows command → ⊥
-no_frames name rows is none (Create folder history) asked = absurd (differ (codes "frames") (codes "create") (λ e. omega arith) (sym is ∙ asked.named))
-no_frames name rows is none (Run folder) asked = absurd (differ (codes "frames") (codes "run") (λ e. omega arith) (sym is ∙ asked.named))
-no_frames name rows is none (Serve folder control receive receive_on idle is_quiet) asked = absurd (differ (codes "frames") (codes "serve") (λ e. omega arith) (sym is ∙ asked.named))
-no_frames name rows is none (AskList folder read_only) asked = absurd (differ (codes "frames") (codes "list") (λ e. omega arith) (sym is ∙ asked.named))
-no_frames name rows is none (Verify folder read_only) asked = absurd (differ (codes "frames") (codes "verify") (λ e. omega arith) (sym is ∙ asked.named))
-no_frames name rows is none (Describe folder json) asked = absurd (differ (codes "frames") (codes "describe") (λ e. omega arith) (sym is ∙ asked.named))
-no_frames name rows is none (Frames file) asked = let bad = sym none ∙ asked.words in cc
+  may_be : (text : Option Text) (got : Option ℤ) → (text ≡ None → got ≡ None) → ((t : List ℕ) → text ≡ Some t → ReadsOne gives t got) → IsSignedIf text got
+  may_be None None none value = tt
+  may_be None (Some z) none value = let bad = none refl in cc
+  may_be (Some t) None none value = λ z. lacks_signed z (Some t) (λ u e. value u e)
+  may_be (Some t) (Some z) none value = given_signed z (Some t) (Some z) none value refl
 
-pub no_describe : (name : Text) (rows : List Row) → name ≡ codes "describe" → first_of (codes "folder") rows ≡ None → (command : ToolCommand) → IsAsked name rows command → ⊥
-no_describe name rows is none (Serve folder control receive receive_on idle is_quiet) asked = absurd (differ (codes "describe") (codes "serve") (λ e. omega arith) (sym is ∙ asked.named))
-no_describe name rows is none (Create folder history) asked = absurd (differ (codes "describe") (codes "create") (λ e. omega arith) (sym is ∙ asked.named))
-no_describe name rows is none (Run folder) asked = absurd (differ (codes "describe") (codes "run") (λ e. omega arith) (sym is ∙ asked.named))
-no_describe name rows is none (AskList folder read_only) asked = absurd (differ (codes "describe") (codes "list") (λ e. omega arith) (sym is ∙ asked.named))
-no_describe name rows is none (Verify folder read_only) asked = absurd (differ (codes "describe") (codes "verify") (λ e. omega arith) (sym is ∙ asked.named))
-no_describe name rows is none (Describe folder json) asked = let bad = sym none ∙ asked.words.0 in cc
-no_describe name rows is none (Frames file) asked = absurd (differ (codes "describe") (codes "frames") (λ e. omega arith) (sym is ∙ asked.named))
+  pub signed_if : (f : Found) (id : Text) (got : Option ℤ) → (one_text f id ≡ None → got ≡ None) → ((t : List ℕ) → one_text f id ≡ Some t → ReadsOne gives t got) → IsSignedIf (one_of id (rows_of f)) got
+  signed_if f id got none value = subst (λ text. IsSignedIf text got) (one_text-rows f id) (may_be (one_text f id) got none value)
+
+-- What the rows of a command hold, told by its word: `create`, `serve`, `export`, `run`, `frames`, or another, which has a folder.
+abbrev Holds : Bool → Bool → Bool → Bool → Bool → List Row → Type 0
+Holds true serve export run frames rows = (first_of (codes "folder") rows ≢ None) × (n : ℕ) × IsSomeAnd (one_of (codes "history") rows) (IsNumber n)
+Holds false true export run frames rows =
+    (folder : Text) × (control : ℕ) × (receive : ℕ) × (receive_on : Text) × (idle : ℕ) × (is_quiet : Bool) × IsServing rows folder control receive receive_on idle is_quiet
+Holds false false true run frames rows =
+    (folder : Text) × (recording : ℤ) × (from : Option ℤ) × (to : Option ℤ) × (pcap : Text) × IsExporting rows folder recording from to pcap
+Holds false false false true frames rows = Unit {0}
+Holds false false false false true rows = first_of (codes "file") rows ≢ None
+Holds false false false false false rows = first_of (codes "folder") rows ≢ None
+
+abbrev HoldsBy : Text → List Row → Type 0
+HoldsBy word rows = Holds (bytes_eq word (codes "create")) (bytes_eq word (codes "serve")) (bytes_eq word (codes "export")) (bytes_eq word (codes "run")) (bytes_eq word (codes "frames")) rows
+
+is_there : (id : Text) (rows : List Row) (text : Text) → first_of id rows ≡ Some text → first_of id rows ≢ None
+is_there id rows text is none = let bad = sym none ∙ is in cc
+
+holds_by : (rows : List Row) (command : ToolCommand) → HasWords rows command → HoldsBy (command_word command) rows
+holds_by rows (Create folder history) words = (is_there (codes "folder") rows folder.now words.0, history, words.1)
+holds_by rows (Run folder) words = tt
+holds_by rows (Serve folder control receive receive_on idle is_quiet) words = (folder.now, control, receive, receive_on.now, idle, is_quiet, words)
+holds_by rows (Compact folder) words = is_there (codes "folder") rows folder.now words
+holds_by rows (AskList folder read_only) words = is_there (codes "folder") rows folder.now words.0
+holds_by rows (Verify folder read_only) words = is_there (codes "folder") rows folder.now words.0
+holds_by rows (Describe folder json) words = is_there (codes "folder") rows folder.now words.0
+holds_by rows (Export folder recording from to pcap) words = (folder.now, recording, from, to, pcap.now, words)
+holds_by rows (Frames file) words = is_there (codes "file") rows file.now words
+
+asked_by : (word name : Text) (rows : List Row) (command : ToolCommand) → name ≡ word → IsAsked name rows command → HoldsBy word rows
+asked_by word name rows command is asked = subst (λ w. HoldsBy w rows) (sym asked.named ∙ is) (holds_by rows command asked.words)
+
+-- where the rows lack what a command of that word holds, they hold no command of it
+pub lacks_words : (word name : Text) (rows : List Row) → name ≡ word → (HoldsBy word rows → ⊥) → (command : ToolCommand) → IsAsked name rows command → ⊥
+lacks_words word name rows is none command asked = none (asked_by word name rows command is asked)
+
+pub no_history : (name : Text) (rows : List Row) → name ≡ codes "create" → ((n : ℕ) → IsSomeAnd (one_of (codes "history") rows) (IsNumber n) → ⊥) → (command : ToolCommand) → IsAsked name rows command → ⊥
+no_history name rows is none = lacks_words (codes "create") name rows is (λ holds. none holds.1 holds.2)
 
 -- where the words of `serve` lack one, the rows hold no command of its name
 pub no_serve : (rows : List Row)
     → ((folder : Text) (control receive : ℕ) (receive_on : Text) (idle : ℕ) (is_quiet : Bool) → IsServing rows folder control receive receive_on idle is_quiet → ⊥)
     → (command : ToolCommand) → IsAsked (codes "serve") rows command → ⊥
-no_serve rows none (Create folder history) asked = absurd (differ (codes "serve") (codes "create") (λ e. omega arith) asked.named)
-no_serve rows none (Run folder) asked = absurd (differ (codes "serve") (codes "run") (λ e. omega arith) asked.named)
-no_serve rows none (Serve folder control receive receive_on idle is_quiet) asked = none folder.now control receive receive_on.now idle is_quiet asked.words
-no_serve rows none (AskList folder read_only) asked = absurd (differ (codes "serve") (codes "list") (λ e. omega arith) asked.named)
-no_serve rows none (Verify folder read_only) asked = absurd (differ (codes "serve") (codes "verify") (λ e. omega arith) asked.named)
-no_serve rows none (Describe folder json) asked = absurd (differ (codes "serve") (codes "describe") (λ e. omega arith) asked.named)
-no_serve rows none (Frames file) asked = absurd (differ (codes "serve") (codes "frames") (λ e. omega arith) asked.named)
+no_serve rows none = lacks_words (codes "serve") (codes "serve") rows refl (λ (folder, control, receive, receive_on, idle, is_quiet, words). none folder control receive receive_on idle is_quiet words)
+
+-- where those of `export` do
+pub no_export : (rows : List Row)
+    → ((folder : Text) (recording : ℤ) (from to : Option ℤ) (pcap : Text) → IsExporting rows folder recording from to pcap → ⊥)
+    → (command : ToolCommand) → IsAsked (codes "export") rows command → ⊥
+no_export rows none = lacks_words (codes "export") (codes "export") rows refl (λ (folder, recording, from, to, pcap, words). none folder recording from to pcap words)
+
+-- texts that begin with different letters are two
+differ : (a b : Text) → slice_index a 0 ≢ slice_index b 0 → a ≢ b
+differ a b letters same = letters (ap (λ t. slice_index t 0) same)
 
 -- a flag that was read is that of the text that the rows hold
 pub flag_given : (f : Found) (id : Text) (flag : Bool) → (one_text f id ≡ None → flag ≡ false) → (one_text f id ≡ Some (codes "true") → flag ≡ true)
@@ -209,18 +233,30 @@ unfolding clap_on_literals
 frames_met program [] folder plain is = absurd plain
 frames_met program (byte ∷ bytes) folder plain is = simp (ne_eqb byte 45 plain) (record { named = refl; words = ap (λ t. Some t) (sym is) })
 
+compact_taken : (program text : Text) → IsPlainWord text → fault_of tool_app (program ∷ codes "compact" ∷ text ∷ []) ≡ []
+unfolding clap_on_literals
+compact_taken program [] plain = absurd plain
+compact_taken program (byte ∷ bytes) plain = simp (ne_eqb byte 45 plain) refl
+
+compact_met : (program text : Text) (folder : Bor Text) → IsPlainWord text → folder.now ≡ text → IsMet (subcommand_of tool_app (program ∷ codes "compact" ∷ text ∷ [])) (Compact folder)
+unfolding clap_on_literals
+compact_met program [] folder plain is = absurd plain
+compact_met program (byte ∷ bytes) folder plain is = simp (ne_eqb byte 45 plain) (record { named = refl; words = ap (λ t. Some t) (sym is) })
+
 held_alone : (program : Text) (command : ToolCommand) → IsPlain command → IsHeld (program ∷ words_of command) command
 held_alone program (Create folder history) plain = subst (λ n. IsHeld (program ∷ codes "create" ∷ folder.now ∷ []) (Create folder n)) (sym plain.1)
     (record { taken = create_taken program folder.now plain.0; met = create_met program folder.now folder plain.0 refl })
 held_alone program (Run None) plain = record { taken = run_alone_taken program; met = run_alone_met program }
 held_alone program (Run (Some folder)) plain = record { taken = run_taken program folder.now plain; met = run_met program folder.now folder plain refl }
 held_alone program (Serve folder control receive receive_on idle is_quiet) plain = absurd plain
+held_alone program (Compact folder) plain = record { taken = compact_taken program folder.now plain; met = compact_met program folder.now folder plain refl }
 held_alone program (AskList folder read_only) plain = subst (λ set. IsHeld (program ∷ codes "list" ∷ folder.now ∷ []) (AskList folder set)) (sym plain.1)
     (record { taken = list_taken program folder.now plain.0; met = list_met program folder.now folder plain.0 refl })
 held_alone program (Verify folder read_only) plain = subst (λ set. IsHeld (program ∷ codes "verify" ∷ folder.now ∷ []) (Verify folder set)) (sym plain.1)
     (record { taken = verify_taken program folder.now plain.0; met = verify_met program folder.now folder plain.0 refl })
 held_alone program (Describe folder json) plain = subst (λ set. IsHeld (program ∷ codes "describe" ∷ folder.now ∷ []) (Describe folder set)) (sym plain.1)
     (record { taken = describe_taken program folder.now plain.0; met = describe_met program folder.now folder plain.0 refl })
+held_alone program (Export folder recording from to pcap) plain = absurd plain
 held_alone program (Frames file) plain = record { taken = frames_taken program file.now plain; met = frames_met program file.now file plain refl }
 
 pub plain_is_held : (words : List Text) (program : Text) (command : ToolCommand) → IsPlain command → words ≡ program ∷ words_of command → IsHeld words command

@@ -1,6 +1,7 @@
 -- The program's command line: docs/CONTROL.md, "The program".
-use Rattle.std.specs.Prelude.{◌≡◌, ◌≢◌, ◌⊎◌, ◌<◌, ◌^◌, ℕ, pos, Bool, true, false, List, [], ◌∷◌, Option, Some, None, IsSomeAnd, codes, option_map}
-use Rattle.std.specs.Str.Parse.{IsNumeral, digits_value, without_leading_plus}
+use Rattle.std.specs.Prelude.{◌≡◌, ◌≢◌, ◌⊎◌, ◌<◌, ◌^◌, ℕ, ℤ, pos, Bool, true, false, List, [], ◌∷◌, Option, Some, None, IsSomeAnd, codes, option_map, FitsSigned}
+use Rattle.std.specs.Str.Parse.{IsNumeral, digits_value, signed_digits_value, without_leading_plus, without_leading_sign}
+use Rattle.std.specs.Int.{w64}
 use Rattle.clap.specs.Simple.{on_top}
 use Rattle.clap.specs.Words.{App, IsAmong, Kinds, Row, Rule, Text, app_of, fault_of, first_of, new_app, new_rule, one_of, subcommand_of, with_rule, with_subcommand}
 use Rattle.clap.specs.declared.builder.action.ArgAction.TheVariants.{SetTrue}
@@ -10,7 +11,7 @@ use Rattle.clap.specs.declared.builder.value_parser.ValueParser.TheVariants as p
 use Rattle.clap.specs.declared.error.ErrorKind.{ErrorKind}
 use Rattle.clap.specs.declared.error.ErrorKind.TheVariants as kinds
 use Rattle.command_line.specs.declared.command.ToolCommand.{ToolCommand}
-use Rattle.command_line.specs.declared.command.ToolCommand.TheVariants.{Create, Run, Serve, List as AskList, Verify, Describe, Frames}
+use Rattle.command_line.specs.declared.command.ToolCommand.TheVariants.{Create, Run, Serve, Compact, List as AskList, Verify, Describe, Export, Frames}
 
 -- a word that has to be given
 abbrev pub required_word : Text → Rule
@@ -76,15 +77,35 @@ run_app = with_rule (new_app (codes "run")) (new_rule (codes "folder"))
 abbrev pub serve_app : App
 serve_app = with_rule (with_rule (with_rule (with_rule (with_rule (word_app (codes "serve") (codes "folder")) (port_option (codes "control"))) (port_option (codes "receive"))) address_option) idle_option) quiet_flag
 
+-- a number of an i64 from 0 on, which has to be given
+abbrev pub number_word : Text → Rule
+number_word id = record (required_word id) { parser = Some (parser.Signed (pos 0) (pos 9223372036854775807)) }
+
+-- a position, which may be given
+abbrev pub position_option : Text → Rule
+position_option id = record (new_rule id) {
+  long = Some id;
+  value_names = 1;
+  parser = Some (parser.Signed (pos 0) (pos 9223372036854775807));
+}
+
+-- a file, which has to be given
+abbrev pub file_option : Text → Rule
+file_option id = record (new_rule id) { long = Some id; value_names = 1; required = true }
+
+abbrev pub export_app : App
+export_app = with_rule (with_rule (with_rule (with_rule (word_app (codes "export") (codes "folder")) (number_word (codes "recording"))) (position_option (codes "from"))) (position_option (codes "to"))) (file_option (codes "pcap"))
+
 -- the program, which tells its version, and of which one command has to be asked for
 abbrev pub named_tool : App
 named_tool = on_top (λ s. record s { has_version = true; subcommand_required = true; arg_required_else_help = true }) (new_app (codes "archive_tool"))
 
 -- and its commands
 abbrev pub tool_app : App
-tool_app = with_subcommand (with_subcommand (with_subcommand (with_subcommand (with_subcommand (with_subcommand (with_subcommand named_tool create_app.top) run_app.top)
+tool_app = with_subcommand (with_subcommand (with_subcommand (with_subcommand (with_subcommand (with_subcommand (with_subcommand (with_subcommand (with_subcommand named_tool create_app.top) run_app.top)
     (flag_app (codes "list") (codes "read-only")).top) (flag_app (codes "verify") (codes "read-only")).top)
-    (word_app (codes "frames") (codes "file")).top) (flag_app (codes "describe") (codes "json")).top) serve_app.top
+    (word_app (codes "frames") (codes "file")).top) (flag_app (codes "describe") (codes "json")).top) serve_app.top)
+    (word_app (codes "compact") (codes "folder")).top) export_app.top
 
 -- the command is that one, and has no argument that its subcommands have too
 pub record IsCommand (app : App) (command : Command) : Type 0 where
@@ -96,9 +117,11 @@ abbrev pub command_word : ToolCommand → Text
 command_word (Create folder history) = codes "create"
 command_word (Run folder) = codes "run"
 command_word (Serve folder control receive receive_on idle is_quiet) = codes "serve"
+command_word (Compact folder) = codes "compact"
 command_word (AskList folder read_only) = codes "list"
 command_word (Verify folder read_only) = codes "verify"
 command_word (Describe folder json) = codes "describe"
+command_word (Export folder recording from to pcap) = codes "export"
 command_word (Frames file) = codes "frames"
 
 -- the text is a u32 in decimal, and this number
@@ -120,14 +143,35 @@ pub record IsServing (rows : List Row) (folder : Text) (control receive : ℕ) (
   pub idle_is : IsSomeAnd (one_of (codes "idle") rows) (IsNumber idle)
   pub quiet_is : IsFlag (one_of (codes "quiet") rows) is_quiet
 
+-- the text is an i64 in decimal, and this number
+abbrev pub IsSigned : ℤ → Text → Type 0
+IsSigned z text = IsNumeral 10 (without_leading_sign text) × FitsSigned w64 (signed_digits_value 10 text) × (z ≡ signed_digits_value 10 text)
+
+-- the number of a text that may be there; a text that is no number has none
+abbrev pub IsSignedIf : Option Text → Option ℤ → Type 0
+IsSignedIf None None = Unit {0}
+IsSignedIf None (Some z) = ⊥
+IsSignedIf (Some text) None = (z : ℤ) → IsSigned z text → ⊥
+IsSignedIf (Some text) (Some z) = IsSigned z text
+
+-- the words of `export`
+pub record IsExporting (rows : List Row) (folder : Text) (recording : ℤ) (from to : Option ℤ) (pcap : Text) : Type 0 where
+  pub folder_is : first_of (codes "folder") rows ≡ Some folder
+  pub recording_is : IsSomeAnd (one_of (codes "recording") rows) (IsSigned recording)
+  pub from_is : IsSignedIf (one_of (codes "from") rows) from
+  pub to_is : IsSignedIf (one_of (codes "to") rows) to
+  pub pcap_is : first_of (codes "pcap") rows ≡ Some pcap
+
 -- the words of a command are those that its subcommand's entries hold
 abbrev pub HasWords : List Row → ToolCommand → Type 0
 HasWords rows (Create folder history) = (first_of (codes "folder") rows ≡ Some folder.now) × IsSomeAnd (one_of (codes "history") rows) (IsNumber history)
 HasWords rows (Run folder) = first_of (codes "folder") rows ≡ option_map (λ f. f.now) folder
 HasWords rows (Serve folder control receive receive_on idle is_quiet) = IsServing rows folder.now control receive receive_on.now idle is_quiet
+HasWords rows (Compact folder) = first_of (codes "folder") rows ≡ Some folder.now
 HasWords rows (AskList folder read_only) = (first_of (codes "folder") rows ≡ Some folder.now) × IsFlag (one_of (codes "read-only") rows) read_only
 HasWords rows (Verify folder read_only) = (first_of (codes "folder") rows ≡ Some folder.now) × IsFlag (one_of (codes "read-only") rows) read_only
 HasWords rows (Describe folder json) = (first_of (codes "folder") rows ≡ Some folder.now) × IsFlag (one_of (codes "json") rows) json
+HasWords rows (Export folder recording from to pcap) = IsExporting rows folder.now recording from to pcap.now
 HasWords rows (Frames file) = first_of (codes "file") rows ≡ Some file.now
 
 -- a subcommand of that name, with those entries, is the command
@@ -150,15 +194,17 @@ IsPlainWord [] = ⊥
 IsPlainWord (byte ∷ bytes) = byte ≢ 45
 
 -- the folder or file of a command is such a word, its history is the one of which no word is said, and no flag is set; `serve`
--- has more words
+-- and `export` have more words
 abbrev pub IsPlain : ToolCommand → Type 0
 IsPlain (Create folder history) = IsPlainWord folder.now × (history ≡ 1048576)
 IsPlain (Run None) = Unit {0}
 IsPlain (Run (Some folder)) = IsPlainWord folder.now
 IsPlain (Serve folder control receive receive_on idle is_quiet) = ⊥
+IsPlain (Compact folder) = IsPlainWord folder.now
 IsPlain (AskList folder read_only) = IsPlainWord folder.now × (read_only ≡ false)
 IsPlain (Verify folder read_only) = IsPlainWord folder.now × (read_only ≡ false)
 IsPlain (Describe folder json) = IsPlainWord folder.now × (json ≡ false)
+IsPlain (Export folder recording from to pcap) = ⊥
 IsPlain (Frames file) = IsPlainWord file.now
 
 -- the word of a command, and its folder or file where it has one
@@ -167,9 +213,11 @@ words_of (Create folder history) = codes "create" ∷ folder.now ∷ []
 words_of (Run None) = codes "run" ∷ []
 words_of (Run (Some folder)) = codes "run" ∷ folder.now ∷ []
 words_of (Serve folder control receive receive_on idle is_quiet) = codes "serve" ∷ folder.now ∷ []
+words_of (Compact folder) = codes "compact" ∷ folder.now ∷ []
 words_of (AskList folder read_only) = codes "list" ∷ folder.now ∷ []
 words_of (Verify folder read_only) = codes "verify" ∷ folder.now ∷ []
 words_of (Describe folder json) = codes "describe" ∷ folder.now ∷ []
+words_of (Export folder recording from to pcap) = codes "export" ∷ folder.now ∷ []
 words_of (Frames file) = codes "frames" ∷ file.now ∷ []
 
 -- The kind of the error: one of those that clap gives to the words, or none that a command is missing where it takes

@@ -2,7 +2,7 @@
 
 ghost use Rattle.std.specs.Prelude.{◌≡◌, ◌∷◌, [], ℕ, List, Ok, IfOk, IfErr, MatchOption, codes, false, map, string_bytes};
 ghost use Rattle.clap.specs.Words.{AddsSubcommand, app_of, fault_of, found_of, kind_of, rows_of, rule_of, subcommand_rows_of};
-ghost use Rattle.command_line.specs.CommandLine.{IsAsked, IsCommand, IsHeld, IsMet, IsPlain, IsWordsFault, address_option, create_app, flag_app, flag_option, history_option, idle_option, named_tool, port_option, quiet_flag, required_word, run_app, serve_app, tool_app, word_app, words_of};
+ghost use Rattle.command_line.specs.CommandLine.{IsAsked, IsCommand, IsHeld, IsMet, IsPlain, IsWordsFault, address_option, create_app, export_app, file_option, flag_app, flag_option, history_option, idle_option, named_tool, number_word, port_option, position_option, quiet_flag, required_word, run_app, serve_app, tool_app, word_app, words_of};
 
 use crate::version::VERSION;
 use clap::builder::ValueParser;
@@ -36,6 +36,10 @@ pub enum ToolCommand<'a> {
         /// Whether faults alone are told.
         is_quiet: bool,
     },
+    /// Write the catalogue of the archive of a folder anew, so that its history has room again.
+    Compact {
+        folder: &'a str,
+    },
     /// Print the recordings of the archive of a folder, which is changed by nothing but its opening, or not at all.
     List {
         folder: &'a str,
@@ -50,6 +54,17 @@ pub enum ToolCommand<'a> {
     Describe {
         folder: &'a str,
         json: bool,
+    },
+    /// Write the frames of a recording, of the archive of a folder, which is only read, into a capture file.
+    Export {
+        folder: &'a str,
+        recording: i64,
+        /// Where the first frame begins, in bytes of the stream: at the recording's start, where it is not said.
+        from: Option<i64>,
+        /// Where the last frame ends: at the recorded position, where it is not said.
+        to: Option<i64>,
+        /// The file that is written.
+        pcap: &'a str,
     },
     /// Print the frames of a segment file.
     Frames {
@@ -95,6 +110,16 @@ const SERVE_EXAMPLE: &str =
 
 Statuses: 0 done, refused lines too, 1 refused, 2 a wrong command line, 3 a device fault or damage, or a port failed.";
 
+const COMPACT_HELP: &str =
+    "Makes room in the history of the archive in a folder, and prints `compacted`: the recordings and the next id are \
+written into the other of the catalogue's two banks, without the commands that led there. Recordings that are active are \
+stopped first; nothing that is recorded changes, and no segment file does. Stopped at any moment it leaves the archive as it \
+was, or compacted. The folder has to be on a local file system, and one process may have it open at a time.";
+
+const COMPACT_EXAMPLE: &str = "Example: archive_tool compact /var/lib/recorder
+
+Statuses: 0 done, 1 refused, 2 a wrong command line, 3 a device fault or damage, or standard output failed.";
+
 const LIST_HELP: &str =
     "Prints a line `recording ..` for each recording of the archive in a folder, by rising id and for at most 1024 of \
 them, and then `end <count>`. Positions and lengths are in bytes, timestamps in milliseconds. The folder has to be on \
@@ -135,6 +160,18 @@ const DESCRIBE_EXAMPLE: &str = "Example: archive_tool describe /var/lib/recorder
 
 Statuses: 0 done, 1 refused, 2 a wrong command line, 3 a device fault or damage, or standard output failed.";
 
+const EXPORT_HELP: &str =
+    "Writes the recorded frames of a recording of the archive in a folder into a capture file, which Wireshark reads, and \
+prints `exported`: as if each had been sent by a UDP datagram of its own to the recording's channel. Positions are in bytes \
+of the stream, and a frame begins or ends at each of the two. The file is written beside its place under a name of its own, \
+synced, and then named; a refusal leaves no file, and a file that had the name stays. The folder is only read, also while \
+another process has it open: nothing is locked, written or stopped.";
+
+const EXPORT_EXAMPLE: &str =
+    "Example: archive_tool export /var/lib/recorder 0 --from 65536 --pcap frames.pcap
+
+Statuses: 0 done, 1 refused, 2 a wrong command line, 3 a device fault or damage, or the file cannot be written.";
+
 const READ_ONLY_HELP: &str =
     "Only reads the folder, also while another process has it open: nothing is locked, written, synced or stopped";
 
@@ -145,6 +182,10 @@ const RECEIVE_HELP: &str = "The UDP port that datagrams come to";
 const QUIET_HELP: &str = "Tells faults alone on standard error";
 
 const JSON_HELP: &str = "Prints it as one JSON text";
+
+const FROM_HELP: &str = "Where the first frame begins, and not at the recording's start";
+
+const TO_HELP: &str = "Where the last frame ends, and not at the recorded position";
 
 const FOLDER_HELP: &str = "The archive's folder, on a local file system";
 
@@ -273,6 +314,16 @@ fn serve<'a>(alloc: Global) -> Result<Command<'a>, AllocError>
         .arg(quiet(alloc))
 }
 
+fn compact<'a>(alloc: Global) -> Result<Command<'a>, AllocError>
+    ensures { IfOk result (IsCommand (word_app (codes "compact") (codes "folder"))) }
+{
+    Command::new(alloc, "compact")
+        .about("Makes room in the history of an archive")
+        .long_about(COMPACT_HELP)
+        .after_help(COMPACT_EXAMPLE)
+        .arg(required(alloc, "folder", FOLDER_HELP))
+}
+
 fn list<'a>(alloc: Global) -> Result<Command<'a>, AllocError>
     ensures { IfOk result (IsCommand (flag_app (codes "list") (codes "read-only"))) }
 {
@@ -304,6 +355,63 @@ fn describe<'a>(alloc: Global) -> Result<Command<'a>, AllocError>
         .after_help(DESCRIBE_EXAMPLE)
         .arg(required(alloc, "folder", FOLDER_HELP))?
         .arg(flag(alloc, "json", JSON_HELP))
+}
+
+/// The id of a recording, which has to be given.
+fn recording<'a>(alloc: Global) -> Arg<'a>
+    ensures rule { rule_of result ≡ number_word (codes "recording") }
+    ensures local { result.global ≡ false }
+{
+    Arg::new(alloc, "recording")
+        .required(true)
+        .value_parser(ValueParser::signed(0, i64::MAX))
+        .help("The recording's id")
+}
+
+/// A position, which may be given.
+fn position<'a>(alloc: Global, name: &'a str, help: &'a str) -> Arg<'a>
+    ensures rule { rule_of result ≡ position_option name.entry.now }
+    ensures local { result.global ≡ false }
+{
+    Arg::new(alloc, name)
+        .long(name)
+        .value_name("position")
+        .value_parser(ValueParser::signed(0, i64::MAX))
+        .help(help)
+}
+
+/// The file that `export` writes, which has to be given.
+fn pcap<'a>(alloc: Global) -> Arg<'a>
+    ensures rule { rule_of result ≡ file_option (codes "pcap") }
+    ensures local { result.global ≡ false }
+{
+    Arg::new(alloc, "pcap")
+        .long("pcap")
+        .value_name("file")
+        .required(true)
+        .help("The capture file that is written")
+}
+
+/// The command `export` with its folder.
+fn export_folder<'a>(alloc: Global) -> Result<Command<'a>, AllocError>
+    ensures { IfOk result (IsCommand (word_app (codes "export") (codes "folder"))) }
+{
+    Command::new(alloc, "export")
+        .about("Writes frames of a recording into a capture file")
+        .long_about(EXPORT_HELP)
+        .after_help(EXPORT_EXAMPLE)
+        .arg(required(alloc, "folder", FOLDER_HELP))
+}
+
+fn export<'a>(alloc: Global) -> Result<Command<'a>, AllocError>
+    ensures { IfOk result (IsCommand export_app) }
+{
+    let command = export_folder(alloc)?;
+    command
+        .arg(recording(alloc))?
+        .arg(position(alloc, "from", FROM_HELP))?
+        .arg(position(alloc, "to", TO_HELP))?
+        .arg(pcap(alloc))
 }
 
 fn frames<'a>(alloc: Global) -> Result<Command<'a>, AllocError>
@@ -348,7 +456,9 @@ fn tool<'a>(alloc: Global) -> Result<Command<'a>, AllocError>
     let tool = with(tool, verify(alloc))?;
     let tool = with(tool, frames(alloc))?;
     let tool = with(tool, describe(alloc))?;
-    with(tool, serve(alloc))
+    let tool = with(tool, serve(alloc))?;
+    let tool = with(tool, compact(alloc))?;
+    with(tool, export(alloc))
 }
 
 /// The command `serve` that its matches hold.
@@ -372,6 +482,26 @@ fn served<'a>(own: &ArgMatches<'a>) -> Option<ToolCommand<'a>>
     })
 }
 
+/// The command `export` that its matches hold.
+fn exported<'a>(own: &ArgMatches<'a>) -> Option<ToolCommand<'a>>
+    ensures { MatchOption result
+        ((command : ToolCommand) → IsAsked (codes "export") (rows_of (found_of own.now)) command → ⊥)
+        (IsAsked (codes "export") (rows_of (found_of own.now))) }
+{
+    let folder = own.get_str("folder")?;
+    let recording = own.get_one::<i64>("recording")?;
+    let from = own.get_one::<i64>("from");
+    let to = own.get_one::<i64>("to");
+    let pcap = own.get_str("pcap")?;
+    Some(ToolCommand::Export {
+        folder,
+        recording,
+        from,
+        to,
+        pcap,
+    })
+}
+
 /// The command that a subcommand's name and matches hold, if it is one of the program's.
 fn asked<'a>(name: &str, own: &ArgMatches<'a>) -> Option<ToolCommand<'a>>
     ensures { MatchOption result
@@ -387,6 +517,10 @@ fn asked<'a>(name: &str, own: &ArgMatches<'a>) -> Option<ToolCommand<'a>>
             folder: own.get_str("folder"),
         }),
         "serve" => served(own),
+        "export" => exported(own),
+        "compact" => Some(ToolCommand::Compact {
+            folder: own.get_str("folder")?,
+        }),
         "list" => Some(ToolCommand::List {
             folder: own.get_str("folder")?,
             read_only: own.get_flag("read-only"),

@@ -1,5 +1,6 @@
 //! What `archive_tool --version` tells: docs/CONTROL.md, "The program".
 
-/// The program's version; then the version of the catalogues that it writes, docs/STORAGE.md, "Banks", and the toolchain that
+/// The program's version; then the version of the catalogues that it writes, docs/STORAGE.md, "Banks", and the toolchains that
 /// the program is proved with and built by.
-pub(crate) const VERSION: &str = "0.1.0 (catalogue 1, rattle-kit-13f logic dac8208d650f15bf)";
+pub(crate) const VERSION: &str =
+    "0.1.0 (catalogue 1, rattle-kit-13b or later of logic dac8208d650f15bf)";

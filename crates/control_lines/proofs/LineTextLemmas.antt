@@ -8,10 +8,10 @@ use Rattle.std.proofs.lemmas.List.Elements.{All-cons}
 use Rattle.std.proofs.lemmas.Slice.Eq.{bytes_eq-Decides}
 use Rattle.frame_core.specs.declared.refusal.Refusal.TheVariants.{BadLine}
 use Rattle.control_lines.specs.declared.line.Line.{Line}
-use Rattle.control_lines.specs.Table.{Fields, none, text, ◌&◌, MakesLine, Row, rows, is_served}
+use Rattle.control_lines.specs.Table.{Fields, none, text, ◌&◌, MakesLine, Row, rows}
 use Rattle.control_lines.specs.Lines.{word_at, text_at, value_at, read, read_by, whole, text_of, read_of, line_of}
 use Rattle.control_lines.specs.LineText.{Values, line_with, AreFit, text_with, word_of, AreSpelled, IsShortText, IsSpelling}
-use Rattle.control_lines.proofs.WordLemmas.{ok, ok_same, some_length, bind_ok, if_ok, HasNoBlank, behind, word_at-ok, word_at-text, value_at-ok, value_at-word, word_of-spelled}
+use Rattle.control_lines.proofs.WordLemmas.{ok, ok_same, some_length, bind_ok, HasNoBlank, behind, word_at-ok, word_at-text, value_at-ok, value_at-word, word_of-spelled}
 
 -- ---- fields
 
@@ -183,15 +183,13 @@ text_ok : (s : List ℕ) (line : Line) → IsShortText s → text_of s ≡ ok li
 unfolding text_of
 text_ok s line short h =
     let first = bind_ok (word_at (Some s)) _ line h in
-    let later = bind_ok (if is_served first.0.0 then read_by rows first.0.0 first.0.1 else Err BadLine) _ line first.2 in
-    let served = if_ok (is_served first.0.0) (read_by rows first.0.0 first.0.1) later.0 later.1 in
+    let later = bind_ok (read_by rows first.0.0 first.0.1) _ line first.2 in
     let end = whole_by later.0 line later.2 in
-    let by = read_by-ok rows first.0.0 first.0.1 later.0 served.1 in
+    let by = read_by-ok rows first.0.0 first.0.1 later.0 later.1 in
     let is = read-ok by.row.fields by.row.line first.0.1 later.0 by.reads end.1 in
     record {
       row = by.row;
       listed = by.listed;
-      served = subst (λ w. is_served w ≡ true) by.same served.0;
       values = is.values;
       fit = is.fit;
       made = sym end.0 ∙ is.made;
@@ -209,7 +207,7 @@ text_read s line is =
     let tail = rest_of row.fields is.values is.rest is.spelled in
     let word = word_at-text row.word tail.0 of.no_blank in
     let fields = read-spelled row.fields row.line is.values tail.0 is.fit (subst (AreSpelled row.fields is.values) tail.1 is.spelled) in
-    ap text_of (is.split ∙ ap (λ t. row.word ++ t) tail.1) ∙ rw (word, is.served, of.reads tail.0, fields) (ap ok (sym is.made))
+    ap text_of (is.split ∙ ap (λ t. row.word ++ t) tail.1) ∙ rw (word, of.reads tail.0, fields) (ap ok (sym is.made))
 
 utf8_by : (t : Bool) (s : List ℕ) (line : Line) → is_utf8 s ≡ t → (if t then text_of s else Err BadLine) ≡ ok line → IsUtf8 s × (text_of s ≡ ok line)
 utf8_by true s line is h = (IsUtf8-from_is_utf8 s is, h)
@@ -243,13 +241,12 @@ pub line_is_read : (line : Line) (s : List ℕ) → (line_of s ≡ Ok line) ↔ 
 line_is_read line s = (line_ok s line, line_read s line)
 
 -- the one text of a row's values is read as their line
-pub text_is_read : (row : Row) (values : Values row.fields) → Contains rows row → is_served row.word ≡ true → AreFit row.fields values → IsShortText (row.word ++ text_with row.fields values)
+pub text_is_read : (row : Row) (values : Values row.fields) → Contains rows row → AreFit row.fields values → IsShortText (row.word ++ text_with row.fields values)
     → line_of (row.word ++ text_with row.fields values) ≡ Ok (line_with row.fields row.line values)
-text_is_read row values listed served fit short =
+text_is_read row values listed fit short =
     line_read _ _ (record {
       row = row;
       listed = listed;
-      served = served;
       values = values;
       fit = fit;
       made = refl;

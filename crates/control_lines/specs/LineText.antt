@@ -5,7 +5,7 @@ use Rattle.std.specs.Char.{to_ascii_lowercase}
 use Rattle.hex.specs.Hex.{encode_lower, IsBytes}
 use Rattle.control_lines.specs.declared.line.Line.{Line}
 use Rattle.control_lines.specs.Numbers.{fits}
-use Rattle.control_lines.specs.Table.{Kind, int, long, hex, Value, Fields, none, text, ◌&◌, MakesLine, Row, rows, is_served}
+use Rattle.control_lines.specs.Table.{Kind, int, long, hex, Value, Fields, none, text, ◌&◌, MakesLine, Row, rows}
 
 -- a value for each field
 abbrev pub Values : Fields → Type 0
@@ -58,11 +58,10 @@ AreSpelled (k & fields) values s =
 abbrev pub IsShortText : List ℕ → Type 0
 IsShortText s = IsUtf8 s × (length s ≤ 262144)
 
--- a row that is served, and values of its fields, which give the line and the text
+-- a row, and values of its fields, which give the line and the text
 pub record IsSpelling (line : Line) (s : List ℕ) : Type 0 where
   pub row : Row
   pub listed : Contains rows row
-  pub served : is_served row.word ≡ true
   pub values : Values row.fields
   pub fit : AreFit row.fields values
   pub made : line ≡ line_with row.fields row.line values

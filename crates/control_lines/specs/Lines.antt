@@ -1,12 +1,12 @@
 -- Control lines: docs/CONTROL.md, "Lines".
-use Rattle.std.specs.Prelude.{◌≡◌, ◌==◌, ◌&&◌, ℕ, nat_lt, nat_le, Bool, true, false, List, [], ◌∷◌, length, Option, Some, None, is_none, Result, Ok, Err, bytes_eq, if◌then◌else◌}
+use Rattle.std.specs.Prelude.{◌≡◌, ◌==◌, ℕ, nat_lt, nat_le, Bool, true, false, List, [], ◌∷◌, length, Option, Some, None, is_none, Result, Ok, Err, bytes_eq, if◌then◌else◌}
 use Rattle.std.specs.List.{position_or_len, before_first, after_first}
 use Rattle.std.specs.Str.{is_utf8}
 use Rattle.frame_core.specs.declared.refusal.Refusal.{Refusal}
 use Rattle.frame_core.specs.declared.refusal.Refusal.TheVariants.{BadLine, NoMemory}
 use Rattle.frame_core.specs.Outcome.{◌>>=◌}
 use Rattle.control_lines.specs.declared.line.Line.{Line}
-use Rattle.control_lines.specs.Table.{Kind, int, long, hex, Value, Fields, none, text, ◌&◌, MakesLine, Row, copies, rows, is_served}
+use Rattle.control_lines.specs.Table.{Kind, int, long, hex, Value, Fields, none, text, ◌&◌, MakesLine, Row, copies, rows}
 use Rattle.control_lines.specs.Numbers.{long_of, int_of, hex_bytes_of}
 
 -- a blank is U+0020 alone
@@ -57,11 +57,11 @@ read_by (row ∷ others) word rest =
 abbrev pub whole : Line × Option (List ℕ) → Result Line Refusal
 whole read = if is_none read.1 then Ok read.0 else Err BadLine
 
--- a first word that is served, and its fields
+-- a first word and its fields
 unfoldable pub text_of : List ℕ → Result Line Refusal
 text_of s = do
   first ← word_at (Some s)
-  read ← (if is_served first.0 then read_by rows first.0 first.1 else Err BadLine)
+  read ← read_by rows first.0 first.1
   whole read
 
 -- bytes that are text
@@ -85,9 +85,9 @@ abbrev pub copies_by : List Row → List ℕ → Bool
 copies_by [] word = false
 copies_by (row ∷ others) word = if bytes_eq word row.word then copies row.fields else copies_by others word
 
--- a first word that is served, and whose fields are copied
+-- a first word whose fields are copied
 abbrev pub copies_behind : Result (List ℕ × Option (List ℕ)) Refusal → Bool
-copies_behind (Ok first) = is_served first.0 && copies_by rows first.0
+copies_behind (Ok first) = copies_by rows first.0
 copies_behind (Err refusal) = false
 
 -- reading a text takes memory

@@ -1,5 +1,5 @@
 -- The grammar of control lines as a table, a row for each first word: docs/CONTROL.md, "Lines".
-use Rattle.std.specs.Prelude.{ℕ, ℤ, Bool, true, false, not, ◌||◌, List, [], ◌∷◌, ◌++◌, codes, bytes_eq}
+use Rattle.std.specs.Prelude.{ℕ, ℤ, Bool, true, false, ◌||◌, List, [], ◌∷◌, ◌++◌, codes}
 use Rattle.control_core.specs.declared.request.Request.TheVariants as asks
 use Rattle.control_core.specs.declared.event.Event.TheVariants.{Ask, Settle, ReplayOpen, ReplayPoll, ReplayClose, Sweep, Verify}
 use Rattle.control_lines.specs.declared.line.Line.{Line}
@@ -137,15 +137,3 @@ merge_rows =
 -- all lines
 abbrev pub rows : List Row
 rows = recorder_rows ++ (catalogue_rows ++ (asking_rows ++ (archive_rows ++ merge_rows)))
-
--- a word is among these
-abbrev pub is_among : List (List ℕ) → List ℕ → Bool
-is_among [] word = false
-is_among (name ∷ names) word = bytes_eq word name || is_among names word
-
--- first words of lines that nothing answers yet
-abbrev pub unserved : List (List ℕ)
-unserved = codes "compact" ∷ []
-
-abbrev pub is_served : List ℕ → Bool
-is_served word = not (is_among unserved word)

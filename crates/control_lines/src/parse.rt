@@ -1,7 +1,7 @@
 //! Control lines read. docs/CONTROL.md, "Lines".
 
 ghost use Rattle.std.specs.Prelude.{◌≡◌, ◌++◌, false, true};
-ghost use Rattle.control_lines.specs.Table.{start_row, extend_row, catalogue_rows, asking_rows, archive_rows, merge_rows, rows, is_served};
+ghost use Rattle.control_lines.specs.Table.{start_row, extend_row, catalogue_rows, asking_rows, archive_rows, merge_rows, rows};
 ghost use Rattle.control_lines.specs.Lines.{Reads, copies_by, line_copies, line_of, read, read_by, read_copies, read_of, text_copies, text_of};
 
 use crate::line::Line;
@@ -164,22 +164,12 @@ fn recorder_line(alloc: Global, word: &str, words: &mut Words) -> Result<Line, R
     })
 }
 
-/// Whether a line of this first word has an answer today.
-fn is_served(word: &str) -> bool
-    ensures { result ≡ is_served word.now }
-{
-    word != "compact"
-}
-
 #[tactic(auto, unfolding(crate::specs::Lines::text_of, crate::specs::Lines::text_copies))]
 fn line_of_text(alloc: Global, text: &str) -> Result<Line, Refusal>
     ensures { Reads (text_copies text.now) (λ x. x) result (text_of text.now) }
 {
     let mut words = Words::new(text);
     let word = words.word()?;
-    if !is_served(word) {
-        return Err(Refusal::BadLine);
-    }
     let line = recorder_line(alloc, word, &mut words)?;
     if words.is_empty() {
         Ok(line)
@@ -200,9 +190,8 @@ fn line_of_bytes(alloc: Global, line: &[u8]) -> Result<Line, Refusal>
 
 /// The line that these bytes are, their end not among them: docs/CONTROL.md, "Lines". Costs their length.
 ///
-/// `BadLine` where they are none that the grammar has, also where they are more than 262,144 or the first word is
-/// `compact`, which nothing answers yet; `NoMemory` where a channel, a fragment or bytes find no memory, and of no line whose
-/// first word has none of these.
+/// `BadLine` where they are none that the grammar has, also where they are more than 262,144; `NoMemory` where a channel, a
+/// fragment or bytes find no memory, and of no line whose first word has none of these.
 #[tactic(auto, unfolding(crate::specs::Lines::line_of, crate::specs::Lines::line_copies))]
 pub fn parse_line(alloc: Global, line: &[u8]) -> Result<Line, Refusal>
     ensures { Reads (line_copies line.now) (λ x. x) result (line_of line.now) }

@@ -55,7 +55,7 @@ fn lines_with_bytes(rt: HostRuntime) -> Result<(), Fail> {
 }
 
 /// A line, and what it asks the archive for.
-const ASKED: [(&'static str, &'static str); 12] = [
+const ASKED: [(&'static str, &'static str); 13] = [
     ("list 0 -1", "Event(Ask(List { from: 0, count: -1 }))"),
     (
         "extend 1 1001 7 42 65536 1408 128",
@@ -81,6 +81,7 @@ const ASKED: [(&'static str, &'static str); 12] = [
     ("sweep", "Event(Sweep)"),
     ("verify 1", "Event(Verify { recording: 1 })"),
     ("reopen", "Reopen"),
+    ("compact", "Compact"),
 ];
 
 #[test]
@@ -104,7 +105,7 @@ fn a_line_that_seeks_a_recording(rt: HostRuntime) -> Result<(), Fail> {
     Ok(())
 }
 
-/// Each breaks a rule of docs/CONTROL.md, "Lines"; the first is empty, and nothing answers the last.
+/// Each breaks a rule of docs/CONTROL.md, "Lines"; the first is empty.
 const MALFORMED: &str = "
  quit
 quit 
@@ -128,7 +129,7 @@ start 2147483648 7 42 65536 1408 131072 0 1000 c
 start 1001 7 42 65536 1408 131072 0 1000 \nframe 0 00
 write 0
 sweep 1
-compact";
+compact 1";
 
 #[test]
 fn malformed_lines(rt: HostRuntime) -> Result<(), Fail> {

@@ -6,3 +6,4 @@ pub mod WriteLemmas
 pub mod SettleLemmas
 pub mod BlockLemmas
 pub mod SweepLemmas
+pub mod AnewLemmas

@@ -2,3 +2,4 @@ pub mod OpeningLemmas
 pub mod EntryLaidLemmas
 pub mod RestartLemmas
 pub mod ReopenLemmas
+pub mod AnewCallLemmas

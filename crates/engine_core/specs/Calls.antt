@@ -15,7 +15,7 @@ use Rattle.control_core.specs.Exact.{Archive, ArchiveEnd, CallEnds, asked_of, br
 use Rattle.control_core.specs.Machine.{Stepped}
 use Rattle.control_core.specs.Runs.{Leave, StoodAmong, last_left}
 use Rattle.engine_core.specs.Recovery.{Recovers, RecoversTo}
-use Rattle.engine_core.specs.Engine.{Content, EngineState, DiskGoesOn, IsSpared, archive_of}
+use Rattle.engine_core.specs.Engine.{Content, EngineState, DiskGoesOn, IsSpared, KeepsBank, archive_of}
 use Rattle.engine_core.specs.Consistent.{IsCrashConsistent, MayStandIn}
 use Rattle.engine_core.specs.Moves.{registered_keeps}
 
@@ -55,6 +55,8 @@ pub record AnswersEvent (old new : EngineState) (event : Event) (result : Result
   -- Whatever the archive is: the disk's calls went on, and a fault has its cause.
   pub goes_on : DiskGoesOn old.life new.life
   pub cause : IsErrOf result DeviceFault → HasFailed old.life new.life
+  -- No call but a compaction, which needs a closed archive, changes what such a one asks of the banks.
+  pub bank : KeepsBank old.log new.log
   -- The desk made a step of its machine.
   pub machine : Stepped old.desk (asked_of event) (told_of old.desk event result) new.desk
   -- Refused, it has changed nothing, unless a fault of the disk came in a sweep, or broke the archive.

@@ -39,6 +39,11 @@ pub record IsTied (log : LogState) (desk : DeskState) : Type 0 where
   pub counted : IsFalse desk.is_broken → log.counted ≡ desk.counted
   pub limit : IsFalse desk.is_broken → log.header.history_limit ≡ desk.limit
 
+-- entries are added to a bank of the same header, beside the same other one
+pub record KeepsBank (old new : LogState) : Type 0 where
+  pub header : new.header ≡ old.header
+  pub spare : new.spare ≡ old.spare
+
 -- what holds of every stretch of a disk's calls: what was obeyed at its end was at its start, and faults are not uncounted
 pub record DiskGoesOn (old new : Life) : Type 0 where
   pub obeyed : IsTrue new.obeys → IsTrue old.obeys

@@ -5,6 +5,7 @@ pub mod Consistent
 pub mod Calls
 pub mod Seen
 pub mod Opened
+pub mod Compacting
 pub mod Opening
 pub mod Reading
 -- what only private functions say

@@ -13,7 +13,7 @@ use Rattle.control_core.specs.Changes.{broken_desk}
 use Rattle.control_core.specs.Desk.{DeskState, opened_desk}
 use Rattle.control_core.specs.Exact.{Archive, opened_archive}
 use Rattle.engine_core.specs.Recovery.{IsEither, RecoversTo}
-use Rattle.engine_core.specs.Engine.{Content, EngineState, DiskGoesOn, IsSpared, archive_of}
+use Rattle.engine_core.specs.Engine.{Content, EngineState, DiskGoesOn, IsSpared, KeepsBank, archive_of}
 use Rattle.engine_core.specs.Consistent.{IsCrashConsistent}
 use Rattle.engine_core.specs.Calls.{CommitEnds, CallEnded}
 
@@ -25,6 +25,7 @@ after_failure _ d = d
 -- What an operation did that adds an entry, and so leads archives that fit to others.
 pub record CommitsEntry (old new : EngineState) (Fits : Archive → Type 0) (reply : Reply) (to : Archive → Archive) (result : Result Reply Refusal) : Type 0 where
   pub goes_on : DiskGoesOn old.life new.life
+  pub bank : KeepsBank old.log new.log
   -- refused it has changed nothing, unless a fault broke the archive
   pub kept : IsSpared (new.desk.is_broken ≡ old.desk.is_broken) old new result
   -- whatever the archive is
@@ -35,6 +36,7 @@ pub record CommitsEntry (old new : EngineState) (Fits : Archive → Type 0) (rep
 
 -- What a restart of an archive did that is opened.
 pub record Restarts (old new : EngineState) (result : Result ℤ Refusal) : Type 0 where
+  pub bank : KeepsBank old.log new.log
   pub changes : ChangesBank old.life new.life
   pub cause : IsErrOf result DeviceFault → HasFailed old.life new.life
   pub outside : IfErr result (λ refusal. (refusal ≡ DeviceFault) ⊎ (refusal ≡ NoMemory))

@@ -3,7 +3,7 @@ use Rattle.std.specs.Prelude.{◌≡◌, ◌≢◌, ◌⊎◌, ◌+◌, ◌<◌,
 use Rattle.frame_core.specs.declared.refusal.Refusal.{Refusal}
 use Rattle.frame_core.specs.declared.refusal.Refusal.TheVariants.{DeviceFault, NoMemory}
 use Rattle.disk_core.specs.declared.file_id.FileId.{FileId}
-use Rattle.disk_core.specs.declared.file_id.FileId.TheVariants.{BankA}
+use Rattle.disk_core.specs.declared.file_id.FileId.TheVariants.{BankA, BankB}
 use Rattle.disk_core.specs.DiskImage.{Files, reads}
 use Rattle.disk_core.specs.Life.{HasFailed, Life, LeavesOnly}
 use Rattle.segment_store.specs.declared.keep.Keep.{Keep}
@@ -15,11 +15,11 @@ use Rattle.archive_model.specs.Register as register
 use Rattle.archive_model.specs.Register.{RegisterState}
 use Rattle.archive_model.specs.State.{Recording, State, is_active, recorded_position, register_of}
 use Rattle.archive_model.specs.WellFormed.{IsWell}
-use Rattle.catalogue_log.specs.declared.entry.Entry.{Entry}
-use Rattle.catalogue_log.specs.Fold.{admits, after_entry, counts}
+use Rattle.catalogue_entries.specs.declared.entry.Entry.{Entry}
+use Rattle.catalogue_entries.specs.Fold.{admits, after_entry, counts}
 use Rattle.catalogue_log.specs.LogState.{LogState}
 use Rattle.engine_core.specs.Recovery.{IsDurable, IsEither, IsSound, RecoversTo, layout_of}
-use Rattle.engine_core.specs.Engine.{DiskGoesOn}
+use Rattle.engine_core.specs.Engine.{DiskGoesOn, KeepsBank}
 
 -- An entry may follow those of a state, and makes of all but the frames what another state has.
 pub record Enters (s u : State) (e : Entry) : Type 0 where
@@ -34,7 +34,7 @@ pub record EntryLeads (files : Files) (s u : State) (e : Entry) : Type 0 where
 
 -- no segment file reads otherwise than before
 pub record KeepsSegments (old new : Life) : Type 0 where
-  pub same : (file : FileId) → file ≢ BankA → reads new.now file ≡ reads old.now file
+  pub same : (file : FileId) → file ≢ BankA → file ≢ BankB → reads new.now file ≡ reads old.now file
   pub obeyed : IsTrue new.obeys → IsTrue old.obeys
   pub faults : old.faults ≤ new.faults
 
@@ -46,7 +46,7 @@ HasEntryRoom log e = IsTrue (counts e) → log.counted < log.header.history_limi
 pub record AddsEntry (old new : Life) (log new_log : LogState) (e : Entry) (result : Result (Unit {0}) Refusal) : Type 0 where
   pub goes_on : DiskGoesOn old new
   pub cause : IsErrOf result DeviceFault → HasFailed old new
-  pub header : new_log.header ≡ log.header
+  pub bank : KeepsBank log new_log
   pub counted : OnOk result (new_log.counted ≡ log.counted + (if counts e then 1 else 0))
   pub works : OnOk result (new_log.is_broken ≡ log.is_broken)
   pub kept : IfErr result (λ refusal. refusal ≢ DeviceFault → new_log ≡ log)

@@ -1,9 +1,9 @@
 -- Opening an archive after a crash: docs/STORAGE.md, "Recovery".
-use Rattle.std.specs.Prelude.{◌≡◌, ◌≢◌, ◌⊎◌, ◌<◌, ℕ, ℤ, pos, IsSome, IsTrue, List, Option, None, Some, count_by}
+use Rattle.std.specs.Prelude.{◌≡◌, ◌≢◌, ◌⊎◌, ◌<◌, ℕ, ℤ, pos, true, IsSome, IsTrue, List, Option, None, Some, count_by}
 use Rattle.frame_core.specs.declared.refusal.Refusal.{Refusal}
 use Rattle.frame_core.specs.declared.refusal.Refusal.TheVariants.{BadParameter, DeviceFault, NoMemory}
 use Rattle.disk_core.specs.declared.file_id.FileId.{FileId}
-use Rattle.disk_core.specs.declared.file_id.FileId.TheVariants.{BankA}
+use Rattle.disk_core.specs.declared.file_id.FileId.TheVariants.{BankA, BankB}
 use Rattle.disk_core.specs.DiskImage.{DiskImage, MayLeave, reads}
 use Rattle.disk_core.specs.Life.{Life, LeavesOnly}
 use Rattle.archive_model.specs.State.{State, active_count}
@@ -12,9 +12,10 @@ use Rattle.archive_model.specs.Commands.{after}
 use Rattle.archive_model.specs.Register as register
 use Rattle.archive_model.specs.Register.{all_stopped, no_recordings}
 use Rattle.catalogue_log.specs.declared.bank.BankHeader.{BankHeader}
-use Rattle.catalogue_log.specs.declared.entry.Entry.{Entry}
+use Rattle.catalogue_entries.specs.declared.entry.Entry.{Entry}
 use Rattle.catalogue_log.specs.Catalogue.{IsCatalogue}
-use Rattle.catalogue_log.specs.Fold.{after_entries, counts}
+use Rattle.catalogue_entries.specs.Fold.{after_entries, counts}
+use Rattle.catalogue_log.specs.LogState.{Banks, TellsBanks, banks_of}
 use Rattle.control_core.specs.Desk.{DeskState, opened_desk}
 use Rattle.control_core.specs.Exact.{Archive, opened_archive}
 use Rattle.engine_core.specs.Recovery.{IsEither, Recovers, RecoversTo}
@@ -69,9 +70,11 @@ pub record HasOpened (old : Life) (new : EngineState) (stopped : ℤ) : Type 0 w
   pub opened : (s u : State) → LeavesEither old s u → IsTrue new.life.obeys → IsOpened old new stopped s u
   -- no archive is opened without a catalogue
   pub desk : IsTrue new.life.obeys → IsDeskOf (reads old.now) new.desk stopped
+  -- what a compaction would ask of the banks is as it was read
+  pub banks : IsTrue new.life.obeys → TellsBanks (reads old.now) (banks_of new.log)
   pub goes_on : DiskGoesOn old new.life
   -- only the bank in use may read otherwise
-  pub others : (file : FileId) → file ≢ BankA → reads new.life.now file ≡ reads old.now file
+  pub others : (file : FileId) → file ≢ BankA → file ≢ BankB → reads new.life.now file ≡ reads old.now file
   -- nothing is written where no recording was active
   pub idle : stopped ≡ pos 0 → ReadsAsBefore old new.life
 
@@ -81,7 +84,11 @@ pub record HasNotOpened (old new : Life) (refusal : Refusal) : Type 0 where
   -- also of a disk that no archive has left
   pub refuses : RefusesOpening old new refusal
   pub goes_on : DiskGoesOn old new
-  pub others : (file : FileId) → file ≢ BankA → reads new.now file ≡ reads old.now file
+  pub others : (file : FileId) → file ≢ BankA → file ≢ BankB → reads new.now file ≡ reads old.now file
+
+-- the banks of a new archive: of epoch 1, and the other may be written
+abbrev pub new_banks : Banks
+new_banks = record { epoch = 1; spare = true }
 
 -- a file was there, unless the disk does not obey
 abbrev pub HadFiles : Life → Life → Type 0
@@ -89,7 +96,7 @@ HadFiles old new = IsTrue new.obeys → (file : FileId) × IsSome (reads old.now
 
 -- An archive was made where no file was, or one was opened, by stopping so many recordings, where files were.
 abbrev pub MadeOrOpened : ℕ → Life → EngineState → Option ℤ → Type 0
-MadeOrOpened limit old new None = IsMadeIn old new.life limit × KeepsArchive new (new_archive limit) × DiskGoesOn old new.life
+MadeOrOpened limit old new None = IsMadeIn old new.life limit × KeepsArchive new (new_archive limit) × DiskGoesOn old new.life × (banks_of new.log ≡ new_banks)
 MadeOrOpened limit old new (Some stopped) = HadFiles old new.life × HasOpened old new stopped
 
 -- Neither: the limit of the history is out of its range, and then the disk was asked nothing; no archive was made where no

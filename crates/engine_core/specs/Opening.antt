@@ -3,8 +3,10 @@ use Rattle.std.specs.Prelude.{◌≡◌, ◌⊎◌, ◌<◌, ◌≤◌, ℕ, Non
 use Rattle.frame_core.specs.declared.refusal.Refusal.{Refusal}
 use Rattle.frame_core.specs.declared.refusal.Refusal.TheVariants.{BadParameter, DeviceFault, NoMemory}
 use Rattle.disk_core.specs.declared.file_id.FileId.{FileId}
+use Rattle.disk_core.specs.declared.file_id.FileId.TheVariants.{BankB}
 use Rattle.disk_core.specs.DiskImage.{MayLeave, durable, reads}
 use Rattle.disk_core.specs.Life.{HasFailed, IsQuiet, Life, LeavesOnly}
+use Rattle.catalogue_log.specs.Banks.{HasClosedGate}
 use Rattle.catalogue_log.specs.Catalogue.{RefusesCatalogue}
 
 -- each file is as it was, or on the disk as it reads, and no crash leaves what it might not have left before
@@ -30,11 +32,12 @@ RefusesNew old new limit DeviceFault = HasFailed old new × (IsQuiet old new ⊎
 RefusesNew old new limit NoMemory = IsQuiet old new
 RefusesNew old new limit _ = ⊥
 
--- an archive was made where there was none
+-- an archive was made where there was none, and bank B holds a closed gate
 pub record IsMadeIn (old new : Life) (limit : ℕ) : Type 0 where
   pub some : 1 ≤ limit
   pub most : limit ≤ 16777216
   pub empty : IsTrue new.obeys → (file : FileId) → reads old.now file ≡ None
+  pub spare : HasClosedGate new.now BankB
 
 -- why a disk is not opened, whatever it holds: a device fault has its cause; and where it obeys, its catalogue is refused so.
 -- Refused by anything but a fault each file reads as before.

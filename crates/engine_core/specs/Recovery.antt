@@ -9,9 +9,9 @@ use Rattle.archive_model.specs.Register.{no_recordings}
 use Rattle.archive_model.specs.State.{Recording, State, recorded_position, register_of}
 use Rattle.archive_model.specs.WellFormed.{IsWell}
 use Rattle.catalogue_log.specs.declared.bank.BankHeader.{BankHeader}
-use Rattle.catalogue_log.specs.declared.entry.Entry.{Entry}
+use Rattle.catalogue_entries.specs.declared.entry.Entry.{Entry}
 use Rattle.catalogue_log.specs.Catalogue.{IsCatalogue}
-use Rattle.catalogue_log.specs.Fold.{after_entries}
+use Rattle.catalogue_entries.specs.Fold.{after_entries}
 use Rattle.catalogue_log.specs.LogState.{IsAtRest, LogState}
 
 -- where the frames of a recording lie

@@ -89,7 +89,7 @@ impl<D: Disk> Engine<D> {
     /// alone. Over any other disk the desk is that of its catalogue and a restart; or `NotCatalogue`, `NewerVersion` and
     /// `Damaged`, as `catalogue_log::open`, and then each file reads as before. The disk comes back; an opening may be tried again. docs/STORAGE.md,
     /// "Opening" and "Recovery". Costs a call of the disk for each file and for each 64 KiB of the catalogue, four more
-    /// where a recording was active, and the memory of the listing, the entries and the recordings.
+    /// where a recording was active, and the memory of the listing and the recordings.
     pub fn open(alloc: Global, disk: D) -> Result<(Engine<D>, i64), OpenRefusal<D>>
         ensures { MatchResult result
             (λ opened. HasOpened (D.life disk) (seen D.life opened.0) opened.1)

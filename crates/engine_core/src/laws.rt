@@ -1,8 +1,8 @@
 //! Laws of the definitions, each the contract of a function that does nothing.
 
 ghost use Rattle.std.specs.Prelude.{◌≡◌, ◌+◌, ◌++◌, ◌∷◌, IsFalse, IsTrue, List, [], Result, Ok, Err, length, unsigned_abs};
-ghost use Rattle.disk_core.specs.DiskImage.{DiskImage, Files, MayLeave, begun};
-ghost use Rattle.disk_core.specs.Life.{Life, MayHaveLeft, moment};
+ghost use Rattle.disk_core.specs.DiskImage.{DiskImage, Files, MayLeave, begun, reads};
+ghost use Rattle.disk_core.specs.Life.{LeavesOnly, Life, MayHaveLeft, moment};
 ghost use Rattle.frame_core.specs.declared.block.Block.{Block};
 ghost use Rattle.frame_core.specs.declared.refusal.Refusal.{Refusal};
 ghost use Rattle.frame_core.specs.Block.{covered};
@@ -14,9 +14,10 @@ ghost use Rattle.archive_model.specs.Acceptance.{BookState};
 ghost use Rattle.archive_model.specs.Accepting.{Accepts};
 ghost use Rattle.archive_model.specs.Commands.{after, frames_of};
 ghost use Rattle.archive_model.specs.Keyed.{Each};
-ghost use Rattle.archive_model.specs.State.{Recording, State};
+ghost use Rattle.archive_model.specs.State.{Recording, State, register_of};
 ghost use Rattle.archive_model.specs.WellFormed.{IsWell};
-ghost use Rattle.catalogue_log.specs.History.{IsRequested, entry_of};
+ghost use Rattle.catalogue_entries.specs.History.{IsRequested, entry_of};
+ghost use Rattle.catalogue_log.specs.Compacting.{HasRegister, LeavesRegister};
 ghost use Rattle.catalogue_log.specs.LogState.{LogState};
 ghost use Rattle.control_core.specs.declared.event.Event.{Event};
 ghost use Rattle.control_core.specs.Exact.{Archive, ArchiveEnds};
@@ -127,4 +128,17 @@ pub fn a_crash_leaves_an_archive_to_open()
     ensures now { (life left : Life) (log : LogState) (a : Archive) (image : DiskImage) →
         IsCrashConsistent life log a → MayLeave life.now image → left.now ≡ begun image →
         (s : State) × MayStand a s × LeavesEither left s s }
+{}
+
+/// Where every image recovers to a state, its catalogue makes that state's register; and a stretch of calls whose images
+/// have catalogues that make this register, and the segment files as before, leaves the state. So a catalogue may be
+/// written anew: docs/STORAGE.md, "Compaction".
+pub fn a_catalogue_of_the_same_register_keeps_the_state()
+    ensures start { (files : Files) (s : State) →
+        ((image : DiskImage) → MayLeave files image → Recovers image s) →
+        LeavesRegister files (register_of s) }
+    ensures moments { (old new : Life) (s : State) → MayLeave old.now (reads old.now) →
+        ((image : DiskImage) → MayLeave old.now image → Recovers image s) →
+        LeavesOnly old new (HasRegister old.now (register_of s)) →
+        LeavesOnly old new (λ image. Recovers image s) }
 {}

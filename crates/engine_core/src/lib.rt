@@ -2,6 +2,7 @@
 #![tactic(auto)]
 
 mod ask;
+mod compacting;
 mod engine;
 pub mod laws;
 mod making;
@@ -18,5 +19,6 @@ mod sweep;
 mod verify;
 mod write;
 
+pub use compacting::compact;
 pub use engine::{Engine, OpenRefusal};
 pub use storage::Storage;

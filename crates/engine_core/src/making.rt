@@ -4,7 +4,7 @@ ghost use Rattle.std.specs.Prelude.{◌≡◌, ◌≢◌, IfErr, IsFalse};
 ghost use Rattle.frame_core.specs.declared.refusal.Refusal.TheVariants.{DeviceFault};
 ghost use Rattle.archive_model.specs.Accepting.{Accepts};
 ghost use Rattle.catalogue_log.specs.Catalogue.{ChangesBank};
-ghost use Rattle.catalogue_log.specs.History.{IsRequested};
+ghost use Rattle.catalogue_entries.specs.History.{IsRequested};
 ghost use Rattle.control_core.specs.Changes.{reply_after};
 ghost use Rattle.control_core.specs.Decisions.{Allows};
 ghost use Rattle.control_core.specs.Exact.{archive_after, book_of};

@@ -3,22 +3,26 @@
 ghost use Rattle.std.specs.Prelude.{◌≡◌, ◌⊎◌, ◌<◌, ◌≤◌, ◌^◌, ◌↔◌, ℕ, ℤ, IfErr, IfNone, IfOk, IfSome, IsErrOf, IsFalse, IsSome, IsTrue, List, OnOk, None};
 ghost use Rattle.frame_core.specs.declared.refusal.Refusal.TheVariants.{BadParameter, DeviceFault, NoMemory};
 ghost use Rattle.disk_core.specs.declared.file_id.FileId.{FileId};
-ghost use Rattle.disk_core.specs.declared.file_id.FileId.TheVariants.{Segment};
+ghost use Rattle.disk_core.specs.declared.file_id.FileId.TheVariants.{BankB, Segment};
 ghost use Rattle.disk_core.specs.DiskImage.{durable, reads};
 ghost use Rattle.disk_core.specs.FileNames.{AreFilesWith};
 ghost use Rattle.disk_core.specs.Life.{HasFailed, IsQuiet};
 ghost use Rattle.archive_model.specs.State.{State, empty, register_of};
 ghost use Rattle.archive_model.specs.Register.{no_recordings};
-ghost use Rattle.catalogue_log.specs.declared.entry.Entry.{Entry};
-ghost use Rattle.catalogue_log.specs.Catalogue.{RefusesCatalogue, bank_in_use};
-ghost use Rattle.catalogue_log.specs.Fold.{AreAdmitted, after_entries};
-ghost use Rattle.catalogue_log.specs.LogState.{IsLogOf};
+ghost use Rattle.catalogue_entries.specs.declared.entry.Entry.{Entry};
+ghost use Rattle.catalogue_log.specs.Banks.{HasClosedGate};
+ghost use Rattle.catalogue_log.specs.Catalogue.{RefusesCatalogue};
+ghost use Rattle.catalogue_entries.specs.Fold.{after_entries};
+ghost use Rattle.catalogue_log.specs.LogState.{IsLogIn, banks_of};
 ghost use Rattle.engine_core.specs.Opening.{ReadsAsBefore, SyncsOnly};
 ghost use Rattle.control_core.specs.Desk.{opened_desk};
+ghost use Rattle.control_core.specs.Orderly.{AreLaid};
 ghost use Rattle.engine_core.specs.Engine.{DiskGoesOn, IsTied};
-ghost use Rattle.engine_core.specs.Recovery.{Folds, IsSound, Recovers};
+ghost use Rattle.engine_core.specs.Opened.{new_banks};
+ghost use Rattle.engine_core.specs.Recovery.{IsSound, Recovers};
 
-use catalogue_log::{Entry, Log, register_from};
+use archive_model::Register;
+use catalogue_log::{Log, open_register};
 use control_core::Desk;
 use disk_core::{Disk, FileId};
 use frame_core::Refusal;
@@ -30,8 +34,8 @@ use std::alloc::Global;
 ///
 /// Where the disk's files recover to a state, the archive is sound for it from then on, and the desk has that state's
 /// recordings; and then it refuses by `DeviceFault` and `NoMemory` alone. Else `NotCatalogue`, `NewerVersion` and
-/// `Damaged`, as `catalogue_log::open`. In every case each file reads as before. docs/STORAGE.md, "Opening". Costs a call of the disk for each file and for each 64 KiB
-/// of the catalogue, and the memory of the entries and the recordings.
+/// `Damaged`, as `catalogue_log::open`. In every case each file reads as before. docs/STORAGE.md, "Opening". Costs a call of
+/// the disk for each file and for each 64 KiB of the catalogue, and the memory of the recordings: none for the entries.
 pub(crate) fn read_desk<D: Disk>(
     alloc: Global,
     disk: &mut D,
@@ -46,7 +50,7 @@ pub(crate) fn read_desk<D: Disk>(
         × IsFalse opened.1.state.is_broken) }
     // Of any catalogue, whatever the segment files hold.
     ensures log { IfOk result (λ opened. IsTrue (D.life disk.new).obeys →
-        (entries : List Entry) × IsLogOf (bank_in_use (reads (D.life disk.old).now)) opened.0 entries
+        (entries : List Entry) × IsLogIn (reads (D.life disk.old).now) opened.0 entries
         × (opened.1.state ≡ opened_desk (after_entries no_recordings entries) opened.0.counted opened.0.header.history_limit)) }
     ensures refused { IfErr result (λ refusal. IsTrue (D.life disk.new).obeys →
         RefusesCatalogue (reads (D.life disk.old).now) refusal) }
@@ -55,28 +59,28 @@ pub(crate) fn read_desk<D: Disk>(
     ensures before { ReadsAsBefore (D.life disk.old) (D.life disk.new) }
     ensures cause { IsErrOf result DeviceFault → HasFailed (D.life disk.old) (D.life disk.new) }
 {
-    let (log, entries) = open_files(alloc, disk, files)?;
-    let register = register_from(alloc, &entries)?;
+    let (log, register) = open_files(alloc, disk, files)?;
     let counted = log.counted() as u64;
     let limit = log.limit();
     let desk = Desk::opened(alloc, register, counted, limit);
     Ok((log, desk))
 }
 
-/// The log of the catalogue and its entries in order, once the files of the archive are synced.
+/// The log of the catalogue and the register that its entries make, once the files of the archive are synced.
 fn open_files<D: Disk>(
     alloc: Global,
     disk: &mut D,
     files: &[FileId],
-) -> Result<(Log, Vec<Entry>), Refusal>
+) -> Result<(Log, Register), Refusal>
     requires { IsTrue (D.life disk.old).obeys →
         AreFilesWith (λ file. IsSome (reads (D.life disk.old).now file)) files.now }
     ensures sound { IfOk result (λ opened. IsTrue (D.life disk.new).obeys → (x : State) →
         Recovers (reads (D.life disk.old).now) x →
-        IsSound (D.life disk.new).now opened.0 x × Folds opened.1.items x) }
-    ensures admitted { IfOk result (λ opened. AreAdmitted no_recordings opened.1.items) }
+        IsSound (D.life disk.new).now opened.0 x × (opened.1.state ≡ register_of x)) }
+    ensures laid { IfOk result (λ opened. AreLaid opened.1.state) }
     ensures log { IfOk result (λ opened. IsTrue (D.life disk.new).obeys →
-        IsLogOf (bank_in_use (reads (D.life disk.old).now)) opened.0 opened.1.items) }
+        (entries : List Entry) × IsLogIn (reads (D.life disk.old).now) opened.0 entries
+        × (opened.1.state ≡ after_entries no_recordings entries)) }
     ensures works { IfOk result (λ opened. IsFalse opened.0.is_broken) }
     ensures refused { IfErr result (λ refusal. IsTrue (D.life disk.new).obeys →
         RefusesCatalogue (reads (D.life disk.old).now) refusal) }
@@ -84,7 +88,7 @@ fn open_files<D: Disk>(
     ensures cause { IsErrOf result DeviceFault → HasFailed (D.life disk.old) (D.life disk.new) }
 {
     sync_segments(disk, files)?;
-    catalogue_log::open(alloc, disk)
+    open_register(alloc, disk)
 }
 
 /// The files of a disk. `DeviceFault`; `NoMemory` for the listing.
@@ -126,8 +130,8 @@ pub(crate) fn files_within<D: Disk>(
 }
 
 /// The catalogue of a new archive without recordings, with this limit of its history: its log, for which the archive is
-/// sound. `DeviceFault` where a call of the disk fails: what the banks hold then is unknown. docs/STORAGE.md, "Banks". By
-/// six calls of the disk.
+/// sound; bank B has a closed gate. `DeviceFault` where a call of the disk fails: what the banks hold then is unknown.
+/// docs/STORAGE.md, "Banks". By six calls of the disk.
 pub(crate) fn create<D: Disk>(
     alloc: Global,
     disk: &mut D,
@@ -139,6 +143,8 @@ pub(crate) fn create<D: Disk>(
     ensures log { IfOk result (λ log. (log.header
         ≡ record { history_limit = history_limit; epoch = 1 })
         × (log.counted ≡ 0) × IsFalse log.is_broken) }
+    ensures banks { IfOk result (λ log. banks_of log ≡ new_banks) }
+    ensures spare { OnOk result (HasClosedGate (D.life disk.new).now BankB) }
     ensures refused { IfErr result (λ refusal.
         (refusal ≡ DeviceFault) × HasFailed (D.life disk.old) (D.life disk.new)) }
     ensures goes_on { DiskGoesOn (D.life disk.old) (D.life disk.new) }

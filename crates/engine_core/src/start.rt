@@ -2,13 +2,16 @@
 
 ghost use Rattle.std.specs.Prelude.{◌≡◌, ◌≤◌, Err, IfErr, IfOk, IsFalse, IsSome, IsTrue, MatchResult, None, Ok, Some};
 ghost use Rattle.frame_core.specs.declared.refusal.Refusal.TheVariants.{DeviceFault};
+ghost use Rattle.disk_core.specs.declared.file_id.FileId.TheVariants.{BankB};
 ghost use Rattle.disk_core.specs.DiskImage.{reads};
 ghost use Rattle.disk_core.specs.FileNames.{AreFilesWith};
 ghost use Rattle.disk_core.specs.Life.{HasFailed};
+ghost use Rattle.catalogue_log.specs.Banks.{HasClosedGate};
+ghost use Rattle.catalogue_log.specs.LogState.{banks_of};
 ghost use Rattle.engine_core.specs.Consistent.{KeepsArchive};
 ghost use Rattle.engine_core.specs.Engine.{DiskGoesOn, new_archive};
 ghost use Rattle.engine_core.specs.Making.{HasNotStarted, Restarts};
-ghost use Rattle.engine_core.specs.Opened.{HasNotOpened, HasOpened};
+ghost use Rattle.engine_core.specs.Opened.{HasNotOpened, HasOpened, new_banks};
 ghost use Rattle.engine_core.specs.Seen.{seen};
 
 use crate::{Engine, OpenRefusal, Storage, opening};
@@ -26,6 +29,8 @@ pub(crate) fn make<D: Disk>(
     requires most { history_limit ≤ 16777216 }
     ensures keeps { IfOk result (λ engine. KeepsArchive (seen D.life engine)
         (new_archive history_limit)) }
+    ensures banks { IfOk result (λ engine. banks_of engine.storage.log ≡ new_banks) }
+    ensures spare { IfOk result (λ engine. HasClosedGate (D.life engine.storage.disk).now BankB) }
     ensures goes_on { MatchResult result
         (λ engine. DiskGoesOn (D.life disk) (D.life engine.storage.disk))
         (λ refused. DiskGoesOn (D.life disk) (D.life refused.disk)) }

@@ -1,12 +1,13 @@
 //! 200 calls by chance, with a stop after each change of the disk, three crashes and an opening each: what is opened is
-//! what the plain book makes of the calls that were accepted, or of these and the one in flight.
+//! what the plain book makes of the calls that were accepted, or of these and the one in flight. And compactions among such
+//! calls, each stopped after each of its changes: what is opened is what the book makes of the calls before.
 
 use crate::calls::{TERM, answer, event_of, made, opened, told};
 use crate::reference::{LIMIT, Story, text_after, text_of, text_of_book};
 use archive_model::{Command, Reply};
 use control_core::Event;
 use disk_core::MemoryDisk;
-use engine_core::Engine;
+use engine_core::{Engine, compact};
 use frame_core::Refusal;
 use std::alloc::Global;
 use std::process::Abort;
@@ -149,6 +150,69 @@ fn text_left(alloc: Global, disk: &MemoryDisk, choice: u8) -> Result<Vec<u8>, Re
     text_of(alloc, &mut engine)
 }
 
+/// The disk of a run's archive that is closed once its recordings have stopped, and the book of its calls and that restart.
+fn closed(alloc: Global, run: Run) -> Result<(MemoryDisk, Story), Refusal> {
+    let Run {
+        mut story,
+        engine,
+        ..
+    } = run;
+    let engine = opened(alloc, engine.into_disk())?;
+    story.restart(alloc)?;
+    Ok((engine.into_disk(), story))
+}
+
+/// Whether a compaction that stops after any of its changes, and a crash then, leave this text.
+fn compactions_leave(alloc: Global, disk: &MemoryDisk, text: &[u8]) -> Result<bool, Refusal> {
+    for stop in 0..11u64 {
+        let mut tried = disk.crash(&[0])?;
+        tried.stop_after(stop);
+        let _ = compact(alloc, &mut tried);
+        if !leaves(alloc, &tried, text, text)? {
+            return Ok(false);
+        }
+    }
+    Ok(true)
+}
+
+/// A run that goes on over an archive that was closed and compacted.
+fn gone_on(alloc: Global, disk: MemoryDisk, story: Story) -> Result<Run, Refusal> {
+    let mut disk = disk;
+    compact(alloc, &mut disk)?;
+    Ok(Run {
+        story,
+        answers: Vec::new(alloc),
+        doubt: None,
+        has_stopped: false,
+        engine: opened(alloc, disk)?,
+    })
+}
+
+/// Makes 60 calls by chance.
+fn make_calls(alloc: Global, run: &mut Run, dice: &mut Dice) -> Result<(), Refusal> {
+    for _ in 0..60 {
+        let (word, of, at) = call_by_chance(dice, &run.story);
+        run.make(alloc, event_of(alloc, word, of, at, 0)?)?;
+    }
+    Ok(())
+}
+
+/// Whether each crash of five compactions with calls between them leaves what the book makes of the calls.
+fn compactions_survived(alloc: Global) -> Result<bool, Refusal> {
+    let mut run = Run::new(alloc, 1_000_000)?;
+    let mut dice = Dice { thrown: 7 };
+    for _ in 0..5 {
+        make_calls(alloc, &mut run, &mut dice)?;
+        let (disk, story) = closed(alloc, run)?;
+        let text = text_of_book(alloc, &story.book)?;
+        if !compactions_leave(alloc, &disk, text.as_slice())? {
+            return Ok(false);
+        }
+        run = gone_on(alloc, disk, story)?;
+    }
+    Ok(true)
+}
+
 /// Whether each of three crashes leaves one of two texts.
 fn leaves(alloc: Global, disk: &MemoryDisk, before: &[u8], after: &[u8]) -> Result<bool, Refusal> {
     for choice in [0, 1, 255] {
@@ -228,5 +292,11 @@ fn each_stop_leaves_a_beginning_of_the_calls(rt: HostRuntime) -> Result<(), Fail
             break;
         }
     }
+    Ok(())
+}
+
+#[test]
+fn each_stop_of_a_compaction_leaves_the_state(rt: HostRuntime) -> Result<(), Fail> {
+    assert!(rt; compactions_survived(rt.alloc())?);
     Ok(())
 }

@@ -114,6 +114,13 @@ impl Story {
         }
     }
 
+    /// Notes that the archive was closed and opened again: its recordings have stopped, and its sessions are gone.
+    pub fn restart(&mut self, alloc: Global) -> Result<(), Refusal> {
+        self.book.apply(&Command::Restart)?;
+        self.sessions = Vec::new(alloc);
+        Ok(())
+    }
+
     fn write(&mut self, number: i64, block: Block, end: i64) -> Result<(), Refusal> {
         let index = usize::try_from(number).map_err(|_| Refusal::StaleSession)?;
         if let Some(session) = self.sessions.as_mut_slice().get_mut(index) {

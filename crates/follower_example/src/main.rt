@@ -57,6 +57,7 @@ fn shared<D: Disk + Drop + Send, A: Naming + Send + Sync, R: Threads + Wait + Pr
     engine: Engine<D>,
 ) -> Option<()>
     requires named { opened.table ≡ A.table }
+    requires counts { A.passes ≡ 3 }
     requires stores { opened.keeps ≡ A.keeps }
     requires opens { engine_seen D.life (view_of engine []) ≡ A.opening }
 {

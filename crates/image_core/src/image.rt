@@ -116,6 +116,13 @@ impl Image {
         &self.geometry
     }
 
+    /// Whose frames it receives. Does not allocate.
+    pub fn publication(&self) -> &Publication
+        ensures { result.now ≡ self.now.publication }
+    {
+        &self.publication
+    }
+
     /// The rebuild position, in bytes of the stream: the end of the longest chain of received frames from where the
     /// image joined. Does not allocate.
     pub fn rebuilt(&self) -> i64

@@ -12,7 +12,7 @@ ghost use Rattle.image_feed.specs.Stock.{Asks, AsksNothing, HoldsItsStock, Offer
 use crate::nearness::has_room_for;
 use crate::requests::request_of;
 use frame_core::laws::a_datagram_has_one_answer;
-use frame_core::{Block, Nak, Refusal, Setup, frames_of_datagram};
+use frame_core::{Block, Geometry, Nak, Publication, Refusal, Setup, frames_of_datagram};
 use image_core::{Image, Inserted};
 use std::alloc::Global;
 use std::marker::Model;
@@ -75,6 +75,20 @@ impl Feed {
         ensures same { OnErr result (self.new ≡ self.old) }
     {
         self.image.take_block()
+    }
+
+    /// As [`Image::publication`].
+    pub fn publication(&self) -> &Publication
+        ensures { result.now ≡ self.now.publication }
+    {
+        self.image.publication()
+    }
+
+    /// As [`Image::geometry`].
+    pub fn geometry(&self) -> &Geometry
+        ensures { result.now ≡ self.now.geometry }
+    {
+        self.image.geometry()
     }
 
     /// Where what was not taken yet begins, in bytes of the stream: nothing is held that ends further past it than the

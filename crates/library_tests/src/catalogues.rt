@@ -2,7 +2,7 @@
 //! requests for memory refused.
 
 ghost use Rattle.std.specs.Prelude.{◌≡◌, length, IfOk, IsTrue};
-ghost use Rattle.catalogue_log.specs.EntryBytes.{is_short};
+ghost use Rattle.catalogue_entries.specs.EntryBytes.{is_short};
 
 use archive_model::{Channel, Command, StartFields};
 use catalogue_log::{Entry, Log, create, open, register_from};
@@ -133,6 +133,7 @@ fn prepared_entries_are_added(rt: HostRuntime) -> Result<(), Fail> {
     let mut disk = MemoryDisk::new(rt.alloc());
     let mut log = create(rt.alloc(), &mut disk, 3)?;
     for entry in [start(rt.alloc())?, SETTLE] {
+        assert!(rt; entry.is_short());
         log.prepare(&entry)?;
         log.append(&mut disk, &entry)?;
     }

@@ -5,9 +5,13 @@
 #[cfg(test)]
 mod archives;
 #[cfg(test)]
+mod banks;
+#[cfg(test)]
 mod boards;
 #[cfg(test)]
 mod catalogues;
+#[cfg(test)]
+mod compactions;
 #[cfg(test)]
 mod disks;
 #[cfg(test)]

@@ -79,6 +79,7 @@ fn shared<D: Disk + Drop + Send, A: Naming + Send + Sync, R: Threads + Wait + Pr
     turns: u32,
 ) -> Result<u64, Refusal>
     requires named { opened.table ≡ A.table }
+    requires counts { A.passes ≡ 8 }
     requires stores { opened.keeps ≡ A.keeps }
     requires opens { engine_seen D.life (view_of engine []) ≡ A.opening }
 {

@@ -145,6 +145,7 @@ fn shared<D: Disk + Drop + Send, A: Naming + Send + Sync, R: Threads + Wait + Cl
     load: Load,
 ) -> Result<u128, Refusal>
     requires named { opened.table ≡ A.table }
+    requires counts { threads ≡ A.passes }
     requires stores { opened.keeps ≡ A.keeps }
     requires opens { engine_seen D.life (view_of engine []) ≡ A.opening }
 {

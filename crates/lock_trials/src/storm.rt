@@ -143,6 +143,7 @@ fn shared<D: Disk + Drop + Send, A: Naming + Send + Sync, R: Threads + Wait + Cl
     seed: u32,
 ) -> Result<Left<D>, Refusal>
     requires named { opened.table ≡ A.table }
+    requires counts { A.passes ≡ 5 }
     requires stores { opened.keeps ≡ A.keeps }
     requires opens { engine_seen D.life (view_of engine []) ≡ A.opening }
 {

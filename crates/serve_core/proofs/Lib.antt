@@ -1,2 +1,3 @@
+mod ImageLemmas
 mod SeatLemmas
 mod ServingLemmas

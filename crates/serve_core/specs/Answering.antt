@@ -1,9 +1,12 @@
 -- How lines are answered by a part in a shared archive, and where no archive is open: docs/SERVING.md, "Lines".
-use Rattle.std.specs.Prelude.{◌≡◌, ℤ, Result, Err, IsErrOf}
+use Rattle.std.specs.Prelude.{◌≡◌, ℤ, Bool, true, false, Result, Err, IsErrOf}
 use Rattle.frame_core.specs.declared.geometry.Geometry.{Geometry}
 use Rattle.frame_core.specs.declared.refusal.Refusal.{Refusal}
 use Rattle.frame_core.specs.declared.refusal.Refusal.TheVariants.{BadLine, Broken, NoMemory}
 use Rattle.control_core.specs.declared.event.Event.{Event}
+use Rattle.control_core.specs.declared.event.Event.TheVariants.{Ask, Settle}
+use Rattle.control_core.specs.declared.request.Request.{Request}
+use Rattle.control_core.specs.declared.request.Request.TheVariants.{Find, List, Positions}
 use Rattle.control_core.specs.Bytes.{terms_in}
 use Rattle.call_history.specs.Values.{PassView}
 use Rattle.engine_core.specs.Engine.{EngineState}
@@ -38,3 +41,18 @@ IsBroken event old outcome new = (outcome ≡ Err Broken) × (new ≡ old)
 
 abbrev pub unopened_ways : {A : Type 0} → Ways A
 unopened_ways = record { terms = HasNoTerms; call = IsBroken; reopen = IsNoLine; compact = IsNoLine }
+
+-- ---- entries
+
+-- the request changes the catalogue, where it is accepted
+abbrev pub is_command : Request → Bool
+is_command (List from count) = false
+is_command (Find fields) = false
+is_command (Positions recording) = false
+is_command request = true
+
+-- a call that makes an entry of the history, where it is accepted
+abbrev pub makes_entry : Event → Bool
+makes_entry (Ask request) = is_command request
+makes_entry (Settle session) = true
+makes_entry event = false

@@ -4,5 +4,6 @@ pub mod Serving
 pub mod Answering
 pub mod Datagrams
 pub mod Noting
--- Seats.
+-- Seats, and what a batch wrote.
 pub mod Seats
+pub mod Recording

@@ -1,5 +1,6 @@
--- What pairs are told of a call that was answered: docs/ARCHITECTURE.md, "Images and recorder sessions".
-use Rattle.std.specs.Prelude.{ℤ, pos, int_lt, unsigned_abs, if◌then◌else◌}
+-- What pairs are told of a call that was answered, and of which pairs is told: docs/ARCHITECTURE.md, "Images and recorder
+-- sessions".
+use Rattle.std.specs.Prelude.{◌≡◌, ◌<◌, ℕ, ℤ, pos, int_lt, unsigned_abs, if◌then◌else◌, List, Option, None, Some, slice_index_or, slice_set}
 use Rattle.archive_model.specs.declared.command.ExtendFields.{ExtendFields}
 use Rattle.archive_model.specs.declared.command.StartFields.{StartFields}
 use Rattle.archive_model.specs.declared.reply.Reply.{Reply}
@@ -8,7 +9,7 @@ use Rattle.control_core.specs.declared.event.Event.{Event}
 use Rattle.control_core.specs.declared.event.Event.TheVariants.{Ask, Settle}
 use Rattle.control_core.specs.declared.request.Request.TheVariants as requests
 use Rattle.stream_pairs.specs.declared.points.StreamPoint.{StreamPoint}
-use Rattle.stream_pairs.specs.Pairs.{PairsState, after_opened, after_settled, after_stopped}
+use Rattle.stream_pairs.specs.Pairs.{PairsState, after_opened, after_settled, after_stopped, image_at, is_index}
 
 -- where a recording stands once it was started, or extended
 abbrev pub start_point : StartFields → StreamPoint
@@ -39,3 +40,20 @@ after_noted (Ask (requests.Extend fields)) (replies.Extended session) s = after_
 after_noted (Settle session) (replies.Settled position) s = after_settling session position s
 after_noted (Ask (requests.Stop recording timestamp)) (replies.Stopped position) s = after_stopped recording s
 after_noted event reply s = s
+
+-- ---- pairs that are told of
+
+-- the image that feeds a session, unless it is the one that was told of
+abbrev pub unless_told : Option ℕ → Option ℕ → Option ℕ
+unless_told None told = None
+unless_told (Some image) told = if is_index image told then None else Some image
+
+abbrev pub untold_image : ℕ → PairsState → List (Option ℕ) → Option ℕ
+untold_image n pairs told = unless_told (image_at n pairs) (slice_index_or told n None)
+
+-- it is told of the least session with an image that was not told of; or there is none
+abbrev pub TellsNext : PairsState → List (Option ℕ) → Option (ℕ × ℕ) → List (Option ℕ) → Type 0
+TellsNext pairs old None new = (new ≡ old) × ((n : ℕ) → n < 64 → untold_image n pairs old ≡ None)
+TellsNext pairs old (Some pair) new =
+    (pair.0 < 64) × (untold_image pair.0 pairs old ≡ Some pair.1)
+    × ((n : ℕ) → n < pair.0 → untold_image n pairs old ≡ None) × (new ≡ slice_set old pair.0 (Some pair.1))

@@ -1,7 +1,8 @@
 //! Who answers the lines of connections over a shared archive. docs/SERVING.md, "Lines".
 
 ghost use Rattle.std.specs.Prelude.{◌≡◌};
-ghost use Rattle.serve_core.specs.Answering.{shared_ways};
+ghost use Rattle.serve_core.specs.Answering.{is_command, makes_entry, shared_ways};
+ghost use Rattle.serve_core.specs.Seats.{IsLastPass};
 
 use crate::connections::Server;
 use crate::happening::Happening;
@@ -10,7 +11,7 @@ use crate::teller::Teller;
 use archive_lock::{Made, Naming, SharedArchive};
 use archive_model::Reply;
 use call_history::Pass;
-use control_core::Event;
+use control_core::{Event, Request};
 use disk_core::Disk;
 use frame_core::{Geometry, Refusal};
 use std::alloc::Global;
@@ -32,15 +33,15 @@ pub(crate) struct Controller<'a, D: Disk, A: Naming, R, T> {
 }
 
 impl<'a, D: Disk, A: Naming, R, T> Model for Controller<'a, D, A, R, T> {
-    ghost use Rattle.std.specs.Prelude.{◌≡◌};
     ghost use Rattle.call_history.specs.Values.{PassView};
     ghost use Rattle.archive_lock.specs.declared.history.Made.{Made};
+    ghost use Rattle.serve_core.specs.Seats.{IsLastPass};
 
     ghost Value = { PassView Made };
 
     ghost view = { λ c. c.pass };
 
-    ghost invariant = { λ c. c.pass.table ≡ A.table };
+    ghost invariant = { λ c. IsLastPass A.table c.pass };
 }
 
 impl<'a, D: Disk, A: Naming, R: Wait, T: Teller> Controller<'a, D, A, R, T> {
@@ -53,7 +54,7 @@ impl<'a, D: Disk, A: Naming, R: Wait, T: Teller> Controller<'a, D, A, R, T> {
         socket: &'a UdpSocket,
         pass: Pass<Made>,
     ) -> Controller<'a, D, A, R, T>
-        requires { pass.table ≡ A.table }
+        requires { IsLastPass A.table pass }
         ensures { result ≡ pass }
     {
         Controller {
@@ -69,7 +70,7 @@ impl<'a, D: Disk, A: Naming, R: Wait, T: Teller> Controller<'a, D, A, R, T> {
     /// The pass.
     pub fn into_pass(self) -> Pass<Made>
         ensures same { result ≡ self.entry }
-        ensures named { result.table ≡ A.table }
+        ensures last { IsLastPass A.table result }
     {
         self.pass
     }
@@ -107,8 +108,24 @@ impl<'a, D: Disk, A: Naming, R: Wait, T: Teller> Controller<'a, D, A, R, T> {
 }
 
 /// Whether an accepted call of it makes an entry of the history.
-fn makes_entry(event: &Event) -> bool {
-    matches!(event, Event::Ask(_) | Event::Settle { .. })
+fn makes_entry(event: &Event) -> bool
+    ensures { result ≡ makes_entry event.now }
+{
+    match event {
+        Event::Ask(request) => is_command(request),
+        Event::Settle { .. } => true,
+        _ => false,
+    }
+}
+
+/// Whether a request changes the catalogue, where it is accepted.
+fn is_command(request: &Request) -> bool
+    ensures { result ≡ is_command request.now }
+{
+    !matches!(
+        request,
+        Request::List { .. } | Request::Find(_) | Request::Positions { .. }
+    )
 }
 
 impl<D: Disk, A: Naming, R: Wait, T: Teller> Answerer for Controller<'_, D, A, R, T> {

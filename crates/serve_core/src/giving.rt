@@ -24,7 +24,7 @@ pub(crate) fn give<R: Wait, T: Teller>(
         if !shared.queue.has_room(rt, images.is_full(image)) {
             return true;
         }
-        let Some(block) = images.take_block(image) else {
+        let Ok(Some(block)) = images.take_block(image) else {
             return false;
         };
         put(rt, shared, FedBlock { image, block });
@@ -75,7 +75,7 @@ fn give_rest<R: Wait, T: Teller>(rt: &R, shared: &Shared<T>, images: &mut Images
         if shared.session_of(rt, image).is_none() {
             return;
         }
-        let Some(block) = images.take_block(image) else {
+        let Ok(Some(block)) = images.take_block(image) else {
             return;
         };
         shared.queue.wait_for_room(rt);

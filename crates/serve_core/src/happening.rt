@@ -5,7 +5,7 @@ use frame_core::Refusal;
 use std::fmt;
 use std::net::SocketAddr;
 use stream_pairs::StreamPoint;
-use tool_core::Beginning;
+use tool_core::{Beginning, HistoryUse};
 
 /// What was counted of an image.
 #[derive(Clone, Copy, Debug, PartialEq, Eq)]
@@ -78,13 +78,8 @@ pub enum Happening<'a> {
     LeftReplays(&'a [i64]),
     /// A call was answered by a device fault, the first time.
     DeviceFault,
-    /// How many entries of the history count, and how many may.
-    HistoryUsed {
-        /// How many count.
-        counted: u64,
-        /// How many may.
-        limit: u32,
-    },
+    /// How much of its history the archive has used.
+    HistoryUsed(HistoryUse),
     /// The server ends.
     Ended(Counted),
 }
@@ -136,11 +131,7 @@ impl fmt::Display for Happening<'_> {
             ),
             Happening::LeftReplays(replays) => write_replays(f, replays),
             Happening::DeviceFault => f.write_str("a call was answered by a device fault"),
-            Happening::HistoryUsed { counted, limit } => write!(
-                f,
-                "{counted} of the {limit} entries of the history are used, {} are left",
-                u64::from(*limit).saturating_sub(*counted)
-            ),
+            Happening::HistoryUsed(history) => write!(f, "{history}"),
             Happening::Ended(counted) => write!(f, "ended: {counted}"),
         }
     }

@@ -1,29 +1,24 @@
 //! Images by the order in which they came, and what becomes of a datagram. docs/ARCHITECTURE.md, "Serving".
 
-ghost use Rattle.std.specs.Prelude.{◌≡◌, ◌++◌, ◌∷◌, [], MatchOption};
-ghost use Rattle.image_core.specs.Received.{IsBegun, Received};
-ghost use Rattle.serve_core.specs.Datagrams.{HandlesFrames, Joins, SendsRequest};
+ghost use Rattle.std.specs.Prelude.{◌≡◌, ◌<◌, [], IfErr, IfOk, OnErr, length, slice_get};
+ghost use Rattle.frame_core.specs.FrameEncoding.{frame_of};
+ghost use Rattle.frame_core.specs.Block.{publication_of};
+ghost use Rattle.frame_core.specs.Setup.{IsUsable};
+ghost use Rattle.frame_core.specs.declared.refusal.Refusal.TheVariants.{NoMemory};
+ghost use Rattle.serve_core.specs.Datagrams.{BeginsImage, HandledAt, HandlesFrames, Joins, JoinsBy, LacksBlock, SendsRequest, Takes, TakesNext, TakesFrames, has_block_of, has_publication, image_with, is_full_image, is_full_of, join_point, may_join, publication_told};
 
 use agents_core::DatagramEnd;
 use frame_core::limits::MAX_BLOCK_LENGTH;
-use frame_core::{Block, Publication, Setup, decode_front};
+use frame_core::{Block, FrameRef, Publication, Refusal, Setup, decode_front};
 use image_feed::Feed;
 use std::alloc::Global;
 use std::marker::Model;
 use stream_pairs::{MAX_IMAGES, StreamPoint};
 
-/// What is known of an image beside its feed.
-#[derive(Clone, Copy)]
-struct Known {
-    publication: Publication,
-    mtu: i32,
-}
-
 /// The images, by the order in which they came; at most 64. To a contract they are what each received.
 #[derive(Drop)]
 pub(crate) struct Images {
     alloc: Global,
-    known: Vec<Known>,
     feeds: Vec<Feed>,
 }
 
@@ -39,17 +34,19 @@ impl Model for Images {
 /// What a datagram was.
 #[derive(Clone, Copy)]
 pub(crate) enum Came {
-    /// Nothing that an image took.
+    /// Nothing that an image takes, and no setup frame of a publication that may join.
     Nothing,
     /// The setup frame of a new image, which joined at the point.
     Joined(StreamPoint),
     /// Frames of an image.
     Frames {
-        /// The image's number.
+        /// The image's index.
         image: usize,
         /// What became of them.
         outcome: Offering,
     },
+    /// Frames that their image refused, or the setup frame of an image for which there was no memory.
+    Refused(Refusal),
 }
 
 /// What became of a datagram of an image.
@@ -63,35 +60,45 @@ pub(crate) struct Offering {
 
 impl Images {
     /// No image came.
-    pub fn new(alloc: Global) -> Images {
+    pub fn new(alloc: Global) -> Images
+        ensures { result ≡ [] }
+    {
         Images {
             alloc,
-            known: Vec::new(alloc),
             feeds: Vec::new(alloc),
         }
     }
 
     /// How many images came.
-    pub fn len(&self) -> usize {
+    pub fn len(&self) -> usize
+        ensures { result ≡ length self.now }
+    {
         self.feeds.len()
     }
 
-    fn index_of(&self, publication: &Publication) -> Option<usize> {
-        self.known
-            .iter()
-            .position(|known| known.publication == *publication)
+    /// The index of the image of a publication.
+    fn index_of(&self, publication: &Publication) -> Option<usize>
+        ensures { result ≡ image_with publication.now self.now }
+    {
+        self.feeds.iter().position(|feed| is_of(feed, publication))
     }
 
-    /// Takes a datagram. Frames of an image are offered to it, and then it is asked for what is missing; the setup frame
-    /// of a publication that has no image makes one, where there are fewer than 64 and there is memory. For everything
-    /// else, and for a datagram that its image refuses, nothing is sent.
-    pub fn take_datagram<E: DatagramEnd>(&mut self, end: &mut E, datagram: &[u8]) -> Came {
+    /// Whether an image of a publication may come: it has none, and there are fewer than 64.
+    fn may_join(&self, publication: &Publication) -> bool
+        ensures { result ≡ may_join publication.now self.now }
+    {
+        self.feeds.len() < MAX_IMAGES && self.index_of(publication).is_none()
+    }
+
+    /// Takes a datagram. Frames are offered to the image of the first one's publication, and then it is asked for what is
+    /// missing; the setup frame of a publication that has no image makes one, where there are fewer than 64 and there is
+    /// memory. For everything else, and for a datagram that its image refuses, nothing changes and nothing is sent.
+    pub fn take_datagram<E: DatagramEnd>(&mut self, end: &mut E, datagram: &[u8]) -> Came
+        ensures { Takes E.sends self.old datagram.now end.old self.new end.new result }
+    {
         match decode_front(datagram) {
             Ok((frame, _)) => {
-                let publication = Publication {
-                    session_id: frame.session_id,
-                    stream_id: frame.stream_id,
-                };
+                let publication = publication_of(&frame);
                 self.take_frames(end, &publication, datagram)
             }
             Err(_) => self.take_setup(datagram),
@@ -103,17 +110,24 @@ impl Images {
         end: &mut E,
         publication: &Publication,
         datagram: &[u8],
-    ) -> Came {
-        let alloc = self.alloc;
-        let Some(image) = self.index_of(publication) else {
-            return Came::Nothing;
-        };
-        let Some(feed) = self.feeds.get_mut(image) else {
-            return Came::Nothing;
-        };
-        match offer(alloc, end, feed, datagram) {
-            Some(outcome) => Came::Frames { image, outcome },
+    ) -> Came
+        ensures { TakesFrames E.sends (image_with publication.now self.old) self.old datagram.now end.old self.new end.new result }
+    {
+        match self.index_of(publication) {
+            Some(image) => self.offer_to(end, image, datagram),
             None => Came::Nothing,
+        }
+    }
+
+    /// Offers a datagram to the image of an index.
+    fn offer_to<E: DatagramEnd>(&mut self, end: &mut E, image: usize, datagram: &[u8]) -> Came
+        requires { image < length self.old }
+        ensures { HandledAt E.sends image self.old datagram.now end.old self.new end.new result }
+    {
+        let alloc = self.alloc;
+        match offer(alloc, end, &mut self.feeds[image], datagram) {
+            Ok(outcome) => Came::Frames { image, outcome },
+            Err(refusal) => Came::Refused(refusal),
         }
     }
 
@@ -121,44 +135,46 @@ impl Images {
         ensures { Joins datagram.now self.old self.new result }
     {
         match Setup::decode(datagram) {
-            Ok(setup) => match self.join(&setup) {
-                Some(point) => Came::Joined(point),
-                None => Came::Nothing,
-            },
+            Ok(setup) => self.join(&setup),
             Err(_) => Came::Nothing,
         }
     }
 
     /// Makes an image of a setup frame, where its publication has none, there are fewer than 64, and there is memory.
-    fn join(&mut self, setup: &Setup) -> Option<StreamPoint>
-        ensures { MatchOption result (self.new ≡ self.old)
-            (λ point. (image : Received) × IsBegun setup.now image × (self.new ≡ self.old ++ image ∷ [])) }
+    fn join(&mut self, setup: &Setup) -> Came
+        requires { IsUsable setup.now }
+        ensures { JoinsBy setup.now self.old self.new result }
     {
-        let position = setup.join_position()?;
-        let publication = Publication {
-            session_id: setup.session_id,
-            stream_id: setup.stream_id,
-        };
-        if self.feeds.len() >= MAX_IMAGES || self.index_of(&publication).is_some() {
-            return None;
+        if !self.may_join(&publication_told(setup)) {
+            return Came::Nothing;
         }
-        let feed = Feed::from_setup(self.alloc, setup).ok()?;
-        self.feeds.reserve(1).ok()?;
-        let known = Known {
-            publication,
-            mtu: setup.mtu,
+        match self.begin(setup) {
+            Ok(point) => Came::Joined(point),
+            Err(refusal) => Came::Refused(refusal),
+        }
+    }
+
+    /// One image more, behind the others: where it joined. `NoMemory`.
+    fn begin(&mut self, setup: &Setup) -> Result<StreamPoint, Refusal>
+        requires { IsUsable setup.now }
+        ensures begun { IfOk result (λ point. BeginsImage setup.now self.old point self.new) }
+        ensures refusal { IfErr result (λ refusal. refusal ≡ NoMemory) }
+        ensures same { OnErr result (self.new ≡ self.old) }
+    {
+        let Ok(feed) = Feed::from_setup(self.alloc, setup) else {
+            unreachable!();
         };
-        self.known.push(known).ok()?;
-        self.feeds.push(feed).ok()?;
-        Some(StreamPoint {
-            publication,
-            geometry: setup.geometry(),
-            position,
-        })
+        let point = join_point(&feed);
+        if self.feeds.push(feed).is_err() {
+            return Err(Refusal::NoMemory);
+        }
+        Ok(point)
     }
 
     /// Whether an image has a block to take.
-    pub fn has_block(&self, image: usize) -> bool {
+    pub fn has_block(&self, image: usize) -> bool
+        ensures { result ≡ has_block_of (slice_get self.now image) }
+    {
         match self.feeds.as_slice().get(image) {
             Some(feed) => feed.has_block(),
             None => false,
@@ -166,42 +182,91 @@ impl Images {
     }
 
     /// Whether so much was rebuilt of an image, and not taken, that a block of it is as long as it may be.
-    pub fn is_full(&self, image: usize) -> bool {
-        match (
-            self.feeds.as_slice().get(image),
-            self.known.as_slice().get(image),
-        ) {
-            (Some(feed), Some(known)) => {
-                let waiting = feed.rebuilt().saturating_sub(feed.taken());
-                waiting.saturating_add(i64::from(known.mtu)) > MAX_BLOCK_LENGTH as i64
-            }
-            _ => false,
+    pub fn is_full(&self, image: usize) -> bool
+        ensures { result ≡ is_full_of (slice_get self.now image) }
+    {
+        match self.feeds.as_slice().get(image) {
+            Some(feed) => is_full(feed),
+            None => false,
         }
     }
 
-    /// Takes the next block of an image. None where there is none, or no memory for it.
-    pub fn take_block(&mut self, image: usize) -> Option<Block> {
-        let feed = self.feeds.get_mut(image)?;
-        feed.take_block().unwrap_or(None)
+    /// Takes the next block of an image, if there is one. `NoMemory`; then it stays in the image.
+    pub fn take_block(&mut self, image: usize) -> Result<Option<Block>, Refusal>
+        ensures taken { IfOk result (λ found. TakesNext image self.old found self.new) }
+        ensures lacks { OnErr result (LacksBlock image self.old self.new) }
+        ensures memory { IfErr result (λ refusal. refusal ≡ NoMemory) }
+    {
+        if image >= self.feeds.len() {
+            return Ok(None);
+        }
+        self.feeds[image].take_block()
     }
 }
 
-/// Offers a datagram to an image. None where it is refused, and then nothing changes and nothing is sent; else what is
-/// missing is asked for, as far as the window and the stock have room for it.
+/// The publication that a frame is of.
+fn publication_of(frame: &FrameRef<'_>) -> Publication
+    ensures { result ≡ publication_of (frame_of frame.now) }
+{
+    Publication {
+        session_id: frame.session_id,
+        stream_id: frame.stream_id,
+    }
+}
+
+/// The publication that a setup frame tells of.
+fn publication_told(setup: &Setup) -> Publication
+    ensures { result ≡ publication_told setup.now }
+{
+    Publication {
+        session_id: setup.session_id,
+        stream_id: setup.stream_id,
+    }
+}
+
+/// Whether an image is of a publication.
+fn is_of(feed: &Feed, publication: &Publication) -> bool
+    ensures { result ≡ has_publication publication.now feed.now }
+{
+    let own = feed.publication();
+    own.session_id == publication.session_id && own.stream_id == publication.stream_id
+}
+
+/// Whether so much was rebuilt of an image, and not taken, that a datagram's length more may pass a block's.
+fn is_full(feed: &Feed) -> bool
+    ensures { result ≡ is_full_image feed.now }
+{
+    let most = MAX_BLOCK_LENGTH as i64 - i64::from(feed.geometry().mtu);
+    feed.rebuilt() - feed.taken() > most
+}
+
+/// Where a new image joined.
+fn join_point(feed: &Feed) -> StreamPoint
+    ensures { result ≡ join_point feed.now }
+{
+    StreamPoint {
+        publication: *feed.publication(),
+        geometry: *feed.geometry(),
+        position: feed.taken(),
+    }
+}
+
+/// Offers a datagram to an image. Where it is refused nothing changes and nothing is sent; else what is missing is asked for,
+/// as far as the window and the stock have room for it.
 fn offer<E: DatagramEnd>(
     alloc: Global,
     end: &mut E,
     feed: &mut Feed,
     datagram: &[u8],
-) -> Option<Offering>
+) -> Result<Offering, Refusal>
     ensures { HandlesFrames E.sends feed.old datagram.now end.old feed.new end.new result }
 {
     match feed.offer(alloc, datagram) {
-        Ok(inserted) => Some(Offering {
+        Ok(inserted) => Ok(Offering {
             is_lost: inserted.is_none(),
             has_asked: request(end, feed),
         }),
-        Err(_) => None,
+        Err(refusal) => Err(refusal),
     }
 }
 

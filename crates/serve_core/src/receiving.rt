@@ -53,7 +53,7 @@ fn take<R: Wait, T: Teller>(
     }
     shared.counts.datagrams.add(1);
     match images.take_datagram(end, datagram) {
-        Came::Nothing => {}
+        Came::Nothing | Came::Refused(_) => {}
         Came::Joined(point) => note_joined(rt, shared, point, end.sender()),
         Came::Frames { image, outcome } => {
             count(shared, image, outcome);

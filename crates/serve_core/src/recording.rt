@@ -1,5 +1,8 @@
 //! The thread that records. docs/ARCHITECTURE.md, "Serving".
 
+ghost use Rattle.std.specs.Prelude.{◌≡◌, IfSome, None, Some, replicate, slice_index_or, slice_set};
+ghost use Rattle.serve_core.specs.Recording.{first_term, written_more};
+
 use crate::queue::FedBlock;
 use crate::seats::Seats;
 use crate::shared::Shared;
@@ -32,26 +35,35 @@ struct Unsettled {
 }
 
 impl Unsettled {
-    fn new() -> Unsettled {
+    fn new() -> Unsettled
+        ensures { result.of_sessions ≡ replicate 64 None }
+    {
         Unsettled {
             of_sessions: [None; FED_SESSIONS],
         }
     }
 
-    fn of(&self, session: usize) -> Option<Written> {
+    fn of(&self, session: usize) -> Option<Written>
+        ensures { result ≡ slice_index_or self.now.of_sessions session None }
+    {
         match self.of_sessions.get(session) {
             Some(written) => *written,
             None => None,
         }
     }
 
-    fn set(&mut self, session: usize, written: Option<Written>) {
+    fn set(&mut self, session: usize, written: Option<Written>)
+        ensures { self.new.of_sessions ≡ slice_set self.old.of_sessions session written }
+    {
         if session < FED_SESSIONS {
             self.of_sessions[session] = written;
         }
     }
 
-    fn add(&mut self, session: usize, image: usize, term_id: i32, bytes: u64) {
+    fn add(&mut self, session: usize, image: usize, term_id: i32, bytes: u64)
+        ensures { self.new.of_sessions ≡ slice_set self.old.of_sessions session
+            (Some (written_more image term_id bytes (slice_index_or self.old.of_sessions session None))) }
+    {
         let before = match self.of(session) {
             Some(written) => written.bytes,
             None => 0,
@@ -204,7 +216,9 @@ fn settle<D: Disk, A: Naming, R: Wait, T: Teller>(
 }
 
 /// The term of a block's frames.
-fn term_of(block: &Block) -> i32 {
+fn term_of(block: &Block) -> i32
+    ensures { result ≡ first_term block.now.frames }
+{
     match block.frames.as_slice().first() {
         Some(frame) => frame.term_id,
         None => 0,
@@ -212,7 +226,9 @@ fn term_of(block: &Block) -> i32 {
 }
 
 /// A copy of a block. None where there is no memory for it.
-fn copy_of(alloc: Global, block: &Block) -> Option<Block> {
+fn copy_of(alloc: Global, block: &Block) -> Option<Block>
+    ensures { IfSome result (λ copy. copy ≡ block.now) }
+{
     let mut frames = Items::new(alloc);
     for frame in block.frames.as_slice() {
         frames.push(frame.as_ref().to_frame(alloc).ok()?).ok()?;

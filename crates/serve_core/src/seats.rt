@@ -1,10 +1,10 @@
 //! The seats of the recorder sessions that images feed. docs/ARCHITECTURE.md, "Followers".
 
-ghost use Rattle.std.specs.Prelude.{◌≡◌, ◌≤◌, ◌+◌, [], vec_capacity, vec_len};
-ghost use Rattle.archive_model.specs.Keyed.{Each};
-ghost use Rattle.call_history.specs.Passes.{AllOfTable};
+ghost use Rattle.std.specs.Prelude.{◌≡◌, ◌≤◌, ◌<◌, ◌+◌, [], pos, vec_capacity, vec_len};
+ghost use Rattle.agents_core.specs.Seat.{raised_positions};
+ghost use Rattle.call_history.specs.Passes.{AllOfTable, new_passes};
 ghost use Rattle.position_board.specs.Positions.{new_writers};
-ghost use Rattle.serve_core.specs.Seats.{IsNewWriter, IsOfTable};
+ghost use Rattle.serve_core.specs.Seats.{AreAllPasses, AreNewWriters, AreNumbered, CallsAt, HasFrom, IsLastPass, SettlesSession, WritesBlock};
 
 use agents_core::RecorderSeat;
 use archive_lock::{Made, Naming, SharedArchive};
@@ -21,8 +21,8 @@ use stream_pairs::FED_SESSIONS;
 /// Passes that a served archive has: one for control lines, and one for each recorder session that images feed.
 pub(crate) const PASSES: usize = 65;
 
-/// A board, and a seat for each recorder session that images feed, by its number. To a contract it is the board; the passes
-/// of its seats are the archive's.
+/// A board, and a seat for each recorder session that images feed, by its number, which is its pass's number too. To a
+/// contract it is the board and the seats; their passes are the archive's.
 #[derive(Drop)]
 pub(crate) struct Seats<A: Naming> {
     board: Board,
@@ -33,17 +33,15 @@ pub(crate) struct Seats<A: Naming> {
 }
 
 impl<A: Naming> Model for Seats<A> {
-    ghost use Rattle.std.specs.Prelude.{◌≡◌, ◌+◌, ◌≤◌, [], vec_capacity, vec_len};
-    ghost use Rattle.atomic_table.specs.Seated.{TableId};
-    ghost use Rattle.archive_model.specs.Keyed.{Each};
-    ghost use Rattle.serve_core.specs.Seats.{IsSeat};
+    ghost use Rattle.std.specs.Prelude.{◌≡◌, ◌≤◌, [], vec_capacity, vec_len};
+    ghost use Rattle.serve_core.specs.Seats.{AreSeats, SeatsView};
 
-    ghost Value = { TableId };
+    ghost Value = { SeatsView };
 
-    ghost view = { λ s. s.board };
+    ghost view = { λ s. record { board = s.board; seats = s.seats.items } };
 
-    ghost invariant = { λ s. Each (IsSeat A.table s.board) s.seats.items
-        × (s.room.items ≡ []) × (vec_len s.seats + 1 ≤ vec_capacity s.room) };
+    ghost invariant = { λ s. AreSeats A.table s.board 0 s.seats.items × (vec_len s.seats ≡ 64)
+        × (s.room.items ≡ []) × (65 ≤ vec_capacity s.room) };
 }
 
 /// A board with its writers, and room for seats and passes: all that seats take memory for. To a contract it is the board.
@@ -56,23 +54,22 @@ pub(crate) struct Benches {
 }
 
 impl Model for Benches {
-    ghost use Rattle.std.specs.Prelude.{◌≡◌, ◌≤◌, ◌+◌, [], vec_capacity, vec_len};
+    ghost use Rattle.std.specs.Prelude.{◌≡◌, ◌≤◌, [], vec_capacity, vec_len};
     ghost use Rattle.atomic_table.specs.Seated.{TableId};
-    ghost use Rattle.archive_model.specs.Keyed.{Each};
-    ghost use Rattle.serve_core.specs.Seats.{IsNewWriter};
+    ghost use Rattle.serve_core.specs.Seats.{AreNewWriters};
 
     ghost Value = { TableId };
 
     ghost view = { λ b. b.board };
 
-    ghost invariant = { λ b. Each (IsNewWriter b.board) b.writers.items
-        × (vec_len b.writers ≤ 64) × (b.seats.items ≡ []) × (64 ≤ vec_capacity b.seats)
+    ghost invariant = { λ b. AreNewWriters b.board 0 b.writers.items
+        × (vec_len b.writers ≡ 64) × (b.seats.items ≡ []) × (64 ≤ vec_capacity b.seats)
         × (b.room.items ≡ []) × (65 ≤ vec_capacity b.room) };
 }
 
 impl Benches {
     /// Benches for the sessions of the numbers 0 to 63, with slots that start at 0, and no reader.
-    #[tactic(auto, using(crate::proofs::SeatLemmas::new_are_new, crate::proofs::SeatLemmas::few_new))]
+    #[tactic(auto, using(crate::proofs::SeatLemmas::count_new))]
     pub fn new(alloc: Global) -> Result<Benches, Refusal> {
         let starts = [0; FED_SESSIONS];
         let (board, writers, _) = Board::new(alloc, &starts, 0)?;
@@ -90,7 +87,7 @@ impl Benches {
         starts: &[i64],
     ) -> Benches
         requires writers { writers.items ≡ new_writers board 0 starts.now }
-        requires few { vec_len writers ≤ 64 }
+        requires count { vec_len writers ≡ 64 }
         requires seats { (seats.items ≡ []) × (64 ≤ vec_capacity seats) }
         requires room { (room.items ≡ []) × (65 ≤ vec_capacity room) }
     {
@@ -104,8 +101,8 @@ impl Benches {
         seats: Vec<RecorderSeat>,
         room: Vec<Pass<Made>>,
     ) -> Benches
-        requires writers { Each (IsNewWriter board) writers.items }
-        requires few { vec_len writers ≤ 64 }
+        requires writers { AreNewWriters board 0 writers.items }
+        requires count { vec_len writers ≡ 64 }
         requires seats { (seats.items ≡ []) × (64 ≤ vec_capacity seats) }
         requires room { (room.items ≡ []) × (65 ≤ vec_capacity room) }
     {
@@ -117,10 +114,10 @@ impl Benches {
         }
     }
 
-    /// A seat for each session, with the last of these passes each. Takes no memory.
-    #[tactic(auto, using(crate::proofs::SeatLemmas::each_push, crate::proofs::SeatLemmas::each_front, crate::proofs::SeatLemmas::each_last, crate::proofs::SeatLemmas::all_front, crate::proofs::SeatLemmas::all_last, crate::proofs::SeatLemmas::each_reverse))]
+    /// A seat for each session, with the pass of its number. Does not allocate.
     pub fn seated<A: Naming>(self, mut passes: Vec<Pass<Made>>) -> Seats<A>
-        requires { AllOfTable A.table passes.items }
+        requires { passes.items ≡ new_passes A.table 64 }
+        ensures { result.board ≡ self }
     {
         let Benches {
             board,
@@ -128,13 +125,12 @@ impl Benches {
             mut seats,
             room,
         } = self;
-        let mut session = FED_SESSIONS as i64;
         while let Some(writer) = writers.pop() {
             let Some(pass) = passes.pop() else {
-                break;
+                unreachable!();
             };
-            session = session.wrapping_sub(1);
-            seats.push_reserved(RecorderSeat::new(session, pass, writer));
+            let number = writers.len();
+            seats.push_reserved(seat_of(number, pass, writer));
         }
         seats.reverse();
         Seats {
@@ -146,9 +142,17 @@ impl Benches {
     }
 }
 
+/// The seat of the session of a number.
+fn seat_of(number: usize, pass: Pass<Made>, writer: Writer) -> RecorderSeat
+    requires small { number < 64 }
+    requires none { raised_positions writer ≡ [] }
+    ensures { result ≡ record { session = pos number; pass = pass; writer = writer } }
+{
+    RecorderSeat::new(number as i64, pass, writer)
+}
+
 impl<A: Naming> Seats<A> {
     /// Writes a block for a session, as `RecorderSeat::write`. `StaleSession` where it has no seat.
-    #[tactic(auto, using(crate::proofs::SeatLemmas::each_at, crate::proofs::SeatLemmas::each_set))]
     pub fn write<D: Disk, R: Wait>(
         &mut self,
         rt: &R,
@@ -156,33 +160,36 @@ impl<A: Naming> Seats<A> {
         archive: &SharedArchive<D, A>,
         session: usize,
         block: Block,
-    ) -> Result<Reply, Refusal> {
-        match self.seats.get_mut(session) {
-            Some(seat) => seat.write(rt, alloc, archive, block),
-            None => Err(Refusal::StaleSession),
+    ) -> Result<Reply, Refusal>
+        ensures { CallsAt session self.old result self.new (WritesBlock A.opening block) }
+    {
+        if session >= self.seats.len() {
+            return Err(Refusal::StaleSession);
         }
+        self.seats[session].write(rt, alloc, archive, block)
     }
 
     /// Settles a session, and raises its slot, as `RecorderSeat::settle`. `StaleSession` where it has no seat.
-    #[tactic(auto, using(crate::proofs::SeatLemmas::each_at, crate::proofs::SeatLemmas::each_set, crate::proofs::SeatLemmas::settled_seat))]
     pub fn settle<D: Disk, R: Wait>(
         &mut self,
         rt: &R,
         alloc: Global,
         archive: &SharedArchive<D, A>,
         session: usize,
-    ) -> Result<i64, Refusal> {
-        match self.seats.get_mut(session) {
-            Some(seat) => seat.settle(rt, alloc, archive, &self.board),
-            None => Err(Refusal::StaleSession),
+    ) -> Result<i64, Refusal>
+        ensures { CallsAt session self.old result self.new (SettlesSession A.opening) }
+    {
+        if session >= self.seats.len() {
+            return Err(Refusal::StaleSession);
         }
+        self.seats[session].settle(rt, alloc, archive, &self.board)
     }
 
-    /// The passes of all seats, and another one. Takes no memory.
-    #[tactic(auto, using(crate::proofs::SeatLemmas::each_of_table))]
+    /// The passes of all seats, and the control thread's: all of the archive's. Does not allocate.
+    #[tactic(auto, using(crate::proofs::SeatLemmas::are_numbered, crate::proofs::SeatLemmas::last_of_all))]
     pub fn into_passes(self, pass: Pass<Made>) -> Vec<Pass<Made>>
-        requires { pass.table ≡ A.table }
-        ensures { AllOfTable A.table result.items }
+        requires { IsLastPass A.table pass }
+        ensures { AreAllPasses A.table result.items }
     {
         let Seats {
             board: _,
@@ -196,12 +203,13 @@ impl<A: Naming> Seats<A> {
 }
 
 /// Passes, and those of seats behind them, for which there is room.
-#[tactic(auto, using(crate::proofs::SeatLemmas::each_front, crate::proofs::SeatLemmas::each_last, crate::proofs::SeatLemmas::all_push))]
+#[tactic(auto, using(crate::proofs::SeatLemmas::all_from))]
 fn passes_of<A: Naming>(mut seats: Vec<RecorderSeat>, mut room: Vec<Pass<Made>>) -> Vec<Pass<Made>>
-    requires seats { Each (IsOfTable A.table) seats.items }
+    requires seats { AreNumbered A.table 0 seats.items }
     requires passes { AllOfTable A.table room.items }
+    requires others { HasFrom (vec_len seats) room.items }
     requires fits { vec_len seats + vec_len room ≤ vec_capacity room }
-    ensures { AllOfTable A.table result.items }
+    ensures { AreAllPasses A.table result.items }
 {
     while let Some(seat) = seats.pop() {
         let (pass, _) = seat.into_parts();

@@ -1,10 +1,11 @@
 //! The archive of a disk behind a control listener and a socket of datagrams. docs/SERVING.md.
 
-ghost use Rattle.std.specs.Prelude.{◌≡◌, [], Err, false, IfErr, IfOk, IsOk, MatchResult};
+ghost use Rattle.std.specs.Prelude.{◌≡◌, [], Err, false, if◌then◌else◌, IfErr, IfOk, IsOk, MatchResult};
 ghost use Rattle.archive_lock.specs.Held.{engine_seen, view_of};
-ghost use Rattle.call_history.specs.Passes.{AllOfTable};
 ghost use Rattle.engine_core.specs.Seen.{seen};
 ghost use Rattle.tool_core.specs.Archives.{disk_of, early_end_of};
+ghost use Rattle.tool_core.specs.declared.fault.EarlyEnd.TheVariants.{Read};
+ghost use Rattle.serve_core.specs.Seats.{AreAllPasses, IsLastPass};
 ghost use Rattle.serve_core.specs.Serving.{EndsHistory, EndsOrLacks, EndsUpTo, IsServed, IsServedUpTo};
 
 use crate::answering::Controller;
@@ -39,6 +40,18 @@ const LONGEST_DATAGRAM: usize = 65_536;
 
 /// Milliseconds for which the thread that receives sleeps at most.
 const DOZE: u64 = 100;
+
+/// What all of a server works with: the end that lines come by, the one that datagrams come by, and what its threads share.
+#[derive(Drop)]
+struct Serving<'a, R, T> {
+    rt: &'a R,
+    alloc: Global,
+    listener: &'a TcpListener,
+    socket: &'a UdpSocket,
+    /// For how long a client may be idle while another waits.
+    idle: Duration,
+    shared: &'a Shared<T>,
+}
 
 /// What threads work with, beside what they share.
 #[derive(Drop)]
@@ -121,11 +134,16 @@ pub fn serve_with<
         Ok(found) => found,
         Err(disk) => return Err(ScriptFault::Memory(disk)),
     };
-    let idle = Duration::from_secs(options.idle_seconds);
-    begin(&listener, &socket, &shared, beginning);
-    let (disk, end) = serve_archive(
-        rt, alloc, &listener, &socket, idle, &shared, tools, benches, archive,
-    );
+    let serving = Serving {
+        rt,
+        alloc,
+        listener: &listener,
+        socket: &socket,
+        idle: Duration::from_secs(options.idle_seconds),
+        shared: &shared,
+    };
+    begin(&serving, beginning);
+    let (disk, end) = serve_archive(&serving, tools, benches, archive);
     shared.tell_end();
     handed_back(disk, end)
 }
@@ -136,12 +154,7 @@ fn serve_archive<
     D: Disk + Drop + Send,
     T: Teller + Drop + Send + Sync,
 >(
-    rt: &R,
-    alloc: Global,
-    listener: &TcpListener,
-    socket: &UdpSocket,
-    idle: Duration,
-    shared: &Shared<T>,
+    with: &Serving<'_, R, T>,
     tools: Tools,
     benches: Benches,
     archive: ScriptArchive<D>,
@@ -149,11 +162,9 @@ fn serve_archive<
     ensures { EndsUpTo D.life archive (D.life result.0) result.1 }
 {
     match archive {
-        ScriptArchive::Open(engine) => serve_open(
-            rt, alloc, listener, socket, idle, shared, tools, benches, engine,
-        ),
+        ScriptArchive::Open(engine) => serve_open(with, tools, benches, engine),
         ScriptArchive::Closed(disk) => {
-            let end = serve_closed(rt, alloc, listener, socket, idle, shared, tools);
+            let end = serve_closed(with, tools);
             (disk, end)
         }
     }
@@ -172,16 +183,12 @@ fn handed_back<D>(disk: D, end: Result<(), EarlyEnd>) -> Result<D, ScriptFault<D
 }
 
 /// Tells where the server is, and how its archive began.
-fn begin<T: Teller>(
-    listener: &TcpListener,
-    socket: &UdpSocket,
-    shared: &Shared<T>,
-    beginning: Beginning,
-) {
-    if let (Ok(control), Ok(receive)) = (listener.local_addr(), socket.local_addr()) {
-        shared.tell(&Happening::Bound { control, receive });
+fn begin<R, T: Teller>(with: &Serving<'_, R, T>, beginning: Beginning) {
+    let ends = (with.listener.local_addr(), with.socket.local_addr());
+    if let (Ok(control), Ok(receive)) = ends {
+        with.shared.tell(&Happening::Bound { control, receive });
     }
-    shared.tell(&Happening::Began(beginning));
+    with.shared.tell(&Happening::Began(beginning));
 }
 
 /// Serves an archive that is open: how that ended, and the disk.
@@ -191,50 +198,39 @@ fn serve_open<
     D: Disk + Drop + Send,
     T: Teller + Drop + Send + Sync,
 >(
-    rt: &R,
-    alloc: Global,
-    listener: &TcpListener,
-    socket: &UdpSocket,
-    idle: Duration,
-    shared: &Shared<T>,
+    with: &Serving<'_, R, T>,
     tools: Tools,
     benches: Benches,
     engine: Engine<D>,
 ) -> (D, Result<(), EarlyEnd>)
     ensures { EndsOrLacks (D.life engine.storage.disk) (seen D.life engine) false (D.life result.0) result.1 }
 {
-    let Ok(opened) = Opened::new(alloc, false) else {
+    let Ok(opened) = Opened::new(with.alloc, false) else {
         return (engine.into_disk(), Err(EarlyEnd::Memory));
     };
-    serve_named::<D, Brand, R, T>(
-        rt, alloc, listener, socket, idle, shared, tools, benches, opened, engine,
-    )
+    serve_named::<D, Brand, R, T>(with, tools, benches, opened, engine)
 }
 
-#[tactic(auto, using(crate::proofs::SeatLemmas::all_new))]
+#[tactic(auto, using(crate::proofs::SeatLemmas::passes_last, crate::proofs::SeatLemmas::some_passes))]
 fn serve_named<
     D: Disk + Drop + Send,
     A: Naming + Send + Sync,
     R: Threads + Wait + Clock + Sync,
     T: Teller + Drop + Send + Sync,
 >(
-    rt: &R,
-    alloc: Global,
-    listener: &TcpListener,
-    socket: &UdpSocket,
-    idle: Duration,
-    shared: &Shared<T>,
+    with: &Serving<'_, R, T>,
     tools: Tools,
     benches: Benches,
     opened: Opened<Made>,
     engine: Engine<D>,
 ) -> (D, Result<(), EarlyEnd>)
     requires named { opened.table ≡ A.table }
+    requires counts { A.passes ≡ 65 }
     requires stores { opened.keeps ≡ A.keeps }
     requires opens { engine_seen D.life (view_of engine []) ≡ A.opening }
     ensures { EndsOrLacks (D.life engine.storage.disk) A.opening A.keeps (D.life result.0) result.1 }
 {
-    let made = SharedArchive::<D, A>::new(alloc, opened, engine, PASSES as u64);
+    let made = SharedArchive::<D, A>::new(with.alloc, opened, engine, PASSES as u64);
     let (archive, mut passes) = match made {
         Ok(made) => made,
         Err(refused) => return (refused.engine.into_disk(), Err(EarlyEnd::Memory)),
@@ -242,11 +238,11 @@ fn serve_named<
     let Some(pass) = passes.pop() else {
         unreachable!();
     };
+    let (counted, limit) = archive.counted(with.rt);
+    with.shared.note_history(counted, limit);
     let seats = benches.seated::<A>(passes);
-    let (passes, end) = serve_shared(
-        rt, alloc, listener, socket, idle, shared, tools, &archive, pass, seats,
-    );
-    (closed(rt, archive, passes), end)
+    let (passes, end) = serve_shared(with, tools, &archive, pass, seats);
+    (closed(archive, passes), end)
 }
 
 /// Serves an archive by three threads: all its passes, and how that ended.
@@ -256,53 +252,52 @@ fn serve_shared<
     R: Threads + Wait + Clock + Sync,
     T: Teller + Drop + Send + Sync,
 >(
-    rt: &R,
-    alloc: Global,
-    listener: &TcpListener,
-    socket: &UdpSocket,
-    idle: Duration,
-    shared: &Shared<T>,
+    with: &Serving<'_, R, T>,
     tools: Tools,
     archive: &SharedArchive<D, A>,
     pass: Pass<Made>,
     seats: Seats<A>,
 ) -> (Vec<Pass<Made>>, Result<(), EarlyEnd>)
-    requires { pass.table ≡ A.table }
-    ensures { AllOfTable A.table result.0.items }
+    requires { IsLastPass A.table pass }
+    ensures { AreAllPasses A.table result.0.items }
 {
     let Tools {
         images,
         buffer,
         batch,
     } = tools;
+    let Serving {
+        rt,
+        socket,
+        shared,
+        ..
+    } = with;
     thread::scope(
         thread::scope_env(),
-        rt,
+        *rt,
         |scope| -> (Vec<Pass<Made>>, Result<(), EarlyEnd>)
-            requires { pass.table ≡ A.table }
-            ensures { AllOfTable A.table result.0.items }
+            requires { IsLastPass A.table pass }
+            ensures { AreAllPasses A.table result.0.items }
         {
-            let recorder = match scope.spawn(move || record(
-                rt, alloc, archive, shared, socket, seats, batch,
-            )) {
+            let recorder = match scope.spawn(move || record(with, archive, seats, batch)) {
                 Ok(recorder) => recorder,
                 Err(refused) => {
                     // It has nothing to record, and gives back the seats.
-                    shared.queue.end(rt);
+                    shared.queue.end(*rt);
                     let seats = (refused.value)();
                     return (seats.into_passes(pass), Err(EarlyEnd::Memory));
                 }
             };
-            let receiver = scope.spawn(move || receive(rt, shared, socket, images, buffer));
+            let receiver = scope.spawn(move || receive(with, images, buffer));
             let Ok(receiver) = receiver else {
-                shared.queue.end(rt);
-                return (recorder.join(rt).into_passes(pass), Err(EarlyEnd::Memory));
+                shared.queue.end(*rt);
+                return (recorder.join(*rt).into_passes(pass), Err(EarlyEnd::Memory));
             };
-            let (pass, served) = control(rt, alloc, listener, socket, idle, shared, archive, pass);
+            let (pass, served) = control(with, archive, pass);
             shared.end(socket);
-            let is_whole = receiver.join(rt);
+            let is_whole = receiver.join(*rt);
             (
-                recorder.join(rt).into_passes(pass),
+                recorder.join(*rt).into_passes(pass),
                 ended_by(served, is_whole),
             )
         },
@@ -311,12 +306,7 @@ fn serve_shared<
 
 /// Serves lines alone, and receives datagrams that no session has.
 fn serve_closed<R: Threads + Wait + Clock + Sync, T: Teller + Drop + Send + Sync>(
-    rt: &R,
-    alloc: Global,
-    listener: &TcpListener,
-    socket: &UdpSocket,
-    idle: Duration,
-    shared: &Shared<T>,
+    with: &Serving<'_, R, T>,
     tools: Tools,
 ) -> Result<(), EarlyEnd> {
     let Tools {
@@ -324,33 +314,30 @@ fn serve_closed<R: Threads + Wait + Clock + Sync, T: Teller + Drop + Send + Sync
         buffer,
         batch: _,
     } = tools;
-    thread::scope(thread::scope_env(), rt, |scope| {
-        let receiver = scope.spawn(move || receive(rt, shared, socket, images, buffer));
+    thread::scope(thread::scope_env(), with.rt, |scope| {
+        let receiver = scope.spawn(move || receive(with, images, buffer));
         let Ok(receiver) = receiver else {
             return Err(EarlyEnd::Memory);
         };
-        let (_, served) = serve_lines(rt, alloc, listener, idle, shared, Unopened);
-        shared.end(socket);
-        ended_by(served, receiver.join(rt))
+        let (_, served) = serve_lines(with, Unopened);
+        with.shared.end(with.socket);
+        ended_by(served, receiver.join(with.rt))
     })
 }
 
 /// Records until no more blocks come. The seats.
-fn record<'x, D: Disk, A: Naming, R: Wait, T: Teller>(
-    rt: &'x R,
-    alloc: Global,
-    archive: &'x SharedArchive<D, A>,
-    shared: &'x Shared<T>,
-    socket: &'x UdpSocket,
+fn record<D: Disk, A: Naming, R: Wait, T: Teller>(
+    with: &Serving<'_, R, T>,
+    archive: &SharedArchive<D, A>,
     mut seats: Seats<A>,
     mut batch: VecDeque<FedBlock>,
 ) -> Seats<A> {
     let recording = Recording {
-        rt,
-        alloc,
+        rt: with.rt,
+        alloc: with.alloc,
         archive,
-        shared,
-        socket,
+        shared: with.shared,
+        socket: with.socket,
     };
     record_all(&recording, &mut seats, &mut batch);
     seats
@@ -358,59 +345,56 @@ fn record<'x, D: Disk, A: Naming, R: Wait, T: Teller>(
 
 /// Receives until the server ends, and ends it where no more can be received. Whether more could be.
 fn receive<R: Wait, T: Teller>(
-    rt: &R,
-    shared: &Shared<T>,
-    socket: &UdpSocket,
+    with: &Serving<'_, R, T>,
     mut images: Images,
     mut buffer: Vec<u8>,
 ) -> bool {
+    let Serving {
+        rt,
+        socket,
+        shared,
+        ..
+    } = with;
     let is_timed = socket
         .set_read_timeout(Some(Duration::from_millis(DOZE)))
         .is_ok();
-    let is_whole = is_timed && receive_all(rt, shared, socket, &mut images, buffer.as_mut_slice());
+    let is_whole = is_timed && receive_all(*rt, shared, socket, &mut images, buffer.as_mut_slice());
     if !is_whole {
         shared.end(socket);
     }
-    shared.queue.end(rt);
+    shared.queue.end(*rt);
     is_whole
 }
 
 /// Answers lines by a pass of the archive, until one quits: the pass, and how that ended.
 fn control<'x, D: Disk + Drop, A: Naming, R: Wait + Clock, T: Teller>(
-    rt: &'x R,
-    alloc: Global,
-    listener: &'x TcpListener,
-    socket: &'x UdpSocket,
-    idle: Duration,
-    shared: &'x Shared<T>,
+    with: &'x Serving<'x, R, T>,
     archive: &'x SharedArchive<D, A>,
     pass: Pass<Made>,
 ) -> (Pass<Made>, Result<(), EarlyEnd>)
-    requires { pass.table ≡ A.table }
-    ensures { result.0.table ≡ A.table }
+    requires { IsLastPass A.table pass }
+    ensures { IsLastPass A.table result.0 }
 {
-    let controller = Controller::new(rt, alloc, archive, shared, socket, pass);
-    let (controller, served) = serve_lines(rt, alloc, listener, idle, shared, controller);
+    let controller = Controller::new(with.rt, with.alloc, archive, with.shared, with.socket, pass);
+    let (controller, served) = serve_lines(with, controller);
     (controller.into_pass(), served)
 }
 
 /// Serves connections, one after another, until a line quits. `Read` where the listener fails, or the server ends otherwise.
 fn serve_lines<'x, R: Wait + Clock, T: Teller, S: Server + Drop>(
-    rt: &'x R,
-    alloc: Global,
-    listener: &'x TcpListener,
-    idle: Duration,
-    shared: &'x Shared<T>,
+    with: &'x Serving<'x, R, T>,
     server: S,
 ) -> (S, Result<(), EarlyEnd>) {
-    if listener.set_nonblocking(true).is_err() {
+    if with.listener.set_nonblocking(true).is_err() {
         return (server, Err(EarlyEnd::Read));
     }
-    let door = Door::new(listener);
-    serve_connections(rt, alloc, shared, &door, idle, server)
+    let door = Door::new(with.listener);
+    serve_connections(with.rt, with.alloc, with.shared, &door, with.idle, server)
 }
 
-fn ended_by(served: Result<(), EarlyEnd>, is_whole: bool) -> Result<(), EarlyEnd> {
+fn ended_by(served: Result<(), EarlyEnd>, is_whole: bool) -> Result<(), EarlyEnd>
+    ensures { result ≡ (if is_whole then served else Err Read) }
+{
     if is_whole {
         served
     } else {
@@ -418,24 +402,15 @@ fn ended_by(served: Result<(), EarlyEnd>, is_whole: bool) -> Result<(), EarlyEnd
     }
 }
 
-/// The disk of an archive that is closed with all its passes. Where a call were of none of them, it would wait for ever.
+/// The disk of an archive that is closed with all its passes.
 #[tactic(auto, using(crate::proofs::ServingLemmas::ends_history))]
-fn closed<D: Disk + Drop, A: Naming, R: Wait>(
-    rt: &R,
-    archive: SharedArchive<D, A>,
-    passes: Vec<Pass<Made>>,
-) -> D
-    requires { AllOfTable A.table passes.items }
+fn closed<D: Disk + Drop, A: Naming>(archive: SharedArchive<D, A>, passes: Vec<Pass<Made>>) -> D
+    requires counts { A.passes ≡ 65 }
+    requires all { AreAllPasses A.table passes.items }
     ensures { EndsHistory A.opening A.keeps (D.life result) }
 {
     match archive.close(passes) {
         Ok(Closed { engine, .. }) => engine.into_disk(),
-        Err(_) => {
-            // All passes were given, so no call is of another; but no clause says so, and without them there is no disk.
-            for _ in rt.forever() {
-                thread::yield_now();
-            }
-            unreachable!()
-        }
+        Err(_) => unreachable!(),
     }
 }

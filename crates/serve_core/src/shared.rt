@@ -13,6 +13,7 @@ use std::net::UdpSocket;
 use std::sync::atomic::{AtomicBool, AtomicU8, Ordering};
 use std::sync::{Mutex, Wait};
 use stream_pairs::{FED_SESSIONS, MAX_IMAGES, Pairs, StreamPoint};
+use tool_core::HistoryUse;
 
 /// What the threads share. A method takes one lock at most, and tells what happened when it has none.
 #[derive(Drop)]
@@ -119,9 +120,10 @@ impl<T: Teller> Shared<T> {
 
     /// So many entries of the history count, and so many may: told at 90, 95 and 99 hundredths, each once.
     pub fn note_history(&self, counted: u64, limit: u32) {
-        let level = level_of(counted, limit);
+        let history = HistoryUse { counted, limit };
+        let level = history.level();
         if level > 0 && self.history.fetch_max(level, Ordering::SeqCst) < level {
-            self.tell(&Happening::HistoryUsed { counted, limit });
+            self.tell(&Happening::HistoryUsed(history));
         }
     }
 
@@ -177,20 +179,5 @@ impl<T: Teller> Shared<T> {
 fn wake(socket: &UdpSocket) {
     if let Ok(address) = socket.local_addr() {
         let _ = socket.send_to(&[], address);
-    }
-}
-
-/// 0, or how many hundredths of the history's limit were reached: 90, 95 or 99.
-fn level_of(counted: u64, limit: u32) -> u8 {
-    let limit = u64::from(limit);
-    let reached = |hundredths: u64| counted.saturating_mul(100) >= limit.saturating_mul(hundredths);
-    if reached(99) {
-        99
-    } else if reached(95) {
-        95
-    } else if reached(90) {
-        90
-    } else {
-        0
     }
 }

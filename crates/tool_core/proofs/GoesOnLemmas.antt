@@ -14,7 +14,7 @@ use Rattle.tool_core.specs.declared.archive.ScriptArchive.{ScriptArchive}
 use Rattle.tool_core.specs.declared.archive.ScriptArchive.TheVariants.{Open, Closed}
 use Rattle.tool_core.specs.declared.state.ScriptState.{ScriptState}
 use Rattle.tool_core.specs.Answering.{IsAnswer, LineIs, ThenSettles, WritesBytes, WritesRead}
-use Rattle.tool_core.specs.Archives.{CallsEngine, OpensDisk, archive_ways, life_of}
+use Rattle.tool_core.specs.Archives.{CallsEngine, CompactsArchive, CompactsDisk, HasCompacted, OpensDisk, archive_ways, life_of}
 
 pub no_calls : (life : Life) → DiskGoesOn life life
 no_calls life = record { obeyed = λ obeys. obeys; faults = omega arith }
@@ -58,13 +58,28 @@ module _ {D : Type 0} (life : D → Life) where
   settles_go_on session (Ok reply) mid outcome new settled = calls_go_on (events.Settle session) mid outcome new settled
   settles_go_on session (Err refusal) mid outcome new settled = same_goes mid new settled.1
 
+  done_goes_on : (old new : Life) → HasCompacted life old new → DiskGoesOn old new
+  done_goes_on old new compacted = goes_further old (life compacted.engine.storage.disk) new compacted.opened.goes_on compacted.anew.goes_on
+
+  disk_goes_on : (old : Life) (outcome : Result Reply Refusal) (new : ScriptArchive D) → CompactsDisk life old outcome new → DiskGoesOn old (life_of life new)
+  disk_goes_on old (Ok reply) (Open engine) (is, disk, compacted, stopped, opens) = goes_further old (life disk) (life engine.storage.disk) (done_goes_on old (life disk) compacted) opens.goes_on
+  disk_goes_on old (Ok reply) (Closed back) compacts = absurd compacts
+  disk_goes_on old (Err refusal) (Open engine) compacts = absurd compacts
+  disk_goes_on old (Err refusal) (Closed back) (inl (inl closed)) = closed.goes_on
+  disk_goes_on old (Err refusal) (Closed back) (inl (inr refuses)) = goes_further old (life refuses.engine.storage.disk) (life back) refuses.opened.goes_on refuses.refused.goes_on
+  disk_goes_on old (Err refusal) (Closed back) (inr (disk, compacted, closed)) = goes_further old (life disk) (life back) (done_goes_on old (life disk) compacted) closed.goes_on
+
+  compacts_go_on : (old : ScriptArchive D) (outcome : Result Reply Refusal) (new : ScriptArchive D) → CompactsArchive life old outcome new → DiskGoesOn (life_of life old) (life_of life new)
+  compacts_go_on (Open engine) outcome new compacts = disk_goes_on (life engine.storage.disk) outcome new compacts
+  compacts_go_on (Closed disk) outcome new (answer, same) = same_goes (Closed disk) new same
+
   line_goes_on : (old : ScriptState (ScriptArchive D)) (line : Line) (outcome : Result Reply Refusal) (new : ScriptState (ScriptArchive D)) → LineIs (archive_ways life) old line outcome new → DiskGoesOn (life_of life old.archive) (life_of life new.archive)
   line_goes_on old (lines.Event event) outcome new is = calls_go_on event old.archive outcome new.archive is.0
   line_goes_on old (lines.Write session bytes) outcome new is = writes_go_on session bytes old.archive outcome new.archive is.0
   line_goes_on old (lines.Block session bytes) outcome new ((first, mid, written, settled), same) =
       goes_further (life_of life old.archive) (life_of life mid) (life_of life new.archive) (writes_go_on session _ old.archive first mid written) (settles_go_on session first mid outcome new.archive settled)
   line_goes_on old lines.Reopen outcome new is = opens_go_on (life_of life old.archive) outcome new.archive is.0
-  line_goes_on old lines.Compact outcome new is = let compacts = is.0 in same_goes old.archive new.archive compacts.1
+  line_goes_on old lines.Compact outcome new is = compacts_go_on old.archive outcome new.archive is.0
   line_goes_on old (lines.Merge line) outcome new is = same_goes old.archive new.archive is.1
   line_goes_on old lines.Quit outcome new is = subst (λ (x : ScriptState (ScriptArchive D)). DiskGoesOn (life_of life old.archive) (life_of life x.archive)) (sym is.1) (no_calls (life_of life old.archive))
 

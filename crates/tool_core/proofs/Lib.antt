@@ -9,6 +9,9 @@ mod CallLemmas
 mod RecordLemmas
 mod RefusedLemmas
 mod OpeningLemmas
+mod BanksLemmas
+mod RestartLemmas
+mod CompactLemmas
 mod BeginLemmas
 mod CommandLemmas
 mod LineLemmas

@@ -12,10 +12,10 @@ use Rattle.archive_model.specs.declared.reply.Reply.TheVariants.{Reopened}
 use Rattle.archive_model.specs.Commands.{after}
 use Rattle.archive_model.specs.State.{State, active_count}
 use Rattle.catalogue_log.specs.declared.bank.BankHeader.{BankHeader}
-use Rattle.catalogue_log.specs.declared.entry.Entry.{Entry}
+use Rattle.catalogue_entries.specs.declared.entry.Entry.{Entry}
 use Rattle.catalogue_log.specs.Catalogue.{IsCatalogue}
-use Rattle.catalogue_log.specs.Fold.{counts}
-use Rattle.catalogue_log.proofs.OneLemmas.{one_bank}
+use Rattle.catalogue_entries.specs.Fold.{counts}
+use Rattle.catalogue_log.proofs.CallerLemmas.{one_catalogue}
 use Rattle.control_core.specs.Exact.{Archive, opened_archive}
 use Rattle.control_lines.specs.declared.line.Line.TheVariants as lines
 use Rattle.engine_core.specs.declared.engine.Engine.{Engine}
@@ -39,7 +39,7 @@ use Rattle.tool_core.proofs.CallLemmas.{Kept, is_unknown}
 -- its image's catalogue says which it is
 pub fresh_is : (image : DiskImage) (s : State) (a : Archive) (h : BankHeader) (es : List Entry) → IsFresh image s a → IsCatalogue image h es → a ≡ opened_archive s (count_by counts es) h.history_limit
 fresh_is image s a h es fresh catalogue =
-    let one = one_bank _ fresh.header h fresh.entries es fresh.catalogue catalogue in
+    let one = one_catalogue image fresh.header h fresh.entries es fresh.catalogue catalogue in
     fresh.is ∙ ap (λ (ks : List Entry). opened_archive s (count_by counts ks) fresh.header.history_limit) one.1 ∙ ap (λ (k : BankHeader). opened_archive s (count_by counts es) k.history_limit) one.0
 
 one_fresh : (image : DiskImage) (s u : State) (a b : Archive) → IsFresh image s a → IsFresh image u b → s ≡ u → a ≡ b

@@ -7,9 +7,11 @@ use Rattle.tool_core.specs.declared.archive.ScriptArchive.{ScriptArchive}
 use Rattle.tool_core.specs.declared.state.ScriptState.{ScriptState}
 use Rattle.tool_core.specs.Answering.{AnswersFirstLines, AnswersLines, Replies, asked, asked_copies, begun_with, quits}
 use Rattle.tool_core.specs.Archives.{IsScript, IsScriptBy, IsScriptOfFirst, archive_ways, life_of}
-use Rattle.tool_core.specs.Script.{AnswersLine, Begins, BeginsAt, IsTranscript, IsTranscriptBy, IsTranscriptOfFirst, LeavesScene, LeavesStanding}
+use Rattle.tool_core.specs.Script.{AnswersLine, Begins, BeginsAt, IsTranscript, IsTranscriptBy, IsTranscriptOfFirst, LeavesBanksOf, LeavesScene, LeavesStanding}
 use Rattle.tool_core.specs.ScriptLines.{Scene, Standing}
 use Rattle.tool_core.specs.Transcript.{AnswersAll, AnswersSome}
+use Rattle.catalogue_log.specs.LogState.{Banks}
+use Rattle.tool_core.proofs.BanksLemmas.{banks_left}
 use Rattle.tool_core.proofs.BeginLemmas.{Starts, starts}
 use Rattle.tool_core.proofs.GoesOnLemmas.{answer_goes_on}
 use Rattle.tool_core.proofs.LineLemmas.{IsScene, answered, at_scene, scene_at}
@@ -29,8 +31,11 @@ module _ {D : Type 0} (life : D → Life) (stays : (disk : D) → MayLeave (life
 
   scene_left : (new : Life) (last : ScriptArchive D) (s : ScriptState (ScriptArchive D)) (x : Scene) → new ≡ life_of life last → s.archive ≡ last → IsScene life s x → LeavesScene new x
   scene_left new last s x left same is =
-      let lives : x.life ≡ new = is.disk ∙ subst (λ (a : ScriptArchive D). life_of life a ≡ new) (sym same) (sym left) in
-      (lives, subst (λ (l : Life). LeavesStanding l x.archive) (sym is.disk ∙ lives) (standing_left life s.archive x.archive is.stands))
+      let lives : x.life ≡ new = is.disk ∙ subst (λ (a : ScriptArchive D). life_of life a ≡ new) (sym same) (sym left) in (
+        lives,
+        subst (λ (l : Life). LeavesStanding l x.archive) (sym is.disk ∙ lives) (standing_left life s.archive x.archive is.stands),
+        subst (λ (l : Life). LeavesBanksOf l x.archive x.banks) (sym is.disk ∙ lives) (banks_left life s.archive x.archive x.banks is.stands is.banks),
+      )
 
   good : (new : Life) (last : ScriptArchive D) (s : ScriptState (ScriptArchive D)) → new ≡ life_of life last → IsTrue new.obeys → s.archive ≡ last → IsTrue (life_of life s.archive).obeys
   good new last s left obeys same = subst (λ (a : ScriptArchive D). IsTrue (life_of life a).obeys) (sym same) (subst (λ (l : Life). IsTrue l.obeys) left obeys)
@@ -39,28 +44,28 @@ module _ {D : Type 0} (life : D → Life) (stays : (disk : D) → MayLeave (life
   abbrev pub Good : ScriptState (ScriptArchive D) → Type 0
   Good s = IsTrue (life_of life s.archive).obeys
 
-  begins_at : (old : Life) (archive : ScriptArchive D) (first : Standing) (at : Starts life old archive first) → BeginsAt old first (scene_at life (begun_with archive) at.begun)
-  begins_at old archive first at = record { no_merge = refl; archive = at.is; any_moment = at.any_moment }
+  begins_at : (old : Life) (archive : ScriptArchive D) (first : Standing) (banks : Banks) (at : Starts life old archive first banks) → BeginsAt old first banks (scene_at life (begun_with archive) at.begun banks)
+  begins_at old archive first banks at = record { no_merge = refl; banks = refl; archive = at.is; any_moment = at.any_moment }
 
   -- what lines are answered from what was opened on, told by scenes
-  by_scenes : OneState → (Answer : ScriptArchive D → ScriptArchive D → List (List ℕ) → List ℕ → Type 0) (Scenes : Scene → List (List ℕ) → List ℕ → Type 0) (old new : Life) (first : Standing) → MayLeave old.now (reads old.now) → Begins old first
-      → (lines : List (List ℕ)) (text : List ℕ) (script : IsScriptBy life Answer old new lines text) → Good (begun_with script.first) → ((x : Scene) → IsScene life (begun_with script.first) x → Scenes x lines text) → IsTranscriptBy Scenes first old lines text
-  by_scenes one_state Answer Scenes old new first may begins lines text script good told =
-      let at = starts life one_state old script.beginning script.first first may script.begins good begins in
-      let begun = scene_at life (begun_with script.first) at.begun in
-      record { begun = begun; begins = begins_at old script.first first at; answers = told begun (at_scene life (begun_with script.first) at.begun at.stands) }
+  by_scenes : OneState → (Answer : ScriptArchive D → ScriptArchive D → List (List ℕ) → List ℕ → Type 0) (Scenes : Scene → List (List ℕ) → List ℕ → Type 0) (old new : Life) (first : Standing) (banks : Banks) → MayLeave old.now (reads old.now) → Begins old first banks
+      → (lines : List (List ℕ)) (text : List ℕ) (script : IsScriptBy life Answer old new lines text) → Good (begun_with script.first) → ((x : Scene) → IsScene life (begun_with script.first) x → Scenes x lines text) → IsTranscriptBy Scenes first banks old lines text
+  by_scenes one_state Answer Scenes old new first banks may begins lines text script good told =
+      let at = starts life one_state old script.beginning script.first first banks may script.begins good begins in
+      let begun = scene_at life (begun_with script.first) at.begun banks in
+      record { begun = begun; begins = begins_at old script.first first banks at; answers = told begun (at_scene life (begun_with script.first) at.begun banks at.stands at.told) }
 
-  module _ (one_state : OneState) (old new : Life) (first : Standing) (may : MayLeave old.now (reads old.now)) (begins : Begins old first) (obeys : IsTrue new.obeys) (lines : List (List ℕ)) (text : List ℕ) where
-    pub transcript : IsScript life old new lines text → IsTranscript first old new lines text
+  module _ (one_state : OneState) (old new : Life) (first : Standing) (banks : Banks) (may : MayLeave old.now (reads old.now)) (begins : Begins old first banks) (obeys : IsTrue new.obeys) (lines : List (List ℕ)) (text : List ℕ) where
+    pub transcript : IsScript life old new lines text → IsTranscript first banks old new lines text
     transcript script =
         let ends : (s : ScriptState (ScriptArchive D)) → s.archive ≡ script.last → Good s = λ s same. good new script.last s script.left obeys same in
-        by_scenes one_state (AnswersLines (archive_ways life)) (λ begun. AnswersAll begun (LeavesScene new) quits AnswersLine) old new first may begins lines text script
+        by_scenes one_state (AnswersLines (archive_ways life)) (λ begun. AnswersAll begun (LeavesScene new) quits AnswersLine) old new first banks may begins lines text script
         (all_good (Replies (archive_ways life)) AnswersLine Good (IsScene life) back step (begun_with script.first) quits (λ s. s.archive ≡ script.last) ends lines text script.answers)
         (λ x is. all_as (Replies (archive_ways life)) AnswersLine Good (IsScene life) back step (begun_with script.first) x quits (λ s. s.archive ≡ script.last) (LeavesScene new) ends (λ s x same is. scene_left new script.last s x script.left same is) is lines text script.answers)
 
-    pub transcript_of_first : IsScriptOfFirst life old new lines text → IsTranscriptOfFirst first old new lines text
+    pub transcript_of_first : IsScriptOfFirst life old new lines text → IsTranscriptOfFirst first banks old new lines text
     transcript_of_first script =
         let ends : (s : ScriptState (ScriptArchive D)) → s.archive ≡ script.last → Good s = λ s same. good new script.last s script.left obeys same in
-        by_scenes one_state (AnswersFirstLines (archive_ways life)) (λ begun. AnswersSome begun (LeavesScene new) quits AnswersLine) old new first may begins lines text script
+        by_scenes one_state (AnswersFirstLines (archive_ways life)) (λ begun. AnswersSome begun (LeavesScene new) quits AnswersLine) old new first banks may begins lines text script
         (some_good (Replies (archive_ways life)) AnswersLine Good (IsScene life) back step (begun_with script.first) quits (λ s. s.archive ≡ script.last) ends lines text script.answers)
         (λ x is. some_as (Replies (archive_ways life)) AnswersLine Good (IsScene life) back step (begun_with script.first) x quits (λ s. s.archive ≡ script.last) (LeavesScene new) ends (λ s x same is. scene_left new script.last s x script.left same is) is lines text script.answers)

@@ -5,8 +5,8 @@ use Rattle.disk_core.specs.DiskImage.{DiskImage, MayLeave}
 use Rattle.disk_core.specs.Life.{Life}
 use Rattle.disk_core.proofs.CallerLemmas.{started}
 use Rattle.archive_model.specs.State.{State}
-use Rattle.catalogue_log.specs.Fold.{counts}
-use Rattle.catalogue_log.proofs.AppendLemmas.{rest_left}
+use Rattle.catalogue_entries.specs.Fold.{counts}
+use Rattle.catalogue_log.proofs.CallerLemmas.{rest_left}
 use Rattle.control_core.specs.Desk.{DeskState}
 use Rattle.control_core.specs.Exact.{Archive}
 use Rattle.control_core.specs.Runs.{MayStand}

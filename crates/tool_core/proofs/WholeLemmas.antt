@@ -8,6 +8,7 @@ use Rattle.tool_core.specs.declared.archive.ScriptArchive.{ScriptArchive}
 use Rattle.tool_core.specs.declared.fault.EarlyEnd.{EarlyEnd}
 use Rattle.tool_core.specs.declared.fault.ScriptFault.{ScriptFault}
 use Rattle.tool_core.specs.declared.observer.Beginning.{Beginning}
+use Rattle.catalogue_log.specs.LogState.{Banks}
 use Rattle.tool_core.specs.Answering.{AnswersFirstLines, AnswersLines, EndsEarly}
 use Rattle.tool_core.specs.Archives.{BeginsAs, IsScript, IsScriptOfFirst, archive_ways, disk_of, early_end_of, life_of}
 use Rattle.tool_core.specs.Script.{Begins, IsTranscript, IsTranscriptOfFirst}
@@ -41,12 +42,12 @@ module _ {D : Type 0} (life : D → Life) (old : Life) (input contents written :
 
 -- exactly, where the disk obeys
 module _ {D : Type 0} (life : D → Life) (one_state : OneState) (stays : (disk : D) → MayLeave (life disk).now (reads (life disk).now)) (old : D) (new : Life) (input contents written : Option (List ℕ)) where
-  pub kept : WritesText input contents written (IsScript life (life old) new) → (first : Standing) → Begins (life old) first → IsTrue new.obeys → WritesText input contents written (IsTranscript first (life old) new)
-  kept writes first begins obeys =
-      writes_as input contents written written (IsScript life (life old) new) (IsTranscript first (life old) new)
-      (λ lines text script. transcript life stays one_state (life old) new first (stays old) begins obeys lines text script) (Keeps-refl written) writes
+  pub kept : WritesText input contents written (IsScript life (life old) new) → (first : Standing) (banks : Banks) → Begins (life old) first banks → IsTrue new.obeys → WritesText input contents written (IsTranscript first banks (life old) new)
+  kept writes first banks begins obeys =
+      writes_as input contents written written (IsScript life (life old) new) (IsTranscript first banks (life old) new)
+      (λ lines text script. transcript life stays one_state (life old) new first banks (stays old) begins obeys lines text script) (Keeps-refl written) writes
 
-  pub kept_early : (end : EarlyEnd) → EndsEarly end (IsScriptOfFirst life (life old) new) input contents written → (first : Standing) → Begins (life old) first → IsTrue new.obeys → EndsEarly end (IsTranscriptOfFirst first (life old) new) input contents written
-  kept_early end ends first begins obeys =
-      early_as end input contents written written (IsScriptOfFirst life (life old) new) (IsTranscriptOfFirst first (life old) new)
-      (λ lines text script. transcript_of_first life stays one_state (life old) new first (stays old) begins obeys lines text script) (Keeps-refl written) ends
+  pub kept_early : (end : EarlyEnd) → EndsEarly end (IsScriptOfFirst life (life old) new) input contents written → (first : Standing) (banks : Banks) → Begins (life old) first banks → IsTrue new.obeys → EndsEarly end (IsTranscriptOfFirst first banks (life old) new) input contents written
+  kept_early end ends first banks begins obeys =
+      early_as end input contents written written (IsScriptOfFirst life (life old) new) (IsTranscriptOfFirst first banks (life old) new)
+      (λ lines text script. transcript_of_first life stays one_state (life old) new first banks (stays old) begins obeys lines text script) (Keeps-refl written) ends

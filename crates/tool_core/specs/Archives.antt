@@ -1,14 +1,16 @@
 -- How a script's archive answers, whatever its disk holds and does: each call as `Engine::step` says, each opening as `Engine::open`
--- says, and what a script does from its opening to its last line. docs/CONTROL.md, "Scripts".
-use Rattle.std.specs.Prelude.{◌≡◌, ◌≢◌, ℕ, ℤ, List, Option, None, Some, Result, Ok, Err}
+-- says, each compaction as `engine_core::compact` says, and what a script does from its opening to its last line. docs/CONTROL.md, "Scripts".
+use Rattle.std.specs.Prelude.{◌≡◌, ◌≢◌, ◌⊎◌, ℕ, ℤ, List, Option, None, Some, Result, Ok, Err}
 use Rattle.std.specs.Io.KnownBytes.{Keeps}
 use Rattle.frame_core.specs.declared.geometry.Geometry.{Geometry}
 use Rattle.frame_core.specs.declared.refusal.Refusal.{Refusal}
-use Rattle.frame_core.specs.declared.refusal.Refusal.TheVariants.{BadLine, Broken, NoMemory}
+use Rattle.frame_core.specs.declared.refusal.Refusal.TheVariants.{Broken, NoMemory}
 use Rattle.disk_core.specs.Life.{Life}
-use Rattle.archive_model.specs.declared.reply.Reply.TheVariants.{Reopened}
+use Rattle.archive_model.specs.declared.reply.Reply.TheVariants.{Compacted, Reopened}
 use Rattle.control_core.specs.declared.event.Event.{Event}
 use Rattle.control_core.specs.Bytes.{terms_in}
+use Rattle.engine_core.specs.declared.engine.Engine.{Engine}
+use Rattle.engine_core.specs.Compacting.{Compacts}
 use Rattle.engine_core.specs.Opened.{HasNotOpened, HasOpened, MadeOrOpened, NeitherMadeNorOpened}
 use Rattle.engine_core.specs.Opening.{ReadsAsBefore}
 use Rattle.engine_core.specs.Seen.{HasAnswered, seen}
@@ -18,6 +20,7 @@ use Rattle.tool_core.specs.declared.fault.EarlyEnd.{EarlyEnd}
 use Rattle.tool_core.specs.declared.fault.EarlyEnd.TheVariants as ends
 use Rattle.tool_core.specs.declared.fault.ScriptFault.{ScriptFault}
 use Rattle.tool_core.specs.declared.fault.ScriptFault.TheVariants as faults
+use Rattle.tool_core.specs.declared.history.HistoryUse.{HistoryUse}
 use Rattle.tool_core.specs.declared.observer.Beginning.{Beginning}
 use Rattle.tool_core.specs.declared.observer.Beginning.TheVariants as beginnings
 use Rattle.tool_core.specs.Answering.{AnswersFirstLines, AnswersLines, Ways}
@@ -51,16 +54,47 @@ module _ {D : Type 0} (life : D → Life) where
   CallsEngine event (Open old) outcome (Closed disk) = ⊥
   CallsEngine event (Closed disk) outcome new = (outcome ≡ Err Broken) × (new ≡ Closed disk)
 
-  -- nothing writes a history anew yet
-  abbrev pub Compacts : ScriptArchive D → Ends (ScriptArchive D)
-  Compacts old outcome new = (outcome ≡ Err BadLine) × (new ≡ old)
+  -- ---- compactions
+
+  -- The archive of a disk was opened, which stopped so many recordings, closed, and its catalogue written anew.
+  pub record HasCompacted (old new : Life) : Type 0 where
+    pub engine : Engine D
+    pub stopped : ℤ
+    pub opened : HasOpened old (seen life engine) stopped
+    pub anew : Compacts (life engine.storage.disk) new (Ok tt)
+
+  -- it was opened and closed, and its catalogue not written anew
+  pub record HasRefused (old new : Life) (refusal : Refusal) : Type 0 where
+    pub engine : Engine D
+    pub stopped : ℤ
+    pub opened : HasOpened old (seen life engine) stopped
+    pub refused : Compacts (life engine.storage.disk) new (Err refusal)
+
+  -- it was not opened, or its catalogue not written anew
+  abbrev pub HasNotCompacted : Life → Life → Refusal → Type 0
+  HasNotCompacted old new refusal = HasNotOpened old new refusal ⊎ HasRefused old new refusal
+
+  -- The archive of the disk with this life is opened, closed, compacted and opened; or one of these is refused, and then none is
+  -- open.
+  abbrev pub CompactsDisk : Life → Ends (ScriptArchive D)
+  CompactsDisk old (Ok reply) (Open engine) =
+      (reply ≡ Compacted) × (disk : D) × HasCompacted old (life disk) × (stopped : ℤ) × HasOpened (life disk) (seen life engine) stopped
+  CompactsDisk old (Err refusal) (Closed back) =
+      HasNotCompacted old (life back) refusal ⊎ ((disk : D) × HasCompacted old (life disk) × HasNotOpened (life disk) (life back) refusal)
+  CompactsDisk old (Ok reply) (Closed back) = ⊥
+  CompactsDisk old (Err refusal) (Open engine) = ⊥
+
+  -- an archive that is open; else it is Broken
+  abbrev pub CompactsArchive : ScriptArchive D → Ends (ScriptArchive D)
+  CompactsArchive (Open engine) outcome new = CompactsDisk (life engine.storage.disk) outcome new
+  CompactsArchive (Closed disk) outcome new = (outcome ≡ Err Broken) × (new ≡ Closed disk)
 
   abbrev pub archive_ways : Ways (ScriptArchive D)
   archive_ways = record {
     terms = TermsAre;
     call = CallsEngine;
     reopen = λ old. OpensDisk (life_of old);
-    compact = Compacts;
+    compact = CompactsArchive;
   }
 
   -- ---- scripts
@@ -89,6 +123,11 @@ module _ {D : Type 0} (life : D → Life) where
   -- it answers the first of these lines, or one more, of whose answer nothing was written
   abbrev pub IsScriptOfFirst : Life → Life → List (List ℕ) → List ℕ → Type 0
   IsScriptOfFirst = IsScriptBy (AnswersFirstLines archive_ways)
+
+-- how much of its history an open archive has used
+abbrev pub history_of : {D : Type 0} → ScriptArchive D → Option HistoryUse
+history_of (Open engine) = Some (record { counted = engine.desk.state.counted; limit = engine.desk.state.limit })
+history_of (Closed disk) = None
 
 -- none is open by a refusal, or the disk goes back for want of memory
 abbrev pub closed_by : {D : Type 0} → Refusal → D → Result (ScriptArchive D × Beginning) D

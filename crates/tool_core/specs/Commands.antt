@@ -1,4 +1,4 @@
--- What `create`, `list` and `verify` do over a disk and a writer, whatever the disk holds and does: docs/CONTROL.md, "The program".
+-- What `create`, `compact`, `list` and `verify` do over a disk and a writer, whatever the disk holds and does: docs/CONTROL.md, "The program".
 use Rattle.std.specs.Prelude.{◌≡◌, ℕ, ℤ, pos, List, Option}
 use Rattle.std.specs.Io.KnownBytes.{Appends}
 use Rattle.disk_core.specs.Life.{Life}
@@ -17,6 +17,7 @@ use Rattle.tool_core.specs.declared.fault.EarlyEnd.{EarlyEnd}
 use Rattle.tool_core.specs.declared.fault.EarlyEnd.TheVariants as ends
 use Rattle.tool_core.specs.declared.reports.Verdict.{Verdict}
 use Rattle.tool_core.specs.Answering.{FailsToAnswer}
+use Rattle.tool_core.specs.Archives.{HasCompacted, HasNotCompacted}
 use Rattle.tool_core.specs.Reports.{HasReported, HasReportedFirst, life_in}
 
 -- the reply of the line `list 0 1024` over an engine's recordings
@@ -38,6 +39,14 @@ module _ {D : Type 0} (life : D → Life) where
   FailsToCreate limit old disk (Refused refusal) contents written = RefusesNew old (life disk) limit refusal × (written ≡ contents)
   FailsToCreate limit old disk (Cut ends.Write) contents written = IsCreated limit old (life disk)
   FailsToCreate limit old disk (Cut end) contents written = ⊥
+
+  -- ---- compact
+
+  -- It was not opened, or its catalogue not written anew, and nothing is written; or it was, and the writer failed.
+  abbrev pub FailsToCompact : Life → D → Stopped → Option (List ℕ) → Option (List ℕ) → Type 0
+  FailsToCompact old disk (Refused refusal) contents written = HasNotCompacted life old (life disk) refusal × (written ≡ contents)
+  FailsToCompact old disk (Cut ends.Write) contents written = HasCompacted life old (life disk)
+  FailsToCompact old disk (Cut end) contents written = ⊥
 
   -- ---- openings
 

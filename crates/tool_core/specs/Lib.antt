@@ -10,6 +10,7 @@ pub mod Reports
 pub mod Commands
 pub mod FrameLines
 pub mod Progress
+pub mod HistoryUse
 -- How a line is put together from parts.
 pub mod Parts
 -- How what stands next in a file is read.

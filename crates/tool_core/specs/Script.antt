@@ -1,6 +1,6 @@
 -- A script's output is the transcript of its lines, and its disk keeps up with it, where the disk obeys the crash model.
 -- docs/CONTROL.md, "Scripts"; docs/STORAGE.md, "Recovery".
-use Rattle.std.specs.Prelude.{◌≡◌, ◌⊎◌, ℕ, ℤ, List, Option, Some, None, Result, IsSome, count_by}
+use Rattle.std.specs.Prelude.{◌≡◌, ◌⊎◌, ℕ, ℤ, true, List, Option, Some, None, Result, IsSome, count_by}
 use Rattle.frame_core.specs.declared.refusal.Refusal.{Refusal}
 use Rattle.frame_core.specs.declared.refusal.Refusal.TheVariants.{DeviceFault, NoMemory}
 use Rattle.disk_core.specs.declared.file_id.FileId.{FileId}
@@ -11,15 +11,16 @@ use Rattle.archive_model.specs.declared.reply.Reply.{Reply}
 use Rattle.archive_model.specs.Commands.{after}
 use Rattle.archive_model.specs.State.{State}
 use Rattle.catalogue_log.specs.declared.bank.BankHeader.{BankHeader}
-use Rattle.catalogue_log.specs.declared.entry.Entry.{Entry}
+use Rattle.catalogue_entries.specs.declared.entry.Entry.{Entry}
 use Rattle.catalogue_log.specs.Catalogue.{IsCatalogue, RefusesCatalogue}
-use Rattle.catalogue_log.specs.Fold.{counts}
+use Rattle.catalogue_log.specs.LogState.{Banks, TellsBanks}
+use Rattle.catalogue_entries.specs.Fold.{counts}
 use Rattle.control_core.specs.Exact.{Archive}
 use Rattle.engine_core.specs.Engine.{new_archive}
-use Rattle.engine_core.specs.Opened.{IsFresh, IsNear, LeavesEither}
+use Rattle.engine_core.specs.Opened.{IsFresh, IsNear, LeavesEither, new_banks}
 use Rattle.engine_core.specs.Recovery.{Recovers, RecoversTo}
 use Rattle.tool_core.specs.Answering.{asked, asked_copies, outcome_text, quits}
-use Rattle.tool_core.specs.ScriptLines.{ReadLineOrWant, IsRestart, Scene, Standing, StaysInDoubt, closed, doubtful, opened, refused, reopened, unknown}
+use Rattle.tool_core.specs.ScriptLines.{ReadLineOrWant, is_certain, IsRestart, Scene, Standing, StaysInDoubt, closed, doubtful, opened, refused, reopened, unknown}
 use Rattle.tool_core.specs.Transcript.{AnswersAll, AnswersSome}
 
 -- From the old scene the text may be the answer to the line, and new the scene after it.
@@ -61,17 +62,25 @@ OpensStanding life (opened a) = RestartsDisk life a
 OpensStanding life (refused image why) = IsRefused life image why
 OpensStanding life _ = ⊥
 
--- what a script begins with: a new archive where no file is there, else what is opened
-abbrev pub Begins : Life → Standing → Type 0
-Begins life first = (IsBlank life × (first ≡ opened (new_archive 1048576))) ⊎ (HasFile life × OpensStanding life first)
+-- what a compaction would ask of the banks then; nothing is said where there is no archive
+abbrev pub OpensBanks : Life → Standing → Banks → Type 0
+OpensBanks life (opened a) b = TellsBanks (reads life.now) b
+OpensBanks life standing b = Unit {0}
 
--- a script begins with the restart of an archive, and with its history
-abbrev pub GoesOnFrom : Archive → Life → Type 0
-GoesOnFrom a life = Begins life (opened (reopened a))
+-- What a script begins with: a new archive where no file is there, with its banks; else what is opened, and what a compaction
+-- would ask of the banks that are there.
+abbrev pub Begins : Life → Standing → Banks → Type 0
+Begins life first b =
+    (IsBlank life × (first ≡ opened (new_archive 1048576)) × (b ≡ new_banks))
+    ⊎ (HasFile life × OpensStanding life first × OpensBanks life first b)
 
--- or with the restart of one of two states, and with the history that the catalogue has
+-- a script begins with the restart of an archive, with its history and its banks
+abbrev pub GoesOnFrom : Archive → Banks → Life → Type 0
+GoesOnFrom a b life = Begins life (opened (reopened a)) b
+
+-- or with the restart of one of two states, and with the history and the banks that the catalogue has
 abbrev pub GoesOnFromEither : State → State → Life → Type 0
-GoesOnFromEither s u life = (restarted : ℤ) × (a : Archive) × IsRestart life s u restarted a × Begins life (opened a)
+GoesOnFromEither s u life = (restarted : ℤ) × (a : Archive) × (b : Banks) × IsRestart life s u restarted a × Begins life (opened a) b
 
 -- ---- the first opening
 
@@ -85,8 +94,9 @@ HasNotBegun old first begun = ⊥
 
 -- The scene behind the first opening: what the script begins with; or, where a call of the disk failed, none. A crash at any
 -- moment of it leaves a state that was there, or its restart.
-pub record BeginsAt (old : Life) (first : Standing) (begun : Scene) : Type 0 where
+pub record BeginsAt (old : Life) (first : Standing) (b : Banks) (begun : Scene) : Type 0 where
   pub no_merge : begun.merge ≡ None
+  pub banks : begun.banks ≡ b
   pub archive : (begun.archive ≡ first) ⊎ (HasFailed old begun.life × HasNotBegun old first begun.archive)
   pub any_moment : (s u : State) → LeavesEither old s u → LeavesOnly old begun.life (RecoversTo (IsNear s u))
 
@@ -114,22 +124,30 @@ LeavesStanding life (doubtful s u) = LeavesEither life s u
 LeavesStanding life (refused image why) = IsRefused life image why
 LeavesStanding life unknown = Unit {0}
 
+-- every image that a crash now may leave has such banks
+abbrev pub LeavesBanks : Life → Banks → Type 0
+LeavesBanks life b = (image : DiskImage) → MayLeave life.now image → TellsBanks image b
+
+-- so it is where nothing of the archive is in doubt
+abbrev pub LeavesBanksOf : Life → Standing → Banks → Type 0
+LeavesBanksOf life standing b = is_certain standing ≡ true → LeavesBanks life b
+
 -- the disk is this one, and leaves the scene
 abbrev pub LeavesScene : Life → Scene → Type 0
-LeavesScene life s = (s.life ≡ life) × LeavesStanding life s.archive
+LeavesScene life s = (s.life ≡ life) × LeavesStanding life s.archive × LeavesBanksOf life s.archive s.banks
 
 -- ---- scripts
 
 -- from this beginning on the text answers lines so
-pub record IsTranscriptBy (Answer : Scene → List (List ℕ) → List ℕ → Type 0) (first : Standing) (old : Life) (lines : List (List ℕ)) (text : List ℕ) : Type 0 where
+pub record IsTranscriptBy (Answer : Scene → List (List ℕ) → List ℕ → Type 0) (first : Standing) (banks : Banks) (old : Life) (lines : List (List ℕ)) (text : List ℕ) : Type 0 where
   pub begun : Scene
-  pub begins : BeginsAt old first begun
+  pub begins : BeginsAt old first banks begun
   pub answers : Answer begun lines text
 
 -- the text answers all lines up to the one that quits, and the disk is left so
-abbrev pub IsTranscript : Standing → Life → Life → List (List ℕ) → List ℕ → Type 0
-IsTranscript first old new = IsTranscriptBy (λ begun. AnswersAll begun (LeavesScene new) quits AnswersLine) first old
+abbrev pub IsTranscript : Standing → Banks → Life → Life → List (List ℕ) → List ℕ → Type 0
+IsTranscript first banks old new = IsTranscriptBy (λ begun. AnswersAll begun (LeavesScene new) quits AnswersLine) first banks old
 
 -- the same of the first of these lines
-abbrev pub IsTranscriptOfFirst : Standing → Life → Life → List (List ℕ) → List ℕ → Type 0
-IsTranscriptOfFirst first old new = IsTranscriptBy (λ begun. AnswersSome begun (LeavesScene new) quits AnswersLine) first old
+abbrev pub IsTranscriptOfFirst : Standing → Banks → Life → Life → List (List ℕ) → List ℕ → Type 0
+IsTranscriptOfFirst first banks old new = IsTranscriptBy (λ begun. AnswersSome begun (LeavesScene new) quits AnswersLine) first banks old

@@ -1,15 +1,16 @@
 -- What each line of a script is answered exactly, and how the script stands after it, where its disk obeys the crash model.
 -- docs/CONTROL.md, "Lines"; docs/STORAGE.md, "Recovery".
-use Rattle.std.specs.Prelude.{◌≡◌, ◌⊎◌, ℕ, ℤ, pos, Bool, true, List, Option, Some, None, Result, Ok, Err}
+use Rattle.std.specs.Prelude.{◌≡◌, ◌⊎◌, ◌+◌, ◌^◌, ◌<◌, ◌≤◌, ℕ, ℤ, pos, Bool, true, false, List, Option, Some, None, Result, Ok, Err, is_none}
 use Rattle.frame_core.specs.declared.refusal.Refusal.{Refusal}
-use Rattle.frame_core.specs.declared.refusal.Refusal.TheVariants.{BadLine, Broken, DeviceFault, NoMemory}
+use Rattle.frame_core.specs.declared.refusal.Refusal.TheVariants.{Broken, DeviceFault, HistoryFull, NoMemory, NotCatalogue}
 use Rattle.disk_core.specs.DiskImage.{DiskImage, MayLeave, reads}
 use Rattle.disk_core.specs.Life.{HasFailed, LeavesOnly, Life}
 use Rattle.archive_model.specs.declared.command.Command.TheVariants.{Restart}
 use Rattle.archive_model.specs.declared.reply.Reply.{Reply}
-use Rattle.archive_model.specs.declared.reply.Reply.TheVariants.{Bye, Reopened}
+use Rattle.archive_model.specs.declared.reply.Reply.TheVariants.{Bye, Compacted, Reopened}
 use Rattle.archive_model.specs.Commands.{after}
 use Rattle.archive_model.specs.State.{State, active_count}
+use Rattle.catalogue_log.specs.LogState.{Banks, TellsBanks}
 use Rattle.merge_core.specs.Merge.{Merging}
 use Rattle.control_core.specs.declared.event.Event.{Event}
 use Rattle.control_core.specs.declared.event.Event.TheVariants as events
@@ -112,11 +113,67 @@ Reopens life faulted (refused image why) outcome new =
     (((outcome ≡ Err why) ⊎ (outcome ≡ Err NoMemory)) × (new ≡ refused image why)) ⊎ ((outcome ≡ Err DeviceFault) × faulted × (new ≡ unknown))
 Reopens life faulted unknown outcome new = new ≡ unknown
 
+-- ---- the banks of the catalogue
+
+-- nothing of the archive is in doubt
+abbrev pub is_certain : Standing → Bool
+is_certain (opened a) = is_none a.doubt
+is_certain (closed a) = true
+is_certain standing = false
+
+-- What a compaction would ask of the banks, behind an opening: as before, where nothing was in doubt; else as the disk with
+-- this life read. Nothing is known where nothing of the disk is.
+abbrev pub BanksAgain : Life → Bool → Banks → Standing → Banks → Type 0
+BanksAgain life certain b unknown c = Unit {0}
+BanksAgain life false b (opened a) c = TellsBanks (reads life.now) c
+BanksAgain life certain b standing c = c ≡ b
+
+-- ---- compaction
+
+-- the archive behind a compaction, at which nobody calls yet: no entry of its history counts
+abbrev pub compacted : Archive → Archive
+compacted a = opened_archive a.state 0 a.desk.limit
+
+-- the next epoch; the bank that was in use may be written
+abbrev pub next_banks : Banks → Banks
+next_banks b = record { epoch = b.epoch + 1; spare = true }
+
+-- a bank that may be written, and an epoch for it
+abbrev pub MayCompact : Banks → Type 0
+MayCompact b = (b.spare ≡ true) × (b.epoch + 1 < 2 ^ 64)
+
+-- An archive whose recordings have stopped is closed, its catalogue is written anew, and it is opened. Refused it stays
+-- closed; want of memory may come behind the writing too, and a device fault leaves the state.
+abbrev pub WritesAnew : Type 0 → Archive → Banks → Result Reply Refusal → Standing → Banks → Type 0
+WritesAnew faulted a b (Ok reply) new c = (reply ≡ Compacted) × MayCompact b × (new ≡ opened (compacted a)) × (c ≡ next_banks b)
+WritesAnew faulted a b (Err NotCatalogue) new c = (b.spare ≡ false) × (new ≡ closed a) × (c ≡ b)
+WritesAnew faulted a b (Err HistoryFull) new c = (b.spare ≡ true) × (2 ^ 64 ≤ b.epoch + 1) × (new ≡ closed a) × (c ≡ b)
+WritesAnew faulted a b (Err NoMemory) new c = ((new ≡ closed a) × (c ≡ b)) ⊎ (MayCompact b × (new ≡ closed (compacted a)) × (c ≡ next_banks b))
+WritesAnew faulted a b (Err DeviceFault) new c = faulted × (new ≡ doubtful a.state a.state)
+WritesAnew faulted a b (Err refusal) new c = ⊥
+
+-- behind its opening
+abbrev pub ThenWritesAnew : Type 0 → Result Reply Refusal → Standing → Banks → Result Reply Refusal → Standing → Banks → Type 0
+ThenWritesAnew faulted (Ok reply) (opened a) b = WritesAnew faulted a b
+ThenWritesAnew faulted (Ok reply) standing b = λ outcome new c. ⊥
+ThenWritesAnew faulted (Err refusal) standing b = λ outcome new c. (outcome ≡ Err refusal) × (new ≡ standing) × (c ≡ b)
+
+-- What `compact` does, on a disk with this life: the archive is closed and opened, which stops its recordings, closed, written
+-- anew and opened. Where none is open it is Broken.
+abbrev pub Compacts : Life → Type 0 → Standing → Banks → Result Reply Refusal → Standing → Banks → Type 0
+Compacts life faulted (opened a) b outcome new c =
+    (first : Result Reply Refusal) × (mid : Standing) × (d : Banks) × ReopensOpened life faulted a a.doubt first mid
+    × BanksAgain life (is_none a.doubt) b mid d × ThenWritesAnew faulted first mid d outcome new c
+Compacts life faulted unknown b outcome new c = new ≡ unknown
+Compacts life faulted standing b outcome new c = (outcome ≡ Err Broken) × (new ≡ standing) × (c ≡ b)
+
 -- ---- lines
 
--- the archive, the merge that was begun last, and what befell the disk
+-- the archive, what a compaction would ask of the banks of its catalogue, the merge that was begun last, and what befell the
+-- disk
 pub record Scene : Type 0 where
   pub archive : Standing
+  pub banks : Banks
   pub merge : Option Merging
   pub life : Life
 
@@ -124,13 +181,13 @@ pub record Scene : Type 0 where
 abbrev pub Faulted : Scene → Scene → Type 0
 Faulted s t = HasFailed s.life t.life
 
--- the line is the archive's, and the merge stays
+-- the line is the archive's, and the merge and the banks stay
 abbrev pub OfArchive : Scene → Ends Standing → Ends Scene
-OfArchive s Made outcome new = Made outcome new.archive × (new.merge ≡ s.merge)
+OfArchive s Made outcome new = Made outcome new.archive × (new.merge ≡ s.merge) × (new.banks ≡ s.banks)
 
 -- the line is the merge's, and the archive and its disk stay
 abbrev pub OfMerge : Scene → Ends (Option Merging) → Ends Scene
-OfMerge s Made outcome new = Made outcome new.merge × (new.archive ≡ s.archive) × (new.life ≡ s.life)
+OfMerge s Made outcome new = Made outcome new.merge × (new.archive ≡ s.archive) × (new.banks ≡ s.banks) × (new.life ≡ s.life)
 
 -- an answer, and nothing has changed
 abbrev pub Stays : Scene → Result Reply Refusal → Ends Scene
@@ -141,10 +198,11 @@ abbrev pub LineEnds : Scene → Line → Ends Scene
 LineEnds s (lines.Event event) outcome t = OfArchive s (WhereOpen (Calls (Faulted s t) event) s.archive) outcome t
 LineEnds s (lines.Write session bytes) outcome t = OfArchive s (OrWant s.archive (WhereOpen (WritesBytes (Faulted s t) session bytes) s.archive)) outcome t
 LineEnds s (lines.Block session bytes) outcome t = OfArchive s (WhereOpen (Records (Faulted s t) session bytes) s.archive) outcome t
-LineEnds s lines.Reopen outcome t = OfArchive s (Reopens s.life (Faulted s t) s.archive) outcome t
+LineEnds s lines.Reopen outcome t =
+    Reopens s.life (Faulted s t) s.archive outcome t.archive × (t.merge ≡ s.merge) × BanksAgain s.life (is_certain s.archive) s.banks t.archive t.banks
 LineEnds s (lines.Merge line) outcome t = OfMerge s (MergeEnds s.merge line) outcome t
 LineEnds s lines.Quit outcome t = Stays s (Ok Bye) outcome t
-LineEnds s lines.Compact outcome t = Stays s (Err BadLine) outcome t
+LineEnds s lines.Compact outcome t = Compacts s.life (Faulted s t) s.archive s.banks outcome t.archive t.banks × (t.merge ≡ s.merge)
 
 -- ---- at every moment
 
@@ -156,13 +214,18 @@ MayStandAt (doubtful s u) x = IsEither s u x
 MayStandAt (refused image why) x = ⊥
 MayStandAt unknown x = ⊥
 
--- a reopening stops what is active
+-- the restart of a state of the archive
+abbrev pub IsRestarted : Standing → State → Type 0
+IsRestarted standing x = (y : State) × MayStandAt standing y × (x ≡ after y Restart)
+
+-- a reopening stops what is active, and a compaction begins with one
 abbrev pub MayRestart : Line → Standing → State → Type 0
-MayRestart lines.Reopen standing x = (y : State) × MayStandAt standing y × (x ≡ after y Restart)
+MayRestart lines.Reopen standing x = IsRestarted standing x
+MayRestart lines.Compact standing x = IsRestarted standing x
 MayRestart line standing x = ⊥
 
--- A crash at any moment of a line, between these lives of the disk, leaves a state before it or after it, or in a reopening the
--- restart of one before it; where the catalogue is refused, what it might have left before.
+-- A crash at any moment of a line, between these lives of the disk, leaves a state before it or after it, or in a reopening or
+-- a compaction the restart of one before it; where the catalogue is refused, what it might have left before.
 abbrev pub LeavesMeanwhile : Line → Life → Life → Standing → Standing → Type 0
 LeavesMeanwhile line old new (refused image why) after = (after ≡ unknown) ⊎ LeavesOnly old new (MayLeave old.now)
 LeavesMeanwhile line old new unknown after = Unit {0}

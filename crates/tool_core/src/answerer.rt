@@ -2,6 +2,7 @@
 
 ghost use Rattle.tool_core.specs.Answering.{Records, Ways, WritesBytes};
 
+use crate::history::HistoryUse;
 use archive_model::Reply;
 use control_core::Event;
 use frame_core::{Geometry, Refusal, block_of};
@@ -27,6 +28,12 @@ pub trait Answerer {
     /// Answers the line `compact`.
     fn compact(self, alloc: Global) -> (Self, Result<Reply, Refusal>)
         ensures { ways.compact self result.1 result.0 };
+
+    /// How much of its history an archive has used, where the observer of a script is to be told of it. No answer depends
+    /// on it.
+    fn history(&self) -> Option<HistoryUse> {
+        None
+    }
 }
 
 /// Writes the bytes of a block, read by the terms of the recording that a session writes: by one call at most.

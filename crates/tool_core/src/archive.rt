@@ -2,9 +2,11 @@
 
 ghost use Rattle.std.specs.Prelude.{◌≡◌, IfErr, IfOk};
 ghost use Rattle.engine_core.specs.Opening.{ReadsAsBefore};
-ghost use Rattle.tool_core.specs.Archives.{BeginsAs, archive_ways, closed_by, life_of};
+ghost use Rattle.tool_core.specs.Archives.{BeginsAs, archive_ways, closed_by, history_of, life_of};
 
 use crate::answerer::Answerer;
+use crate::compacting::reopened;
+use crate::history::HistoryUse;
 use crate::observer::Beginning;
 use archive_model::Reply;
 use control_core::{Event, read_terms};
@@ -51,8 +53,7 @@ impl<D: Disk> ScriptArchive<D> {
     }
 }
 
-/// Each call is answered as `Engine::step` answers it. Where none is open, calls are `Broken`; `compact` is `BadLine` until
-/// something answers it.
+/// Each call is answered as `Engine::step` answers it. Where none is open, calls are `Broken`, and so is `compact`.
 impl<D: Disk> Answerer for ScriptArchive<D> {
     ghost ways = { archive_ways D.life };
 
@@ -81,8 +82,26 @@ impl<D: Disk> Answerer for ScriptArchive<D> {
         }
     }
 
-    fn compact(self, _alloc: Global) -> (ScriptArchive<D>, Result<Reply, Refusal>) {
-        (self, Err(Refusal::BadLine))
+    /// Closes the archive, opens it, which stops each active recording, closes it, writes its catalogue anew and opens it.
+    /// Where one of these is refused none is open, and where none is open nothing changes.
+    fn compact(self, alloc: Global) -> (ScriptArchive<D>, Result<Reply, Refusal>) {
+        match self {
+            ScriptArchive::Open(engine) => reopened(alloc, engine.into_disk()),
+            ScriptArchive::Closed(disk) => (ScriptArchive::Closed(disk), Err(Refusal::Broken)),
+        }
+    }
+
+    /// How much of its history it has used, where it is open.
+    fn history(&self) -> Option<HistoryUse>
+        ensures { result ≡ history_of self.now }
+    {
+        match self {
+            ScriptArchive::Open(engine) => Some(HistoryUse {
+                counted: engine.desk().counted(),
+                limit: engine.desk().limit(),
+            }),
+            ScriptArchive::Closed(_) => None,
+        }
     }
 }
 

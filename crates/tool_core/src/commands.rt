@@ -1,9 +1,11 @@
-//! What `create`, `list` and `verify` do over a disk and a writer. docs/CONTROL.md, "The program".
+//! What `create`, `compact`, `list` and `verify` do over a disk and a writer. docs/CONTROL.md, "The program".
 
 ghost use Rattle.std.specs.Prelude.{IfErr, IfOk, codes};
 ghost use Rattle.std.specs.Io.KnownBytes.{Appends};
-ghost use Rattle.tool_core.specs.Commands.{FailsToCreate, FailsToList, FailsToVerify, HasListed, HasVerified, IsCreated, IsOpenedBy, IsUnopenedBy};
+ghost use Rattle.tool_core.specs.Commands.{FailsToCompact, FailsToCreate, FailsToList, FailsToVerify, HasListed, HasVerified, IsCreated, IsOpenedBy, IsUnopenedBy};
+ghost use Rattle.tool_core.specs.Archives.{HasCompacted};
 
+use crate::compacting::compact_disk;
 use crate::fault::EarlyEnd;
 use crate::observer::{Beginning, Observer};
 use crate::reports::{Verdict, list_recordings, verify_recordings};
@@ -16,7 +18,7 @@ use std::io::Write;
 /// Why a command ended before it was done.
 #[derive(Clone, Copy, Debug, PartialEq, Eq)]
 pub enum Stopped {
-    /// Its archive was neither made nor opened.
+    /// Its archive was neither made nor opened, or not compacted.
     Refused(Refusal),
     /// It ended early.
     Cut(EarlyEnd),
@@ -56,6 +58,38 @@ pub fn create_archive<W: Write, D: Disk>(
     };
     let disk = engine.into_disk();
     if writer.write_all(b"created\n").is_err() {
+        let why = Stopped::Cut(EarlyEnd::Write);
+        return Err(CommandFault { why, disk });
+    }
+    Ok(disk)
+}
+
+/// Opens the archive of a disk, which stops each active recording, closes it, writes its catalogue anew, and writes
+/// `compacted`. The disk comes back. An observer is told then how that ended.
+///
+/// Refused as `Engine::open` and `engine_core::compact` refuse, and then nothing is written; cut by `Write` where the writer
+/// fails: then the archive is compacted. docs/CONTROL.md, "The program".
+pub fn compact_archive<W: Write, D: Disk, O: Observer>(
+    alloc: Global,
+    disk: D,
+    writer: &mut W,
+    observer: &mut O,
+) -> Result<D, CommandFault<D>>
+    ensures compacted { IfOk result (λ back. HasCompacted D.life (D.life disk) (D.life back)
+        × Appends (W.contents writer.old) (W.contents writer.new) (codes "compacted\n")) }
+    ensures fault { IfErr result (λ fault. FailsToCompact D.life (D.life disk) fault.disk fault.why
+        (W.contents writer.old) (W.contents writer.new)) }
+{
+    let disk = match compact_disk(alloc, disk) {
+        Ok(disk) => disk,
+        Err(OpenRefusal { refusal, disk }) => {
+            observer.began(&Beginning::Refused(refusal));
+            let why = Stopped::Refused(refusal);
+            return Err(CommandFault { why, disk });
+        }
+    };
+    observer.began(&Beginning::Opened);
+    if writer.write_all(b"compacted\n").is_err() {
         let why = Stopped::Cut(EarlyEnd::Write);
         return Err(CommandFault { why, disk });
     }

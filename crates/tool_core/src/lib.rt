@@ -6,8 +6,10 @@ mod answerer;
 mod answers;
 mod archive;
 mod commands;
+mod compacting;
 mod fault;
 mod frames;
+mod history;
 pub mod laws;
 mod lines;
 mod merging;
@@ -24,9 +26,12 @@ mod watched;
 pub use answerer::Answerer;
 pub use answers::{write_outcome, write_refusal, write_reply};
 pub use archive::ScriptArchive;
-pub use commands::{CommandFault, Stopped, create_archive, list_archive, verify_archive};
+pub use commands::{
+    CommandFault, Stopped, compact_archive, create_archive, list_archive, verify_archive,
+};
 pub use fault::{EarlyEnd, ScriptFault};
 pub use frames::{Listing, list_frames};
+pub use history::HistoryUse;
 pub use lines::{LineBuffer, MAX_READS, read_line};
 pub use merging::answer_merge;
 pub use observer::{Beginning, Observer, Unobserved};

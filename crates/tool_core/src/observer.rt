@@ -1,5 +1,6 @@
 //! What is told of a command while it runs, beside what it writes. docs/CONTROL.md, "Standard error".
 
+use crate::history::HistoryUse;
 use archive_model::{Registration, Reply};
 use frame_core::Refusal;
 
@@ -21,6 +22,9 @@ pub trait Observer {
 
     /// What a script's line is answered, before that is written.
     fn answered(&mut self, _outcome: &Result<Reply, Refusal>) {}
+
+    /// How much of its history a script's archive has used, at its opening and behind each line.
+    fn used(&mut self, _history: &HistoryUse) {}
 
     /// What the verifying of a recording is answered, before that is written.
     fn verified(&mut self, _known: &Registration, _outcome: &Result<Reply, Refusal>) {}

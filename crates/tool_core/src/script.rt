@@ -7,6 +7,7 @@ ghost use Rattle.tool_core.specs.InputLines.{ReadsLine};
 ghost use Rattle.tool_core.specs.Transcript.{AnswersAll, AnswersSome, WritesText};
 ghost use Rattle.tool_core.specs.Answering.{AnswersFirstLines, AnswersLines, EndsEarly, IsAnswer, Replies, RepliesTo, asked, asked_copies, ended_by, quits};
 ghost use Rattle.tool_core.specs.Archives.{IsScript, IsScriptOfFirst, IsUnopened, disk_of, early_end_of};
+ghost use Rattle.catalogue_log.specs.LogState.{Banks};
 ghost use Rattle.tool_core.specs.ScriptLines.{Standing};
 ghost use Rattle.tool_core.specs.Script.{Begins, IsTranscript, IsTranscriptOfFirst};
 
@@ -67,7 +68,15 @@ fn answer_line<W: Write, A: Answerer, O: Observer>(
 {
     let (state, outcome, is_last) = outcome_of(alloc, state, line);
     observer.answered(&outcome);
+    tell_history(&state.archive, observer);
     (state, write_outcome(alloc, &outcome, writer), is_last)
+}
+
+/// Tells an observer how much of its history an archive has used.
+fn tell_history<A: Answerer, O: Observer>(archive: &A, observer: &mut O) {
+    if let Some(history) = archive.history() {
+        observer.used(&history);
+    }
 }
 
 /// Whether a whole line is at hand.
@@ -187,7 +196,7 @@ pub fn run_script<R: Read + Drop, W: Write, D: Disk, O: Observer>(
     disk: D,
     observer: &mut O,
 ) -> Result<D, ScriptFault<D>>
-    // Whatever the disk holds and does: each line is answered as `Engine::step` and `Engine::open` say.
+    // Whatever the disk holds and does: each line is answered as `Engine::step`, `Engine::open` and `compact` say.
     ensures whole { IfOk result (λ back. WritesText (R.remaining reader) (W.contents writer.old) (W.contents writer.new)
         (IsScript D.life (D.life disk) (D.life back))) }
     ensures early { IfErr result (λ fault. EndsEarly (early_end_of fault)
@@ -195,12 +204,13 @@ pub fn run_script<R: Read + Drop, W: Write, D: Disk, O: Observer>(
         (R.remaining reader) (W.contents writer.old) (W.contents writer.new)
         ⊎ IsUnopened (D.life disk) (D.life (disk_of fault)) (W.contents writer.old) (W.contents writer.new) (early_end_of fault)) }
     // Where the disk obeys the crash model: the exact answers, and what a crash leaves at every moment.
-    ensures kept { IfOk result (λ back. (first : Standing) → Begins (D.life disk) first → IsTrue (D.life back).obeys →
+    ensures kept { IfOk result (λ back. (first : Standing) (banks : Banks) → Begins (D.life disk) first banks →
+        IsTrue (D.life back).obeys →
         WritesText (R.remaining reader) (W.contents writer.old) (W.contents writer.new)
-        (IsTranscript first (D.life disk) (D.life back))) }
-    ensures kept_early { IfErr result (λ fault. (first : Standing) → Begins (D.life disk) first →
+        (IsTranscript first banks (D.life disk) (D.life back))) }
+    ensures kept_early { IfErr result (λ fault. (first : Standing) (banks : Banks) → Begins (D.life disk) first banks →
         IsTrue (D.life (disk_of fault)).obeys → EndsEarly (early_end_of fault)
-        (IsTranscriptOfFirst first (D.life disk) (D.life (disk_of fault)))
+        (IsTranscriptOfFirst first banks (D.life disk) (D.life (disk_of fault)))
         (R.remaining reader) (W.contents writer.old) (W.contents writer.new)
         ⊎ IsUnopened (D.life disk) (D.life (disk_of fault)) (W.contents writer.old) (W.contents writer.new) (early_end_of fault)) }
 {
@@ -210,6 +220,7 @@ pub fn run_script<R: Read + Drop, W: Write, D: Disk, O: Observer>(
         Err(disk) => return Err(ScriptFault::Memory(disk)),
     };
     observer.began(&beginning);
+    tell_history(&archive, observer);
     let (archive, outcome) = answer_lines(alloc, reader, writer, archive, observer);
     let disk = archive.into_disk();
     match outcome {

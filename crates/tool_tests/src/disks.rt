@@ -7,7 +7,7 @@ use std::alloc::Global;
 use std::test::*;
 
 /// The disk behind a script that recorded a frame and did not stop its recording.
-fn recorded(alloc: Global, disk: MemoryDisk) -> Result<MemoryDisk, Fail> {
+pub fn recorded(alloc: Global, disk: MemoryDisk) -> Result<MemoryDisk, Fail> {
     check_on(
         alloc,
         disk,
@@ -66,24 +66,11 @@ fn damaged_frame(rt: HostRuntime) -> Result<(), Fail> {
 }
 
 /// A disk with a new archive, whose history may have three entries.
-fn with_short_history(alloc: Global) -> Result<MemoryDisk, Fail> {
+pub fn with_short_history(alloc: Global) -> Result<MemoryDisk, Fail> {
     match Engine::create(alloc, MemoryDisk::new(alloc), 3) {
         Ok(engine) => Ok(engine.into_disk()),
         Err(_) => Err(Fail::new("no archive was made")),
     }
-}
-
-#[test]
-fn full_history(rt: HostRuntime) -> Result<(), Fail> {
-    check_on(
-        rt.alloc(),
-        with_short_history(rt.alloc())?,
-        "start 1001 7 42 65536 1408 131072 0 1000 c; block 0 HELLO_AT_0; block 0 HELLO_AT_64; stop 0 2000; reopen; \
-        list 0 1; truncate 0 64",
-        "started 0 0; settled 64; settled 128; error 11 HistoryFull; reopened 1; \
-        recording 0 1000 -1 0 128 42 131072 65536 1408 7 1001 c; end 1; error 11 HistoryFull",
-    )?;
-    Ok(())
 }
 
 /// A block whose settling has no room stays written, and is what the session settles next.
@@ -115,9 +102,9 @@ fn an_archive_that_is_refused(rt: HostRuntime) -> Result<(), Fail> {
         rt.alloc(),
         without_catalogue(rt.alloc())?,
         "list 0 1; list -1 1; start 1001 7 42 65536 1408 131072 0 1000 c; write 0 00; block 0 00; settle 0; sweep; verify 0; \
-        reopen; list 0 1; compact; list 0; merge-take; merge 42 65536 0; merge-state; quit",
+        reopen; list 0 1; compact; compact 0; list 0; merge-take; merge 42 65536 0; merge-state; quit",
         "error 16 Broken; error 16 Broken; error 16 Broken; error 16 Broken; error 16 Broken; error 16 Broken; \
-        error 16 Broken; error 16 Broken; error 19 NotCatalogue; error 16 Broken; error 22 BadLine; error 22 BadLine; \
+        error 16 Broken; error 16 Broken; error 19 NotCatalogue; error 16 Broken; error 16 Broken; error 22 BadLine; error 22 BadLine; \
         error 9 UnknownReplay; merge 0; merged no 0; bye",
     )?;
     Ok(())

@@ -196,8 +196,8 @@ fn a_failing_reader_loses_no_line(rt: HostRuntime) -> Result<(), Fail> {
 
 /// Takes a few bytes, and then fails.
 #[derive(Drop)]
-struct FullWriter {
-    room: usize,
+pub struct FullWriter {
+    pub room: usize,
 }
 
 impl Write for FullWriter {

@@ -4,6 +4,8 @@
 #![tactic(auto)]
 
 #[cfg(test)]
+mod compactions;
+#[cfg(test)]
 mod disks;
 #[cfg(test)]
 mod faults;

@@ -122,7 +122,7 @@ fn an_empty_list(rt: HostRuntime) -> Result<(), Fail> {
 #[test]
 fn a_read_fails_once(rt: HostRuntime) -> Result<(), Fail> {
     let mut disk = two_recordings(rt.alloc())?;
-    disk.fail_at(12);
+    disk.fail_at(13);
     check_verified(
         rt.alloc(),
         disk,

@@ -273,7 +273,7 @@ fn refusals_in_their_order(rt: HostRuntime) -> Result<(), Fail> {
         "start 1001 7 42 65536 1408 131072 0 1000 c; block 0 HELLO_AT_0; \
         start 1001 7 42 65535 1408 131072 0 1000 c; list 0 1025; block 1 zz; block 1 00; \
         block 2147483648 00; block 0 00; replay 5 0 -1; replay 5 -2 -1; replay 5 0 -2; replay 0 32 -1; \
-        poll 5 0; poll 5 1; block 0 HELLO_AT_0; block 0 HELLO_OF_SESSION_8; settle 0; stop 0; compact; \
+        poll 5 0; poll 5 1; block 0 HELLO_AT_0; block 0 HELLO_OF_SESSION_8; settle 0; stop 0; compact 0; \
         list -1 5",
         "started 0 0; settled 64; error 10 BadParameter; error 10 BadParameter; error 22 BadLine; \
         error 12 StaleSession; error 12 StaleSession; error 21 BadFrame 0; error 1 UnknownRecording; \

@@ -3,6 +3,8 @@
 #![tactic(auto)]
 
 #[cfg(test)]
+mod captures;
+#[cfg(test)]
 mod pages;
 #[cfg(test)]
 mod views;

@@ -150,6 +150,11 @@ fn help(rt: HostRuntime) -> Result<(), Fail> {
             "Records the datagrams of Aeron publications that come by UDP",
         ),
         (
+            "archive_tool compact --help",
+            ErrorKind::DisplayHelp,
+            "Makes room in the history of the archive in a folder, and prints `compacted`",
+        ),
+        (
             "archive_tool list --help",
             ErrorKind::DisplayHelp,
             "Prints a line `recording ..` for each recording",
@@ -217,6 +222,7 @@ fn a_missing_folder_or_file(rt: HostRuntime) -> Result<(), Fail> {
     for (line, word) in [
         ("archive_tool create", "<folder>"),
         ("archive_tool create --history 7", "<folder>"),
+        ("archive_tool compact", "<folder>"),
         ("archive_tool list", "<folder>"),
         ("archive_tool verify", "<folder>"),
         ("archive_tool frames", "<file>"),
@@ -291,6 +297,10 @@ fn each_command_has_its_words(rt: HostRuntime) -> Result<(), Fail> {
     for (line, command) in [
         ("archive_tool run", ToolCommand::Run { folder: None }),
         ("archive_tool run a", ToolCommand::Run { folder: Some("a") }),
+        (
+            "archive_tool compact a",
+            ToolCommand::Compact { folder: "a" },
+        ),
         (
             "archive_tool list a",
             ToolCommand::List {

@@ -56,8 +56,18 @@ fn disk_of(rt: HostRuntime, folder: &str) -> Result<HostDisk, Fail> {
     }
 }
 
-/// Records a frame in the archive of a folder.
+/// Records a frame in the archive of a folder, in its first recording.
 fn record(rt: HostRuntime, folder: &str) -> Result<(), Fail> {
+    script(rt, folder, b"started 0 0\nsettled 64\n")
+}
+
+/// The same in its second recording.
+fn record_more(rt: HostRuntime, folder: &str) -> Result<(), Fail> {
+    script(rt, folder, b"started 1 0\nsettled 64\n")
+}
+
+/// Records a frame in the archive of a folder, where it is answered so.
+fn script(rt: HostRuntime, folder: &str, told: &[u8]) -> Result<(), Fail> {
     let mut out = Vec::new(rt.alloc());
     let outcome = run_script(
         rt.alloc(),
@@ -66,7 +76,7 @@ fn record(rt: HostRuntime, folder: &str) -> Result<(), Fail> {
         disk_of(rt, folder)?,
         &mut Unobserved,
     );
-    if outcome.is_ok() && out.as_slice() == b"started 0 0\nsettled 64\n".as_slice() {
+    if outcome.is_ok() && out.as_slice() == told {
         Ok(())
     } else {
         Err(Fail::new(folder))
@@ -198,6 +208,43 @@ fn looking_stops_no_recording(rt: HostRuntime) -> Result<(), Fail> {
         3,
     )?;
     drop(held);
+    fs::remove_dir_all(&rt, folder)?;
+    Ok(())
+}
+
+/// A history that is full has room again; a folder that is not there or in use says so, and one without an archive.
+#[test]
+fn a_full_history_is_compacted(rt: HostRuntime) -> Result<(), Fail> {
+    let path = unused(rt, "full")?;
+    let folder = path.as_str();
+    check(&rt, rt, ToolCommand::Compact { folder }, "", 3)?;
+    check(
+        &rt,
+        rt,
+        ToolCommand::Create { folder, history: 2 },
+        "created\n",
+        0,
+    )?;
+    record(rt, folder)?;
+    check(&rt, rt, ToolCommand::Compact { folder }, "compacted\n", 0)?;
+    record_more(rt, folder)?;
+    check(
+        &rt,
+        rt,
+        ToolCommand::Verify {
+            folder,
+            read_only: false,
+        },
+        "verified 1\nverified 1\n",
+        0,
+    )?;
+    let held = disk_of(rt, folder)?;
+    check(&rt, rt, ToolCommand::Compact { folder }, "", 3)?;
+    drop(held);
+    let mut disk = disk_of(rt, folder)?;
+    disk.remove(FileId::BankA)?;
+    drop(disk);
+    check(&rt, rt, ToolCommand::Compact { folder }, "", 1)?;
     fs::remove_dir_all(&rt, folder)?;
     Ok(())
 }

@@ -14,7 +14,7 @@ use Rattle.archive_model.specs.Checks.{Tests, block_checks, checked, checks, fir
 use Rattle.archive_model.specs.Register.{is_end, registration_in}
 use Rattle.archive_model.specs.Replay.{begins_frame}
 use Rattle.archive_model.specs.State.{Recording, registration_of}
-use Rattle.catalogue_log.specs.History.{IsRequested}
+use Rattle.catalogue_entries.specs.History.{IsRequested}
 use Rattle.control_core.specs.declared.asked.Asked.TheVariants as calls
 use Rattle.control_core.specs.declared.asked.Told.TheVariants as told
 use Rattle.control_core.specs.Decided.{Decision}
@@ -327,6 +327,7 @@ pub ask_made : (old new : EngineState) (request : Request) (command : Command) (
     → CommitsEntry old new (λ a. Accepts (book_of a) command) (reply_after old.desk command) (λ a. archive_after a command) outcome → AnswersEvent old new (events.Ask request) outcome
 ask_made old new request command outcome is commits = record {
   goes_on = commits.goes_on;
+  bank = commits.bank;
   cause = λ fault. commit_cause (archive_of old some_content) (archive_after (archive_of old some_content) command) (reply_after old.desk command) (HasFailed old.life new.life) outcome (archive_of new some.0) some.1 fault;
   machine = step_by old.desk new.desk request (decisions.Accepted command) (plain outcome) is (commit_step (archive_of old some_content) command (HasFailed old.life new.life) outcome (archive_of new some.0) some.1);
   kept = spared_by _ _ old new outcome (λ harmless. harmless.1) commits.kept;
@@ -348,6 +349,7 @@ pub ask_inside : (old new : EngineState) (request : Request) (id position : ℤ)
     → MakesInside old new id position behind outcome → AnswersEvent old new (events.Ask request) outcome
 ask_inside old new request id position behind outcome is makes = record {
   goes_on = makes.goes_on;
+  bank = makes.bank;
   cause = λ fault. elim (makes.cause fault) [
     | inl decided ↦ absurd (never behind (behind_other old.desk request id position behind (sym is)) decided)
     | inr failed ↦ failed

@@ -12,8 +12,8 @@ use Rattle.archive_model.specs.declared.command.Command.TheVariants as commands
 use Rattle.archive_model.specs.declared.reply.Reply.{Reply}
 use Rattle.archive_model.specs.Acceptance as acceptance
 use Rattle.archive_model.specs.Keyed.{Each}
-use Rattle.catalogue_log.specs.declared.entry.Entry.{Entry}
-use Rattle.catalogue_log.specs.Fold.{counts}
+use Rattle.catalogue_entries.specs.declared.entry.Entry.{Entry}
+use Rattle.catalogue_entries.specs.Fold.{counts}
 use Rattle.catalogue_log.specs.LogState.{LogState}
 use Rattle.control_core.specs.declared.callers.RecorderSession.{RecorderSession}
 use Rattle.control_core.specs.Changes.{broken_desk}
@@ -102,7 +102,7 @@ module _ (old new : EngineState) (c : Content) (was : IsCrashConsistent old.life
   a = archive_of old c
 
   stand_here : (x : Archive) (ss : List RecorderSession) → Each (StandsBehind (reads old.life.now) x) ss → Each (StandsBehind (reads new.life.now) x) ss
-  stand_here x ss all = stand_on (reads old.life.now) (reads new.life.now) x ss (λ id base. keeps.same (Segment id base) (λ is. absurd cc)) all
+  stand_here x ss all = stand_on (reads old.life.now) (reads new.life.now) x ss (λ id base. keeps.same (Segment id base) (λ is. absurd cc) (λ is. absurd cc)) all
 
   pub commit_done : StaysConsistent a b → Each (StandsBehind (reads old.life.now) b) b.desk.callers.sessions → new.desk ≡ b.desk → Moves old.life new.life new.log a.state b.state (Ok tt)
       → CallEnded old new a (CommitEnds a reply b (HasFailed old.life new.life) (Ok reply))

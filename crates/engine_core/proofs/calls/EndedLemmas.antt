@@ -18,7 +18,7 @@ use Rattle.control_core.specs.Runs.{MayStand}
 use Rattle.control_core.proofs.ConsistentLemmas.{breaks}
 use Rattle.engine_core.specs.Calls.{CallEnded}
 use Rattle.engine_core.specs.Consistent.{IsCrashConsistent, MayStandIn, StandsBehind}
-use Rattle.engine_core.specs.Engine.{EngineState, DiskGoesOn, IsAsBefore, IsSpared, content_of}
+use Rattle.engine_core.specs.Engine.{DiskGoesOn, EngineState, IsAsBefore, IsSpared, KeepsBank, content_of}
 use Rattle.engine_core.specs.Making.{after_failure}
 use Rattle.engine_core.specs.Recovery.{IsDurable, IsEither, IsSound, RecoversTo}
 use Rattle.engine_core.proofs.files.RecoveryLemmas.{sound_recovers}
@@ -57,6 +57,11 @@ quiet_goes_on old new quiet = record { obeyed = quiet.obeyed; faults = quiet.fau
 
 pub goes_on_here : (life : Life) → DiskGoesOn life life
 goes_on_here life = record { obeyed = λ obeys. obeys; faults = omega arith }
+
+-- ---- what the log adds to
+
+pub same_bank : (old new : LogState) → new ≡ old → KeepsBank old new
+same_bank old new same = record { header = ap (λ (log : LogState). log.header) same; spare = ap (λ (log : LogState). log.spare) same }
 
 -- ---- what a refusal left
 

@@ -25,11 +25,11 @@ use Rattle.control_core.specs.Machine as machine
 use Rattle.control_core.specs.Machine.{Does, Ends, OrOutside, Outcome, UnlessBoundary, Unread}
 use Rattle.engine_core.specs.Calls.{CommitEnds, CallEnded}
 use Rattle.engine_core.specs.Consistent.{IsCrashConsistent, MayStandIn}
-use Rattle.engine_core.specs.Engine.{Content, DiskGoesOn, EngineState, IsAsBefore, IsSpared, archive_of}
+use Rattle.engine_core.specs.Engine.{Content, DiskGoesOn, EngineState, IsAsBefore, IsSpared, KeepsBank, archive_of}
 use Rattle.engine_core.specs.Making.{CommitsEntry}
 use Rattle.engine_core.specs.Reading.{RecordingIsRead}
 use Rattle.engine_core.specs.Recovery.{RecoversTo}
-use Rattle.engine_core.proofs.calls.EndedLemmas.{ended_as, quiet_consistent, quiet_goes_on, quiet_moments, still}
+use Rattle.engine_core.proofs.calls.EndedLemmas.{ended_as, quiet_consistent, quiet_goes_on, quiet_moments, same_bank, still}
 use Rattle.engine_core.proofs.calls.KnownLemmas.{is_read}
 use Rattle.engine_core.proofs.calls.SweepCallLemmas.{one_refusal}
 
@@ -48,6 +48,7 @@ InsideEnds a false decided faulted = OrOutside a faulted (λ b. b ≡ a) (Is (Er
 -- What was done with what is decided where a frame begins at a position strictly inside a recording.
 pub record MakesInside (old new : EngineState) (id position : ℤ) (decided : Result Command Refusal) (result : Result Reply Refusal) : Type 0 where
   pub goes_on : DiskGoesOn old.life new.life
+  pub bank : KeepsBank old.log new.log
   pub kept : IsSpared (new.desk.is_broken ≡ old.desk.is_broken) old new result
   -- a fault has its cause, unless it is what was decided
   pub cause : IsErrOf result DeviceFault → IsErrOf decided DeviceFault ⊎ HasFailed old.life new.life
@@ -144,6 +145,7 @@ module _ (old : EngineState) (mid : Life) (id position : ℤ) (g : Registration)
       → ((r : Recording) → RecordingIsRead old.life mid g r → refusal ≡ DeviceFault) → (refusal ≡ DeviceFault → HasFailed old.life mid) → MakesInside old (behind_read old mid) id position decided outcome
   inside_unread outcome refusal obeys image l geometry recorded at is refuses fault cause = subst (MakesInside old (behind_read old mid) id position decided) (sym is) (record {
     goes_on = quiet_goes_on old.life mid asked.quiet;
+    bank = same_bank old.log old.log refl;
     kept = λ harmless. read_before;
     cause = λ failed. inr (cause (one_refusal (Err refusal) refusal DeviceFault refl failed));
     machine = inl (inr (inl (boundary_unread old.desk obeys image l geometry recorded at refusal refuses)));
@@ -159,6 +161,7 @@ module _ (old : EngineState) (mid : Life) (id position : ℤ) (g : Registration)
       → MakesInside old (behind_read old mid) id position decided (Err BadPosition)
   inside_none tells = record {
     goes_on = quiet_goes_on old.life mid asked.quiet;
+    bank = same_bank old.log old.log refl;
     kept = λ harmless. read_before;
     cause = λ failed. absurd (let clash = failed in cc);
     machine = inl (inl (refl, refl));
@@ -173,6 +176,7 @@ module _ (old : EngineState) (mid : Life) (id position : ℤ) (g : Registration)
   pub inside_refused : (outcome : Result Reply Refusal) (refusal : Refusal) → outcome ≡ Err refusal → decided ≡ Err refusal → Tells old.life mid g position true → MakesInside old (behind_read old mid) id position decided outcome
   inside_refused outcome refusal is refused tells = subst (MakesInside old (behind_read old mid) id position decided) (sym is) (record {
     goes_on = quiet_goes_on old.life mid asked.quiet;
+    bank = same_bank old.log old.log refl;
     kept = λ harmless. read_before;
     cause = λ failed. inl (refused ∙ as_decided failed);
     machine = inl (inr (inr (subst (λ (x : Result Command Refusal). Does old.desk x (Err refusal) old.desk) (sym refused) (refl, refl))));
@@ -193,6 +197,7 @@ module _ (old : EngineState) (mid : Life) (id position : ℤ) (g : Registration)
       → CommitsEntry (behind_read old mid) new (λ a. Accepts (book_of a) command) (reply_after old.desk command) (λ a. archive_after a command) outcome → MakesInside old new id position decided outcome
   inside_made new command outcome is tells commits = record {
     goes_on = record { obeyed = λ obeys. asked.quiet.obeyed (commits.goes_on.obeyed obeys); faults = omega (arith, asked.quiet.faults, commits.goes_on.faults) };
+    bank = commits.bank;
     kept = spared_behind new outcome commits.kept;
     cause = λ failed. inr (failed_later old.life mid new.life asked.quiet (commit_cause (archive_of old some_content) (archive_after (archive_of old some_content) command) (reply_after old.desk command) (HasFailed mid new.life) outcome (archive_of new some.0) some.1 failed));
     machine = behind_boundary old.desk new.desk (Does old.desk decided) (plain outcome)

@@ -14,11 +14,11 @@ use Rattle.archive_model.specs.Commands.{after}
 use Rattle.archive_model.specs.Keyed.{Each}
 use Rattle.archive_model.specs.State.{State}
 use Rattle.archive_model.proofs.StateLemmas.{each_found}
-use Rattle.catalogue_log.specs.declared.entry.Entry.{Entry}
+use Rattle.catalogue_entries.specs.declared.entry.Entry.{Entry}
 use Rattle.catalogue_log.specs.Catalogue.{ChangesBank}
-use Rattle.catalogue_log.specs.EntryBytes.{is_short}
-use Rattle.catalogue_log.specs.Fold.{counts}
-use Rattle.catalogue_log.specs.History.{IsRequested, entry_of}
+use Rattle.catalogue_entries.specs.EntryBytes.{is_short}
+use Rattle.catalogue_entries.specs.Fold.{counts}
+use Rattle.catalogue_entries.specs.History.{IsRequested, entry_of}
 use Rattle.catalogue_log.specs.LogState.{LogState}
 use Rattle.control_core.specs.Agreement.{HasWritten}
 use Rattle.control_core.specs.Callers.{session_number}
@@ -39,7 +39,7 @@ use Rattle.engine_core.specs.Making.{CommitsEntry, after_failure}
 use Rattle.engine_core.specs.Moves.{AddsEntry, HasEntryRoom, KeepsSegments, EntryLeads, Moves}
 use Rattle.engine_core.specs.Recovery.{IsSound}
 use Rattle.engine_core.proofs.calls.CommitCallLemmas.{commit_done, commit_refused, exact_commit, room_for, tied_behind}
-use Rattle.engine_core.proofs.calls.EndedLemmas.{as_before, goes_on_here, no_doubt, quiet_life, spared, spared_unbroken, still}
+use Rattle.engine_core.proofs.calls.EndedLemmas.{as_before, goes_on_here, no_doubt, quiet_life, same_bank, spared, spared_unbroken, still}
 use Rattle.engine_core.proofs.calls.StandLemmas.{stands_either, stands_nothing}
 use Rattle.engine_core.proofs.files.StayLemmas.{leads}
 
@@ -99,7 +99,7 @@ has_written a (commands.PurgeRecording id) made = tt
 has_written a commands.Restart made = tt
 
 pub bank_keeps : (old new : Life) → ChangesBank old new → KeepsSegments old new
-bank_keeps old new changes = record { same = λ file other. ap (λ (f : FileState). f.reads) (changes.others file other); obeyed = changes.obeyed; faults = changes.faults }
+bank_keeps old new changes = record { same = λ file not_a not_b. ap (λ (f : FileState). f.reads) (changes.others file not_a not_b); obeyed = changes.obeyed; faults = changes.faults }
 
 -- an entry that is made by the desk's next id
 pub record IsEntryFor (d : DeskState) (c : Command) (e : Entry) : Type 0 where
@@ -216,6 +216,7 @@ module _ (old new : EngineState) (c : Command) (e : Entry) (tied : IsTied old.lo
   commits_done reply told desk adds moves =
       subst (λ (r : Reply). CommitsEntry old new (λ a. Accepts (book_of a) c) (reply_after old.desk c) (λ a. archive_after a c) (Ok r)) (sym told) (record {
         goes_on = adds.goes_on;
+        bank = adds.bank;
         kept = tt;
         exact = λ content. exact_commit old new (reply_after old.desk c) (λ a. archive_after a c) (Ok tt) (Ok (reply_after old.desk c)) content (λ done is. (refl, desk)) (λ refusal is. absurd cc);
         ended = λ content was accepts. made_done old new content c e (reply_after old.desk c) (may content was accepts) changes desk moves;
@@ -228,6 +229,7 @@ module _ (old new : EngineState) (c : Command) (e : Entry) (tied : IsTied old.lo
       let cause : refusal ≡ DeviceFault → HasFailed old.life new.life = λ is. adds.cause (ap Err is) in
       record {
         goes_on = adds.goes_on;
+        bank = adds.bank;
         kept = spared_unbroken old new refusal works desk outside quiet adds.kept;
         exact = λ content. exact_commit old new (reply_after old.desk c) (λ a. archive_after a c) (Err refusal) (Err refusal) content (λ done is. absurd cc) (λ r is. (ap Err (one_refusal refusal r is), subst (λ (x : Refusal). new.desk ≡ after_failure x old.desk) (one_refusal refusal r is) desk, subst (λ (x : Refusal). (x ≡ DeviceFault) ⊎ (x ≡ NoMemory)) (one_refusal refusal r is) outside, subst (λ (x : Refusal). x ≡ DeviceFault → HasFailed old.life new.life) (one_refusal refusal r is) cause));
         ended = λ content was accepts. made_refused old new content c e (reply_after old.desk c) (may content was accepts) changes refusal cause desk moves;
@@ -239,6 +241,7 @@ unmade old new Fits reply to outcome life log desk is =
     let same : new ≡ old = same_state old new life log desk in
     subst (λ (x : EngineState). CommitsEntry old x Fits reply to outcome) (sym same) (subst (λ (o : Result Reply Refusal). CommitsEntry old old Fits reply to o) (sym is) (record {
       goes_on = goes_on_here old.life;
+      bank = same_bank old.log old.log refl;
       kept = spared _ old old (Err NoMemory) (as_before old);
       exact = λ c. (c, refl);
       ended = λ c was fits. still old old (archive_of old c) _ (quiet_life old.life) refl refl was refl;

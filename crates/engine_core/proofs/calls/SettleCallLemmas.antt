@@ -22,10 +22,10 @@ use Rattle.archive_model.specs.State.{Recording, State, empty, id_of, recorded_p
 use Rattle.archive_model.proofs.RegisterLemmas.{found_number}
 use Rattle.archive_model.proofs.StateLemmas.{each_found}
 use Rattle.archive_model.proofs.WellLemmas.{both}
-use Rattle.catalogue_log.specs.declared.entry.Entry.{Entry}
-use Rattle.catalogue_log.specs.declared.entry.Entry.TheVariants as entries
-use Rattle.catalogue_log.specs.Fold.{counts}
-use Rattle.catalogue_log.specs.History.{entry_of}
+use Rattle.catalogue_entries.specs.declared.entry.Entry.{Entry}
+use Rattle.catalogue_entries.specs.declared.entry.Entry.TheVariants as entries
+use Rattle.catalogue_entries.specs.Fold.{counts}
+use Rattle.catalogue_entries.specs.History.{entry_of}
 use Rattle.catalogue_log.specs.LogState.{LogState}
 use Rattle.control_core.specs.declared.callers.RecorderSession.{RecorderSession}
 use Rattle.control_core.specs.declared.callers.Writer.{Writer}
@@ -52,7 +52,7 @@ use Rattle.engine_core.specs.Making.{CommitsEntry, after_failure}
 use Rattle.engine_core.specs.Moves.{AddsEntry, Enters, HasEntryRoom, KeepsSegments, Moves}
 use Rattle.engine_core.specs.Recovery.{IsSound, last_of, layout_of}
 use Rattle.engine_core.proofs.calls.CommitCallLemmas.{commit_done, commit_refused, exact_commit, tied_behind}
-use Rattle.engine_core.proofs.calls.EndedLemmas.{as_before, ended_as, goes_on_here, no_doubt, quiet_life, spared, spared_by, spared_unbroken, still}
+use Rattle.engine_core.proofs.calls.EndedLemmas.{as_before, ended_as, goes_on_here, no_doubt, quiet_life, same_bank, spared, spared_by, spared_unbroken, still}
 use Rattle.engine_core.proofs.files.FrameLemmas.{each_then}
 use Rattle.engine_core.proofs.calls.KnownLemmas.{IsKnown, known_recording, laid_found, layout_laid, written_from_start}
 use Rattle.engine_core.proofs.calls.StandLemmas.{stands_nothing, stands_open}
@@ -264,6 +264,7 @@ module _ (old new : EngineState) (n id : ℤ) (w : Written) (layout : Layout) (p
   pub settling_done : AddsEntry old.life new.life old.log new.log entry (Ok tt) → new.desk ≡ settled (session_in old.desk n) old.desk → SettlesFiles old new layout position entry (Ok tt) → SettlesTo (Ok (replies.Settled w.last))
   settling_done adds desk does = record {
     goes_on = adds.goes_on;
+    bank = adds.bank;
     kept = tt;
     exact = λ content. exact_commit old new (replies.Settled w.last) (λ a. settled_archive a n id) (Ok tt) (Ok (replies.Settled w.last)) content (λ done is. (refl, desk)) (λ refusal is. absurd cc);
     ended = λ content was fits. settle_done old new content n id w layout position entry was tied asks keeps (replies.Settled w.last) desk does;
@@ -277,6 +278,7 @@ module _ (old new : EngineState) (n id : ℤ) (w : Written) (layout : Layout) (p
       let Told : Refusal → Type 0 = λ x. (outcome ≡ Err x) × (new.desk ≡ after_failure x old.desk) × ((x ≡ DeviceFault) ⊎ (x ≡ NoMemory)) × (x ≡ DeviceFault → HasFailed old.life new.life) in
       subst (λ (r : Refusal). SettlesTo (Err r)) (sym same) (record {
         goes_on = adds.goes_on;
+        bank = adds.bank;
         kept = spared_unbroken old new refusal (settles old.desk n id w asks.told).works desk outside quiet adds.kept;
         exact = λ content.
             exact_commit old new (replies.Settled w.last) (λ a. settled_archive a n id) (Err refusal) (Err refusal) content (λ done is. absurd cc)
@@ -313,6 +315,7 @@ pub answered_still : (e : EngineState) (event : Event) (outcome : Result Reply R
     → ((c : Content) → IsCrashConsistent e.life e.log (archive_of e c) → ArchiveEnds (archive_of e c) event outcome (archive_of e c)) → ((a : Archive) → Keeps event a a) → AnswersEvent e e event outcome
 answered_still e event outcome some no_poll no_sweep no_fault here ends keeps = record {
   goes_on = goes_on_here e.life;
+  bank = same_bank e.log e.log refl;
   cause = λ fault. absurd (no_fault fault);
   machine = call_is_allowed (archive_of e some) event outcome (archive_of e some) (λ poll. absurd (true≢false (sym poll ∙ no_poll))) (ends_exactly (archive_of e some) event (Unit {0}) outcome (archive_of e some) here);
   kept = spared _ e e outcome (as_before e);
@@ -360,6 +363,7 @@ settle_blocks old new n id w outcome told commits =
     let faulted : Type 0 = HasFailed old.life new.life in
     record {
       goes_on = commits.goes_on;
+      bank = commits.bank;
       cause = commit_cause (archive_of old blank) (replies.Settled w.last) (settled_archive (archive_of old blank) n id) faulted outcome (archive_of new made.0) made.1;
       machine = call_is_allowed (archive_of old blank) event outcome (archive_of new made.0) (λ poll. absurd (true≢false (sym poll)))
           (other_cause (archive_of old blank) event faulted (Unit {0}) outcome (archive_of new made.0) (λ failed. tt) (by blank (archive_of new made.0) made.1));

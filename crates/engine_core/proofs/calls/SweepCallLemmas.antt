@@ -41,7 +41,7 @@ use Rattle.engine_core.specs.Engine.{Content, EngineState, archive_of}
 use Rattle.engine_core.specs.Moves.{SparesKept, StaysSound, keeps_of, registered_keeps}
 use Rattle.engine_core.specs.Reading.{IsOutside}
 use Rattle.engine_core.specs.Recovery.{IsEither, IsSound, RecoversTo, first_of, last_of, layout_of}
-use Rattle.engine_core.proofs.calls.EndedLemmas.{as_before, done, no_doubt, quiet_goes_on, quiet_life, recovers_as, sound_consistent, spared, still}
+use Rattle.engine_core.proofs.calls.EndedLemmas.{as_before, done, no_doubt, quiet_goes_on, quiet_life, recovers_as, same_bank, sound_consistent, spared, still}
 use Rattle.engine_core.proofs.files.FrameLemmas.{each_both, each_then}
 use Rattle.engine_core.proofs.calls.KnownLemmas.{keeps_same, registered_of}
 use Rattle.engine_core.proofs.calls.StandLemmas.{frames_behind}
@@ -57,6 +57,7 @@ pub unmoved : (old : EngineState) (event : Event) (outcome : Result Reply Refusa
     → ((c : Content) → IsCrashConsistent old.life old.log (archive_of old c) → EndsAs old.life old.life event (archive_of old c) outcome (archive_of old c)) → AnswersEvent old old event outcome
 unmoved old event outcome no_fault no_sweep step ends = record {
   goes_on = quiet_goes_on old.life old.life (quiet_life old.life);
+  bank = same_bank old.log old.log refl;
   cause = λ fault. absurd (no_fault fault);
   machine = step;
   kept = spared _ old old outcome (as_before old);
@@ -138,6 +139,7 @@ pub record SweepsFiles (old new : EngineState) (keeps : List Keep) : Type 0 wher
       → StaysSound old.life new.life new.log s
   pub spares : SparesKept keeps old.life new.life
   pub desk : new.desk ≡ old.desk
+  pub log : new.log ≡ old.log
 
 -- so the archive stays as it is, however the sweep ends
 sweep_ended : (old new : EngineState) (keeps : List Keep) (c : Content) (Ends : Archive → Type 0) → SweepsFiles old new keeps → IsCrashConsistent old.life old.log (archive_of old c) → Ends (archive_of old c) → CallEnded old new (archive_of old c) Ends
@@ -162,6 +164,7 @@ one_swept answer x y this that = cc
 pub swept_answers : (old new : EngineState) (keeps : List Keep) (removed : Bool) → SweepsFiles old new keeps → HasSwept keeps old.life new.life removed → AnswersEvent old new events.Sweep (Ok (replies.Swept removed))
 swept_answers old new keeps removed did swept = record {
   goes_on = record { obeyed = did.spares.obeyed; faults = did.spares.faults };
+  bank = same_bank old.log new.log did.log;
   cause = λ fault. absurd (let clash = fault in cc);
   machine = subst (λ (d : DeskState). Stepped old.desk calls.Sweep (Ok (told.Reply (replies.Swept removed))) d) (sym did.desk) (swept_step old.desk removed did.decided.0 did.decided.1);
   kept = tt;
@@ -181,14 +184,15 @@ unswept_ends : (a : Archive) (faulted : Type 0) (x : Unit {0}) (refusal : Refusa
 unswept_ends a faulted x refusal decided cause (inl fault) = subst (λ (r : Refusal). CallEnds a events.Sweep faulted (Err r) a) (sym fault) (inr (cause fault, inl (sweep_passes a.desk x decided, refl)))
 unswept_ends a faulted x refusal decided cause (inr memory) = subst (λ (r : Refusal). CallEnds a events.Sweep faulted (Err r) a) (sym memory) (inr refl)
 
-pub unswept_answers : (old new : EngineState) (keeps : List Keep) (outcome : Result Reply Refusal) (refusal : Refusal) → outcome ≡ Err refusal → SweepsFiles old new keeps → IsOutside refusal → (refusal ≡ NoMemory → IsQuiet old.life new.life) → new.log ≡ old.log → (refusal ≡ DeviceFault → HasFailed old.life new.life) → AnswersEvent old new events.Sweep outcome
-unswept_answers old new keeps outcome refusal is did outside quiet log cause = subst (AnswersEvent old new events.Sweep) (sym is) (record {
+pub unswept_answers : (old new : EngineState) (keeps : List Keep) (outcome : Result Reply Refusal) (refusal : Refusal) → outcome ≡ Err refusal → SweepsFiles old new keeps → IsOutside refusal → (refusal ≡ NoMemory → IsQuiet old.life new.life) → (refusal ≡ DeviceFault → HasFailed old.life new.life) → AnswersEvent old new events.Sweep outcome
+unswept_answers old new keeps outcome refusal is did outside quiet cause = subst (AnswersEvent old new events.Sweep) (sym is) (record {
   goes_on = record { obeyed = did.spares.obeyed; faults = did.spares.faults };
+  bank = same_bank old.log new.log did.log;
   cause = λ fault. cause (one_refusal _ refusal DeviceFault refl fault);
   machine = subst (λ (d : DeskState). Stepped old.desk calls.Sweep (Err refusal) d) (sym did.desk) (unswept_step old.desk did.decided.0 refusal did.decided.1 outside);
   kept = λ harmless. elim outside [
     | inl fault ↦ absurd ((harmless fault).0 refl)
-    | inr memory ↦ record { files = quiet memory; log = log; desk = did.desk }
+    | inr memory ↦ record { files = quiet memory; log = did.log; desk = did.desk }
   ];
   swept = λ removed sweep told. absurd (let clash = told in cc);
   ended = λ c was cut. sweep_ended old new keeps c (EndsAs old.life new.life events.Sweep (archive_of old c) (Err refusal)) did was

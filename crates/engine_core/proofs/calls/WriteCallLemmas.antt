@@ -47,7 +47,7 @@ use Rattle.engine_core.specs.Moves.{Moves}
 use Rattle.engine_core.specs.Recovery.{IsSound, last_of, layout_of}
 use Rattle.engine_core.proofs.calls.Targets.{HasNoTarget, IsTarget}
 use Rattle.engine_core.proofs.files.BlockLemmas.{blocks_encodable, stands_more}
-use Rattle.engine_core.proofs.calls.EndedLemmas.{done, failed, no_doubt, sound_consistent}
+use Rattle.engine_core.proofs.calls.EndedLemmas.{done, failed, no_doubt, same_bank, sound_consistent}
 use Rattle.engine_core.proofs.calls.KnownLemmas.{IsKnown, begins_behind, known_recording, registered_of}
 use Rattle.engine_core.proofs.calls.SettleCallLemmas.{answered_still, blank, no_fault}
 use Rattle.engine_core.proofs.calls.WritingLemmas.{Lets, Other, each_other, from_start, is_refused, let_through, same_segment, span_is, span_to, stands_beside, target_layout}
@@ -289,13 +289,14 @@ module _ (old : EngineState) (n : ℤ) (block : Block) (layout : Layout) (end : 
 
   module _ (new : EngineState) (reply : Reply) (is : Ok reply ≡ write_decision old.desk n (span_to block end) true) (result : Result (Unit {0}) Refusal) (changes : ChangesFile (file_of layout (unsigned_abs block.position)) old.life new.life)
       (does : (s : State) (x : Recording) → IsSound old.life.now old.log s → find id_of layout.recording s.recordings ≡ Some x → layout ≡ layout_of x.descriptor → recorded_position x ≤ℤ block.position → Moves old.life new.life new.log s s result)
-      (stays : FramesStay old.life new.life layout block) where
+      (stays : FramesStay old.life new.life layout block) (log : new.log ≡ old.log) where
     pub write_done : result ≡ Ok tt → new.desk ≡ after_write n (span_to block end) old.desk → HoldsFrames (reads new.life.now) layout (unsigned_abs block.position) block.frames (unsigned_abs block.position + covered block.frames)
         → AnswersEvent old new event (Ok reply)
     write_done went desk holds =
         let same : new.desk ≡ after_write n (span_of block) old.desk = desk ∙ ap (λ (w : Written). after_write n w old.desk) (sym (span_is old.desk n block layout end at)) in
         record {
           goes_on = record { obeyed = changes.obeyed; faults = changes.faults };
+          bank = same_bank old.log new.log log;
           cause = λ fault. absurd cc;
           machine = subst (λ (d : DeskState). Stepped old.desk (asked_of event) (told_of old.desk event (Ok reply)) d) (sym same)
               (call_is_allowed (archive_of old alone) event (Ok reply) (written (archive_of old alone) n block) (λ poll. absurd (true≢false (sym poll))) (write_ends alone reply of_alone is));
@@ -308,6 +309,7 @@ module _ (old : EngineState) (n : ℤ) (block : Block) (layout : Layout) (end : 
         → new.desk ≡ broken_desk old.desk → AnswersEvent old new event (Err told)
     write_fails told fault cause desk = subst (λ (x : Refusal). AnswersEvent old new event (Err x)) (sym fault) (record {
       goes_on = record { obeyed = changes.obeyed; faults = changes.faults };
+      bank = same_bank old.log new.log log;
       cause = λ e. cause;
       machine = subst (λ (d : DeskState). Stepped old.desk (asked_of event) (told_of old.desk event (Err DeviceFault)) d) (sym desk)
           (call_is_allowed (archive_of old alone) event (Err DeviceFault) (broken alone.state (archive_of old alone)) (λ poll. absurd (true≢false (sym poll))) (fault_ends alone reply (Unit {0}) of_alone is tt));

@@ -4,7 +4,7 @@ use Rattle.std.proofs.lemmas.Int.{ints}
 use Rattle.std.proofs.lemmas.Bool.Decides.{Decides-int_eq}
 use Rattle.std.specs.Ordering.{int_eq}
 use Rattle.disk_core.specs.declared.file_id.FileId.{FileId}
-use Rattle.disk_core.specs.declared.file_id.FileId.TheVariants.{BankA}
+use Rattle.disk_core.specs.declared.file_id.FileId.TheVariants.{BankA, BankB}
 use Rattle.disk_core.specs.DiskImage.{DiskImage, FileState, Files, LeavesFile, bytes_of, durable}
 use Rattle.disk_core.specs.Standing.{Holds}
 use Rattle.disk_core.proofs.CallerLemmas.{unsynced_keeps}
@@ -16,19 +16,22 @@ use Rattle.segment_store.specs.Stored.{AreDurableBytes, AreDurableFrames, HoldsF
 use Rattle.segment_store.proofs.DurableLemmas.{durable_bytes}
 use Rattle.archive_model.specs.Keyed.{find, Each, Rise}
 use Rattle.archive_model.specs.State.{Recording, id_of}
-use Rattle.catalogue_log.specs.declared.entry.Entry.{Entry}
-use Rattle.catalogue_log.specs.Catalogue.{IsCatalogue}
-use Rattle.catalogue_log.specs.LogState.{IsAtRest, LogState}
-use Rattle.catalogue_log.proofs.AppendLemmas.{rest_left}
 use Rattle.engine_core.specs.Consistent.{Lie}
 use Rattle.engine_core.specs.Recovery.{layout_of}
 
--- the bank is no segment file
-pub segment_other : (l : Layout) (p : ℕ) → file_of l p ≢ BankA
-segment_other l p is = absurd cc
+-- a bank is no segment file
 
-pub bank_other : (l : Layout) (p : ℕ) → BankA ≢ file_of l p
-bank_other l p is = absurd cc
+pub segment_not_a : (l : Layout) (p : ℕ) → file_of l p ≢ BankA
+segment_not_a l p is = absurd cc
+
+pub segment_not_b : (l : Layout) (p : ℕ) → file_of l p ≢ BankB
+segment_not_b l p is = absurd cc
+
+pub a_not_segment : (l : Layout) (p : ℕ) → BankA ≢ file_of l p
+a_not_segment l p is = absurd cc
+
+pub b_not_segment : (l : Layout) (p : ℕ) → BankB ≢ file_of l p
+b_not_segment l p is = absurd cc
 
 -- recordings of other ids have other files
 pub apart : (x : Recording) (l : Layout) (p at : ℕ) → id_of x ≢ l.recording
@@ -74,11 +77,6 @@ same_frames old new l frames from to same stand = frames_same old new l frames f
 pub left_frames : (files : Files) (l : Layout) (frames : List Frame) (from to : ℕ) (image : DiskImage) → AreDurableFrames files l from frames to → ((p : ℕ) → LeavesFile (files (file_of l p)) (image (file_of l p)))
     → HoldsFrames image l from frames to
 left_frames files l frames from to image stand left = frames_left files l frames from to image (lie_all (λ file. LeavesFile (files file) (image file)) l frames from left) stand
-
--- a log at rest leaves its entries where a crash left the bank
-pub bank_left : (files : Files) (log : LogState) (entries : List Entry) (image : DiskImage) → IsAtRest files log entries → LeavesFile (files BankA) (image BankA) → IsCatalogue image log.header entries
-bank_left files log entries image rests left =
-    rest_left (λ file. files BankA) log entries (λ file. image BankA) (record { bank = rests.bank; is_log = rests.is_log; on_disk = rests.on_disk }) (λ file. left)
 
 pub each_both : {X : Type 0} (P Q : X → Type 0) (xs : List X) → Each P xs → Each Q xs
     → Each (λ x. P x × Q x) xs

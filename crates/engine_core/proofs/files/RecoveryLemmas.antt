@@ -26,11 +26,9 @@ use Rattle.archive_model.specs.Keyed.{Each}
 use Rattle.archive_model.specs.Register.{RegisterState, no_recordings}
 use Rattle.archive_model.specs.State.{Recording, State, geometry_of, recorded_position, register_of, registration_of}
 use Rattle.archive_model.specs.WellFormed.{IsKept, IsOfStream}
-use Rattle.catalogue_log.specs.Catalogue.{bank_in_use}
-use Rattle.catalogue_log.specs.Fold.{after_entries}
+use Rattle.catalogue_entries.specs.Fold.{after_entries}
 use Rattle.catalogue_log.specs.LogState.{LogState}
-use Rattle.catalogue_log.proofs.AppendLemmas.{rest_left}
-use Rattle.catalogue_log.proofs.OneLemmas.{one_bank}
+use Rattle.catalogue_log.proofs.CallerLemmas.{one_catalogue, rest_left}
 use Rattle.engine_core.specs.Recovery.{HoldsRecording, IsDurable, IsSound, Recovers, layout_of, first_of, last_of}
 
 pub durable_hold : (files : Files) (image : DiskImage) (rs : List Recording) → MayLeave files image
@@ -129,7 +127,7 @@ one_list image (r ∷ rs) (v ∷ vs) kept kept' here there same =
 
 pub one_state : (image : DiskImage) (s u : State) → Recovers image s → Recovers image u → s ≡ u
 one_state image s u here there =
-    let entries : here.entries ≡ there.entries = (one_bank (bank_in_use image) here.header there.header here.entries there.entries here.catalogue there.catalogue).1 in
+    let entries : here.entries ≡ there.entries = (one_catalogue image here.header there.header here.entries there.entries here.catalogue there.catalogue).1 in
     let registers : register_of s ≡ register_of u = sym here.folds ∙ ap (after_entries no_recordings) entries ∙ there.folds in
     let next : s.next ≡ u.next = ap (λ (g : RegisterState). g.next) registers in
     let lists : map registration_of s.recordings ≡ map registration_of u.recordings = ap (λ (g : RegisterState). g.recordings) registers in

@@ -31,8 +31,8 @@ use Rattle.archive_model.proofs.CutLemmas.{begun_all}
 use Rattle.archive_model.proofs.RegisterLemmas.{each_map, each_push}
 use Rattle.archive_model.proofs.StateLemmas.{base_of_purge, each_change, each_found, each_without, purge, well_after}
 use Rattle.archive_model.proofs.WellLemmas.{base_is_term, both}
-use Rattle.catalogue_log.specs.History.{IsRequested, entry_of}
-use Rattle.catalogue_log.proofs.HistoryLemmas.{entry_admitted, register_kept}
+use Rattle.catalogue_entries.specs.History.{IsRequested, entry_of}
+use Rattle.catalogue_entries.proofs.CallerLemmas.{entry_admitted, register_kept}
 use Rattle.engine_core.specs.Moves.{Enters, EntryLeads}
 use Rattle.engine_core.specs.Recovery.{IsDurable, first_of, last_of, layout_of}
 

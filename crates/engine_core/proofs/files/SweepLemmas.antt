@@ -8,7 +8,7 @@ use Rattle.std.specs.Prelude.{◌==◌, not}
 use Rattle.std.specs.List.{list_any}
 use Rattle.std.specs.Ordering.{int_eq}
 use Rattle.disk_core.specs.declared.file_id.FileId.{FileId}
-use Rattle.disk_core.specs.declared.file_id.FileId.TheVariants.{BankA}
+use Rattle.disk_core.specs.declared.file_id.FileId.TheVariants.{BankA, BankB}
 use Rattle.disk_core.specs.DiskImage.{DiskImage, Files, LeavesFile}
 use Rattle.disk_core.specs.Life.{IsQuiet, Life, LeavesOnly}
 use Rattle.disk_core.proofs.CallerLemmas.{goes_quiet, started, weaker}
@@ -32,11 +32,11 @@ use Rattle.archive_model.specs.State.{Recording, State, id_of, is_active, record
 use Rattle.archive_model.specs.WellFormed.{IsKept, IsOfStream, IsWell}
 use Rattle.archive_model.proofs.StateLemmas.{each_found}
 use Rattle.catalogue_log.specs.LogState.{LogState}
-use Rattle.catalogue_log.proofs.AppendLemmas.{other_files}
+use Rattle.catalogue_log.proofs.CallerLemmas.{banks_left, other_files}
 use Rattle.engine_core.specs.Moves.{SparesKept, StaysSound, keep_of, keeps_of}
 use Rattle.engine_core.specs.Consistent.{Lie}
 use Rattle.engine_core.specs.Recovery.{HoldsRecording, IsDurable, IsSound, RecoversTo, first_of, last_of, layout_of}
-use Rattle.engine_core.proofs.files.FrameLemmas.{bank_left, each_both, each_then, frames_left, frames_same, lie_then}
+use Rattle.engine_core.proofs.files.FrameLemmas.{each_both, each_then, frames_left, frames_same, lie_then}
 use Rattle.engine_core.proofs.files.WriteLemmas.{natural}
 
 -- tests of a list
@@ -178,7 +178,7 @@ spares_kept keeps old new (inr swept) = record { same = fresh_kept keeps old new
 sound_kept : (old new : Life) (log : LogState) (s : State) → IsSound old.now log s → ((file : FileId) → is_stale (keeps_of s) file ≡ false → new.now file ≡ old.now file) → IsSound new.now log s
 sound_kept old new log s sound kept = record {
   entries = sound.entries;
-  rests = other_files old.now new.now log sound.entries sound.rests (kept BankA refl);
+  rests = other_files old.now new.now log sound.entries sound.rests (kept BankA refl) (kept BankB refl);
   folds = sound.folds;
   frames = each_then (λ r. Lie (λ file. is_stale (keeps_of s) file ≡ false) (layout_of r.descriptor) (first_of r) r.frames × IsDurable old.now r) (IsDurable new.now) s.recordings
       (each_both (λ r. Lie (λ file. is_stale (keeps_of s) file ≡ false) (layout_of r.descriptor) (first_of r) r.frames) (IsDurable old.now) s.recordings (recordings_fresh s sound.well) sound.frames)
@@ -193,7 +193,7 @@ kept_recovers files log s image sound kept = record {
   recovers = record {
     header = log.header;
     entries = sound.entries;
-    catalogue = bank_left files log sound.entries image sound.rests (kept BankA refl);
+    catalogue = banks_left files log sound.entries image sound.rests (kept BankA refl) (kept BankB refl);
     folds = sound.folds;
     frames = each_then (λ r. Lie (λ file. is_stale (keeps_of s) file ≡ false) (layout_of r.descriptor) (first_of r) r.frames × IsDurable files r) (HoldsRecording image) s.recordings
         (each_both (λ r. Lie (λ file. is_stale (keeps_of s) file ≡ false) (layout_of r.descriptor) (first_of r) r.frames) (IsDurable files) s.recordings (recordings_fresh s sound.well) sound.frames)

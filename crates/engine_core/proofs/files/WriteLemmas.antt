@@ -3,7 +3,7 @@ use Rattle.std.proofs.Common.{◌≡◌, ◌≢◌, ◌∙◌, inl, inr, sym, ap
 use Rattle.std.proofs.lemmas.Int.{ints}
 use Rattle.std.specs.Prelude.{IfErr, Result, Ok, Err}
 use Rattle.disk_core.specs.declared.file_id.FileId.{FileId}
-use Rattle.disk_core.specs.declared.file_id.FileId.TheVariants.{BankA}
+use Rattle.disk_core.specs.declared.file_id.FileId.TheVariants.{BankA, BankB}
 use Rattle.disk_core.specs.DiskImage.{DiskImage, FileState, Files, bytes_of, reads}
 use Rattle.disk_core.specs.Life.{Life, LeavesOnly}
 use Rattle.disk_core.specs.Standing.{Holds, KeepsBelow}
@@ -23,10 +23,10 @@ use Rattle.archive_model.specs.State.{Recording, State, id_of, recorded_position
 use Rattle.archive_model.specs.WellFormed.{IsKept, IsWell}
 use Rattle.archive_model.proofs.StateLemmas.{each_found}
 use Rattle.catalogue_log.specs.LogState.{LogState}
-use Rattle.catalogue_log.proofs.AppendLemmas.{other_files}
+use Rattle.catalogue_log.proofs.CallerLemmas.{banks_left, other_files}
 use Rattle.engine_core.specs.Moves.{Moves, RestsAfter}
 use Rattle.engine_core.specs.Recovery.{HoldsRecording, IsDurable, IsEither, IsSound, RecoversTo, first_of, last_of, layout_of}
-use Rattle.engine_core.proofs.files.FrameLemmas.{apart, bank_left, bank_other, each_both, each_by, left_frames, same_frames}
+use Rattle.engine_core.proofs.files.FrameLemmas.{a_not_segment, apart, b_not_segment, each_both, each_by, left_frames, same_frames}
 
 -- what a write at a position of a recording does
 pub record Wrote (old new : Life) (l : Layout) (at : ℕ) : Type 0 where
@@ -81,7 +81,7 @@ moves_at result old new log s r at sound found behind wrote refused = record {
     recovers = record {
       header = log.header;
       entries = sound.entries;
-      catalogue = bank_left old.now log sound.entries image sound.rests (left.others BankA (bank_other (layout_of r.descriptor) at));
+      catalogue = banks_left old.now log sound.entries image sound.rests (left.others BankA (a_not_segment (layout_of r.descriptor) at)) (left.others BankB (b_not_segment (layout_of r.descriptor) at));
       folds = sound.folds;
       frames = recordings_below old new s r at sound.well found behind image left sound.frames;
       well = sound.well;
@@ -98,7 +98,7 @@ moves_at result old new log s r at sound found behind wrote refused = record {
         → RestsAfter outcome old new log s s
     by (Ok done) none = record {
       entries = sound.entries;
-      rests = other_files old.now new.now log sound.entries sound.rests (wrote.changes.others BankA (bank_other (layout_of r.descriptor) at));
+      rests = other_files old.now new.now log sound.entries sound.rests (wrote.changes.others BankA (a_not_segment (layout_of r.descriptor) at)) (wrote.changes.others BankB (b_not_segment (layout_of r.descriptor) at));
       folds = sound.folds;
       frames = kept;
       well = sound.well;

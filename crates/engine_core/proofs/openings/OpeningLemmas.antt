@@ -5,7 +5,7 @@ use Rattle.std.specs.Prelude.{◌↔◌, IfErr, IfOk, IsErrOf, Result, Ok, Err}
 use Rattle.std.proofs.lemmas.List.Elements.{Contains-push_cases}
 use Rattle.std.proofs.Math.Seq.{take-suc}
 use Rattle.disk_core.specs.declared.file_id.FileId.{FileId}
-use Rattle.disk_core.specs.declared.file_id.FileId.TheVariants.{BankA, Segment}
+use Rattle.disk_core.specs.declared.file_id.FileId.TheVariants.{Segment}
 use Rattle.disk_core.specs.Calls.{IsSynced}
 use Rattle.disk_core.specs.DiskImage.{DiskImage, FileState, Files, MayLeave, bytes_of, durable, reads}
 use Rattle.disk_core.specs.FileNames.{AreFilesWith}
@@ -16,7 +16,7 @@ use Rattle.frame_core.specs.declared.frame.Frame.{Frame}
 use Rattle.frame_core.specs.declared.frame.FrameKind.{FrameKind}
 use Rattle.frame_core.specs.declared.frame.FrameKind.TheVariants.{Pad, Message, Heartbeat}
 use Rattle.frame_core.specs.declared.refusal.Refusal.{Refusal}
-use Rattle.frame_core.specs.declared.refusal.Refusal.TheVariants.{BadParameter, Damaged, DeviceFault, NewerVersion, NoMemory, NotCatalogue}
+use Rattle.frame_core.specs.declared.refusal.Refusal.TheVariants.{BadParameter, DeviceFault, NoMemory}
 use Rattle.frame_core.specs.FrameEncoding.{aligned_length, encoded, header_of, stored, stored_as}
 use Rattle.frame_core.proofs.FrameEncodingLemmas.{length-header_of}
 use Rattle.segment_store.specs.declared.layout.Layout.{Layout}
@@ -27,12 +27,11 @@ use Rattle.archive_model.specs.Register.{no_recordings}
 use Rattle.archive_model.specs.State.{State, empty}
 use Rattle.archive_model.specs.WellFormed.{IsKept, IsOfStream}
 use Rattle.catalogue_log.specs.declared.bank.BankHeader.{BankHeader}
-use Rattle.catalogue_log.specs.declared.entry.Entry.{Entry}
-use Rattle.catalogue_log.specs.Bank.{IsBank}
-use Rattle.catalogue_log.specs.Catalogue.{IsCatalogue, KeepsReads, RefusesBank, RefusesCatalogue, bank_in_use}
-use Rattle.catalogue_log.specs.Fold.{after_entries}
-use Rattle.catalogue_log.specs.LogState.{IsAtRest, IsLogOf, LogState}
-use Rattle.catalogue_log.proofs.OneLemmas.{bank_is_newer, bank_is_none, not_damaged, one_bank}
+use Rattle.catalogue_entries.specs.declared.entry.Entry.{Entry}
+use Rattle.catalogue_log.specs.Catalogue.{IsCatalogue, KeepsReads, RefusesCatalogue}
+use Rattle.catalogue_entries.specs.Fold.{after_entries}
+use Rattle.catalogue_log.specs.LogState.{IsAtRest, IsLogIn, LogState}
+use Rattle.catalogue_log.proofs.CallerLemmas.{not_refused, one_catalogue, rests_in, same_image}
 use Rattle.engine_core.specs.Opening.{ReadsAsBefore, SyncsOnly}
 use Rattle.engine_core.specs.Recovery.{Folds, HoldsRecording, IsDurable, IsSound, Recovers, first_of, last_of, layout_of}
 use Rattle.engine_core.proofs.files.FrameLemmas.{each_both, each_then, read_durable}
@@ -152,7 +151,7 @@ frames_durable old new l stream (f ∷ fs) from to synced of_stream holds =
 
 bank_same : (old mid : Life) (h : BankHeader) (entries : List Entry) → SyncsOnly old mid
     → IsCatalogue (reads mid.now) h entries → IsCatalogue (reads old.now) h entries
-bank_same old mid h entries only catalogue = subst (λ (bank : Option (List ℕ)). IsBank (bytes_of bank) h entries) (reads_same old mid only BankA) catalogue
+bank_same old mid h entries only catalogue = subst (λ (image : DiskImage). IsCatalogue image h entries) (same_image (reads mid.now) (reads old.now) (reads_same old mid only)) catalogue
 
 -- an opened archive is sound for the state that its files recover to
 pub open_sound : (old mid new : Life) (log : LogState) (entries : List Entry) (x : State) → Durable old mid → SyncsOnly old mid → KeepsReads mid new → IsCatalogue (reads mid.now) log.header entries → IsAtRest new.now log entries
@@ -171,7 +170,7 @@ open_sound old mid new log entries x synced only kept found rests recovers = (
   where
     folds : Folds entries x
     folds =
-        let one = one_bank (bank_in_use (reads old.now)) log.header recovers.header entries recovers.entries (bank_same old mid log.header entries only found) recovers.catalogue in
+        let one = one_catalogue (reads old.now) log.header recovers.header entries recovers.entries (bank_same old mid log.header entries only found) recovers.catalogue in
         ap (after_entries no_recordings) one.1 ∙ recovers.folds
 
     all : Durable old new
@@ -180,25 +179,12 @@ open_sound old mid new log entries x synced only kept found rests recovers = (
 -- what opening is refused by
 pub same_refusal : (old mid : Life) (refusal : Refusal) → SyncsOnly old mid
     → RefusesCatalogue (reads mid.now) refusal → RefusesCatalogue (reads old.now) refusal
-same_refusal old mid refusal only refuses = subst (λ (bank : Option (List ℕ)). RefusesBank (bytes_of bank) refusal) (reads_same old mid only BankA) refuses
+same_refusal old mid refusal only refuses = subst (λ (image : DiskImage). RefusesCatalogue image refusal) (same_image (reads mid.now) (reads old.now) (reads_same old mid only)) refuses
 
-pub fault_refuses : (image : DiskImage) (refusal : Refusal)
-    → (refusal ≡ DeviceFault) ⊎ (refusal ≡ NoMemory) → RefusesCatalogue image refusal
-fault_refuses image refusal (inl is) = subst (RefusesCatalogue image) (sym is) tt
-fault_refuses image refusal (inr is) = subst (RefusesCatalogue image) (sym is) tt
-
--- a bank that has entries is refused by a fault or for want of memory alone
-whole_refusal : (bank : List ℕ) (h : BankHeader) (entries : List Entry) (refusal : Refusal) → IsBank bank h entries → RefusesBank bank refusal → (refusal ≡ DeviceFault) ⊎ (refusal ≡ NoMemory)
-whole_refusal bank h entries (Damaged recording offset) is refuses = absurd (not_damaged bank h entries offset is refuses.1)
-whole_refusal bank h entries NotCatalogue is refuses = absurd (bank_is_none bank h entries refuses is)
-whole_refusal bank h entries NewerVersion is refuses = absurd (bank_is_newer bank h entries refuses is)
-whole_refusal bank h entries DeviceFault is refuses = inl refl
-whole_refusal bank h entries NoMemory is refuses = inr refl
-whole_refusal bank h entries _ is refuses = absurd refuses
-
+-- an image that recovers is refused by a fault or for want of memory alone
 pub whole_refused : (image : DiskImage) (x : State) (refusal : Refusal) → Recovers image x
     → RefusesCatalogue image refusal → (refusal ≡ DeviceFault) ⊎ (refusal ≡ NoMemory)
-whole_refused image x refusal recovers refuses = whole_refusal (bank_in_use image) recovers.header recovers.entries refusal recovers.catalogue refuses
+whole_refused image x refusal recovers refuses = not_refused image recovers.header recovers.entries refusal recovers.catalogue refuses
 
 -- each file reads as before
 
@@ -216,16 +202,21 @@ read_opened old mid new only kept moments = record {
 
 -- the log is that of the bank as it read before
 pub log_read : (old new : Life) (log : LogState) (entries : List Entry) → ReadsAsBefore old new
-    → IsAtRest new.now log entries → IsLogOf (bank_in_use (reads old.now)) log entries
+    → IsAtRest new.now log entries → IsLogIn (reads old.now) log entries
 log_read old new log entries before rests =
-    let same : rests.bank ≡ bank_in_use (reads old.now) = sym (ap (λ (state : FileState). bytes_of state.reads) rests.on_disk) ∙ ap bytes_of (before.same BankA) in
-    subst (λ (bank : List ℕ). IsLogOf bank log entries) same rests.is_log
+    subst (λ (image : DiskImage). IsLogIn image log entries) (same_image (reads new.now) (reads old.now) before.same) (rests_in new.now log entries rests)
 
 -- two facts of a value, where there is one
 pub ok_both : {X E : Type 0} (result : Result X E) (P Q R : X → Type 0)
     → ((x : X) → P x → Q x → R x) → IfOk result P → IfOk result Q → IfOk result R
 ok_both (Ok x) P Q R follows here there = follows x here there
 ok_both (Err e) P Q R follows here there = tt
+
+-- what a refusal says, and what follows
+pub err_then : {X E : Type 0} (result : Result X E) (P Q : E → Type 0) → ((e : E) → P e → Q e)
+    → IfErr result P → IfErr result Q
+err_then (Ok x) P Q follows is = tt
+err_then (Err e) P Q follows is = follows e is
 
 -- an archive without recordings
 

@@ -1,11 +1,11 @@
 -- How an archive is opened: what its files give.
-use Rattle.std.proofs.Common.{◌≡◌, ◌≢◌, ◌⊎◌, ◌∙◌, inl, inr, sym, ap, subst, ℕ, ℤ, pos, IsSome, List, [], Option, arith}
+use Rattle.std.proofs.Common.{◌≡◌, ◌≢◌, ◌⊎◌, ◌∙◌, inl, inr, sym, ap, subst, ℕ, ℤ, pos, IsSome, List, [], arith}
 use Rattle.std.specs.Prelude.{IsTrue, MatchResult, Result, Ok, Err}
 use Rattle.frame_core.specs.declared.refusal.Refusal.{Refusal}
 use Rattle.frame_core.specs.declared.refusal.Refusal.TheVariants.{BadParameter, DeviceFault, NoMemory}
 use Rattle.disk_core.specs.declared.file_id.FileId.{FileId}
-use Rattle.disk_core.specs.declared.file_id.FileId.TheVariants.{BankA}
-use Rattle.disk_core.specs.DiskImage.{DiskImage, FileState, Files, MayLeave, bytes_of, reads}
+use Rattle.disk_core.specs.declared.file_id.FileId.TheVariants.{BankA, BankB}
+use Rattle.disk_core.specs.DiskImage.{DiskImage, FileState, Files, MayLeave, reads}
 use Rattle.disk_core.specs.FileNames.{AreFilesWith}
 use Rattle.disk_core.specs.Life.{HasFailed, IsQuiet, Life, LeavesOnly}
 use Rattle.disk_core.proofs.CallerLemmas.{goes_on_part, now_leaves, weaker}
@@ -14,21 +14,22 @@ use Rattle.archive_model.specs.Commands.{after}
 use Rattle.archive_model.specs.Register as register
 use Rattle.archive_model.specs.Register.{RegisterState, all_stopped, no_recordings}
 use Rattle.archive_model.specs.State.{State, register_of}
-use Rattle.catalogue_log.specs.declared.entry.Entry.{Entry}
-use Rattle.catalogue_log.specs.Bank.{IsBank}
-use Rattle.catalogue_log.specs.Catalogue.{ChangesBank, RefusesCatalogue, bank_in_use}
-use Rattle.catalogue_log.specs.Fold.{after_entries}
-use Rattle.catalogue_log.specs.LogState.{IsLogOf, LogState}
-use Rattle.catalogue_log.proofs.AppendLemmas.{rest_left}
+use Rattle.catalogue_entries.specs.declared.entry.Entry.{Entry}
+use Rattle.catalogue_log.specs.Catalogue.{ChangesBank, IsCatalogue, RefusesCatalogue}
+use Rattle.catalogue_entries.specs.Fold.{after_entries}
+use Rattle.catalogue_log.specs.declared.bank.BankHeader.{BankHeader}
+use Rattle.catalogue_log.specs.declared.banks.Spare.{Spare}
+use Rattle.catalogue_log.specs.LogState.{IsLogIn, LogState, TellsBanks, banks_of, is_usable}
+use Rattle.catalogue_log.proofs.CallerLemmas.{fault_refuses, log_catalogue, rest_left, same_image, told_in}
 use Rattle.control_core.specs.Desk.{DeskState, opened_desk}
 use Rattle.control_core.specs.Exact.{opened_archive}
-use Rattle.engine_core.specs.Engine.{EngineState, DiskGoesOn}
+use Rattle.engine_core.specs.Engine.{EngineState, DiskGoesOn, KeepsBank}
 use Rattle.engine_core.specs.Making.{HasNotStarted, Restarts}
 use Rattle.engine_core.specs.Opened.{HadFiles, HasNotOpened, HasOpened, IsDeskOf, IsFresh, IsNear, IsNotOpened, IsOpened, LeavesEither, NeitherMadeNorOpened}
 use Rattle.engine_core.specs.Opening.{ReadsAsBefore, RefusesNew, RefusesOpening}
 use Rattle.engine_core.specs.Recovery.{IsEither, IsSound, Recovers, RecoversTo}
 use Rattle.engine_core.proofs.calls.EndedLemmas.{recovers_as}
-use Rattle.engine_core.proofs.openings.OpeningLemmas.{fault_refuses, none_there, nothing_synced, one_there, read_synced}
+use Rattle.engine_core.proofs.openings.OpeningLemmas.{none_there, nothing_synced, one_there, read_synced}
 use Rattle.engine_core.proofs.openings.RestartLemmas.{active_same, opened_consistent, register_restarted}
 
 -- what a result says where it is well, and where it is not
@@ -78,7 +79,7 @@ module _ (old mid : Life) (s u : State) (log : LogState) (desk : DeskState) (lea
         fresh = record {
           header = log.header;
           entries = sound.entries;
-          catalogue = subst (λ (bank : Option (List ℕ)). IsBank (bytes_of bank) log.header sound.entries) (before.same BankA) (rest_left mid.now log sound.entries (reads mid.now) sound.rests may);
+          catalogue = subst (λ (image : DiskImage). IsCatalogue image log.header sound.entries) (same_image (reads mid.now) (reads old.now) before.same) (rest_left mid.now log sound.entries (reads mid.now) sound.rests may);
           is = ap (λ (n : ℕ). opened_archive (after to.state Restart) n log.header.history_limit) sound.rests.is_log.counted;
         };
         desk = went.desk (register_of to.state) counted limit is ∙ ap (λ (g : RegisterState). opened_desk g counted limit) (register_restarted to.state counted limit sound.well);
@@ -107,18 +108,18 @@ read_refused old mid s u leaves before = record {
 
 -- what a restart changes is the bank alone
 pub reads_otherwise : (old mid new : Life) → ReadsAsBefore old mid → ChangesBank mid new
-    → (file : FileId) → file ≢ BankA → reads new.now file ≡ reads old.now file
-reads_otherwise old mid new before changes file other = ap (λ (state : FileState). state.reads) (changes.others file other) ∙ before.same file
+    → (file : FileId) → file ≢ BankA → file ≢ BankB → reads new.now file ≡ reads old.now file
+reads_otherwise old mid new before changes file not_a not_b = ap (λ (state : FileState). state.reads) (changes.others file not_a not_b) ∙ before.same file
 
 -- the desk of the bank whose log was read
-pub desk_read : (image : DiskImage) (log : LogState) (entries : List Entry) (read_desk desk : DeskState) (restarted : ℤ) → IsLogOf (bank_in_use image) log entries
+pub desk_read : (image : DiskImage) (log : LogState) (entries : List Entry) (read_desk desk : DeskState) (restarted : ℤ) → IsLogIn image log entries
     → read_desk ≡ opened_desk (after_entries no_recordings entries) log.counted log.header.history_limit → desk ≡ opened_desk (all_stopped (after_entries no_recordings entries)) log.counted log.header.history_limit
     → restarted ≡ pos (register.active_count read_desk.register) → IsDeskOf image desk restarted
 desk_read image log entries read_desk desk restarted read known is stopped = record {
   header = log.header;
   entries = entries;
-  catalogue = record { rest = read.rest; holds = read.holds; closed = read.closed };
-  is = is ∙ ap (λ (n : ℕ). opened_desk (all_stopped (after_entries no_recordings entries)) n log.header.history_limit) read.counted;
+  catalogue = log_catalogue image log entries read;
+  is = is ∙ ap (λ (n : ℕ). opened_desk (all_stopped (after_entries no_recordings entries)) n log.header.history_limit) read.is_log.counted;
   stopped = stopped ∙ ap (λ (d : DeskState). pos (register.active_count d.register)) known;
 }
 
@@ -158,6 +159,13 @@ start_refuses old read disk refusal before went = record {
 
 pub read_refuses : (old mid : Life) (refusal : Refusal) → ReadsAsBefore old mid → (refusal ≡ DeviceFault → HasFailed old mid) → (IsTrue mid.obeys → RefusesCatalogue (reads old.now) refusal) → RefusesOpening old mid refusal
 read_refuses old mid refusal before cause catalogue = record { cause = cause; catalogue = catalogue; kept = inr before }
+
+-- what a compaction asks of the banks stays as it was read
+pub banks_read : (image : DiskImage) (log new_log : LogState) (entries : List Entry) → IsLogIn image log entries → KeepsBank log new_log → TellsBanks image (banks_of new_log)
+banks_read image log new_log entries is keeps =
+    let same : banks_of new_log ≡ banks_of log =
+    ap (λ (h : BankHeader). record { epoch = h.epoch; spare = is_usable new_log.spare }) keeps.header ∙ ap (λ (found : Spare). record { epoch = log.header.epoch; spare = is_usable found }) keeps.spare in
+    subst (TellsBanks image) (sym same) (told_in image log entries is)
 
 -- ---- behind a listing, which changes nothing but the count of faults
 
@@ -201,8 +209,9 @@ module _ (old mid : Life) (quiet : IsQuiet old mid) where
       any_moment = still_near new.life s u leaves o.any_moment;
     });
     desk = λ obeys. subst (λ (files : Files). IsDeskOf (reads files) new.desk stopped) quiet.now (is.desk obeys);
+    banks = λ obeys. subst (λ (files : Files). TellsBanks (reads files) (banks_of new.log)) quiet.now (is.banks obeys);
     goes_on = goes_still new.life is.goes_on;
-    others = λ file other. is.others file other ∙ ap (λ (files : Files). reads files file) quiet.now;
+    others = λ file not_a not_b. is.others file not_a not_b ∙ ap (λ (files : Files). reads files file) quiet.now;
     idle = λ none. still_before new.life (is.idle none);
   }
 
@@ -216,7 +225,7 @@ module _ (old mid : Life) (quiet : IsQuiet old mid) where
       kept = elim is.refuses.kept [ inl fault ↦ inl fault | inr before ↦ inr (still_before new before) ];
     };
     goes_on = goes_still new is.goes_on;
-    others = λ file other. is.others file other ∙ ap (λ (files : Files). reads files file) quiet.now;
+    others = λ file not_a not_b. is.others file not_a not_b ∙ ap (λ (files : Files). reads files file) quiet.now;
   }
 
   -- nothing was listed
@@ -231,7 +240,7 @@ module _ (old mid : Life) (quiet : IsQuiet old mid) where
           kept = inr listed;
         };
         goes_on = record { obeyed = quiet.obeyed; faults = quiet.faults };
-        others = λ file other. listed.same file;
+        others = λ file not_a not_b. listed.same file;
       }
 
   -- no archive is made where no file is

@@ -30,7 +30,7 @@ use Rattle.engine_core.specs.Consistent.{IsCrashConsistent, MayStandIn}
 use Rattle.engine_core.specs.Engine.{Content, EngineState, archive_of, content_of}
 use Rattle.engine_core.specs.Making.{CommitsEntry, Restarts}
 use Rattle.engine_core.specs.Recovery.{IsEither, IsSound, RecoversTo}
-use Rattle.engine_core.proofs.calls.EndedLemmas.{recovers_as, sound_consistent}
+use Rattle.engine_core.proofs.calls.EndedLemmas.{recovers_as, same_bank, sound_consistent}
 
 -- ---- an archive at which nobody calls yet
 
@@ -144,6 +144,7 @@ desk_restarted old new told made g counted limit is =
 
 pub restarts_done : (old new : EngineState) (told : Reply) (count : ℤ) → RestartsBy old new (Ok told) → ChangesBank old.life new.life → count ≢ pos 0 → count ≡ pos (register.active_count old.desk.register) → Restarts old new (Ok count)
 restarts_done old new told count made changes some is = record {
+  bank = made.bank;
   changes = changes;
   cause = λ fault. absurd cc;
   outside = tt;
@@ -178,6 +179,7 @@ restarts_refused old new refusal made changes quiet =
     let a : Archive = archive_of old nothing_known in
     let outside = commit_outside refusal a (archive_after a Restart) (archive_of new exact.0) (reply_after old.desk Restart) (HasFailed old.life new.life) exact.1 in
     record {
+      bank = made.bank;
       changes = changes;
       cause = λ fault. commit_cause refusal a (archive_after a Restart) (archive_of new exact.0) (reply_after old.desk Restart) (HasFailed old.life new.life) exact.1 cc;
       outside = outside;
@@ -199,7 +201,8 @@ none_active s counted limit none = ap (λ (x : State). opened_archive x counted 
 pub restarts_none : (old : EngineState) (count : ℤ) → count ≡ pos 0
     → register.active_count old.desk.register ≡ 0 → Restarts old old (Ok count)
 restarts_none old count zero none = record {
-  changes = record { others = λ file other. refl; faults = omega arith; obeyed = λ obeys. obeys };
+  bank = same_bank old.log old.log refl;
+  changes = record { others = λ file not_a not_b. refl; faults = omega arith; obeyed = λ obeys. obeys };
   cause = λ fault. absurd cc;
   outside = tt;
   kept = tt;

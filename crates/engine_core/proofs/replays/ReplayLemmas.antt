@@ -34,7 +34,7 @@ use Rattle.engine_core.specs.Consistent.{IsCrashConsistent}
 use Rattle.engine_core.specs.Engine.{Content, EngineState, IsTied, archive_of}
 use Rattle.engine_core.specs.Reading.{IsOutside}
 use Rattle.engine_core.proofs.files.CommitLemmas.{memory_is_no_fault}
-use Rattle.engine_core.proofs.calls.EndedLemmas.{quiet_goes_on, reread, spared, still}
+use Rattle.engine_core.proofs.calls.EndedLemmas.{quiet_goes_on, reread, same_bank, spared, still}
 
 -- ---- a desk with other replays
 
@@ -78,6 +78,7 @@ pub reads_only : (old new : EngineState) (event : Event) (result : Result Reply 
     → Stepped old.desk (asked_of event) (told_of old.desk event result) old.desk → ((c : Content) → IsCrashConsistent old.life old.log (archive_of old c) → EndsAs old.life new.life event (archive_of old c) result (archive_of old c)) → AnswersEvent old new event result
 reads_only old new event result quiet log desk other cause step ends = record {
   goes_on = quiet_goes_on old.life new.life quiet;
+  bank = same_bank old.log new.log log;
   cause = cause;
   machine = subst (λ (d : DeskState). Stepped old.desk (asked_of event) (told_of old.desk event result) d) (sym desk) step;
   kept = spared _ old new result (record { files = quiet; log = log; desk = desk });
@@ -92,6 +93,7 @@ pub reads_on : (old new : EngineState) (event : Event) (reply : Reply) (rs : Lis
     → ((c : Content) → IsCrashConsistent old.life old.log (archive_of old c) → EndsAs old.life new.life event (archive_of old c) (Ok reply) (with_desk (with_replays rs next old.desk) (archive_of old c))) → AnswersEvent old new event (Ok reply)
 reads_on old new event reply rs next quiet log desk other step seats at ends = record {
   goes_on = quiet_goes_on old.life new.life quiet;
+  bank = same_bank old.log new.log log;
   cause = λ fault. absurd (no_error fault);
   machine = subst (λ (d : DeskState). Stepped old.desk (asked_of event) (told_of old.desk event (Ok reply)) d) (sym desk) step;
   kept = tt;

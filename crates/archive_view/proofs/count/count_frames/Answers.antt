@@ -6,8 +6,7 @@ use Rattle.frame_core.specs.FrameEncoding.{aligned_length}
 use Rattle.segment_store.specs.DamagedFrame.{RefusesFrame, ShowsFrame}
 use Rattle.archive_model.specs.State.{geometry_of}
 use Rattle.engine_core.specs.Recovery.{layout_of}
-use Rattle.engine_core.proofs.replays.CountLemmas.{count_refused, less_left, one_counted}
-use Rattle.archive_view.proofs.LookLemmas.{all_shown}
+use Rattle.archive_view.proofs.CountLemmas.{all_shown, count_refused, less_left, one_counted}
 use Rattle.archive_view.proofs.count.count_frames.Goals as goal
 
 pub returns-in_err-frame-clause-refused : goal.returns-in_err-frame-clause-refused

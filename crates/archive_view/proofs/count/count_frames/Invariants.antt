@@ -1,6 +1,6 @@
 use Rattle.std.proofs.Common.{◌-ℤ◌}
 use Rattle.std.specs.Prelude.{unsigned_abs}
-use Rattle.engine_core.proofs.replays.CountLemmas.{HasCounted}
+use Rattle.archive_view.proofs.CountLemmas.{HasCounted}
 use Rattle.archive_view.proofs.count.count_frames.Given as goal
 
 -- the frames so far are counted

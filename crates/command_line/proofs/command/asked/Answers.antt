@@ -2,17 +2,17 @@
 use Rattle.std.proofs.Common.{rules, refl, codes}
 use Rattle.std.specs.Str.Parse.{ParsesUnsigned, ExplainsUnsignedError, HasUnsignedDigitsIfOk}
 use Rattle.clap.specs.Words.{found_of}
-use Rattle.command_line.proofs.CommandLineLemmas.{text_given, number_given, number_lacks, no_create, no_list, no_verify, no_describe, no_frames, flag_given}
+use Rattle.command_line.proofs.CommandLineLemmas.{text_given, number_given, number_lacks, lacks_words, no_history, flag_given}
 use Rattle.command_line.proofs.command.asked.Goals as goal
 
 pub returns-in_err-get_str-in-create : goal.returns-in_err-get_str-in-create
 returns-in_err-get_str-in-create c = rw c.from_residual.ensures
-    (no_create _ _ (search rules) (λ n some number. some (text_given (found_of c.args.own.now) (codes "folder") _ _ c.get_str.ensures c.in_err-get_str-in-create.was)))
+    (lacks_words (codes "create") _ _ (search rules) (λ holds. holds.0 (text_given (found_of c.args.own.now) (codes "folder") _ _ c.get_str.ensures c.in_err-get_str-in-create.was)))
 
 pub returns-in_err-get_one-in-create : goal.returns-in_err-get_one-in-create
 returns-in_err-get_one-in-create c = rw c.from_residual-in_err-get_one-in-create.ensures
-    (no_create _ _ (search rules)
-    (λ n some number. number_lacks (λ text x. ParsesUnsigned 32 10 text x × ExplainsUnsignedError 10 text x × HasUnsignedDigitsIfOk text x) (λ text x read. read.0)
+    (no_history _ _ (search rules)
+    (λ n number. number_lacks (λ text x. ParsesUnsigned 32 10 text x × ExplainsUnsignedError 10 text x × HasUnsignedDigitsIfOk text x) (λ text x read. read.0)
     (found_of c.args.own.now) (codes "history") n _ c.get_one.ensures.value c.in_err-get_one-in-create.was number))
 
 pub returns-in_ok-get_one-in-create : goal.returns-in_ok-get_one-in-create
@@ -28,9 +28,19 @@ returns-in_ok-get_one-in-create c = record {
 pub returns-in-run : goal.returns-in-run
 returns-in-run c = record { named = search rules; words = text_given (found_of c.args.own.now) (codes "folder") _ _ c.get_str-in-run.ensures refl }
 
+pub returns-in_err-get_str-in-compact : goal.returns-in_err-get_str-in-compact
+returns-in_err-get_str-in-compact c = rw c.from_residual-in_err-get_str-in-compact.ensures
+    (lacks_words (codes "compact") _ _ (search rules) (λ holds. holds (text_given (found_of c.args.own.now) (codes "folder") _ _ c.get_str-in-compact.ensures c.in_err-get_str-in-compact.was)))
+
+pub returns-in_ok-get_str-in-compact : goal.returns-in_ok-get_str-in-compact
+returns-in_ok-get_str-in-compact c = record {
+  named = search rules;
+  words = text_given (found_of c.args.own.now) (codes "folder") _ _ c.get_str-in-compact.ensures c.in_ok-get_str-in-compact.was;
+}
+
 pub returns-in_err-get_str-in-list : goal.returns-in_err-get_str-in-list
 returns-in_err-get_str-in-list c = rw c.from_residual-in_err-get_str-in-list.ensures
-    (no_list _ _ (search rules) (text_given (found_of c.args.own.now) (codes "folder") _ _ c.get_str-in-list.ensures c.in_err-get_str-in-list.was))
+    (lacks_words (codes "list") _ _ (search rules) (λ holds. holds (text_given (found_of c.args.own.now) (codes "folder") _ _ c.get_str-in-list.ensures c.in_err-get_str-in-list.was)))
 
 pub returns-in_ok-get_str-in-list : goal.returns-in_ok-get_str-in-list
 returns-in_ok-get_str-in-list c = record {
@@ -43,7 +53,7 @@ returns-in_ok-get_str-in-list c = record {
 
 pub returns-in_err-get_str-in-verify : goal.returns-in_err-get_str-in-verify
 returns-in_err-get_str-in-verify c = rw c.from_residual-in_err-get_str-in-verify.ensures
-    (no_verify _ _ (search rules) (text_given (found_of c.args.own.now) (codes "folder") _ _ c.get_str-in-verify.ensures c.in_err-get_str-in-verify.was))
+    (lacks_words (codes "verify") _ _ (search rules) (λ holds. holds (text_given (found_of c.args.own.now) (codes "folder") _ _ c.get_str-in-verify.ensures c.in_err-get_str-in-verify.was)))
 
 pub returns-in_ok-get_str-in-verify : goal.returns-in_ok-get_str-in-verify
 returns-in_ok-get_str-in-verify c = record {
@@ -56,7 +66,7 @@ returns-in_ok-get_str-in-verify c = record {
 
 pub returns-in_err-get_str-in-frames : goal.returns-in_err-get_str-in-frames
 returns-in_err-get_str-in-frames c = rw c.from_residual-in_err-get_str-in-frames.ensures
-    (no_frames _ _ (search rules) (text_given (found_of c.args.own.now) (codes "file") _ _ c.get_str-in-frames.ensures c.in_err-get_str-in-frames.was))
+    (lacks_words (codes "frames") _ _ (search rules) (λ holds. holds (text_given (found_of c.args.own.now) (codes "file") _ _ c.get_str-in-frames.ensures c.in_err-get_str-in-frames.was)))
 
 pub returns-in_ok-get_str-in-frames : goal.returns-in_ok-get_str-in-frames
 returns-in_ok-get_str-in-frames c = record {
@@ -66,7 +76,7 @@ returns-in_ok-get_str-in-frames c = record {
 
 pub returns-in_err-get_str-in-describe : goal.returns-in_err-get_str-in-describe
 returns-in_err-get_str-in-describe c = rw c.from_residual-in_err-get_str-in-describe.ensures
-    (no_describe _ _ (search rules) (text_given (found_of c.args.own.now) (codes "folder") _ _ c.get_str-in-describe.ensures c.in_err-get_str-in-describe.was))
+    (lacks_words (codes "describe") _ _ (search rules) (λ holds. holds (text_given (found_of c.args.own.now) (codes "folder") _ _ c.get_str-in-describe.ensures c.in_err-get_str-in-describe.was)))
 
 pub returns-in_ok-get_str-in-describe : goal.returns-in_ok-get_str-in-describe
 returns-in_ok-get_str-in-describe c = record {

@@ -3,12 +3,10 @@ use Rattle.std.specs.Prelude.{Err}
 use Rattle.disk_core.specs.DiskImage.{reads}
 use Rattle.archive_model.specs.State.{register_of}
 use Rattle.archive_model.specs.Register.{no_recordings}
-use Rattle.catalogue_log.specs.Fold.{after_entries}
+use Rattle.catalogue_entries.specs.Fold.{after_entries}
 use Rattle.control_core.specs.Desk.{DeskState}
-use Rattle.control_core.specs.Orderly.{AreLaid}
 use Rattle.engine_core.specs.Engine.{IsTied}
 use Rattle.engine_core.proofs.openings.OpeningLemmas.{whole_refused}
-use Rattle.engine_core.proofs.openings.EntryLaidLemmas.{entries_laid}
 use Rattle.engine_core.proofs.openings.ReopenLemmas.{same_desk}
 use Rattle.engine_core.proofs.opening.read_desk.Goals as goal
 
@@ -22,32 +20,25 @@ returns-clause-sound g c obeys x recovers =
     let log = c.in_ok-log.log in
     let is : c.counted-counted.result ≡ log.counted = c.counted-counted.ensures in
     let counted = c.counted-counted.result in
-    let made : c.in_ok-register.register.state ≡ after_entries no_recordings c.in_ok-log.entries.items = search rules in
     let found = c.in_ok-log.ensures.sound obeys x recovers in
-    (found.0, c.opened-desk.ensures ∙ same_desk c.in_ok-register.register.state (register_of x) counted log.counted c.limit-limit.result log.header.history_limit (made ∙ found.1) is c.limit-limit.ensures)
+    (found.0, c.opened-desk.ensures ∙ same_desk c.in_ok-log.register.state (register_of x) counted log.counted c.limit-limit.result log.header.history_limit found.1 is c.limit-limit.ensures)
 
 pub returns-clause-log : goal.returns-clause-log
 returns-clause-log g c obeys =
     let log = c.in_ok-log.log in
-    let entries = c.in_ok-log.entries.items in
+    let found = c.in_ok-log.ensures.log obeys in
     let is : c.counted-counted.result ≡ log.counted = c.counted-counted.ensures in
-    let counted = c.counted-counted.result in
-    let made : c.in_ok-register.register.state ≡ after_entries no_recordings entries = search rules in (
-      entries,
-      c.in_ok-log.ensures.log obeys,
-      c.opened-desk.ensures ∙ same_desk c.in_ok-register.register.state (after_entries no_recordings entries) counted log.counted c.limit-limit.result log.header.history_limit made is c.limit-limit.ensures,
+    let counted = c.counted-counted.result in (
+      found.0,
+      found.1,
+      c.opened-desk.ensures ∙ same_desk c.in_ok-log.register.state (after_entries no_recordings found.0) counted log.counted c.limit-limit.result log.header.history_limit found.2 is c.limit-limit.ensures,
     )
-
-pub opened-desk-requires : goal.opened-desk-requires
-opened-desk-requires g c =
-    let made : c.in_ok-register.register.state ≡ after_entries no_recordings c.in_ok-log.entries.items = search rules in
-    subst AreLaid (sym made) (entries_laid no_recordings c.in_ok-log.entries.items c.in_ok-log.ensures.admitted tt)
 
 pub returns-clause-tied : goal.returns-clause-tied
 returns-clause-tied g c =
     let log = c.in_ok-log.log in
     let counted = c.counted-counted.result in
-    let register = c.in_ok-register.register.state in
+    let register = c.in_ok-log.register.state in
     let limit = c.limit-limit.result in
     let is : counted ≡ log.counted = c.counted-counted.ensures in (
       subst (IsTied log) (sym c.opened-desk.ensures) (record { works = λ works. c.in_ok-log.ensures.works; counted = λ works. sym is; limit = λ works. sym c.limit-limit.ensures }),

@@ -2,10 +2,10 @@ use Rattle.std.proofs.Common.{◌∙◌, Err, ap, subst, sym}
 use Rattle.disk_core.specs.DiskImage.{reads}
 use Rattle.disk_core.specs.Life.{Life}
 use Rattle.archive_model.specs.Register.{no_recordings}
-use Rattle.catalogue_log.specs.Fold.{after_entries}
+use Rattle.catalogue_entries.specs.Fold.{after_entries}
 use Rattle.engine_core.specs.Opening.{ReadsAsBefore}
 use Rattle.engine_core.specs.Seen.{seen}
-use Rattle.engine_core.proofs.openings.ReopenLemmas.{changed_bank, desk_read, either_then, goes_later, open_done, read_refused, read_refuses, reads_as, reads_otherwise, start_refuses, stop_refused}
+use Rattle.engine_core.proofs.openings.ReopenLemmas.{banks_read, changed_bank, desk_read, either_then, goes_later, open_done, read_refused, read_refuses, reads_as, reads_otherwise, start_refuses, stop_refused}
 use Rattle.engine_core.proofs.start.open_listed.Goals as goal
 
 pub returns-in-Ok : goal.returns-in-Ok
@@ -26,6 +26,7 @@ returns-in-Ok g c =
       desk = λ obeys.
           (let found = read.log (went.changes.obeyed obeys) in
           desk_read (reads old.now) log found.0 c.in-Ok.desk.state started.0.desk.state started.1 found.1 found.2 (went.desk (after_entries no_recordings found.0) log.counted log.header.history_limit found.2) went.stopped);
+      banks = λ obeys. (let found = read.log (went.changes.obeyed obeys) in banks_read (reads old.now) log started.0.storage.log found.0 found.1 went.bank);
       goes_on = goes_later old mid (life started.0.storage.disk) before went.changes;
       others = reads_otherwise old mid (life started.0.storage.disk) before went.changes;
       idle = λ is. subst (λ (new : Life). ReadsAsBefore old new) (sym (went.idle is)) before;
@@ -53,5 +54,5 @@ returns-in-Err g c =
           (read_refused old mid s u leaves before, refused.whole obeys to.state to.recovers));
       refuses = read_refuses old mid c.in-Err.refusal before (λ fault. c.read_desk.ensures.cause (c.in-Err.is ∙ ap Err fault)) refused.refused;
       goes_on = record { obeyed = before.obeyed; faults = before.faults };
-      others = λ file other. before.same file;
+      others = λ file not_a not_b. before.same file;
     }

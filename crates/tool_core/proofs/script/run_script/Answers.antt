@@ -21,7 +21,7 @@ returns-in-Err-outcome-clause-early g c =
     c.new.result c.in-Err-outcome.end c.into_disk-disk.result c.answer_lines-archive.result.1 c.new.ensures.end c.new.ensures.disk c.into_disk-disk.ensures c.in-Err-outcome.is c.answer_lines-archive.ensures.early)
 
 pub returns-in-Err-outcome-clause-kept_early : goal.returns-in-Err-outcome-clause-kept_early
-returns-in-Err-outcome-clause-kept_early g c first begins obeys =
+returns-in-Err-outcome-clause-kept_early g c first banks begins obeys =
     inl (kept_early g.D.Disk.life c.an_image_recovers_to_one_state.ensures g.met.D.Disk.reads_may_stay c.args.disk (g.D.Disk.life (disk_of c.new.result)) (g.R.Read.remaining c.args.reader) (g.W.Write.contents c.args.writer.now) (g.W.Write.contents c.answer_lines-archive.new.writer) (early_end_of c.new.result)
     (early g.D.Disk.life (g.D.Disk.life c.args.disk) (g.R.Read.remaining c.args.reader) (g.W.Write.contents c.args.writer.now) (g.W.Write.contents c.answer_lines-archive.new.writer) c.in-Ok.found.0 c.answer_lines-archive.result.0 c.in-Ok.found.1 c.in-Ok.ensures.begun
-    c.new.result c.in-Err-outcome.end c.into_disk-disk.result c.answer_lines-archive.result.1 c.new.ensures.end c.new.ensures.disk c.into_disk-disk.ensures c.in-Err-outcome.is c.answer_lines-archive.ensures.early) first begins obeys)
+    c.new.result c.in-Err-outcome.end c.into_disk-disk.result c.answer_lines-archive.result.1 c.new.ensures.end c.new.ensures.disk c.into_disk-disk.ensures c.in-Err-outcome.is c.answer_lines-archive.ensures.early) first banks begins obeys)

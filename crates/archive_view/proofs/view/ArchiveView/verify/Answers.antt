@@ -1,14 +1,14 @@
-use Rattle.std.proofs.Common.{ap, ◌≡◌, refl, subst, Option, Some}
+use Rattle.std.proofs.Common.{ap, sym, ◌≡◌, refl, subst, Option, Some}
 use Rattle.disk_core.specs.DiskImage.{Files, reads}
 use Rattle.archive_model.specs.declared.registration.Registration.{Registration}
 use Rattle.archive_model.specs.Register.{registration_in}
 use Rattle.archive_view.specs.Verified.{VerifyAnswers}
-use Rattle.engine_core.proofs.calls.KnownLemmas.{laid_found}
+use Rattle.archive_view.proofs.KnownLemmas.{found_laid}
 use Rattle.archive_view.proofs.LookLemmas.{counted_answers}
 use Rattle.archive_view.proofs.view.ArchiveView.verify.Goals as goal
 
 pub count_frames-requires : goal.count_frames-requires
-count_frames-requires g c = laid_found c.args.self.now.desk.state c.args.recording.now c.in-Some.known.now c.in-Some.ensures.keeps c.in-Some.ensures.found
+count_frames-requires g c = found_laid c.args.self.now.desk.state.register c.args.self.now.desk.state.callers c.args.recording.now c.in-Some.known.now c.in-Some.ensures.keeps (sym c.in-Some.ensures.found)
 
 pub returns : goal.returns
 returns g c =

@@ -39,7 +39,7 @@ invariant_of-self-in-Ok g c =
     let adds = went.adds in
     let entry : IsEntryFor d c.args.command c.in_ok-entry.entry = record { is = λ s next. (let known : s.next ≡ c.next_recording.result = next ∙ sym c.next_recording.ensures in c.in_ok-entry.ensures.ok s (search (rules, known))) } in
     let desk : desk_after d c.args.command ≡ c.accept.new.self.state = sym (c.accept.ensures ∙ ap (λ (s : DeskState). desk_after s c.args.command) c.in_ok-reserve.ensures.state) in
-    record { tied = subst (IsTied c.commit.new.self.log) desk (made_tied c.args.self.now.storage.log c.commit.new.self.log d c.args.command c.in_ok-entry.entry c.args.self.now.tied c.requires.works c.requires.requested entry adds.header adds.works adds.counted) }
+    record { tied = subst (IsTied c.commit.new.self.log) desk (made_tied c.args.self.now.storage.log c.commit.new.self.log d c.args.command c.in_ok-entry.entry c.args.self.now.tied c.requires.works c.requires.requested entry adds.bank.header adds.works adds.counted) }
 
 pub returns-in-Ok-clause-made : goal.returns-in-Ok-clause-made
 returns-in-Ok-clause-made g c =

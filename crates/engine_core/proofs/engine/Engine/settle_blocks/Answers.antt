@@ -2,7 +2,7 @@ use Rattle.std.proofs.Common.{rules, ◌≡◌, sym, subst, ℤ, Ok, to_z, of_z,
 use Rattle.segment_store.specs.declared.layout.Layout.{Layout}
 use Rattle.segment_store.specs.Layout.{IsFromStart, IsLayout}
 use Rattle.archive_model.specs.declared.reply.Reply.TheVariants as replies
-use Rattle.catalogue_log.specs.declared.entry.Entry.TheVariants as entries
+use Rattle.catalogue_entries.specs.declared.entry.Entry.TheVariants as entries
 use Rattle.engine_core.specs.Engine.{EngineState, IsTied}
 use Rattle.engine_core.specs.Seen.{seen}
 use Rattle.engine_core.proofs.calls.CommitCallLemmas.{tied_refused}
@@ -47,7 +47,7 @@ invariant_of-self g c =
     let same_last : w.last ≡ last = search rules in
     let same_id : id ≡ number = search rules in
     let asks = asked desk n id w layout first last number c.requires.laid.0 c.requires.decided c.requires.laid.1 c.requires.laid.2 same_first same_last same_id in
-    record { tied = settled_tied log desk n id w layout first (entries.Settle number last) c.args.self.now.tied asks c.settle.new.self.log c.settle-in-Ok.new.self.state c.in-Ok.ensures.adds.header c.in-Ok.ensures.adds.works c.in-Ok.ensures.adds.counted c.settle-in-Ok.ensures }
+    record { tied = settled_tied log desk n id w layout first (entries.Settle number last) c.args.self.now.tied asks c.settle.new.self.log c.settle-in-Ok.new.self.state c.in-Ok.ensures.adds.bank.header c.in-Ok.ensures.adds.works c.in-Ok.ensures.adds.counted c.settle-in-Ok.ensures }
 
 pub returns-in-Ok : goal.returns-in-Ok
 returns-in-Ok g c =

@@ -35,7 +35,8 @@ returns-in_err-removed g c =
       stays = c.sweep.ensures.stays;
       spares = c.sweep.ensures.kept;
       desk = refl;
-    }) c.in_err-removed.ensures.refused (λ memory. c.in_err-removed.ensures.unchanged (ap Err memory)) c.sweep.ensures.log (λ fault. c.in_err-removed.ensures.cause (ap Err fault))
+      log = c.sweep.ensures.log;
+    }) c.in_err-removed.ensures.refused (λ memory. c.in_err-removed.ensures.unchanged (ap Err memory)) (λ fault. c.in_err-removed.ensures.cause (ap Err fault))
 
 pub returns : goal.returns
 returns g c =
@@ -47,4 +48,5 @@ returns g c =
       stays = c.sweep.ensures.stays;
       spares = c.sweep.ensures.kept;
       desk = refl;
+      log = c.sweep.ensures.log;
     }) c.in_ok-removed.ensures.swept

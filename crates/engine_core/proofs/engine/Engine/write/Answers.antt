@@ -56,7 +56,7 @@ returns-in-Ok g c =
     let to = to_z w64 (of_z w64 c.in-Some.target.end) in
     let same_to : c.in-Some.target.end ≡ to = search rules in
     let noted = c.note_written.ensures ∙ ap (λ w. after_write c.args.session.now w old.desk) (c.span_of-span.ensures ∙ span_same c.args.block.now c.in-Some.target.end c.args.block.now.position to refl same_to) in
-    write_done old c.args.session.now c.args.block.now c.layout_of-layout.result c.in-Some.target.end (target_is _ _ _ _ _ _ _ c.session-writer.ensures.found c.session-writer.ensures.keeps c.in-Some.ensures c.layout_of-layout.ensures) new c.in_ok-reply.reply decided (Ok tt) c.in-Ok.ensures.changes c.in-Ok.ensures.moves c.in-Ok.ensures.stays refl noted
+    write_done old c.args.session.now c.args.block.now c.layout_of-layout.result c.in-Some.target.end (target_is _ _ _ _ _ _ _ c.session-writer.ensures.found c.session-writer.ensures.keeps c.in-Some.ensures c.layout_of-layout.ensures) new c.in_ok-reply.reply decided (Ok tt) c.in-Ok.ensures.changes c.in-Ok.ensures.moves c.in-Ok.ensures.stays c.in-Ok.ensures.log refl noted
     c.in-Ok.ensures.written
 
 pub returns-in-Err : goal.returns-in-Err
@@ -66,5 +66,5 @@ returns-in-Err g c =
     let new : EngineState = record { life = life c.write.new.self.disk; log = c.write.new.self.log; desk = c.failed.new.desk.state } in
     let decided : Ok c.in_ok-reply.reply ≡ write_decision old.desk c.args.session.now (span_to c.args.block.now c.in-Some.target.end) true = search rules in
     let fault = c.in-Err.ensures.refusal in
-    write_fails old c.args.session.now c.args.block.now c.layout_of-layout.result c.in-Some.target.end (target_is _ _ _ _ _ _ _ c.session-writer.ensures.found c.session-writer.ensures.keeps c.in-Some.ensures c.layout_of-layout.ensures) new c.in_ok-reply.reply decided (Err c.in-Err.refusal) c.in-Err.ensures.changes c.in-Err.ensures.moves c.in-Err.ensures.stays
+    write_fails old c.args.session.now c.args.block.now c.layout_of-layout.result c.in-Some.target.end (target_is _ _ _ _ _ _ _ c.session-writer.ensures.found c.session-writer.ensures.keeps c.in-Some.ensures c.layout_of-layout.ensures) new c.in_ok-reply.reply decided (Err c.in-Err.refusal) c.in-Err.ensures.changes c.in-Err.ensures.moves c.in-Err.ensures.stays c.in-Err.ensures.log
     c.failed.result (c.failed.ensures.same ∙ fault) c.in-Err.ensures.cause (c.failed.ensures.state ∙ ap (λ refusal. after_failure refusal old.desk) fault)

@@ -3,4 +3,4 @@ use Rattle.serve_core.proofs.SeatLemmas.{new_are_new}
 use Rattle.serve_core.proofs.seats.Benches.of_board.Goals as goal
 
 pub of_parts-requires-clause-writers : goal.of_parts-requires-clause-writers
-of_parts-requires-clause-writers c = new_are_new c.args.board 0 c.args.starts.now c.args.writers.items c.requires.writers
+of_parts-requires-clause-writers c = new_are_new c.args.board c.args.starts.now c.args.writers.items c.requires.writers

@@ -1,0 +1,2 @@
+mod ExportLemmas
+mod EndLemmas

@@ -1,0 +1,8 @@
+//! Recorded frames as a capture file, of an archive that is only looked at.
+#![tactic(auto)]
+
+mod frames;
+mod span;
+
+pub use frames::{ExportFault, export};
+pub use span::Span;

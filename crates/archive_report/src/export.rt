@@ -1,0 +1,51 @@
+//! What `export` writes of a recording. docs/CONTROL.md, "Exporting frames".
+
+ghost use Rattle.std.specs.Prelude.{◌≡◌, IfErr, IfOk};
+ghost use Rattle.archive_report.specs.Exported.{FailsToExportFrom, HasExportedFrom, stop_of};
+
+use crate::viewing::viewed;
+use archive_export::{ExportFault, Span, export};
+use disk_core::Disk;
+use std::alloc::Global;
+use std::io::Write;
+use tool_core::{CommandFault, EarlyEnd, Observer, Stopped};
+
+/// Writes the frames of a part of a recording as a capture file, of the archive of a disk as it stands. The disk is only
+/// read, and comes back. An observer is told whether the archive is there.
+///
+/// Refused as `ArchiveView::open` refuses, and then nothing is written, and as `archive_export::export`; cut by `Write` where
+/// the writer fails. What was written before stays written. docs/CONTROL.md, "Exporting frames".
+pub fn export_view<W: Write, D: Disk, O: Observer>(
+    alloc: Global,
+    disk: D,
+    recording: &i64,
+    span: &Span,
+    writer: &mut W,
+    observer: &mut O,
+) -> Result<D, CommandFault<D>>
+    ensures exported { IfOk result (λ back. HasExportedFrom D.life (D.life disk) (D.life back)
+        recording.now span.now (W.contents writer.old) (W.contents writer.new)) }
+    ensures fault { IfErr result (λ fault. FailsToExportFrom D.life (D.life disk) fault.disk
+        recording.now span.now fault.why) }
+{
+    let mut view = viewed(alloc, disk, observer)?;
+    let outcome = export(alloc, &mut view, recording, span, writer);
+    let disk = view.into_disk().into_disk();
+    match outcome {
+        Ok(()) => Ok(disk),
+        Err(fault) => Err(CommandFault {
+            why: why_of(fault),
+            disk,
+        }),
+    }
+}
+
+/// Why a command ended before it was done, by the fault of its export.
+fn why_of(fault: ExportFault) -> Stopped
+    ensures { result ≡ stop_of fault }
+{
+    match fault {
+        ExportFault::Refused(refusal) => Stopped::Refused(refusal),
+        ExportFault::Write => Stopped::Cut(EarlyEnd::Write),
+    }
+}

@@ -1,0 +1,54 @@
+-- What a desk knows of its recordings.
+use Rattle.std.proofs.Common.{◌≡◌, subst, ℤ, pos, ◌≤ℤ◌, Bool, true, false, List, [], ◌∷◌, Some, All, cond, map, arith}
+use Rattle.std.proofs.lemmas.Int.{ints}
+use Rattle.std.proofs.lemmas.List.Elements.{All-cons, All-nil}
+use Rattle.std.specs.Ordering.{int_eq}
+use Rattle.segment_store.specs.Layout.{IsLayout}
+use Rattle.segment_store.specs.Stale.{IsKeep}
+use Rattle.segment_store.specs.declared.keep.Keep.TheVariants.{Below}
+use Rattle.archive_model.specs.declared.registration.Registration.{Registration}
+use Rattle.archive_model.specs.Keyed.{Each, find}
+use Rattle.archive_model.specs.Register.{RegisterState, id_of, registration_in}
+use Rattle.control_core.specs.Callers.{CallersState}
+use Rattle.control_core.specs.Orderly.{IsLaid, IsLaidOut, KeepsDesk}
+use Rattle.engine_core.specs.Moves.{registered_keep, registered_keeps}
+use Rattle.engine_core.specs.Recovery.{layout_of}
+
+-- a recording that is found is laid
+found_among : (id : ℤ) (rs : List Registration) (r : Registration) → Each IsLaid rs → find id_of id rs ≡ Some r → IsLaid r
+found_among id [] r all found = absurd cc
+found_among id (h ∷ rs) r all found = by (int_eq id (id_of h)) found (found_among id rs r all.1)
+  where
+    by : (b : Bool) → cond b (Some h) (find id_of id rs) ≡ Some r → (find id_of id rs ≡ Some r → IsLaid r) → IsLaid r
+    by true is later = let same : h ≡ r = cc in subst IsLaid same all.0
+    by false is later = later is
+
+pub found_laid : (register : RegisterState) (callers : CallersState) (id : ℤ) (r : Registration) → KeepsDesk register callers → registration_in register id ≡ Some r → IsLaid r
+found_laid register callers id r keeps found = found_among id register.recordings r keeps.orderly.register found
+
+-- its positions are from 0 on
+pub laid_low : (r : Registration) → IsLaid r
+    → (pos 0 ≤ℤ r.descriptor.start_position) × (pos 0 ≤ℤ r.recorded)
+laid_low r laid =
+    let layout = laid.laid_out.layout in
+    let low : pos 0 ≤ℤ r.descriptor.start_position = omega (arith, ints, layout.start_is) in
+    (low, omega (arith, ints, low, laid.from_start))
+
+-- what a sweep is told of recordings that are laid
+layout_laid : (r : Registration) → IsLaidOut r → IsLayout (layout_of r.descriptor)
+layout_laid r laid = record {
+  term = laid.layout.term;
+  segment = laid.layout.segment;
+  no_less = laid.layout.no_less;
+  start = laid.layout.start;
+  start_is = laid.layout.start_is;
+  in_terms = laid.layout.in_terms;
+}
+
+keeps_laid : (rs : List Registration) → Each IsLaid rs → All IsKeep (map registered_keep rs)
+keeps_laid [] laid = All-nil IsKeep
+keeps_laid (r ∷ rs) laid = All-cons IsKeep (registered_keep r) (map registered_keep rs) (layout_laid r laid.0.laid_out, laid.0.from_start) (keeps_laid rs laid.1)
+
+pub keeps_are : (register : RegisterState) (callers : CallersState) → KeepsDesk register callers
+    → All IsKeep (registered_keeps register)
+keeps_are register callers keeps = All-cons IsKeep (Below register.next) (map registered_keep register.recordings) tt (keeps_laid register.recordings keeps.orderly.register)

@@ -1,0 +1,27 @@
+-- The catalogue of a closed archive written anew: docs/STORAGE.md, "Compaction".
+use Rattle.std.specs.Prelude.{◌≡◌, ◌≢◌, ◌⊎◌, IfErr, IsErrOf, IsTrue, OnOk, Result}
+use Rattle.frame_core.specs.declared.refusal.Refusal.{Refusal}
+use Rattle.frame_core.specs.declared.refusal.Refusal.TheVariants.{DeviceFault}
+use Rattle.disk_core.specs.declared.file_id.FileId.{FileId}
+use Rattle.disk_core.specs.declared.file_id.FileId.TheVariants.{BankA, BankB}
+use Rattle.disk_core.specs.DiskImage.{reads}
+use Rattle.disk_core.specs.Life.{HasFailed, LeavesOnly, Life}
+use Rattle.archive_model.specs.State.{State}
+use Rattle.catalogue_log.specs.Compacting.{IsCompacted, RefusesCompaction}
+use Rattle.engine_core.specs.Calls.{LeavesAlone}
+use Rattle.engine_core.specs.Engine.{DiskGoesOn}
+use Rattle.engine_core.specs.Opening.{ReadsAsBefore}
+use Rattle.engine_core.specs.Recovery.{Recovers}
+
+-- What a compaction did to a disk.
+pub record Compacts (old new : Life) (result : Result (Unit {0}) Refusal) : Type 0 where
+  -- Where each crash may leave one state, so it does at every moment.
+  pub any_moment : (s : State) → LeavesAlone old s → IsTrue new.obeys → LeavesOnly old new (λ image. Recovers image s)
+  -- Answered, the bank in use has the next epoch, and holds the next id and the recordings alone.
+  pub compacted : OnOk result (IsTrue new.obeys → IsCompacted old new)
+  pub refused : IfErr result (λ refusal. IsTrue new.obeys → RefusesCompaction (reads old.now) refusal)
+  -- Refused by anything but a fault, each file reads as before.
+  pub kept : IfErr result (λ refusal. (refusal ≡ DeviceFault) ⊎ ReadsAsBefore old new)
+  pub cause : IsErrOf result DeviceFault → HasFailed old new
+  pub segments : (file : FileId) → file ≢ BankA → file ≢ BankB → new.now file ≡ old.now file
+  pub goes_on : DiskGoesOn old new

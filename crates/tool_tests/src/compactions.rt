@@ -1,0 +1,223 @@
+//! Archives that are compacted: docs/SCENARIOS.md.
+
+use super::disks::{recorded, with_short_history};
+use super::frames::FullWriter;
+use super::scenarios::{check, check_on};
+use disk_core::{Disk, FileId, MemoryDisk};
+use std::alloc::Global;
+use std::test::*;
+use tool_core::{
+    CommandFault, EarlyEnd, HistoryUse, Observer, Stopped, Unobserved, compact_archive, run_script,
+};
+
+// Bank B behind a full history that was compacted, and a truncation: the header of epoch 2, the next id 1, the recording
+// that stopped at 128, and that it was truncated to 64.
+const BANK_B: [u8; 136] = [
+    0x01, 0x01, 0x00, 0x00, 0x03, 0x00, 0x00, 0x00, 0x02, 0x00, 0x00, 0x00, 0x00, 0x00, 0x00, 0x00,
+    0x00, 0x00, 0x00, 0x00, 0x00, 0x00, 0x00, 0x00, 0x00, 0x00, 0x00, 0x00, 0x00, 0x00, 0x00, 0x00,
+    0x01, 0x0a, 0x08, 0x00, 0x01, 0x00, 0x00, 0x00, 0x00, 0x00, 0x00, 0x00, 0x01, 0x09, 0x43, 0x00,
+    0x00, 0x00, 0x00, 0x00, 0x00, 0x00, 0x00, 0x00, 0xe8, 0x03, 0x00, 0x00, 0x00, 0x00, 0x00, 0x00,
+    0xff, 0xff, 0xff, 0xff, 0xff, 0xff, 0xff, 0xff, 0x00, 0x00, 0x00, 0x00, 0x00, 0x00, 0x00, 0x00,
+    0x80, 0x00, 0x00, 0x00, 0x00, 0x00, 0x00, 0x00, 0x2a, 0x00, 0x00, 0x00, 0x00, 0x00, 0x02, 0x00,
+    0x00, 0x00, 0x01, 0x00, 0x80, 0x05, 0x00, 0x00, 0x07, 0x00, 0x00, 0x00, 0xe9, 0x03, 0x00, 0x00,
+    0x01, 0x00, 0x63, 0x01, 0x05, 0x10, 0x00, 0x00, 0x00, 0x00, 0x00, 0x00, 0x00, 0x00, 0x00, 0x40,
+    0x00, 0x00, 0x00, 0x00, 0x00, 0x00, 0x00, 0x00,
+];
+
+// Bank A behind a further compaction: the header of epoch 3, the next id 1, and the recording that stopped at 64.
+const BANK_A: [u8; 116] = [
+    0x01, 0x01, 0x00, 0x00, 0x03, 0x00, 0x00, 0x00, 0x03, 0x00, 0x00, 0x00, 0x00, 0x00, 0x00, 0x00,
+    0x00, 0x00, 0x00, 0x00, 0x00, 0x00, 0x00, 0x00, 0x00, 0x00, 0x00, 0x00, 0x00, 0x00, 0x00, 0x00,
+    0x01, 0x0a, 0x08, 0x00, 0x01, 0x00, 0x00, 0x00, 0x00, 0x00, 0x00, 0x00, 0x01, 0x09, 0x43, 0x00,
+    0x00, 0x00, 0x00, 0x00, 0x00, 0x00, 0x00, 0x00, 0xe8, 0x03, 0x00, 0x00, 0x00, 0x00, 0x00, 0x00,
+    0xff, 0xff, 0xff, 0xff, 0xff, 0xff, 0xff, 0xff, 0x00, 0x00, 0x00, 0x00, 0x00, 0x00, 0x00, 0x00,
+    0x40, 0x00, 0x00, 0x00, 0x00, 0x00, 0x00, 0x00, 0x2a, 0x00, 0x00, 0x00, 0x00, 0x00, 0x02, 0x00,
+    0x00, 0x00, 0x01, 0x00, 0x80, 0x05, 0x00, 0x00, 0x07, 0x00, 0x00, 0x00, 0xe9, 0x03, 0x00, 0x00,
+    0x01, 0x00, 0x63, 0x00,
+];
+
+/// Whether a file of the disk has these bytes and no more.
+fn holds(disk: MemoryDisk, file: FileId, bytes: &[u8]) -> Result<(MemoryDisk, bool), Fail> {
+    let mut disk = disk;
+    let mut read = [0; 200];
+    let count = disk.read_at(file, 0, &mut read)?;
+    let same = read.get(..count) == Some(bytes);
+    Ok((disk, same))
+}
+
+/// A history of three entries is full; it is compacted, and goes on.
+#[test]
+fn full_history_and_compaction(rt: HostRuntime) -> Result<(), Fail> {
+    check_on(
+        rt.alloc(),
+        with_short_history(rt.alloc())?,
+        "start 1001 7 42 65536 1408 131072 0 1000 c; block 0 HELLO_AT_0; block 0 HELLO_AT_64; stop 0 2000; reopen; \
+        list 0 1; truncate 0 64; compact; truncate 0 64; compact; list 0 1",
+        "started 0 0; settled 64; settled 128; error 11 HistoryFull; reopened 1; \
+        recording 0 1000 -1 0 128 42 131072 65536 1408 7 1001 c; end 1; error 11 HistoryFull; compacted; truncated 64; \
+        compacted; recording 0 1000 -1 0 64 42 131072 65536 1408 7 1001 c; end 1",
+    )?;
+    Ok(())
+}
+
+/// The second bank behind such a compaction, and the first one behind a further one.
+#[test]
+fn banks_behind_a_compaction(rt: HostRuntime) -> Result<(), Fail> {
+    let disk = check_on(
+        rt.alloc(),
+        with_short_history(rt.alloc())?,
+        "start 1001 7 42 65536 1408 131072 0 1000 c; block 0 HELLO_AT_0; block 0 HELLO_AT_64; compact; truncate 0 64",
+        "started 0 0; settled 64; settled 128; compacted; truncated 64",
+    )?;
+    let (disk, same) = holds(disk, FileId::BankB, BANK_B.as_slice())?;
+    assert!(rt; same, "bank B");
+    let disk = check_on(rt.alloc(), disk, "compact", "compacted")?;
+    let (_disk, same) = holds(disk, FileId::BankA, BANK_A.as_slice())?;
+    assert!(rt; same, "bank A");
+    Ok(())
+}
+
+/// Sessions and replays begin anew, ids of recordings do not, and a merge stays.
+#[test]
+fn numbers_behind_a_compaction(rt: HostRuntime) -> Result<(), Fail> {
+    check(
+        rt.alloc(),
+        "start 1001 7 42 65536 1408 131072 0 1000 c; block 0 HELLO_AT_0; write 0 HELLO_AT_64; replay 0 0 -1; \
+        merge 42 65536 64; compact; poll 0 1; settle 0; positions 0; replay 0 0 -1; poll 0 1; \
+        start 1001 7 42 65536 1408 131072 0 1000 d; merge-state; purge 0; compact; list 0 2; \
+        start 1001 7 42 65536 1408 131072 0 1000 e",
+        "started 0 0; settled 64; written 128; replay 0; merge 64; compacted; error 9 UnknownReplay; error 12 StaleSession; \
+        positions 0 64 64; replay 0; frame 0 HELLO_AT_0; done; started 1 0; merged no 64; error 4 ActiveReplay; compacted; \
+        recording 0 1000 -1 0 64 42 131072 65536 1408 7 1001 c; recording 1 1000 -1 0 0 42 131072 65536 1408 7 1001 d; \
+        end 2; started 2 0",
+    )
+}
+
+/// A disk whose other bank is not there.
+fn without_spare(alloc: Global) -> Result<MemoryDisk, Fail> {
+    let mut disk = recorded(alloc, MemoryDisk::new(alloc))?;
+    disk.remove(FileId::BankB)?;
+    disk.sync(FileId::BankB)?;
+    Ok(disk)
+}
+
+/// Refused, none is open until a reopening opens it; a merge stays.
+#[test]
+fn a_compaction_that_is_refused(rt: HostRuntime) -> Result<(), Fail> {
+    check_on(
+        rt.alloc(),
+        without_spare(rt.alloc())?,
+        "extend 0 1001 7 42 65536 1408 64; merge 42 65536 0; compact; list 0 1; compact; settle 0; merge-state; reopen; \
+        positions 0; compact; reopen; positions 0",
+        "extended 0; merge 0; error 19 NotCatalogue; error 16 Broken; error 16 Broken; error 16 Broken; merged no 0; reopened 0; \
+        positions 0 64 64; error 19 NotCatalogue; reopened 0; positions 0 64 64",
+    )?;
+    Ok(())
+}
+
+/// The disk behind a script that is compacted and whose disk stops after so many changes; and what a crash leaves of it.
+fn stopped(alloc: Global, changes: u64, choice: Option<u8>) -> Result<MemoryDisk, Fail> {
+    let mut disk = recorded(alloc, MemoryDisk::new(alloc))?;
+    disk.stop_after(changes);
+    let mut out = Vec::new(alloc);
+    let lines = b"compact\n".as_slice();
+    let Ok(mut disk) = run_script(alloc, lines, &mut out, disk, &mut Unobserved) else {
+        return Err(Fail::new("the script ended early"));
+    };
+    disk.stop_after(100);
+    match choice {
+        Some(choice) => Ok(disk.crash(&[choice])?),
+        None => Ok(disk),
+    }
+}
+
+/// After each number of changes at which the disk may stop, and after each such crash, the archive opens and says the same,
+/// and is compacted.
+#[test]
+fn a_compaction_that_stops(rt: HostRuntime) -> Result<(), Fail> {
+    for changes in 0..20 {
+        for choice in [None, Some(0), Some(1), Some(255)] {
+            check_on(
+                rt.alloc(),
+                stopped(rt.alloc(), changes, choice)?,
+                "positions 0; verify 0; compact; positions 0; verify 0",
+                "positions 0 64 64; verified 1; compacted; positions 0 64 64; verified 1",
+            )?;
+        }
+    }
+    Ok(())
+}
+
+/// What the command writes, and the disk then.
+fn compacted(alloc: Global, disk: MemoryDisk) -> Result<(Vec<u8>, MemoryDisk), Fail> {
+    let mut out = Vec::new(alloc);
+    match compact_archive(alloc, disk, &mut out, &mut Unobserved) {
+        Ok(disk) => Ok((out, disk)),
+        Err(_) => Err(Fail::new("it was not compacted")),
+    }
+}
+
+#[test]
+fn the_command_compacts(rt: HostRuntime) -> Result<(), Fail> {
+    let disk = recorded(rt.alloc(), MemoryDisk::new(rt.alloc()))?;
+    let (out, disk) = compacted(rt.alloc(), disk)?;
+    assert!(rt; out.as_slice() == b"compacted\n".as_slice());
+    check_on(
+        rt.alloc(),
+        disk,
+        "positions 0; verify 0",
+        "positions 0 64 64; verified 1",
+    )?;
+    Ok(())
+}
+
+/// Why the command ended early over a disk and a writer that takes nothing.
+fn ended(alloc: Global, disk: MemoryDisk) -> Option<Stopped> {
+    match compact_archive(alloc, disk, &mut FullWriter { room: 0 }, &mut Unobserved) {
+        Ok(_) => None,
+        Err(CommandFault { why, disk: _ }) => Some(why),
+    }
+}
+
+#[test]
+fn the_command_ends_early(rt: HostRuntime) -> Result<(), Fail> {
+    let disk = recorded(rt.alloc(), MemoryDisk::new(rt.alloc()))?;
+    assert!(rt; ended(rt.alloc(), disk) == Some(Stopped::Cut(EarlyEnd::Write)));
+    let disk = without_spare(rt.alloc())?;
+    assert!(rt; matches!(ended(rt.alloc(), disk), Some(Stopped::Refused(_))));
+    Ok(())
+}
+
+/// Keeps what it was told last of a history, and how often.
+#[derive(Drop)]
+struct Counting {
+    last: HistoryUse,
+    times: u32,
+}
+
+impl Observer for Counting {
+    fn used(&mut self, history: &HistoryUse) {
+        self.last = *history;
+        self.times = self.times.saturating_add(1);
+    }
+}
+
+/// How full the history is, is told at the opening and behind each line.
+#[test]
+fn a_history_that_fills_up(rt: HostRuntime) -> Result<(), Fail> {
+    let mut counting = Counting {
+        last: HistoryUse {
+            counted: 0,
+            limit: 0,
+        },
+        times: 0,
+    };
+    let lines = b"start 1001 7 42 65536 1408 131072 0 1000 c\nstop 0 1\nlist 0 1\n".as_slice();
+    let disk = with_short_history(rt.alloc())?;
+    let mut out = Vec::new(rt.alloc());
+    assert!(rt; run_script(rt.alloc(), lines, &mut out, disk, &mut counting).is_ok());
+    assert!(rt; counting.times == 4 && counting.last.counted == 2 && counting.last.limit == 3);
+    let text = counting.last.to_string(rt.alloc())?;
+    assert!(rt; text.as_str() == "2 of the 3 entries of the history are used, 1 are left");
+    Ok(())
+}
