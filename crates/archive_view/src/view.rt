@@ -10,6 +10,7 @@ use crate::ReadOnly;
 use catalogue_log::register_from;
 use control_core::Desk;
 use disk_core::Disk;
+use engine_core::laws::admitted_entries_make_laid_recordings;
 use frame_core::Refusal;
 use std::alloc::Global;
 
@@ -102,6 +103,7 @@ fn catalogue_of<D: Disk>(alloc: Global, disk: &mut ReadOnly<D>) -> Result<Catalo
     ensures refused { IfErr result (λ refusal.
         Refuses D.life (λ image. RefusesCatalogue image refusal) disk.old disk.new refusal) }
 {
+    admitted_entries_make_laid_recordings();
     let (log, entries) = catalogue_log::open(alloc, disk)?;
     let register = register_from(alloc, &entries)?;
     Ok(Catalogued {

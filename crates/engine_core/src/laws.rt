@@ -14,13 +14,17 @@ ghost use Rattle.archive_model.specs.Acceptance.{BookState};
 ghost use Rattle.archive_model.specs.Accepting.{Accepts};
 ghost use Rattle.archive_model.specs.Commands.{after, frames_of};
 ghost use Rattle.archive_model.specs.Keyed.{Each};
+ghost use Rattle.archive_model.specs.Register.{no_recordings};
 ghost use Rattle.archive_model.specs.State.{Recording, State, register_of};
 ghost use Rattle.archive_model.specs.WellFormed.{IsWell};
+ghost use Rattle.catalogue_entries.specs.declared.entry.Entry.{Entry};
+ghost use Rattle.catalogue_entries.specs.Fold.{AreAdmitted, after_entries, first_place};
 ghost use Rattle.catalogue_entries.specs.History.{IsRequested, entry_of};
 ghost use Rattle.catalogue_log.specs.Compacting.{HasRegister, LeavesRegister};
 ghost use Rattle.catalogue_log.specs.LogState.{LogState};
 ghost use Rattle.control_core.specs.declared.event.Event.{Event};
 ghost use Rattle.control_core.specs.Exact.{Archive, ArchiveEnds};
+ghost use Rattle.control_core.specs.Orderly.{AreLaid};
 ghost use Rattle.control_core.specs.Runs.{MayStand, StoodAmong};
 ghost use Rattle.engine_core.specs.Calls.{AnswersEvent, HasFailedOften, IsRun, LeavesAlone, Ran, faults_in};
 ghost use Rattle.engine_core.specs.Consistent.{IsCrashConsistent, Stands};
@@ -141,4 +145,11 @@ pub fn a_catalogue_of_the_same_register_keeps_the_state()
         ((image : DiskImage) → MayLeave old.now image → Recovers image s) →
         LeavesOnly old new (HasRegister old.now (register_of s)) →
         LeavesOnly old new (λ image. Recovers image s) }
+{}
+
+/// Entries of which each may follow those before it, as an opening finds them in a catalogue, make recordings that are laid:
+/// what a desk that is opened over them asks for.
+pub fn admitted_entries_make_laid_recordings()
+    ensures { (entries : List Entry) → AreAdmitted first_place entries →
+        AreLaid (after_entries no_recordings entries) }
 {}

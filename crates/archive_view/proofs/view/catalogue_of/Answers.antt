@@ -1,9 +1,8 @@
 use Rattle.std.proofs.Common.{rules, ◌≡◌, ap, subst, sym}
 use Rattle.std.specs.Prelude.{Err}
 use Rattle.archive_model.specs.Register.{no_recordings}
-use Rattle.catalogue_entries.specs.Fold.{after_entries, first_place}
+use Rattle.catalogue_entries.specs.Fold.{after_entries}
 use Rattle.control_core.specs.Orderly.{AreLaid}
-use Rattle.engine_core.proofs.openings.EntryLaidLemmas.{entries_laid}
 use Rattle.archive_view.proofs.LookLemmas.{desk_read, refused_read, unread}
 use Rattle.archive_view.proofs.view.catalogue_of.Goals as goal
 
@@ -21,7 +20,7 @@ returns-in_err-register-clause-refused g c =
 pub opened-requires : goal.opened-requires
 opened-requires g c =
     let made : c.in_ok-register.register.state ≡ after_entries no_recordings c.in_ok-log.entries.items = search rules in
-    subst AreLaid (sym made) (entries_laid first_place c.in_ok-log.entries.items c.in_ok-log.ensures.admitted tt)
+    subst AreLaid (sym made) (c.admitted_entries_make_laid_recordings.ensures c.in_ok-log.entries.items c.in_ok-log.ensures.admitted)
 
 pub returns-clause-found : goal.returns-clause-found
 returns-clause-found g c =
