@@ -140,7 +140,8 @@ pub fn decide_open<'a>(
     position: &i64,
     length: &i64,
 ) -> OpeningDecision<'a>
-    ensures decided { said_opening result ≡ open_decision desk.now.state recording.now position.now length.now }
+    ensures decided { said_opening result
+        ≡ open_decision desk.now.state recording.now position.now length.now }
     ensures known { IfOpensInside result (λ known.
         (registration_in desk.now.state.register recording.now ≡ Some known)
         × KeepsDesk desk.now.state.register desk.now.state.callers) }
@@ -216,7 +217,8 @@ pub fn decide_poll<'a>(desk: &'a Desk, replay: &i64, max: &i64) -> Result<Reader
         (λ reader. poll_decision desk.now.state replay.now max.now ≡ Ok reader.found.replay)
         (λ refusal. poll_decision desk.now.state replay.now max.now ≡ Err refusal) }
     ensures found { IfOk result (IsReader replay.now desk.now.state) }
-    ensures keeps { IfOk result (λ reader. KeepsDesk desk.now.state.register desk.now.state.callers) }
+    ensures keeps { IfOk result (λ reader.
+        KeepsDesk desk.now.state.register desk.now.state.callers) }
 {
     if *max < 1 || *max > MAX_POLL {
         return Err(Refusal::BadParameter);

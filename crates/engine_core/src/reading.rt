@@ -56,7 +56,8 @@ pub(crate) fn begins_at<D: Disk>(
     position: i64,
 ) -> Result<bool, Refusal>
     requires { IsLaidOut registration.now }
-    ensures told { (r : Recording) → RecordingIsRead (D.life disk.old) (D.life disk.new) registration.now r →
+    ensures told { (r : Recording) → RecordingIsRead (D.life disk.old)
+        (D.life disk.new) registration.now r →
         is_end position registration.now ≡ false → IfOk result (λ told. told ≡ begins_frame position r) }
     ensures fault { (r : Recording) → RecordingIsRead (D.life disk.old)
         (D.life disk.new) registration.now r →

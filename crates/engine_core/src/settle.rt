@@ -57,7 +57,8 @@ impl<D: Disk> Engine<D> {
         written: &Written,
     ) -> Result<Reply, Refusal>
         requires keeps { KeepsDesk self.old.desk.state.register self.old.desk.state.callers }
-        requires laid { (known : Registration) × (Some known ≡ registration_in self.old.desk.state.register recording.now)
+        requires laid { (known : Registration)
+            × (Some known ≡ registration_in self.old.desk.state.register recording.now)
             × (layout.now ≡ layout_of known.descriptor) }
         requires found { IsFoundSession session.now self.old.desk.state.callers.sessions found.now }
         requires decided { settle_decision self.old.desk.state session.now
