@@ -4,7 +4,7 @@ use Rattle.std.specs.Prelude.{Option, Some, None, Result, Ok, Err, is_none}
 use Rattle.frame_core.specs.declared.block.Block.{Block}
 use Rattle.frame_core.specs.declared.refusal.Refusal.{Refusal}
 use Rattle.frame_core.specs.declared.refusal.Refusal.TheVariants.{DeviceFault, NoMemory}
-use Rattle.disk_core.specs.DiskImage.{DiskImage, FileState, Files, MayLeave, begun, durable, reads}
+use Rattle.disk_core.specs.DiskImage.{DiskImage, Files, MayLeave, begun, durable, reads}
 use Rattle.disk_core.specs.Life.{HasFailed, Life}
 use Rattle.disk_core.proofs.CallerLemmas.{durable_left, now_leaves}
 use Rattle.archive_model.specs.declared.reply.Reply.{Reply}
@@ -24,10 +24,8 @@ use Rattle.tool_core.specs.declared.archive.ScriptArchive.{ScriptArchive}
 use Rattle.tool_core.specs.declared.archive.ScriptArchive.TheVariants.{Open, Closed}
 use Rattle.tool_core.specs.Answering.{ThenSettles, WritesBytes, WritesRead}
 use Rattle.tool_core.specs.Archives.{CallsEngine, OpensDisk, archive_ways, life_of}
-use Rattle.tool_core.specs.Merging.{Ends}
 use Rattle.tool_core.specs.Script.{LeavesBanks, LeavesBanksOf}
-use Rattle.tool_core.specs.ScriptLines.{BanksAgain, OrWant, Reopens, ReopensAs, ReopensEither, ReopensOpened, Standing, WhereOpen, closed, doubtful, is_certain, opened, refused, unknown}
-use Rattle.tool_core.proofs.CallLemmas.{Kept}
+use Rattle.tool_core.specs.ScriptLines.{BanksAgain, OrWant, Reopens, ReopensOpened, Standing, WhereOpen, closed, doubtful, is_certain, opened, refused, unknown}
 use Rattle.tool_core.proofs.StandingLemmas.{IsStanding}
 
 pub none_is : {T : Type 0} (o : Option T) → is_none o ≡ true → o ≡ None

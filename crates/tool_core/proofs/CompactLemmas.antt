@@ -1,8 +1,8 @@
 -- An archive that is closed, opened, closed, written anew and opened.
-use Rattle.std.proofs.Common.{◌≡◌, ◌⊎◌, ◌+◌, ◌<◌, ◌≤◌, ◌^◌, ◌∙◌, ap, refl, inl, inr, sym, subst, ℕ, ℤ, pos, List, IsTrue, Bool, true, false, arith}
+use Rattle.std.proofs.Common.{◌≡◌, ◌⊎◌, ◌+◌, ◌<◌, ◌≤◌, ◌^◌, ◌∙◌, ap, refl, inl, inr, sym, subst, ℕ, ℤ, List, IsTrue, Bool, true, false, arith}
 use Rattle.std.specs.Prelude.{Option, Some, None, Result, Ok, Err, is_none, count_by}
 use Rattle.frame_core.specs.declared.refusal.Refusal.{Refusal}
-use Rattle.frame_core.specs.declared.refusal.Refusal.TheVariants.{ActiveRecording, Broken, DeviceFault, HistoryFull, NoMemory, NotCatalogue}
+use Rattle.frame_core.specs.declared.refusal.Refusal.TheVariants.{ActiveRecording, DeviceFault, HistoryFull, NoMemory, NotCatalogue}
 use Rattle.disk_core.specs.DiskImage.{DiskImage, MayLeave, reads}
 use Rattle.disk_core.specs.Life.{HasFailed, LeavesOnly, Life}
 use Rattle.disk_core.proofs.CallerLemmas.{goes_on_part, now_leaves, weaker}
@@ -20,7 +20,7 @@ use Rattle.catalogue_entries.specs.Snapshot.{snapshot_of}
 use Rattle.catalogue_entries.proofs.CallerLemmas.{none_counts}
 use Rattle.catalogue_log.specs.declared.bank.BankHeader.{BankHeader}
 use Rattle.catalogue_log.specs.Catalogue.{IsCatalogue, IsOfNoImage, RefusesCatalogue}
-use Rattle.catalogue_log.specs.Compacting.{HasSpare, HasStopped, IsCompacted, RefusesCompaction, next_header}
+use Rattle.catalogue_log.specs.Compacting.{HasSpare, IsCompacted, RefusesCompaction, next_header}
 use Rattle.catalogue_log.specs.LogState.{Banks, TellsBanks, banks_of}
 use Rattle.catalogue_log.proofs.CallerLemmas.{catalogue_told, not_refused, one_catalogue, told_epoch, told_spare}
 use Rattle.control_core.specs.Exact.{Archive, opened_archive}
@@ -29,17 +29,16 @@ use Rattle.control_lines.specs.declared.line.Line.TheVariants as lines
 use Rattle.engine_core.specs.declared.engine.Engine.{Engine}
 use Rattle.engine_core.specs.Compacting as engines
 use Rattle.engine_core.specs.Engine.{DiskGoesOn}
-use Rattle.engine_core.specs.Opened.{HasNotOpened, HasOpened}
+use Rattle.engine_core.specs.Opened.{HasOpened}
 use Rattle.engine_core.specs.Opening.{ReadsAsBefore}
-use Rattle.engine_core.specs.Recovery.{IsEither, Recovers, RecoversTo}
+use Rattle.engine_core.specs.Recovery.{Recovers, RecoversTo}
 use Rattle.engine_core.specs.Seen.{seen}
 use Rattle.tool_core.specs.declared.archive.ScriptArchive.{ScriptArchive}
 use Rattle.tool_core.specs.declared.archive.ScriptArchive.TheVariants.{Open, Closed}
-use Rattle.tool_core.specs.Archives.{CompactsArchive, CompactsDisk, HasCompacted, HasRefused, OpensDisk, life_of}
+use Rattle.tool_core.specs.Archives.{CompactsArchive, CompactsDisk, HasCompacted, OpensDisk, life_of}
 use Rattle.tool_core.specs.Script.{LeavesArchive, LeavesBanks, LeavesOpened}
 use Rattle.tool_core.specs.ScriptLines.{BanksAgain, Compacts, IsRestarted, LeavesMeanwhile, MayCompact, MayStandAt, ReopensAs, ReopensEither, ReopensOpened, Standing, WritesAnew, closed, compacted, doubtful, next_banks, opened, refused, reopened, unknown}
 use Rattle.tool_core.proofs.BanksLemmas.{IsBanksOf, banks_left, reopen_banks}
-use Rattle.tool_core.proofs.CallLemmas.{Kept, is_unknown}
 use Rattle.tool_core.proofs.GoesOnLemmas.{failed_later, goes_further, opens_go_on}
 use Rattle.tool_core.proofs.OpeningLemmas.{reopen_kept}
 use Rattle.tool_core.proofs.RestartLemmas.{none_active, restart_again}

@@ -1,5 +1,5 @@
 -- A state all of whose recordings have stopped.
-use Rattle.std.proofs.Common.{◌≡◌, ◌∙◌, ◌+◌, ℕ, ℤ, pos, negsuc, Bool, true, false, List, [], ◌∷◌, ap, ap₂, refl, sym, cond, arith}
+use Rattle.std.proofs.Common.{◌≡◌, ◌∙◌, ◌+◌, ℕ, ℤ, pos, negsuc, Bool, true, false, List, [], ◌∷◌, ap, ap₂, refl, cond, arith}
 use Rattle.std.proofs.lemmas.Int.{ints}
 use Rattle.std.specs.Prelude.{◌+ℤ◌, ◌≤ℤ◌, count_by, map}
 use Rattle.std.specs.Ordering.{int_eq}
@@ -8,7 +8,7 @@ use Rattle.archive_model.specs.declared.command.Command.TheVariants.{Restart}
 use Rattle.archive_model.specs.Commands.{after, restarted, stopped}
 use Rattle.archive_model.specs.Keyed.{Each}
 use Rattle.archive_model.specs.Register as register
-use Rattle.archive_model.specs.State.{Recording, State, is_active, recorded_position, register_of, registration_of}
+use Rattle.archive_model.specs.State.{Recording, State, is_active, register_of, registration_of}
 use Rattle.archive_model.specs.WellFormed.{IsKept, IsWell}
 use Rattle.frame_core.specs.Block.{covered}
 
