@@ -1,6 +1,6 @@
 -- Blocks of images.
 use Rattle.std.proofs.Common.{◌≡◌, ◌≢◌, ◌<◌, ℕ, zero, suc, List, [], ◌∷◌, Option, Some, None, Result, Ok, Err, false, refl, sym, ap, subst, arith, length}
-use Rattle.std.specs.Prelude.{IfOk, OnErr, MatchOption, IsSomeAnd, slice_get, slice_index_or, slice_set, nat_lt}
+use Rattle.std.specs.Prelude.{IfOk, OnErr, MatchOption, IsSomeAnd, slice_get, slice_index_or, slice_set}
 use Rattle.std.proofs.lemmas.Bool.Decides.{nat_tests}
 use Rattle.frame_core.specs.declared.block.Block.{Block}
 use Rattle.frame_core.specs.declared.refusal.Refusal.{Refusal}

@@ -1,5 +1,5 @@
 -- Seats and their passes.
-use Rattle.std.proofs.Common.{◌≡◌, ◌≢◌, ◌+◌, ◌++◌, ◌<◌, ◌≤◌, ◌∙◌, ℕ, zero, suc, ℤ, pos, List, [], ◌∷◌, Option, Some, None, Result, Ok, Err, Bool, true, false, refl, sym, subst, ap, length, arith, eqb, eq-eqb}
+use Rattle.std.proofs.Common.{◌≡◌, ◌≢◌, ◌+◌, ◌++◌, ◌<◌, ◌≤◌, ◌∙◌, ℕ, zero, suc, ℤ, pos, List, [], ◌∷◌, Some, None, Result, Ok, Err, Bool, true, false, refl, sym, subst, ap, length, arith, eqb, eq-eqb}
 use Rattle.std.specs.Prelude.{◌||◌, IfOk, IfErr, int_le, slice_get, slice_set, if◌then◌else◌}
 use mathlib.Core.List.{reverse}
 use mathlib.Core.Logic.{dite}

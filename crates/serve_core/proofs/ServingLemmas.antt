@@ -1,5 +1,5 @@
 -- What becomes of a disk that is served.
-use Rattle.std.proofs.Common.{◌≡◌, ◌⊎◌, inl, inr, Bool, true, false, List, Result, Ok, Err, subst, sym}
+use Rattle.std.proofs.Common.{◌≡◌, inl, inr, Bool, true, false, List, Result, Ok, Err, subst, sym}
 use Rattle.std.specs.Prelude.{IfErr, IsOk, MatchResult}
 use Rattle.disk_core.specs.Life.{Life}
 use Rattle.engine_core.specs.Engine.{EngineState}

@@ -1,4 +1,4 @@
--- How lines are answered by a part in a shared archive, and where no archive is open: docs/SERVING.md, "Lines".
+-- How lines are answered by a part in a shared archive, and where no archive is open: docs/SERVING.md, "Control lines".
 use Rattle.std.specs.Prelude.{◌≡◌, ℤ, Bool, true, false, Result, Err, IsErrOf}
 use Rattle.frame_core.specs.declared.geometry.Geometry.{Geometry}
 use Rattle.frame_core.specs.declared.refusal.Refusal.{Refusal}

@@ -4,6 +4,7 @@ pub mod Serving
 pub mod Answering
 pub mod Datagrams
 pub mod Noting
--- Seats, and what a batch wrote.
+-- Blocks on their way, seats, and what a batch wrote.
+pub mod Handing
 pub mod Seats
 pub mod Recording

@@ -1,6 +1,7 @@
 -- What pairs are told of a call that was answered, and of which pairs is told: docs/ARCHITECTURE.md, "Images and recorder
 -- sessions".
-use Rattle.std.specs.Prelude.{◌≡◌, ◌<◌, ℕ, ℤ, pos, int_lt, unsigned_abs, if◌then◌else◌, List, Option, None, Some, slice_index_or, slice_set}
+use Rattle.std.specs.Prelude.{◌≡◌, ◌<◌, ℕ, ℤ, pos, int_lt, unsigned_abs, if◌then◌else◌, Bool, true, false, List, Option, None, Some, Result, Ok, slice_index_or, slice_set}
+use Rattle.frame_core.specs.declared.refusal.Refusal.{Refusal}
 use Rattle.archive_model.specs.declared.command.ExtendFields.{ExtendFields}
 use Rattle.archive_model.specs.declared.command.StartFields.{StartFields}
 use Rattle.archive_model.specs.declared.reply.Reply.{Reply}
@@ -40,6 +41,12 @@ after_noted (Ask (requests.Extend fields)) (replies.Extended session) s = after_
 after_noted (Settle session) (replies.Settled position) s = after_settling session position s
 after_noted (Ask (requests.Stop recording timestamp)) (replies.Stopped position) s = after_stopped recording s
 after_noted event reply s = s
+
+-- the answer opens a session
+abbrev pub opens_session : Result Reply Refusal → Bool
+opens_session (Ok (replies.Started recording session)) = true
+opens_session (Ok (replies.Extended session)) = true
+opens_session outcome = false
 
 -- ---- pairs that are told of
 

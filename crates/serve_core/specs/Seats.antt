@@ -1,5 +1,5 @@
 -- The seats of the recorder sessions that images feed, and the passes: docs/ARCHITECTURE.md, "Followers".
-use Rattle.std.specs.Prelude.{◌≡◌, ◌+◌, ◌<◌, ◌≤◌, ℕ, ℤ, pos, true, List, [], ◌∷◌, Option, Some, None, slice_get, slice_set, Result, Ok, Err, IfOk, IfErr, IsErrOf}
+use Rattle.std.specs.Prelude.{◌≡◌, ◌+◌, ◌<◌, ◌≤◌, ℕ, ℤ, pos, true, List, [], ◌∷◌, Option, Some, None, slice_get, slice_set, Result, Err, IfOk, IfErr, IsErrOf}
 use Rattle.atomic_table.specs.Seated.{TableId}
 use Rattle.frame_core.specs.declared.block.Block.{Block}
 use Rattle.frame_core.specs.declared.refusal.Refusal.{Refusal}

@@ -1,4 +1,4 @@
-//! Who answers the lines of connections over a shared archive. docs/SERVING.md, "Lines".
+//! Who answers the lines of connections over a shared archive. docs/SERVING.md, "Control lines".
 
 ghost use Rattle.std.specs.Prelude.{◌≡◌};
 ghost use Rattle.serve_core.specs.Answering.{is_command, makes_entry, shared_ways};

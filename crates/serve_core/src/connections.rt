@@ -1,4 +1,4 @@
-//! Connections, one after another, and their lines. docs/SERVING.md, "Clients".
+//! Connections, one after another, and their lines. docs/SERVING.md, "Control lines".
 
 ghost use Rattle.std.specs.Prelude.{◌≡◌, IfErr, OnOk};
 ghost use Rattle.tool_core.specs.Answering.{AnswersFirstLines, AnswersLines, EndsEarly};
@@ -16,7 +16,7 @@ use std::net::TcpStream;
 use std::rt::Clock;
 use std::sync::Wait;
 use std::time::Duration;
-use tool_core::{Answerer, EarlyEnd, Observer, answer_lines};
+use tool_core::{Answerer, EarlyEnd, Observer, ScriptState, answer_lines};
 
 /// Bytes of replies that are written at once at most, but for longer texts.
 const WRITTEN_AT_ONCE: usize = 65_536;
@@ -42,30 +42,31 @@ impl Observer for QuitObserver {
     }
 }
 
-/// Serves connections, one after another, until a line quits. `Read` where the server ends otherwise, or the listener fails.
+/// Serves connections, one after another, until a line quits: the lines of each go on from the merge that those before it
+/// left. `Read` where the server ends otherwise, or the listener fails.
 pub(crate) fn serve_connections<'x, R: Wait + Clock, T: Teller, S: Server + Drop>(
     rt: &'x R,
     alloc: Global,
     shared: &'x Shared<T>,
     door: &'x Door<'x>,
     idle: Duration,
-    server: S,
-) -> (S, Result<(), EarlyEnd>) {
-    let mut server = server;
+    state: ScriptState<S>,
+) -> (ScriptState<S>, Result<(), EarlyEnd>) {
+    let mut state = state;
     for _ in rt.forever() {
         let Some(stream) = door.next(rt, shared) else {
-            return (server, Err(EarlyEnd::Read));
+            return (state, Err(EarlyEnd::Read));
         };
         shared.counts.connections.add(1);
         if !is_timed(&stream) {
             continue;
         }
         let client = Client::new(rt, shared, door, idle, stream);
-        let (next, has_quit) = serve_client(alloc, &client, server);
-        server = next;
-        server.end_connection();
+        let (next, has_quit) = serve_client(alloc, &client, state);
+        state = next;
+        state.archive.end_connection();
         if has_quit {
-            return (server, Ok(()));
+            return (state, Ok(()));
         }
     }
     unreachable!()
@@ -75,14 +76,14 @@ pub(crate) fn serve_connections<'x, R: Wait + Clock, T: Teller, S: Server + Drop
 fn serve_client<R: Wait + Clock, T: Teller, S: Answerer>(
     alloc: Global,
     client: &Client<'_, R, T>,
-    server: S,
-) -> (S, bool) {
+    state: ScriptState<S>,
+) -> (ScriptState<S>, bool) {
     let writer = ClientWriter(client);
     let Ok(mut writer) = BufWriter::with_capacity(alloc, WRITTEN_AT_ONCE, writer) else {
-        return (server, false);
+        return (state, false);
     };
-    let (server, _, has_quit) = answer_client(alloc, ClientReader(client), &mut writer, server);
-    (server, has_quit)
+    let (state, _, has_quit) = answer_client(alloc, ClientReader(client), &mut writer, state);
+    (state, has_quit)
 }
 
 /// Answers the lines of a reader on a writer, as `answer_lines`, and whether one quit.
@@ -90,14 +91,14 @@ fn answer_client<R: Read + Drop, W: Write, S: Answerer>(
     alloc: Global,
     reader: R,
     writer: &mut W,
-    server: S,
-) -> (S, Result<(), EarlyEnd>, bool)
+    state: ScriptState<S>,
+) -> (ScriptState<S>, Result<(), EarlyEnd>, bool)
     ensures whole { OnOk result.1 (WritesText (R.remaining reader) (W.contents writer.old) (W.contents writer.new)
-        (AnswersLines S.ways server result.0)) }
-    ensures early { IfErr result.1 (λ end. EndsEarly end (AnswersFirstLines S.ways server result.0)
+        (AnswersLines S.ways state result.0)) }
+    ensures early { IfErr result.1 (λ end. EndsEarly end (AnswersFirstLines S.ways state result.0)
         (R.remaining reader) (W.contents writer.old) (W.contents writer.new)) }
 {
     let mut observer = QuitObserver { has_quit: false };
-    let (server, outcome) = answer_lines(alloc, reader, writer, server, &mut observer);
-    (server, outcome, observer.has_quit)
+    let (state, outcome) = answer_lines(alloc, reader, writer, state, &mut observer);
+    (state, outcome, observer.has_quit)
 }

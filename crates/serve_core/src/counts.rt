@@ -1,5 +1,7 @@
 //! What several threads count.
 
+ghost use Rattle.std.specs.Prelude.{◌≡◌, ◌↔◌, ◌<◌, IsSome, vec_len};
+
 use crate::happening::{Counted, ImageCounted};
 use std::alloc::{AllocError, Global};
 use std::sync::atomic::{AtomicU64, Ordering};
@@ -63,6 +65,7 @@ pub(crate) struct Counts {
     /// Images that joined.
     pub images: Count,
     of_images: Vec<ImageCounts>,
+    ghost all_images: { vec_len of_images ≡ 64 },
 }
 
 impl Counts {
@@ -80,8 +83,10 @@ impl Counts {
         })
     }
 
-    /// What is counted of an image.
-    pub fn of(&self, image: usize) -> Option<&ImageCounts> {
+    /// What is counted of an image, of each of 64.
+    pub fn of(&self, image: usize) -> Option<&ImageCounts>
+        ensures { IsSome result ↔ (image < 64) }
+    {
         self.of_images.as_slice().get(image)
     }
 

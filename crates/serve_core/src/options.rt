@@ -1,4 +1,4 @@
-//! What is asked of a server beside its ends. docs/SERVING.md, "Clients".
+//! What is asked of a server beside its ends. docs/SERVING.md, "Control lines".
 
 ghost use Rattle.std.specs.Prelude.{◌≡◌};
 

@@ -33,7 +33,7 @@ use std::rt::Clock;
 use std::sync::Wait;
 use std::thread::{self, Threads};
 use std::time::Duration;
-use tool_core::{Beginning, EarlyEnd, ScriptArchive, ScriptFault};
+use tool_core::{Beginning, EarlyEnd, ScriptArchive, ScriptFault, ScriptState};
 
 /// Bytes that a datagram has at most, and more.
 const LONGEST_DATAGRAM: usize = 65_536;
@@ -380,7 +380,8 @@ fn control<'x, D: Disk + Drop, A: Naming, R: Wait + Clock, T: Teller>(
     (controller.into_pass(), served)
 }
 
-/// Serves connections, one after another, until a line quits. `Read` where the listener fails, or the server ends otherwise.
+/// Serves connections, one after another, until a line quits: with no merge at first, and with one for all of them behind
+/// that. `Read` where the listener fails, or the server ends otherwise.
 fn serve_lines<'x, R: Wait + Clock, T: Teller, S: Server + Drop>(
     with: &'x Serving<'x, R, T>,
     server: S,
@@ -389,7 +390,16 @@ fn serve_lines<'x, R: Wait + Clock, T: Teller, S: Server + Drop>(
         return (server, Err(EarlyEnd::Read));
     }
     let door = Door::new(with.listener);
-    serve_connections(with.rt, with.alloc, with.shared, &door, with.idle, server)
+    let state = ScriptState::new(server);
+    let (state, served) = serve_connections(
+        with.rt,
+        with.alloc,
+        with.shared,
+        &door,
+        with.idle,
+        state,
+    );
+    (state.into_archive(), served)
 }
 
 fn ended_by(served: Result<(), EarlyEnd>, is_whole: bool) -> Result<(), EarlyEnd>

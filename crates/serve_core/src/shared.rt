@@ -1,5 +1,8 @@
 //! What the three threads of a server share, beside the archive.
 
+ghost use Rattle.std.specs.Prelude.{◌≡◌};
+ghost use Rattle.serve_core.specs.Noting.{opens_session};
+
 use crate::counts::Counts;
 use crate::happening::Happening;
 use crate::pairing::Pairing;
@@ -85,7 +88,9 @@ impl<T: Teller> Shared<T> {
     }
 
     /// A call was answered so: who is to know it is told. Whether a session was opened.
-    pub fn note<R: Wait>(&self, rt: &R, event: &Event, outcome: &Result<Reply, Refusal>) -> bool {
+    pub fn note<R: Wait>(&self, rt: &R, event: &Event, outcome: &Result<Reply, Refusal>) -> bool
+        ensures { result ≡ opens_session outcome.now }
+    {
         match outcome {
             Ok(reply) => {
                 self.pairing.lock(rt).note(event, reply);

@@ -1,4 +1,4 @@
-//! Who answers where no archive is open. docs/SERVING.md, "Lines".
+//! Who answers where no archive is open. docs/SERVING.md, "Control lines".
 
 ghost use Rattle.serve_core.specs.Answering.{unopened_ways};
 

@@ -68,7 +68,7 @@ FailsToAnswer ends.Read contents written = ⊥
 FailsToAnswer ends.Memory contents written = Keeps contents written
 FailsToAnswer ends.Write contents written = Unit {0}
 
--- a script begins without a merge
+-- an answerer, and no merge yet
 abbrev pub begun_with : {A : Type 0} → A → ScriptState A
 begun_with first = record { archive = first; merge = None }
 
@@ -129,14 +129,14 @@ module _ {A : Type 0} (ways : Ways A) where
   abbrev pub Replies : ScriptState A → Option (List ℕ) → List ℕ → ScriptState A → Type 0
   Replies old line text new = (outcome : Result Reply Refusal) × IsAnswer (asked_copies line) old (asked line) outcome new × (text ≡ outcome_text outcome)
 
-  -- the text answers all lines up to the one that quits, and leaves the answerer so
-  abbrev pub AnswersLines : A → A → List (List ℕ) → List ℕ → Type 0
-  AnswersLines first last = AnswersAll (begun_with first) (λ (s : ScriptState A). s.archive ≡ last) quits Replies
+  -- from the first answerer and merge on the text answers all lines up to the one that quits, and that leaves the last ones
+  abbrev pub AnswersLines : ScriptState A → ScriptState A → List (List ℕ) → List ℕ → Type 0
+  AnswersLines first last = AnswersAll first (λ s. s ≡ last) quits Replies
 
-  -- The text answers the first of these lines. So the answerer is left, or as the next line left it, of whose answer nothing
-  -- was written.
-  abbrev pub AnswersFirstLines : A → A → List (List ℕ) → List ℕ → Type 0
-  AnswersFirstLines first last = AnswersSome (begun_with first) (λ (s : ScriptState A). s.archive ≡ last) quits Replies
+  -- The text answers the first of these lines. That leaves the last answerer and merge, or the next line does, of whose answer
+  -- nothing was written.
+  abbrev pub AnswersFirstLines : ScriptState A → ScriptState A → List (List ℕ) → List ℕ → Type 0
+  AnswersFirstLines first last = AnswersSome first (λ s. s ≡ last) quits Replies
 
   -- a line is answered, and what is written of the answer
   pub record RepliesTo (contents written line : Option (List ℕ)) (old new : ScriptState A) (result : Result (Unit {0}) EarlyEnd) : Type 0 where

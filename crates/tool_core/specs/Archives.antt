@@ -23,7 +23,8 @@ use Rattle.tool_core.specs.declared.fault.ScriptFault.TheVariants as faults
 use Rattle.tool_core.specs.declared.history.HistoryUse.{HistoryUse}
 use Rattle.tool_core.specs.declared.observer.Beginning.{Beginning}
 use Rattle.tool_core.specs.declared.observer.Beginning.TheVariants as beginnings
-use Rattle.tool_core.specs.Answering.{AnswersFirstLines, AnswersLines, Ways}
+use Rattle.tool_core.specs.declared.state.ScriptState.{ScriptState}
+use Rattle.tool_core.specs.Answering.{AnswersFirstLines, AnswersLines, Ways, begun_with}
 use Rattle.tool_core.specs.Merging.{Ends}
 
 module _ {D : Type 0} (life : D → Life) where
@@ -107,14 +108,14 @@ module _ {D : Type 0} (life : D → Life) where
   BeginsAs old (beginnings.Refused refusal) (Closed disk) = (refusal ≢ NoMemory) × NeitherMadeNorOpened 1048576 old (life disk) refusal
   BeginsAs old beginning archive = ⊥
 
-  -- From what was opened of the disk on, the text answers lines so, and that is what the disk came to.
-  pub record IsScriptBy (Answer : ScriptArchive D → ScriptArchive D → List (List ℕ) → List ℕ → Type 0) (old new : Life) (lines : List (List ℕ)) (text : List ℕ) : Type 0 where
+  -- From what was opened of the disk on, and without a merge, the text answers lines so, and that is what the disk came to.
+  pub record IsScriptBy (Answer : ScriptState (ScriptArchive D) → ScriptState (ScriptArchive D) → List (List ℕ) → List ℕ → Type 0) (old new : Life) (lines : List (List ℕ)) (text : List ℕ) : Type 0 where
     pub first : ScriptArchive D
     pub beginning : Beginning
     pub begins : BeginsAs old beginning first
-    pub last : ScriptArchive D
-    pub answers : Answer first last lines text
-    pub left : new ≡ life_of last
+    pub last : ScriptState (ScriptArchive D)
+    pub answers : Answer (begun_with first) last lines text
+    pub left : new ≡ life_of last.archive
 
   -- the text answers all lines
   abbrev pub IsScript : Life → Life → List (List ℕ) → List ℕ → Type 0

@@ -4,8 +4,8 @@ ghost use Rattle.std.specs.Prelude.{◌≡◌, ◌⊎◌, ◌↔◌, ◌<◌, Co
 ghost use Rattle.std.specs.Io.KnownBytes.{IsAtEnd, Keeps};
 ghost use Rattle.std.specs.Io.Buffered.{reader_remaining};
 ghost use Rattle.tool_core.specs.InputLines.{ReadsLine};
-ghost use Rattle.tool_core.specs.Transcript.{AnswersAll, AnswersSome, WritesText};
-ghost use Rattle.tool_core.specs.Answering.{AnswersFirstLines, AnswersLines, EndsEarly, IsAnswer, Replies, RepliesTo, asked, asked_copies, ended_by, quits};
+ghost use Rattle.tool_core.specs.Transcript.{WritesText};
+ghost use Rattle.tool_core.specs.Answering.{AnswersFirstLines, AnswersLines, EndsEarly, IsAnswer, RepliesTo, asked, asked_copies, ended_by, quits};
 ghost use Rattle.tool_core.specs.Archives.{IsScript, IsScriptOfFirst, IsUnopened, disk_of, early_end_of};
 ghost use Rattle.catalogue_log.specs.LogState.{Banks};
 ghost use Rattle.tool_core.specs.ScriptLines.{Standing};
@@ -117,8 +117,8 @@ fn run_lines<R: Read + Drop, W: Write, A: Answerer, O: Observer>(
 ) -> (ScriptState<A>, Result<(), EarlyEnd>)
     ensures whole { OnOk result.1 (WritesText (reader_remaining R.remaining reader.old)
         (W.contents writer.old) (W.contents writer.new)
-        (AnswersAll state (λ s. s ≡ result.0) quits (Replies A.ways))) }
-    ensures early { IfErr result.1 (λ end. EndsEarly end (AnswersSome state (λ s. s ≡ result.0) quits (Replies A.ways))
+        (AnswersLines A.ways state result.0)) }
+    ensures early { IfErr result.1 (λ end. EndsEarly end (AnswersFirstLines A.ways state result.0)
         (reader_remaining R.remaining reader.old) (W.contents writer.old) (W.contents writer.new)) }
 {
     let mut state = state;
@@ -143,8 +143,9 @@ fn run_lines<R: Read + Drop, W: Write, A: Answerer, O: Observer>(
 }
 
 /// Answers the control lines of a reader on a writer, up to the line `quit` or the end of the input, as the answerer
-/// answers their calls: docs/CONTROL.md, "Scripts". A line to a merge, `quit`, and what is no line make no call; `block`
-/// makes two at most. The answerer comes back. An observer is told of each answer before it is written.
+/// answers their calls: docs/CONTROL.md, "Scripts". A line to a merge is answered by the one that is given; it, `quit`, and
+/// what is no line make no call; `block` makes two at most. The answerer and the merge come back as the lines left them, also
+/// where they end early. An observer is told of each answer before it is written.
 ///
 /// Each line is answered before the next one is waited for. What the writer had stays before what it gains. `Read`
 /// where the reader fails, or was read 9,223,372,036,854,775,807 times; `Memory` where a reply's text or the reader's
@@ -153,24 +154,20 @@ pub fn answer_lines<R: Read + Drop, W: Write, A: Answerer, O: Observer>(
     alloc: Global,
     reader: R,
     writer: &mut W,
-    archive: A,
+    state: ScriptState<A>,
     observer: &mut O,
-) -> (A, Result<(), EarlyEnd>)
+) -> (ScriptState<A>, Result<(), EarlyEnd>)
     ensures whole { OnOk result.1 (WritesText (R.remaining reader) (W.contents writer.old) (W.contents writer.new)
-        (AnswersLines A.ways archive result.0)) }
-    ensures early { IfErr result.1 (λ end. EndsEarly end (AnswersFirstLines A.ways archive result.0)
+        (AnswersLines A.ways state result.0)) }
+    ensures early { IfErr result.1 (λ end. EndsEarly end (AnswersFirstLines A.ways state result.0)
         (R.remaining reader) (W.contents writer.old) (W.contents writer.new)) }
 {
     let Ok(mut reader) = BufReader::with_capacity(alloc, READ_AHEAD, reader) else {
-        return (archive, Err(EarlyEnd::Memory));
-    };
-    let state = ScriptState {
-        archive,
-        merge: None,
+        return (state, Err(EarlyEnd::Memory));
     };
     let (state, outcome) = run_lines(alloc, state, &mut reader, writer, observer);
     let is_flushed = writer.flush().is_ok();
-    (state.archive, after_flush(outcome, is_flushed))
+    (state, after_flush(outcome, is_flushed))
 }
 
 /// How a script ended, once what it wrote was handed on or could not be.
@@ -183,10 +180,10 @@ fn after_flush(outcome: Result<(), EarlyEnd>, is_flushed: bool) -> Result<(), Ea
     }
 }
 
-/// Answers the control lines of a reader on a writer as `answer_lines`, over the archive of a disk. Where no file is there
-/// it is made, with a history of 1,048,576 entries; else it is opened, and where that is refused every line is `Broken` but
-/// those that need no archive, until `reopen` opens it. An observer is told which of these it was. The disk comes back.
-/// docs/CONTROL.md, "Scripts".
+/// Answers the control lines of a reader on a writer as `answer_lines`, over the archive of a disk, and without a merge at
+/// first. Where no file is there it is made, with a history of 1,048,576 entries; else it is opened, and where that is
+/// refused every line is `Broken` but those that need no archive, until `reopen` opens it. An observer is told which of
+/// these it was. The disk comes back. docs/CONTROL.md, "Scripts".
 ///
 /// The faults of `answer_lines`; `Memory` also where the opening finds no memory.
 pub fn run_script<R: Read + Drop, W: Write, D: Disk, O: Observer>(
@@ -221,8 +218,9 @@ pub fn run_script<R: Read + Drop, W: Write, D: Disk, O: Observer>(
     };
     observer.began(&beginning);
     tell_history(&archive, observer);
-    let (archive, outcome) = answer_lines(alloc, reader, writer, archive, observer);
-    let disk = archive.into_disk();
+    let state = ScriptState::new(archive);
+    let (state, outcome) = answer_lines(alloc, reader, writer, state, observer);
+    let disk = state.into_archive().into_disk();
     match outcome {
         Ok(()) => Ok(disk),
         Err(end) => Err(ScriptFault::new(end, disk)),

@@ -1,6 +1,7 @@
-//! What the lines of a script are answered by: an answerer, and a merge of a replay and the live stream.
+//! What lines are answered by: an answerer, and a merge of a replay and the live stream. docs/CONTROL.md, "Lines".
 
-ghost use Rattle.tool_core.specs.Answering.{LineIs};
+ghost use Rattle.std.specs.Prelude.{◌≡◌};
+ghost use Rattle.tool_core.specs.Answering.{LineIs, begun_with};
 
 use crate::answerer::{Answerer, record_bytes, write_bytes};
 use crate::merging::answer_merge;
@@ -10,11 +11,32 @@ use frame_core::Refusal;
 use merge_core::Merge;
 use std::alloc::Global;
 
-/// Who answers calls, and the merge that was begun last.
+/// What lines are answered by, and change.
 #[derive(Drop)]
 pub struct ScriptState<A> {
+    /// Who answers each line that is not a merge's: an archive, or a part in one that several share.
     pub archive: A,
+    /// The merge that was begun last; none before the first one.
     pub merge: Option<Merge>,
+}
+
+impl<A> ScriptState<A> {
+    /// An answerer, and no merge yet.
+    pub fn new(archive: A) -> ScriptState<A>
+        ensures { result ≡ begun_with archive }
+    {
+        ScriptState {
+            archive,
+            merge: None,
+        }
+    }
+
+    /// The answerer; the merge goes.
+    pub fn into_archive(self) -> A
+        ensures { result ≡ self.archive }
+    {
+        self.archive
+    }
 }
 
 impl<A: Answerer> ScriptState<A> {
