@@ -39,6 +39,8 @@ STOPPED = STREAM.descriptor(0, -1, 64, "c") + "\n"
 BAD_PARAMETER, DAMAGED, DEVICE_FAULT = "error 10 BadParameter\n", "error 15 Damaged", "error 17 DeviceFault\n"
 NOT_CATALOGUE, NEWER_VERSION, BAD_FRAME = "error 19 NotCatalogue\n", "error 20 NewerVersion\n", "error 21 BadFrame"
 
+EXPORT = ("export", "0")  # with `in_folder`
+
 Ended = tuple[int, str, str]
 
 
@@ -84,6 +86,11 @@ class Trial:
             return
         self.wrong += 1
         print(f"{what}\n  told:  {told!r}\n  right: {right!r}")
+
+
+def in_folder(folder: Path, word: str, *words: str) -> tuple[str | Path, ...]:
+    """A command with its folder, and a capture file in it."""
+    return word, folder, *words, *(["--pcap", folder / "frames.pcap"] if word == "export" else [])
 
 
 def overwrite(path: Path, offset: int, text: bytes) -> None:
@@ -188,18 +195,18 @@ def try_creation(trial: Trial) -> None:
 def try_absence(trial: Trial) -> None:
     """A folder or a file that is not there, which `create` alone makes, and a folder without an archive."""
     with trial.folder() as folder:
-        for command in ("run", "compact", "list", "verify"):
-            trial.expect(f"{command} of nothing", trial.ended(command, folder / "gone"), (3, "", DEVICE_FAULT))
+        for words in (("run",), ("compact",), ("list",), ("verify",), ("describe",), EXPORT):
+            trial.expect(f"{words[0]} of nothing", trial.ended(*in_folder(folder / "gone", *words)), (3, "", DEVICE_FAULT))
         trial.expect("frames of nothing", trial.ended("frames", folder / "gone"), (3, "", DEVICE_FAULT))
         trial.expect("create of nothing in nothing", trial.ended("create", folder / "gone" / "new"), (3, "", DEVICE_FAULT))
-        for command in ("compact", "list", "verify"):
-            trial.expect(f"{command} without an archive", trial.ended(command, folder), (1, "", NOT_CATALOGUE))
+        for words in (("compact",), ("list",), ("verify",), ("describe",), EXPORT):
+            trial.expect(f"{words[0]} without an archive", trial.ended(*in_folder(folder, *words)), (1, "", NOT_CATALOGUE))
         trial.expect("nothing is made", list(folder.iterdir()), [])
         trial.expect("create of nothing", trial.ended("create", folder / "new"), (0, "created\n", ""))
         trial.expect("list of what was made", trial.ended("list", folder / "new"), (0, "end 0\n", ""))
         (folder / "file").touch()
-        for command in ("create", "run", "compact", "list", "verify"):
-            trial.expect(f"{command} of a file", trial.ended(command, folder / "file"), (3, "", DEVICE_FAULT))
+        for words in (("create",), ("run",), ("compact",), ("list",), ("verify",), ("describe",), EXPORT):
+            trial.expect(f"{words[0]} of a file", trial.ended(*in_folder(folder / "file", *words)), (3, "", DEVICE_FAULT))
         trial.expect("frames of a folder", trial.ended("frames", folder), (3, "", DEVICE_FAULT))
         trial.expect("create beside another file", trial.ended("create", folder), (0, "created\n", ""))
 
@@ -211,6 +218,7 @@ def try_use_by_two(trial: Trial) -> None:
         trial.expect("the first process", first.ask("positions 0"), ["positions 0 64 64"])
         for command in ("create", "run", "compact", "list", "verify"):
             trial.expect(f"{command} in use", trial.ended(command, folder), (3, "", DEVICE_FAULT))
+        trial.expect("export in use", trial.ended(*in_folder(folder, *EXPORT)), (0, "exported\n", ""))
         trial.expect("frames in use", trial.ended("frames", folder / "0-0.rec"), (0, "frame 42 0 1 37 c0\nend 1\n", ""))
         trial.expect("the first process goes on", first.ask("verify 0"), ["verified 1"])
         trial.expect("its status", first.end(), 0)
@@ -292,12 +300,13 @@ def try_words(trial: Trial) -> None:
     with trial.folder() as folder:
         path = str(folder)
         wrong = [(), ("play",), ("create",), ("compact",), ("list",), ("verify",), ("frames",), ("create", path, path), ("run", path, path)]
+        wrong += [("describe",), ("export", path, "0"), ("export", path, "-1", "--pcap", "f"), ("export", path, "x", "--pcap", "f")]
         wrong += [("list", path, path), ("create", path, "--history"), ("create", path, "--history", "x")]
         wrong += [("create", path, "--history", "4294967296"), ("create", path, "--history", "-1"), ("list", path, "--history", "1")]
         for words in wrong:
             status, told, fault = trial.streams(*words)
             trial.expect(f"wrong words {words}", (status, told, fault != ""), (2, "", True))
-        for words in [("--help",), *((word, "--help") for word in ("create", "run", "compact", "list", "verify", "frames"))]:
+        for words in [("--help",), *((word, "--help") for word in ("create", "run", "compact", "list", "verify", "describe", "export", "frames"))]:
             status, told, fault = trial.streams(*words)
             trial.expect(f"help {words}", (status, told != "", fault), (0, True, ""))
         trial.expect("nothing is made", list(folder.iterdir()), [])
@@ -306,7 +315,8 @@ def try_words(trial: Trial) -> None:
 def try_full_output(trial: Trial) -> None:
     """A standard output that takes nothing is a fault of the device."""
     with trial.folder(RECORDED) as folder:
-        for words in [("compact", folder), ("list", folder), ("verify", folder), ("frames", folder / "0-0.rec"), ("--help",)]:
+        looks = [("describe", folder), in_folder(folder, *EXPORT)]
+        for words in [("compact", folder), ("list", folder), ("verify", folder), *looks, ("frames", folder / "0-0.rec"), ("--help",)]:
             trial.expect(f"{words[0]} into a full output", trial.ended(*words, into="/dev/full"), (3, "", DEVICE_FAULT))
         answer = trial.ended("run", folder, given="list 0 1\n", into="/dev/full")
         trial.expect("run into a full output", answer, (3, "", DEVICE_FAULT))

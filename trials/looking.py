@@ -7,8 +7,9 @@
 2. Beside a `run` that settles block after block, looks: each listing is one of those that stood, or a refusal that a moving
    catalogue explains; `verify` counts the frames of a position that was settled.
 3. `export` writes what a replay gives: each packet of the capture file is read here by pcap's format, RFC 791 and RFC 768, its
-   checksum summed, and its frame compared; where `tshark` is there, its Aeron dissector reads as many data frames. Refused, it
-   leaves no file, and one that had the name stays.
+   checksum summed, and its frame compared; where `tshark` is there, its Aeron dissector reads as many data frames. Refused, or
+   on a full disk, it leaves no file, and one that had the name stays, as one does that has the name of its new file. On a
+   terminal it shows how far it has come.
 4. An archive of many segment files is listed in a moment where an opening syncs each of them.
 
 Usage: trials/looking.py [--seed S] [--looks N] [--frames N] [--segments N] [program].
@@ -16,7 +17,9 @@ Usage: trials/looking.py [--seed S] [--looks N] [--frames N] [--segments N] [pro
 import hashlib
 import json
 import os
+import pty
 import random
+import re
 import shutil
 import struct
 import subprocess
@@ -28,6 +31,7 @@ from mounts import Skipped, make_ext4, mounted
 from tool import Fault, Session, Stream, aligned, conclude, expect, program, replayed, room, run, trial_words
 
 STREAM = Stream(term_length=65_536, segment_length=65_536)
+TERMS = 400  # of 2,048 frames each, which take longer than a moment to read
 LOOKS = [("list", "--read-only"), ("verify", "--read-only"), ("describe",), ("describe", "--json")]
 
 
@@ -218,12 +222,73 @@ def try_export(tool: Path, path: Path, frames: int) -> None:
         expect(f"export {words}", look(tool, folder, "export", *words, "--pcap", str(capture))[0], status)
         expect("the file of before", capture.read_bytes() == part, True)
         expect("no part is left", sorted(name.name for name in path.glob("frames.pcap*")), ["frames.pcap"])
+    try_parts(tool, path, folder)
     print(f"{len(sent)} frames exported in {took:.1f} s, as replayed")
     if shutil.which("tshark"):
-        shown = subprocess.run(["tshark", "-r", capture, "-Y", "aeron.data || aeron.pad", "-T", "fields", "-e", "aeron.data.term_offset"], capture_output=True, text=True)
+        shown = subprocess.run(["tshark", "-r", capture, "-d", "udp.port==40456,aeron", "-Y", "aeron.data || aeron.pad", "-T", "fields", "-e", "aeron.data.term_offset"], capture_output=True, text=True)
         expect("frames that tshark reads", len(shown.stdout.splitlines()), middle - 1)
     else:
         print("tshark: skipped, it is not there")
+
+
+def try_parts(tool: Path, path: Path, folder: Path) -> None:
+    """Files that have the name of an export's new file, as one does that a killed export left: no export touches them."""
+    kept = {path / name: name.encode() for name in ("kept.pcap.part", "kept.pcap.part1")}
+    for name, text in kept.items():
+        name.write_bytes(text)
+    for recording, status in (("0", 0), ("1", 1)):
+        expect("export beside them", look(tool, folder, "export", recording, "--pcap", str(path / "kept.pcap"))[0], status)
+        expect("they stay", {name: name.read_bytes() for name in path.glob("kept.pcap.*")}, kept)
+
+
+def try_full(tool: Path, path: Path) -> None:
+    """An export onto a disk that is full: why, and no file."""
+    try:
+        with mounted(path / "small", "-t", "tmpfs", "-o", "size=16k", "tmpfs") as disk:
+            told = look(tool, path / "exported", "export", "0", "--pcap", str(disk / "frames.pcap"))
+            right = 3, "", "error 17 DeviceFault\nthe capture file cannot be written: No space left on device\n"
+            expect("a full disk", told, right)
+            expect("what is left on it", list(disk.iterdir()), [])
+        print("a full disk: told, and nothing is left")
+    except Skipped as why:
+        print(f"a full disk: skipped, {why}")
+
+
+def on_terminal(words: list[str | Path]) -> tuple[int, str]:
+    """Status of a command, and what it writes on a terminal as its standard error."""
+    terminal, end = pty.openpty()
+    ended = subprocess.Popen(words, stdout=subprocess.DEVNULL, stderr=end)
+    os.close(end)
+    told = b""
+    try:
+        while part := os.read(terminal, 65_536):
+            told += part
+    except OSError:  # its other end was closed
+        pass
+    os.close(terminal)
+    return ended.wait(), told.decode()
+
+
+def try_terminal(tool: Path, path: Path) -> None:
+    """Commands that last tell on a terminal how far they are: hundredths that rise, in a line that goes at the end."""
+    folder = path / "long"
+    run([tool, "create", folder])
+    block = lambda begin: b"".join(STREAM.header(begin + offset, 32, 1) for offset in range(0, 65_536, 32))
+    run([tool, "run", folder], [STREAM.start("c"), *(f"block 0 {block(begin).hex()}" for begin in range(0, TERMS * 65_536, 65_536))])
+    export = ["export", folder, "0", "--pcap", path / "long.pcap"]
+    for words in (["verify", folder, "--read-only"], export, [*export, "--from", str(TERMS // 4 * 65_536)]):
+        status, told = on_terminal([tool, *words])
+        line = re.compile(r"\rrecording 0 +(\d+) % +\d+ MB/s\x1b\[K")
+        shown = [int(percent) for percent in line.findall(told)]
+        expect(f"{words[0]}: hundredths", (status, shown == sorted(shown), len(shown) > 1), (0, True, True))
+        rest = line.sub("", told).removeprefix("\r\x1b[K").replace("\r\n", "\n")
+        expect(f"{words[0]}: beside them", rest, summary(TERMS * 2_048) if words[0] == "verify" else "")
+    print("progress: told on a terminal")
+
+
+def summary(frames: int) -> str:
+    """What `verify` found in all, in a recording of frames without a payload."""
+    return f"recordings 1, frames {frames}, bytes {32 * frames}, damaged 0, not read 0\n"
 
 
 def try_many(tool: Path, path: Path, segments: int) -> None:
@@ -256,6 +321,8 @@ def main() -> int:
         try_mounted(tool, path)
         try_beside(tool, path, asked.looks, chance)
         try_export(tool, path, asked.frames)
+        try_full(tool, path)
+        try_terminal(tool, path)
         try_many(tool, path, asked.segments)
     print(f"seed {asked.seed}: as it has to be")
     return 0

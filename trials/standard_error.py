@@ -147,6 +147,8 @@ def rows(tool: Program) -> list[Row]:
     two_files: Make = lambda folder: tool.script(
         folder, *big, f"block 0 {STREAM.header(65_536, 65_536, 0).hex()}", f"block 0 {STREAM.message(131_072, b'x').hex()}"
     )
+    long: Make = lambda folder: tool.script(folder, START, LONG)
+    export = ["export", ".", "0", "--pcap", "./frames.pcap"]
     summary = "recordings {}, frames {}, bytes {}, damaged {}, not read {}\n".format
     return [
         # run
@@ -270,6 +272,40 @@ def rows(tool: Program) -> list[Row]:
         Row(
             "verify where a folder took a file's place", ["verify", "."], 3, "", FAULT + "the folder: list: unsupported\n",
             [recorded, lambda folder: (folder / "0-0.rec").unlink(), make_folder("0-0.rec")],
+        ),
+        Row(
+            "verify of a damaged frame, only read", ["verify", ".", "--read-only"], 3, "error 15 Damaged 0 64\nverified 0\n",
+            "0-0.rec: damaged at offset 64\n" + summary(2, 0, 0, 1, 0), [two, overwrite("0-0.rec", 64, b"\0")],
+        ),
+        Row(
+            "verify of a file without permission, only read", ["verify", ".", "--read-only"], 3, FAULT,
+            "0-0.rec: read: Permission denied\n" + summary(1, 0, 0, 0, 1), [recorded, mode("0-0.rec", 0o600)],
+            nobody=True,
+        ),
+        # export
+        Row("export", export, 0, "exported\n", "", [recorded]),
+        Row("export of nothing", ["export", "./gone", *export[2:]], 3, "", FAULT + "the folder is not there\n"),
+        Row("export of no recording", ["export", ".", "1", *export[3:]], 1, "", "error 1 UnknownRecording\n", [recorded]),
+        Row("export from inside a frame", [*export, "--from", "32"], 1, "", "error 5 BadPosition\n", [recorded]),
+        Row(
+            "export to where no folder is", [*export[:-1], "./gone/frames.pcap"], 3, "",
+            FAULT + "the capture file cannot be written: No such file or directory\n", [recorded],
+        ),
+        Row(
+            "export in a folder's place", [*export[:-1], "./taken"], 3, "",
+            FAULT + "the capture file cannot be written: Is a directory\n", [recorded, make_folder("taken")],
+        ),
+        Row(
+            "export where no more fits into a file", export, 3, "",
+            FAULT + "the capture file cannot be written: File too large\n", [long], file_size=512,
+        ),
+        *(
+            Row(
+                f"{words[0]} of a catalogue without permission, only read", words, 3, "",
+                FAULT + "catalogue-a.bank: read: Permission denied\n", [recorded, mode(".", 0o777), mode("catalogue-a.bank", 0o600)],
+                nobody=True,
+            )
+            for words in (["list", ".", "--read-only"], ["verify", ".", "--read-only"], ["describe", "."], export)
         ),
         # standard output
         *(

@@ -43,8 +43,9 @@ module _ {D : Type 0} (life : D → Life) where
     pub looked : IsLookedOn life seen last
     pub left : new ≡ inner life last
 
-  abbrev pub FailsToExportFrom : Life → D → ℤ → Span → Stopped → Type 0
-  FailsToExportFrom old disk recording span (Refused refusal) =
-      IsUnviewedBy life old disk (Refused refusal) ⊎ HasRefusedFrom old (life disk) recording span refusal
-  FailsToExportFrom old disk recording span (Cut ends.Write) = HasLookedFrom old (life disk)
-  FailsToExportFrom old disk recording span (Cut end) = ⊥
+  -- it was not seen, and nothing is written; or it was
+  abbrev pub FailsToExportFrom : Life → D → ℤ → Span → Stopped → Option (List ℕ) → Option (List ℕ) → Type 0
+  FailsToExportFrom old disk recording span (Refused refusal) contents written =
+      (IsUnviewedBy life old disk (Refused refusal) × (written ≡ contents)) ⊎ HasRefusedFrom old (life disk) recording span refusal
+  FailsToExportFrom old disk recording span (Cut ends.Write) contents written = HasLookedFrom old (life disk)
+  FailsToExportFrom old disk recording span (Cut end) contents written = ⊥

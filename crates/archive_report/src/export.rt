@@ -3,19 +3,20 @@
 ghost use Rattle.std.specs.Prelude.{◌≡◌, IfErr, IfOk};
 ghost use Rattle.archive_report.specs.Exported.{FailsToExportFrom, HasExportedFrom, stop_of};
 
+use crate::progress::ExportObserver;
 use crate::viewing::viewed;
 use archive_export::{ExportFault, Span, export};
 use disk_core::Disk;
 use std::alloc::Global;
 use std::io::Write;
-use tool_core::{CommandFault, EarlyEnd, Observer, Stopped};
+use tool_core::{CommandFault, EarlyEnd, Stopped};
 
 /// Writes the frames of a part of a recording as a capture file, of the archive of a disk as it stands. The disk is only
-/// read, and comes back. An observer is told whether the archive is there.
+/// read, and comes back. An observer is told whether the archive is there, and of the recording before anything is written.
 ///
 /// Refused as `ArchiveView::open` refuses, and then nothing is written, and as `archive_export::export`; cut by `Write` where
 /// the writer fails. What was written before stays written. docs/CONTROL.md, "Exporting frames".
-pub fn export_view<W: Write, D: Disk, O: Observer>(
+pub fn export_view<W: Write, D: Disk, O: ExportObserver>(
     alloc: Global,
     disk: D,
     recording: &i64,
@@ -26,9 +27,12 @@ pub fn export_view<W: Write, D: Disk, O: Observer>(
     ensures exported { IfOk result (λ back. HasExportedFrom D.life (D.life disk) (D.life back)
         recording.now span.now (W.contents writer.old) (W.contents writer.new)) }
     ensures fault { IfErr result (λ fault. FailsToExportFrom D.life (D.life disk) fault.disk
-        recording.now span.now fault.why) }
+        recording.now span.now fault.why (W.contents writer.old) (W.contents writer.new)) }
 {
     let mut view = viewed(alloc, disk, observer)?;
+    if let Some(known) = view.desk().recording(recording) {
+        observer.found(known);
+    }
     let outcome = export(alloc, &mut view, recording, span, writer);
     let disk = view.into_disk().into_disk();
     match outcome {

@@ -1,6 +1,5 @@
 -- How the program ends, and the status that says so: docs/CONTROL.md, "The program".
 use Rattle.std.specs.Prelude.{◌≡◌, ℕ, Bool, false, List, Option, Some, None}
-use Rattle.std.specs.Io.KnownBytes.{Appends}
 use Rattle.std.specs.Option.{option_map_or}
 use Rattle.std.specs.declared.io.ErrorKind.TheVariants as io
 use Rattle.clap.specs.declared.error.ErrorKind.{ErrorKind}
@@ -8,6 +7,7 @@ use Rattle.clap.specs.declared.error.ErrorKind.TheVariants as kinds
 use Rattle.frame_core.specs.declared.refusal.Refusal.{Refusal}
 use Rattle.frame_core.specs.declared.refusal.Refusal.TheVariants.{Broken, Damaged, DeviceFault, NoMemory}
 use Rattle.host_disk.specs.declared.open_fault.OpenFault.TheVariants as folders
+use Rattle.command_line.specs.Telling.{FailsToTell, IsToldBy, words_status}
 use Rattle.tool_core.specs.declared.commands.Stopped.{Stopped}
 use Rattle.tool_core.specs.declared.commands.Stopped.TheVariants as stops
 use Rattle.tool_core.specs.declared.fault.EarlyEnd.TheVariants as faults
@@ -36,12 +36,10 @@ refusal_of (NoCommand kind) = None
 refusal_of (Failed io.OutOfMemory) = Some NoMemory
 refusal_of (Failed kind) = Some DeviceFault
 
--- the status of an ending that tells no refusal: 0 done, 2 a wrong command line, 3 damage
+-- the status of an ending that tells no refusal: 0 done, 3 damage, and that of words that ask for no command
 abbrev pub untold_status : Ending → ℕ
 untold_status FoundDamage = 3
-untold_status (NoCommand kinds.DisplayHelp) = 0
-untold_status (NoCommand kinds.DisplayVersion) = 0
-untold_status (NoCommand kind) = 2
+untold_status (NoCommand kind) = words_status kind
 untold_status ending = 0
 
 -- the status with which the program ends: that of the refusal which it tells, where it tells one
@@ -63,17 +61,8 @@ handed_on ending is_flushed = ending
 abbrev pub IsStatus : ℕ → Type 0
 IsStatus status = (ending : Ending) × (status ≡ status_of ending)
 
--- How the text of an error of this kind is told: help and the version on standard output, want of memory not at all, and all
--- else on standard error.
-abbrev pub IsToldBy : ErrorKind → List ℕ → Option (List ℕ) → Option (List ℕ) → Option (List ℕ) → Option (List ℕ) → Type 0
-IsToldBy kinds.OutOfMemory text output shown errors told = (shown ≡ output) × (told ≡ errors)
-IsToldBy kinds.DisplayHelp text output shown errors told = Appends output shown text × (told ≡ errors)
-IsToldBy kinds.DisplayVersion text output shown errors told = Appends output shown text × (told ≡ errors)
-IsToldBy kind text output shown errors told = (shown ≡ output) × Appends errors told text
-
 -- an error of that kind was told so, or could not be
 abbrev pub IsTold : ErrorKind → List ℕ → Option (List ℕ) → Option (List ℕ) → Option (List ℕ) → Option (List ℕ) → Ending → Type 0
 IsTold kind text output shown errors told (NoCommand of) = (of ≡ kind) × IsToldBy kind text output shown errors told
-IsTold kinds.OutOfMemory text output shown errors told (Failed fault) = ⊥
-IsTold kind text output shown errors told (Failed fault) = Unit {0}
+IsTold kind text output shown errors told (Failed fault) = FailsToTell kind output shown errors told
 IsTold kind text output shown errors told ending = ⊥

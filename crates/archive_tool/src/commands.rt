@@ -11,7 +11,7 @@ use crate::teller::{FaultTeller, OpeningTeller, ScriptTeller, VerifyTeller};
 use crate::{capture, looking};
 use archive_export::Span;
 use command_line::ToolCommand;
-use disk_core::MemoryDisk;
+use disk_core::{Disk, MemoryDisk};
 use frame_core::Refusal;
 use frame_core::limits::MAX_HISTORY;
 use host_disk::HostDisk;
@@ -257,7 +257,7 @@ fn disk_of(rt: HostRuntime, folder: &str) -> Result<HostDisk, Ended> {
 }
 
 /// What shows an opening that lasts, where standard error is a terminal.
-fn opening_of<'a>(
+pub(crate) fn opening_of<'a>(
     rt: &'a HostRuntime,
     screen: &'a Screen<'a, HostRuntime>,
 ) -> Option<OpeningProgress<'a, HostRuntime>> {
@@ -269,10 +269,10 @@ fn opening_of<'a>(
 }
 
 /// What shows how far a verification of a disk has come, where standard error is a terminal.
-fn progress_of<'a>(
+pub(crate) fn progress_of<'a, D: Disk>(
     rt: &'a HostRuntime,
     screen: &'a Screen<'a, HostRuntime>,
-    disk: &mut HostDisk,
+    disk: &mut D,
 ) -> Option<Progress<'a, HostRuntime>> {
     if rt.stderr().is_terminal() {
         Progress::of(rt.alloc(), rt, screen, disk)

@@ -3,33 +3,43 @@
 ghost use Rattle.std.specs.Prelude.{◌≡◌};
 ghost use Rattle.archive_tool.specs.Status.{ending_of};
 
+use crate::commands::{opening_of, progress_of};
 use crate::outcome::Ended;
 use crate::reason::Reason;
 use crate::status::Ending;
-use crate::teller::VerifyTeller;
+use crate::teller::{FaultTeller, OpeningTeller, VerifyTeller};
 use archive_report::{Form, describe_archive, list_view, verify_view};
 use folder_view::ReadFolder;
 use std::io::Write;
 use std::path::Path;
-use tool_core::{CommandFault, Screen, Stopped, Unobserved, Verdict};
+use tool_core::{CommandFault, Screen, Stage, Stopped, Verdict, Watched};
 
 /// Writes the recordings of the archive in a folder as it stands.
 pub(crate) fn list<W: Write>(rt: HostRuntime, folder: &str, writer: &mut W) -> Result<(), Ended> {
-    match list_view(rt.alloc(), folder_of(rt, folder)?, writer, &mut Unobserved) {
+    let screen = Screen::new(&rt);
+    let disk = Watched::new(folder_of(rt, folder)?, opening_of(&rt, &screen));
+    match list_view(rt.alloc(), disk, writer, &mut OpeningTeller::new(&screen)) {
         Ok(_) => Ok(()),
-        Err(CommandFault { why, disk }) => Err(stopped(why, &disk)),
+        Err(CommandFault { why, disk }) => Err(stopped(why, disk)),
     }
 }
 
-/// Reads each recorded frame of the archive in a folder as it stands, and writes what was found of each recording. What it
-/// found in all is told on standard error, and that the archive is being written where it is.
+/// Reads each recorded frame of the archive in a folder as it stands, and writes what was found of each recording. How far it
+/// has come is shown on standard error, where that is a terminal; what it found in all is told there, and that the archive is
+/// being written where it is.
 pub(crate) fn verify<W: Write>(rt: HostRuntime, folder: &str, writer: &mut W) -> Result<(), Ended> {
-    let disk = folder_of(rt, folder)?;
     let screen = Screen::new(&rt);
+    let mut disk = folder_of(rt, folder)?;
+    let progress = progress_of(&rt, &screen, &mut disk);
+    let faults = FaultTeller::new(rt.alloc(), &screen, Stage::Working);
+    let disk = Watched::new(disk, (faults, (opening_of(&rt, &screen), progress)));
     let mut teller = VerifyTeller::new(&screen);
     let finding = match verify_view(rt.alloc(), disk, writer, &mut teller) {
         Ok((_, finding)) => finding,
-        Err(CommandFault { why, disk }) => return Err(stopped(why, &disk)),
+        Err(CommandFault { why, disk }) => {
+            screen.clear();
+            return Err(stopped(why, disk));
+        }
     };
     teller.finish();
     match finding.verdict {
@@ -53,10 +63,12 @@ pub(crate) fn describe<W: Write>(
     writer: &mut W,
 ) -> Result<(), Ended> {
     let form = if json { Form::Json } else { Form::Page };
-    let disk = folder_of(rt, folder)?;
-    match describe_archive(rt.alloc(), disk, form, writer, &mut Unobserved) {
+    let screen = Screen::new(&rt);
+    let disk = Watched::new(folder_of(rt, folder)?, opening_of(&rt, &screen));
+    let mut teller = OpeningTeller::new(&screen);
+    match describe_archive(rt.alloc(), disk, form, writer, &mut teller) {
         Ok(_) => Ok(()),
-        Err(CommandFault { why, disk }) => Err(stopped(why, &disk)),
+        Err(CommandFault { why, disk }) => Err(stopped(why, disk)),
     }
 }
 
@@ -65,9 +77,10 @@ pub(crate) fn folder_of(rt: HostRuntime, folder: &str) -> Result<ReadFolder, End
     Ok(ReadFolder::open(rt, rt.alloc(), Path::new(folder))?)
 }
 
-/// Why a command over a folder that is only read ended before it was done.
-pub(crate) fn stopped(why: Stopped, disk: &ReadFolder) -> Ended
+/// Why a command over a watched folder that is only read ended before it was done.
+pub(crate) fn stopped<V: Drop>(why: Stopped, disk: Watched<ReadFolder, V>) -> Ended
     ensures { result.ending ≡ ending_of why }
 {
+    let (disk, _) = disk.into_parts();
     Ended::stopped(why, disk.last_fault())
 }

@@ -16,7 +16,7 @@ mod teller;
 
 use clap::Error;
 use clap::error::ErrorKind;
-use command_line::{command_of, unreadable_words};
+use command_line::{command_of, tell_words, unreadable_words};
 use commands::obeyed;
 use control_lines::print_refusal;
 use frame_core::Refusal;
@@ -114,18 +114,12 @@ fn no_command(rt: HostRuntime, error: &Error) -> Ended {
     }
 }
 
-/// Tells the text of an error of this kind: help and the version on standard output, else on standard error. Want of memory
-/// is not told here.
+/// Tells the text of an error of this kind, and how the program ends by that.
 fn told<W: Write, E: Write>(kind: ErrorKind, text: &str, output: &mut W, errors: &mut E) -> Ended
     ensures { IsTold kind text.now (W.contents output.old) (W.contents output.new)
         (E.contents errors.old) (E.contents errors.new) result.ending }
 {
-    let written = match kind {
-        ErrorKind::OutOfMemory => Ok(()),
-        ErrorKind::DisplayHelp | ErrorKind::DisplayVersion => output.write_all(text.as_bytes()),
-        _ => errors.write_all(text.as_bytes()),
-    };
-    match written {
+    match tell_words(kind, text, output, errors) {
         Ok(()) => Ended::told(Ending::NoCommand(kind)),
         Err(fault) => Ended {
             ending: Ending::Failed(fault.kind()),

@@ -4,6 +4,7 @@ ghost use Rattle.std.specs.Prelude.{◌≡◌};
 ghost use Rattle.archive_tool.specs.Status.{refusal_of, status_of, status_of_refusal, untold_status};
 
 use clap::error::ErrorKind;
+use command_line::words_status;
 use frame_core::Refusal;
 use host_disk::OpenFault;
 use std::io;
@@ -13,8 +14,6 @@ use tool_core::EarlyEnd;
 const DONE: u8 = 0;
 /// Refused.
 const REFUSED: u8 = 1;
-/// The command line is none.
-const USAGE: u8 = 2;
 /// A device fault or damage, or standard input or output failed.
 const DEVICE: u8 = 3;
 
@@ -54,8 +53,7 @@ impl Ending {
     {
         match self {
             Ending::FoundDamage => DEVICE,
-            Ending::NoCommand(ErrorKind::DisplayHelp | ErrorKind::DisplayVersion) => DONE,
-            Ending::NoCommand(_) => USAGE,
+            Ending::NoCommand(kind) => words_status(kind),
             _ => DONE,
         }
     }

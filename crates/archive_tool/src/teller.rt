@@ -3,6 +3,7 @@
 use crate::reason::{FaultLine, file_of, word_of};
 use archive_model::{Registration, Reply};
 use disk_core::FileId;
+use folder_view::ReadFolder;
 use frame_core::{Refusal, segment_base};
 use host_disk::{HostDisk, LastFault};
 use std::alloc::Global;
@@ -28,12 +29,13 @@ impl<'a, R: Eprint> FaultTeller<'a, R> {
     }
 }
 
-impl<R: Eprint> Viewer<HostDisk> for FaultTeller<'_, R> {
-    fn failed(&mut self, disk: &HostDisk) {
+impl<R: Eprint> FaultTeller<'_, R> {
+    /// Tells a call that failed, unless it was told.
+    fn tell(&mut self, fault: Option<LastFault>) {
         if self.from == Stage::Working && self.screen.stage() == Stage::Opening {
             return;
         }
-        let Some(fault) = disk.last_fault() else {
+        let Some(fault) = fault else {
             return;
         };
         if self.told.iter().any(|told| is_same(told, &fault)) {
@@ -42,6 +44,18 @@ impl<R: Eprint> Viewer<HostDisk> for FaultTeller<'_, R> {
         // Where there is no memory for it, it may be told again.
         let _ = self.told.push(fault);
         self.screen.tell(FaultLine(fault));
+    }
+}
+
+impl<R: Eprint> Viewer<HostDisk> for FaultTeller<'_, R> {
+    fn failed(&mut self, disk: &HostDisk) {
+        self.tell(disk.last_fault());
+    }
+}
+
+impl<R: Eprint> Viewer<ReadFolder> for FaultTeller<'_, R> {
+    fn failed(&mut self, disk: &ReadFolder) {
+        self.tell(disk.last_fault());
     }
 }
 

@@ -170,6 +170,16 @@ fn help(rt: HostRuntime) -> Result<(), Fail> {
             "Prints a line `frame <term id> <term offset> <type> <length> <flags>` for each frame",
         ),
         (
+            "archive_tool describe --help",
+            ErrorKind::DisplayHelp,
+            "Prints what is known of the archive in a folder:",
+        ),
+        (
+            "archive_tool export --help",
+            ErrorKind::DisplayHelp,
+            "Writes the recorded frames of a recording of the archive in a folder",
+        ),
+        (
             "archive_tool --version",
             ErrorKind::DisplayVersion,
             "archive_tool 0.1.0 (catalogue 1, rattle-kit-",
@@ -226,6 +236,8 @@ fn a_missing_folder_or_file(rt: HostRuntime) -> Result<(), Fail> {
         ("archive_tool list", "<folder>"),
         ("archive_tool verify", "<folder>"),
         ("archive_tool frames", "<file>"),
+        ("archive_tool describe", "<folder>"),
+        ("archive_tool export a 0", "--pcap <file>"),
     ] {
         let text = format!(in rt.alloc(); "{missing}{word}\n")?;
         let kind = ErrorKind::MissingRequiredArgument;
@@ -341,6 +353,26 @@ fn each_command_has_its_words(rt: HostRuntime) -> Result<(), Fail> {
             ToolCommand::Describe {
                 folder: "a",
                 json: true,
+            },
+        ),
+        (
+            "archive_tool export a 3 --pcap b",
+            ToolCommand::Export {
+                folder: "a",
+                recording: 3,
+                from: None,
+                to: None,
+                pcap: "b",
+            },
+        ),
+        (
+            "archive_tool export a 0 --from 64 --to 128 --pcap b",
+            ToolCommand::Export {
+                folder: "a",
+                recording: 0,
+                from: Some(64),
+                to: Some(128),
+                pcap: "b",
             },
         ),
         (

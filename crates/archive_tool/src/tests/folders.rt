@@ -249,6 +249,41 @@ fn a_full_history_is_compacted(rt: HostRuntime) -> Result<(), Fail> {
     Ok(())
 }
 
+/// One frame is a capture file of 132 bytes: its header has 24, the record's 16, those of IPv4 and UDP 28, the frame 64.
+#[test]
+fn a_refused_export_leaves_no_file(rt: HostRuntime) -> Result<(), Fail> {
+    let path = unused(rt, "exported")?;
+    let folder = path.as_str();
+    check(
+        &rt,
+        rt,
+        ToolCommand::Create {
+            folder,
+            history: 16,
+        },
+        "created\n",
+        0,
+    )?;
+    record(rt, folder)?;
+    let file = within(rt, folder, "frames.pcap")?;
+    for (recording, told, status, is_there) in [(1, "", 1, false), (0, "exported\n", 0, true)] {
+        let command = ToolCommand::Export {
+            folder,
+            recording,
+            from: None,
+            to: None,
+            pcap: file.as_str(),
+        };
+        check(&rt, rt, command, told, status)?;
+        assert!(rt; fs::exists(&rt, file.as_str())? == is_there);
+    }
+    assert!(rt; fs::metadata(&rt, file.as_str())?.len() == 132);
+    let part = within(rt, folder, "frames.pcap.part")?;
+    assert!(rt; !fs::exists(&rt, part.as_str())?);
+    fs::remove_dir_all(&rt, folder)?;
+    Ok(())
+}
+
 #[test]
 fn damage_in_a_folder_is_told(rt: HostRuntime) -> Result<(), Fail> {
     let path = unused(rt, "damaged")?;
