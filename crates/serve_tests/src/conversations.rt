@@ -200,6 +200,46 @@ fn each_client_is_served(rt: HostRuntime) -> Result<(), Fail> {
     Ok(())
 }
 
+/// Clients one after another: a merge that one of them began is there for the next.
+#[derive(Clone, Copy, Drop)]
+struct Merging;
+
+impl Conversation for Merging {
+    fn hold<R: Clock + Net<Listener = TcpListener, Stream = TcpStream>>(
+        &self,
+        rt: &R,
+        alloc: Global,
+        ports: Ports,
+        told: &Told,
+    ) -> bool {
+        let _ = told;
+        asks_alone(rt, alloc, ports, "merge-state", "error 9 UnknownReplay")
+            && asks_alone(rt, alloc, ports, "merge 42 65536 64", "merge 64")
+            && asks_alone(rt, alloc, ports, "merge-state", "merged no 64")
+    }
+}
+
+/// Whether a line is answered so in a connection of its own.
+fn asks_alone<R: Net<Listener = TcpListener, Stream = TcpStream>>(
+    rt: &R,
+    alloc: Global,
+    ports: Ports,
+    line: &str,
+    answer: &str,
+) -> bool {
+    match Client::new(rt, alloc, ports) {
+        Some(mut client) => client.asks(alloc, line, answer),
+        None => false,
+    }
+}
+
+#[test]
+fn a_merge_goes_on_in_the_next_connection(rt: HostRuntime) -> Result<(), Fail> {
+    let disk = MemoryDisk::new(rt.alloc());
+    served(&rt, rt.alloc(), disk, 60, &Merging).ok_or("served")?;
+    Ok(())
+}
+
 /// Lines where no archive is open.
 #[derive(Clone, Copy, Drop)]
 struct Unopened;
