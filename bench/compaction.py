@@ -79,7 +79,7 @@ def main() -> int:
             "list of 3 entries": few,
             "list of as many entries of one recording": many,
         }.items():
-            print(f"{name}: {spent:.3f} s of a processor, {size:.1f} MB", flush=True)
+            print(f"{name}: {spent:.4f} s of a processor, {size:.1f} MB", flush=True)
         print(f"compact beside list: {compacts[0] / listed[0]:.2f} (at most 2.5)")
         print(f"list behind it beside that of a new archive: {behind[0] / fresh[0]:.2f} (at most 1.2)")
         print(f"memory of {ENTRIES:,} entries beside 3: {many[1] - few[1]:+.1f} MB (at most 8)")

@@ -3,6 +3,7 @@ import os
 import resource
 import subprocess
 import sys
+import tempfile
 import time
 from collections.abc import Sequence
 from dataclasses import dataclass
@@ -42,13 +43,15 @@ class Cost:
 
 
 def cost(words: Sequence[str | Path], given: Path | None = None, into: Path | None = None) -> Cost:
-    """What a command takes, with its standard input from a file and its output into one."""
-    with open(given or "/dev/null", "rb") as lines, open(into or "/dev/null", "wb") as told:
+    """What a command takes, with its standard input from a file and its output into one. Its memory is what `/usr/bin/time` tells:
+    the system counts for a child what its parent held when it began, and this program may hold more than the command."""
+    with open(given or "/dev/null", "rb") as lines, open(into or "/dev/null", "wb") as told, tempfile.NamedTemporaryFile("r") as memory:
         begin = time.monotonic()
-        child = subprocess.Popen(words, stdin=lines, stdout=told, stderr=subprocess.DEVNULL)
+        timed = ["/usr/bin/time", "-f", "%M", "-o", memory.name, *words]
+        child = subprocess.Popen(timed, stdin=lines, stdout=told, stderr=subprocess.DEVNULL)
         _, status, used = os.wait4(child.pid, 0)
         child.returncode = os.waitstatus_to_exitcode(status)
         clock = time.monotonic() - begin
-    if child.returncode:
-        raise subprocess.CalledProcessError(child.returncode, words)
-    return Cost(clock, used.ru_utime + used.ru_stime, used.ru_maxrss)
+        if child.returncode:
+            raise subprocess.CalledProcessError(child.returncode, words)
+        return Cost(clock, used.ru_utime + used.ru_stime, int(memory.read()))

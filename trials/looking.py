@@ -28,7 +28,9 @@ import time
 from pathlib import Path
 
 from mounts import Skipped, make_ext4, mounted
-from tool import Fault, Session, Stream, aligned, conclude, expect, program, replayed, room, run, trial_words
+from tool import (
+    Fault, Session, Stream, aligned, conclude, dissected, expect, program, replayed, room, run, told_of_frame, trial_words,
+)
 
 STREAM = Stream(term_length=65_536, segment_length=65_536)
 TERMS = 400  # of 2,048 frames each, which take longer than a moment to read
@@ -191,22 +193,48 @@ def packets(capture: bytes) -> list[tuple[str, int, bytes]]:
     return told
 
 
+class Recorded:
+    """Lines that record frames, as many to a block as it may have."""
+
+    def __init__(self) -> None:
+        self.lines: list[str] = []
+        self.block = b""
+
+    def add(self, frame: bytes, size: int) -> None:
+        """A frame, which takes so many bytes of the stream."""
+        self.block = self.block.ljust(aligned(len(self.block)), b"\0")
+        if len(self.block) + size > 65_536:
+            self.end_block()
+        self.block += frame
+
+    def end_block(self) -> None:
+        if self.block:
+            self.lines.append(f"block 0 {self.block.hex()}")
+        self.block = b""
+
+
 def try_export(tool: Path, path: Path, frames: int) -> None:
     """Exports a recording of frames of many lengths, with pads between terms, whole and in part, and compares it with a replay."""
     folder, capture = path / "exported", path / "frames.pcap"
     run([tool, "create", folder])
     payloads = [bytes([number % 251]) * (1 + number % 1_300) for number in range(frames)]
-    lines, position, ends = [STREAM.start("aeron:udp?endpoint=224.0.1.1:40456|mtu=1408")], 0, [0]
+    recorded, position, ends = Recorded(), 0, [0]
     for payload in payloads:
         size = aligned(32 + len(payload))
         if position // 65_536 != (position + size - 1) // 65_536:
             rest = 65_536 - position % 65_536
-            lines.append(f"block 0 {STREAM.header(position, rest, 0).hex()}")
+            recorded.end_block()
+            recorded.add(STREAM.header(position, rest, 0), rest)
+            recorded.end_block()
             position += rest
             ends.append(position)
-        lines.append(f"block 0 {STREAM.message(position, payload).hex()}")
+        if position % 65_536 == 0:
+            recorded.end_block()
+        recorded.add(STREAM.message(position, payload), size)
         position += size
         ends.append(position)
+    recorded.end_block()
+    lines = [STREAM.start("aeron:udp?endpoint=224.0.1.1:40456|mtu=1408"), *recorded.lines]
     run([tool, "run", folder], [*lines, "stop 0 2000"])
     begun = time.monotonic()
     expect("exported", look(tool, folder, "export", "0", "--pcap", str(capture)), (0, "exported\n", ""))
@@ -214,6 +242,12 @@ def try_export(tool: Path, path: Path, frames: int) -> None:
     told = [bytes.fromhex(line.split()[2]) for line in replayed(tool, folder, 0, 0, len(ends))]
     sent = [frame if frame[6] == 0 else frame.ljust(aligned(len(frame)), b"\0") for frame in told]
     expect("the frames", packets(capture.read_bytes()) == [("224.0.1.1", 40_456, frame) for frame in sent], True)
+    if shutil.which("tshark"):
+        differences = sum(one != other for one, other in zip(dissected(capture, 40_456), map(told_of_frame, told), strict=True))
+        expect("differences between what was recorded and what tshark reads", differences, 0)
+        print(f"{len(told)} frames, as tshark reads them")
+    else:
+        print("tshark: skipped, it is not there")
     middle = len(ends) // 2
     expect("a part", look(tool, folder, "export", "0", "--from", str(ends[1]), "--to", str(ends[middle]), "--pcap", str(capture))[0], 0)
     part = capture.read_bytes()
@@ -224,11 +258,6 @@ def try_export(tool: Path, path: Path, frames: int) -> None:
         expect("no part is left", sorted(name.name for name in path.glob("frames.pcap*")), ["frames.pcap"])
     try_parts(tool, path, folder)
     print(f"{len(sent)} frames exported in {took:.1f} s, as replayed")
-    if shutil.which("tshark"):
-        shown = subprocess.run(["tshark", "-r", capture, "-d", "udp.port==40456,aeron", "-Y", "aeron.data || aeron.pad", "-T", "fields", "-e", "aeron.data.term_offset"], capture_output=True, text=True)
-        expect("frames that tshark reads", len(shown.stdout.splitlines()), middle - 1)
-    else:
-        print("tshark: skipped, it is not there")
 
 
 def try_parts(tool: Path, path: Path, folder: Path) -> None:

@@ -25,7 +25,8 @@ from dataclasses import replace
 from pathlib import Path
 
 from tool import (
-    INITIAL_TERM, ROOT, SESSION_ID, STREAM_ID, Fault, Stream, conclude, expect, file_system, program, replayed, room, run, trial_words
+    INITIAL_TERM, ROOT, SESSION_ID, STREAM_ID, Fault, Stream, conclude, dissected, expect, file_system, program, replayed, room, run,
+    told_of_frame, trial_words,
 )
 
 sys.path.insert(0, str(ROOT / "examples"))
@@ -313,7 +314,7 @@ def lossy(tool: Path, chance: random.Random, frames: int) -> None:
               f"{memory} MB: each is recorded", flush=True)
 
 
-def dissected(tool: Path, chance: random.Random) -> None:
+def read_by_wireshark(tool: Path, chance: random.Random) -> None:
     """NAK frames and recorded frames, as Wireshark reads them."""
     if not shutil.which("tshark"):
         print("there is no tshark: its reading of NAKs and frames is left out", flush=True)
@@ -335,36 +336,16 @@ def dissected(tool: Path, chance: random.Random) -> None:
         frames = [bytes.fromhex(line.split()[2]) for line in replayed(tool, archive, 0, 0, 10_000)]
         capture = archive.parent / "capture.pcap"
         write_capture(capture, sender.naks + frames)
-        parts = "session_id", "stream_id", "term_id", "term_offset"
-        fields = [f"aeron.nak.{part}" for part in (*parts, "length", "frame_length")]
-        fields += [f"aeron.{kind}.{part}" for kind in ("data", "pad") for part in (*parts, "frame_length")]
-        words = ["tshark", "-r", capture, "-d", "udp.port==40123,aeron", "-T", "fields", "-E", "separator=,"]
-        told = subprocess.run([*words, *(word for field in fields for word in ("-e", field))],
-                              capture_output=True, text=True, check=True).stdout.splitlines()
+        told = dissected(capture, 40_123)
         right = [told_of_nak(nak) for nak in sender.naks] + [told_of_frame(frame) for frame in frames]
-        differences = sum(1 for line, wanted in zip(told, right, strict=True) if read_numbers(line) != wanted)
+        differences = sum(one != other for one, other in zip(told, right, strict=True))
         expect("differences between what was sent and what tshark reads", differences, 0)
         print(f"{len(sender.naks)} NAKs and {len(frames)} frames up to {stop}, as tshark reads them", flush=True)
-
-
-def read_numbers(line: str) -> list[int]:
-    """The numbers of a line of tshark; ids are told in hexadecimal there."""
-    found = []
-    for word in line.split(","):
-        if word:
-            number = int(word, 0)
-            found.append(number - 2**32 if number >= 2**31 else number)
-    return found
 
 
 def told_of_nak(nak: bytes) -> list[int]:
     length, _, _, _, session_id, stream_id, term_id, offset, asked = struct.unpack("<iBBHiiiii", nak)
     return [session_id, stream_id, term_id, offset, asked, length]
-
-
-def told_of_frame(frame: bytes) -> list[int]:
-    length, _, _, _, offset, session_id, stream_id, term_id = struct.unpack_from("<iBBHiiii", frame)
-    return [session_id, stream_id, term_id, offset, length]
 
 
 def write_capture(path: Path, datagrams: list[bytes]) -> None:
@@ -569,7 +550,7 @@ def main() -> int:
         "publications": lambda: two_publications(tool, chance),
         "clients": lambda: slow_clients(tool),
         "flood": lambda: flooded(tool),
-        "dissector": lambda: dissected(tool, chance),
+        "dissector": lambda: read_by_wireshark(tool, chance),
         "kills": lambda: killed(tool, chance, asked.kills),
         "hostile": lambda: hostile(tool, chance, asked.datagrams, asked.connections),
         "losses": lambda: lossy(tool, chance, asked.frames),

@@ -235,3 +235,28 @@ def go_round(tool: Path, folder: Path, history: int, work: Rounds) -> None:
         work.end()
     except Fault as fault:
         raise Fault(f"behind {work.so_far()}: {fault}") from fault
+
+
+def dissected(capture: Path, port: int) -> list[list[int]]:
+    """The numbers that Wireshark's Aeron dissector tells of each NAK, data and pad frame of a capture file to a port."""
+    parts = "session_id", "stream_id", "term_id", "term_offset"
+    fields = [f"aeron.nak.{part}" for part in (*parts, "length", "frame_length")]
+    fields += [f"aeron.{kind}.{part}" for kind in ("data", "pad") for part in (*parts, "frame_length")]
+    words = ["tshark", "-r", capture, "-d", f"udp.port=={port},aeron", "-T", "fields", "-E", "separator=,"]
+    told = subprocess.run([*words, *(word for field in fields for word in ("-e", field))], capture_output=True, text=True, check=True)
+    return [read_numbers(line) for line in told.stdout.splitlines()]
+
+
+def read_numbers(line: str) -> list[int]:
+    """The numbers of a line of tshark; ids are told in hexadecimal there."""
+    found = []
+    for word in line.split(","):
+        if word:
+            number = int(word, 0)
+            found.append(number - 2**32 if number >= 2**31 else number)
+    return found
+
+
+def told_of_frame(frame: bytes) -> list[int]:
+    length, _, _, _, offset, session_id, stream_id, term_id = struct.unpack_from("<iBBHiiii", frame)
+    return [session_id, stream_id, term_id, offset, length]
