@@ -4,10 +4,11 @@
 1. Over archives with active and stopped recordings, stale and unknown files, and damage, each of `list --read-only`,
    `verify --read-only`, `describe` and `describe --json` leaves all files as they were: their bytes, lengths, modes and times of
    change. The same over a folder that may not be written, where its file system can be mounted read-only (else skipped).
-2. Beside a `run` that settles block after block, looks: each listing is one of those that stood, or a refusal that a moving
-   catalogue explains; `verify` counts the frames of a position that was settled.
+2. Beside a `run` that settles block after block, and beside a `serve` that is sent frame after frame, looks: each listing is
+   one of those that stood, or a refusal that a moving catalogue explains; `verify` counts the frames of a position that was
+   settled.
 3. `export` writes what a replay gives: each packet of the capture file is read here by pcap's format, RFC 791 and RFC 768, its
-   checksum summed, and its frame compared; where `tshark` is there, its Aeron dissector reads as many data frames. Refused, or
+   checksum summed, and its frame compared; where `tshark` is there, its Aeron dissector reads the same frames. Refused, or
    on a full disk, it leaves no file, and one that had the name stays, as one does that has the name of its new file. On a
    terminal it shows how far it has come.
 4. An archive of many segment files is listed in a moment where an opening syncs each of them.
@@ -28,8 +29,9 @@ import time
 from pathlib import Path
 
 from mounts import Skipped, make_ext4, mounted
+from serving import IN_FLIGHT, Sender, Server, served, start_line
 from tool import (
-    Fault, Session, Stream, aligned, conclude, dissected, expect, program, replayed, room, run, told_of_frame, trial_words,
+    SESSION_ID, Fault, Session, Stream, aligned, conclude, dissected, expect, program, replayed, room, run, told_of_frame, trial_words,
 )
 
 STREAM = Stream(term_length=65_536, segment_length=65_536)
@@ -141,36 +143,77 @@ class Writer(threading.Thread):
         self.session.end()
 
 
-def try_beside(tool: Path, path: Path, looks: int, chance: random.Random) -> None:
-    """Looks beside a writer. What is told lies between what was settled before the look and what was asked for behind it."""
-    folder = path / "written"
-    writer = Writer(tool, folder)
-    writer.start()
+class Fed(threading.Thread):
+    """Sends frames of 64 bytes to a served archive until it is told to end, and keeps the positions that were recorded."""
+
+    def __init__(self, server: Server, chance: random.Random) -> None:
+        super().__init__()
+        self.client = server.client()
+        expect("start", list(self.client.ask(start_line(SESSION_ID))), ["started 0 0"])
+        self.sender = Sender(server, SESSION_ID, chance)
+        self.sender.send(self.sender.publication.setup())
+        self.settled = 0
+        self.stop = threading.Event()
+
+    @property
+    def asked(self) -> int:
+        return self.sender.publication.position
+
+    def run(self) -> None:
+        while not self.stop.is_set():
+            self.sender.message(64)
+            self.settled = self.sender.until(self.client, 0, IN_FLIGHT)
+            time.sleep(0.005)
+        self.sender.until(self.client, 0, 0)
+        self.client.close()
+
+
+def look_beside(tool: Path, folder: Path, writer: Writer | Fed, looks: int, chance: random.Random) -> str:
+    """Looks beside a writer of frames of 64 bytes. What is told lies between what was settled before the look and what was asked
+    for behind it."""
     verified = moving = 0
+    for number in range(looks):
+        before = writer.settled
+        words = chance.choice(LOOKS)
+        status, out, error = look(tool, folder, *words)
+        after = writer.asked
+        if status == 3 and "being written" in error:
+            moving += 1
+            continue
+        expect(f"look {number}, {' '.join(words)}", status, 0)
+        if words[0] == "verify":
+            frames = int(out.split()[1])
+            expect(f"look {number}: {frames} frames stood", before // 64 <= frames <= after // 64, True)
+            verified += 1
+        elif words == ("describe", "--json"):
+            told = json.loads(out)["recordings"][0]
+            expect(f"look {number}: the position stood", before <= told["recorded_position"] <= after, True)
+            expect(f"look {number}: it is active", told["active"], True)
+        elif words[0] == "list":
+            expect(f"look {number}: listed as active", out.split()[3], "-1")
+    return f"{looks} looks, {verified} of them verifications, {moving} told of a moving catalogue, {writer.settled // 64} frames"
+
+
+def try_beside(tool: Path, path: Path, looks: int, chance: random.Random) -> None:
+    """Looks beside a `run` that settles block after block, and beside a server that is sent frame after frame."""
+    writer = Writer(tool, path / "written")
+    writer.start()
     try:
-        for number in range(looks):
-            before = writer.settled
-            words = chance.choice(LOOKS)
-            status, out, error = look(tool, folder, *words)
-            after = writer.asked
-            if status == 3 and "being written" in error:
-                moving += 1
-                continue
-            expect(f"look {number}, {' '.join(words)}", status, 0)
-            if words[0] == "verify":
-                frames = int(out.split()[1])
-                expect(f"look {number}: {frames} frames stood", before // 64 <= frames <= after // 64, True)
-                verified += 1
-            elif words == ("describe", "--json"):
-                told = json.loads(out)["recordings"][0]
-                expect(f"look {number}: the position stood", before <= told["recorded_position"] <= after, True)
-                expect(f"look {number}: it is active", told["active"], True)
-            elif words[0] == "list":
-                expect(f"look {number}: listed as active", out.split()[3], "-1")
+        told = look_beside(tool, path / "written", writer, looks, chance)
     finally:
         writer.stop.set()
         writer.join()
-    print(f"beside a writer: {looks} looks, {verified} of them verifications, {moving} told of a moving catalogue, {writer.settled // 64} blocks")
+    print(f"beside a writer: {told}")
+    with served(tool) as (server, folder):
+        fed = Fed(server, chance)
+        fed.start()
+        try:
+            told = look_beside(tool, folder, fed, looks, chance)
+        finally:
+            fed.stop.set()
+            fed.join()
+        server.quit()
+    print(f"beside a server: {told}")
 
 
 def packets(capture: bytes) -> list[tuple[str, int, bytes]]:

@@ -4,6 +4,7 @@
 #include <dlfcn.h>
 #include <stdio.h>
 #include <stdlib.h>
+#include <sys/syscall.h>
 #include <unistd.h>
 
 static long asked = 0, refused = -1;
@@ -32,5 +33,12 @@ void *realloc(void *old, size_t size) {
 }
 
 __attribute__((destructor)) static void end(void) {
-    if (getenv("SHOW")) dprintf(2, "%ld\n", asked);
+    if (ready && getenv("SHOW")) dprintf(2, "%ld\n", asked);
+    ready = 0;
+}
+
+/* A program that ends so runs no destructor. */
+void _exit(int status) {
+    end();
+    for (;;) syscall(SYS_exit_group, status);
 }
