@@ -89,8 +89,8 @@ class Trial:
 
 
 def in_folder(folder: Path, word: str, *words: str) -> tuple[str | Path, ...]:
-    """A command with its folder, and a capture file in it."""
-    return word, folder, *words, *(["--pcap", folder / "frames.pcap"] if word == "export" else [])
+    """A command with its folder, and a capture file beside it."""
+    return word, folder, *words, *(["--pcap", f"{folder}.pcap"] if word == "export" else [])
 
 
 def overwrite(path: Path, offset: int, text: bytes) -> None:

@@ -35,7 +35,7 @@ from tool import (
 )
 
 STREAM = Stream(term_length=65_536, segment_length=65_536)
-TERMS = 400  # of 2,048 frames each, which take longer than a moment to read
+TERMS = 800  # of 2,048 frames each, which take seconds to read
 LOOKS = [("list", "--read-only"), ("verify", "--read-only"), ("describe",), ("describe", "--json")]
 
 

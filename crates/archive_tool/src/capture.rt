@@ -14,6 +14,7 @@ use frame_core::Refusal;
 use std::cell::Cell;
 use std::fs::{self, File};
 use std::io::{self, BufWriter, ErrorKind, IsTerminal, Write};
+use std::path::Path;
 use tool_core::{CommandFault, EarlyEnd, OpeningProgress, Screen, Stopped, Watched};
 
 /// Bytes that are written at once.
@@ -37,9 +38,9 @@ struct Part {
     file: File,
 }
 
-/// Writes frames of a recording of the archive in a folder as it stands into a capture file, and says so. Where that is
-/// refused, or the file can't be written, what was written of it is removed. How far it has come is shown on standard error,
-/// where that is a terminal.
+/// Writes frames of a recording of the archive in a folder as it stands into a capture file outside of it, and says so. Where
+/// that is refused, or the file can't be written, what was written of it is removed. How far it has come is shown on standard
+/// error, where that is a terminal.
 pub(crate) fn export<W: Write>(
     rt: HostRuntime,
     folder: &str,
@@ -51,6 +52,7 @@ pub(crate) fn export<W: Write>(
     let screen = Screen::new(&rt);
     let extent = Cell::new(None);
     let disk = folder_of(rt, folder)?;
+    keep_apart(rt, folder, pcap)?;
     let disk = Watched::new(
         disk,
         (opening_of(&rt, &screen), progress_of(&rt, &screen, &extent)),
@@ -63,6 +65,28 @@ pub(crate) fn export<W: Write>(
         Ok(()) => Ok(()),
         Err(_) => Err(Ended::from(EarlyEnd::Write)),
     }
+}
+
+/// Refuses a place for a file in an archive's folder, where it could take the name of one of the archive's own.
+fn keep_apart(rt: HostRuntime, folder: &str, pcap: &str) -> Result<(), Ended> {
+    match is_in(rt, folder, pcap) {
+        Ok(false) => Ok(()),
+        Ok(true) => Err(Ended {
+            ending: Ending::Refused(Refusal::BadParameter),
+            reason: Reason::CaptureInside,
+        }),
+        Err(error) if error.kind() == ErrorKind::OutOfMemory => Err(Ended::from(EarlyEnd::Memory)),
+        Err(error) => Err(unwritten(Some(error))),
+    }
+}
+
+/// Whether a file's place is in a folder.
+fn is_in(rt: HostRuntime, folder: &str, file: &str) -> io::Result<bool> {
+    let above = match Path::new(file).parent() {
+        Some(above) if !above.as_str().is_empty() => above,
+        _ => Path::new("."),
+    };
+    Ok(fs::canonicalize(&rt, above)? == fs::canonicalize(&rt, folder)?)
 }
 
 /// Makes a file, writes the frames into it, syncs and names it. What was made of it goes where that fails.

@@ -28,6 +28,8 @@ pub enum Reason {
     FileRead,
     /// The capture file could not be written; what the system told of it, if that is known.
     Capture(Option<io::Error>),
+    /// The capture file would lie in the archive's folder.
+    CaptureInside,
     /// Its archive was being written while it was read.
     Moving,
     /// A port was not bound.
@@ -71,6 +73,10 @@ impl fmt::Display for Reason {
                 )
             }
             Reason::Capture(None) => write!(f, "the capture file cannot be written"),
+            Reason::CaptureInside => write!(
+                f,
+                "the capture file would lie in the archive's folder"
+            ),
             Reason::Moving => write!(
                 f,
                 "the archive is being written: what is told to be damaged may be whole, so look again"

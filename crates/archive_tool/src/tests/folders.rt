@@ -249,7 +249,8 @@ fn a_full_history_is_compacted(rt: HostRuntime) -> Result<(), Fail> {
     Ok(())
 }
 
-/// One frame is a capture file of 132 bytes: its header has 24, the record's 16, those of IPv4 and UDP 28, the frame 64.
+/// Of no such recording, or into the archive's folder. One frame is a capture file of 132 bytes: its header has 24, the
+/// record's 16, those of IPv4 and UDP 28, the frame 64.
 #[test]
 fn a_refused_export_leaves_no_file(rt: HostRuntime) -> Result<(), Fail> {
     let path = unused(rt, "exported")?;
@@ -265,21 +266,31 @@ fn a_refused_export_leaves_no_file(rt: HostRuntime) -> Result<(), Fail> {
         0,
     )?;
     record(rt, folder)?;
-    let file = within(rt, folder, "frames.pcap")?;
-    for (recording, told, status, is_there) in [(1, "", 1, false), (0, "exported\n", 0, true)] {
+    let beside = unused(rt, "captured")?;
+    fs::create_dir(&rt, beside.as_str())?;
+    let file = within(rt, beside.as_str(), "frames.pcap")?;
+    let inside = within(rt, folder, "0-0.rec")?;
+    let before = fs::metadata(&rt, inside.as_str())?.len();
+    for (recording, pcap, told, status) in [
+        (1, file.as_str(), "", 1),
+        (0, inside.as_str(), "", 1),
+        (0, file.as_str(), "exported\n", 0),
+    ] {
+        assert!(rt; !fs::exists(&rt, file.as_str())?);
         let command = ToolCommand::Export {
             folder,
             recording,
             from: None,
             to: None,
-            pcap: file.as_str(),
+            pcap,
         };
         check(&rt, rt, command, told, status)?;
-        assert!(rt; fs::exists(&rt, file.as_str())? == is_there);
     }
+    assert!(rt; fs::metadata(&rt, inside.as_str())?.len() == before);
     assert!(rt; fs::metadata(&rt, file.as_str())?.len() == 132);
-    let part = within(rt, folder, "frames.pcap.part")?;
+    let part = within(rt, beside.as_str(), "frames.pcap.part")?;
     assert!(rt; !fs::exists(&rt, part.as_str())?);
+    fs::remove_dir_all(&rt, beside.as_str())?;
     fs::remove_dir_all(&rt, folder)?;
     Ok(())
 }
