@@ -11,6 +11,7 @@
 #include <stdlib.h>
 #include <string.h>
 #include <sys/stat.h>
+#include <sys/syscall.h>
 #include <unistd.h>
 
 // The calls of the built program on files are open, openat, statx, getdents64, pread, pwrite, ftruncate, fdatasync, fsync and unlink.
@@ -43,6 +44,12 @@ __attribute__((destructor)) static void told(void) {
         fprintf(file, "%ld\n", calls);
         fclose(file);
     }
+}
+
+/* A program that ends so runs no destructor. */
+void _exit(int status) {
+    told();
+    for (;;) syscall(SYS_exit_group, status);
 }
 
 #define REAL(name, ...) ((int (*)(__VA_ARGS__))dlsym(RTLD_NEXT, name))
