@@ -148,7 +148,7 @@ def rows(tool: Program) -> list[Row]:
         folder, *big, f"block 0 {STREAM.header(65_536, 65_536, 0).hex()}", f"block 0 {STREAM.message(131_072, b'x').hex()}"
     )
     long: Make = lambda folder: tool.script(folder, START, LONG)
-    export = ["export", ".", "0", "--pcap", "../frames.pcap"]
+    export = ["export", ".", "0", "--pcap", "./../frames.pcap"]
     summary = "recordings {}, frames {}, bytes {}, damaged {}, not read {}\n".format
     return [
         # run
@@ -301,7 +301,7 @@ def rows(tool: Program) -> list[Row]:
                 f"export into the archive, as {place}", [*export[:-1], place], 1, "",
                 "error 10 BadParameter\nthe capture file would lie in the archive's folder\n", [recorded],
             )
-            for place in ("./0-0.rec", "frames.pcap")
+            for place in ("./0-0.rec", "./frames.pcap")
         ),
         Row(
             "export where no more fits into a file", export, 3, "",
