@@ -12,7 +12,7 @@ import subprocess
 import sys
 from pathlib import Path
 
-from measure import compiled, most_memory, seconds
+from measure import compiled, cost, seconds
 from tool import ROOT, Fault, needs, room
 
 PROGRAM = ROOT / "crates/layer_measures/out/layer_measures"
@@ -42,9 +42,10 @@ def measure_catalogue(work: Path) -> None:
 def measure_segments() -> None:
     read_bytes = str(FRAMES * (LENGTH - 32))
     made, stored, read = (best([PROGRAM, "segments", n], right) for n, right in (("0", "0"), ("1", "0"), ("2", read_bytes)))
+    most = cost([PROGRAM, "segments", "2"]).kibibytes // 1_024
     print(f"written and synced: {FRAMES / (stored - made):,.0f} frames/s, {FRAMES * LENGTH / (stored - made) / 1e6:,.0f} MB/s, "
           f"{BLOCKS / (stored - made):,.0f} blocks/s; read: {FRAMES / (read - stored):,.0f} frames/s, "
-          f"{FRAMES * LENGTH / (read - stored) / 1e6:,.0f} MB/s; {most_memory()} MB at most", flush=True)
+          f"{FRAMES * LENGTH / (read - stored) / 1e6:,.0f} MB/s; {most} MB at most", flush=True)
 
 
 def measure_disk() -> None:

@@ -7,7 +7,7 @@ five runs counts, one after another.
 import sys
 from pathlib import Path
 
-from measure import compiled, most_memory, seconds
+from measure import compiled, cost
 from tool import Fault, Stream, program, room
 
 STREAM = Stream(term_length=2**30, segment_length=2**30)
@@ -24,15 +24,15 @@ def write_lines(path: Path, size: int) -> None:
             print(f"block 0 {STREAM.message(position, payload).hex()}", file=script)
 
 
-def measure(name: str, words: list[str | Path], work: Path, size: int) -> float:
-    """The lines a second of a program."""
+def measure(name: str, words: list[str | Path], work: Path, size: int) -> tuple[float, int]:
+    """The lines a second of a program, and the most megabytes that it held."""
     told = work / "told"
-    best = min(seconds(words, work / str(size), told) for _ in range(RUNS))
+    costs = [cost(words, work / str(size), told) for _ in range(RUNS)]
     if (last := told.read_text().splitlines()[-1]) != f"settled {LINES * size}":
         raise Fault(f"{name}: the last line was answered {last}")
-    rate = LINES / best
+    rate = LINES / min(it.clock for it in costs)
     print(f"{name:6} frames of {size:5,} bytes: {rate:9,.0f} lines/s {rate * size * 2 / 1e6:7.1f} MB/s of hex", flush=True)
-    return rate
+    return rate, max(it.kibibytes for it in costs) // 1_024
 
 
 def main() -> int:
@@ -41,8 +41,9 @@ def main() -> int:
         plain = compiled("plain.rs", work)
         for size in (64, 1_408):
             write_lines(work / str(size), size)
-            rates = measure("plain", [plain], work, size), measure("proved", [tool, "run"], work, size)
-            print(f"{rates[1] / rates[0]:.2f} of plain, {most_memory()} MB at most")
+            plain_rate, _ = measure("plain", [plain], work, size)
+            rate, most = measure("proved", [tool, "run"], work, size)
+            print(f"{rate / plain_rate:.2f} of plain, {most} MB at most")
     return 0
 
 

@@ -29,7 +29,7 @@ def seconds(words: Sequence[str | Path], given: Path | None = None, into: Path |
 
 
 def most_memory() -> int:
-    """The most megabytes that a program which has ended held."""
+    """The most megabytes that a program which has ended held, or that this one did when it began it: for who compiles nothing."""
     return resource.getrusage(resource.RUSAGE_CHILDREN).ru_maxrss // 1024
 
 
