@@ -33,22 +33,3 @@ laid_low r laid =
     let layout = laid.laid_out.layout in
     let low : pos 0 ≤ℤ r.descriptor.start_position = omega (arith, ints, layout.start_is) in
     (low, omega (arith, ints, low, laid.from_start))
-
--- what a sweep is told of recordings that are laid
-layout_laid : (r : Registration) → IsLaidOut r → IsLayout (layout_of r.descriptor)
-layout_laid r laid = record {
-  term = laid.layout.term;
-  segment = laid.layout.segment;
-  no_less = laid.layout.no_less;
-  start = laid.layout.start;
-  start_is = laid.layout.start_is;
-  in_terms = laid.layout.in_terms;
-}
-
-keeps_laid : (rs : List Registration) → Each IsLaid rs → All IsKeep (map registered_keep rs)
-keeps_laid [] laid = All-nil IsKeep
-keeps_laid (r ∷ rs) laid = All-cons IsKeep (registered_keep r) (map registered_keep rs) (layout_laid r laid.0.laid_out, laid.0.from_start) (keeps_laid rs laid.1)
-
-pub keeps_are : (register : RegisterState) (callers : CallersState) → KeepsDesk register callers
-    → All IsKeep (registered_keeps register)
-keeps_are register callers keeps = All-cons IsKeep (Below register.next) (map registered_keep register.recordings) tt (keeps_laid register.recordings keeps.orderly.register)

@@ -14,10 +14,11 @@ ghost use Rattle.std.specs.Prelude.{IsErrOf, IsTrue};
 ghost use Rattle.frame_core.specs.declared.refusal.Refusal.TheVariants.{DeviceFault};
 
 use crate::{ArchiveView, ReadOnly};
-use archive_model::{Descriptor, Registration};
+use archive_model::Registration;
 use disk_core::Disk;
+use engine_core::layout_of;
 use frame_core::Refusal;
-use segment_store::{Layout, read_frame};
+use segment_store::read_frame;
 use std::alloc::Global;
 
 impl<D: Disk> ArchiveView<D> {
@@ -35,19 +36,6 @@ impl<D: Disk> ArchiveView<D> {
             return Err(Refusal::UnknownRecording);
         };
         count_frames(alloc, &mut self.disk, known)
-    }
-}
-
-/// Where the frames of a recording lie.
-pub(crate) fn layout_of(descriptor: &Descriptor) -> Layout
-    ensures { result ≡ layout_of descriptor.now }
-{
-    Layout {
-        recording: descriptor.recording,
-        stream_id: descriptor.stream_id,
-        start_position: descriptor.start_position,
-        term_length: descriptor.term_length,
-        segment_length: descriptor.segment_length,
     }
 }
 

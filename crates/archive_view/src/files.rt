@@ -6,16 +6,14 @@ ghost use Rattle.disk_core.specs.DiskImage.{bytes_of, reads};
 ghost use Rattle.disk_core.specs.Life.{HasFailed, IsQuiet};
 ghost use Rattle.disk_core.specs.FileNames.{AreFilesWith};
 ghost use Rattle.segment_store.specs.Stale.{AreStale};
-ghost use Rattle.control_core.specs.Orderly.{KeepsDesk};
-ghost use Rattle.engine_core.specs.Moves.{registered_keep, registered_keeps};
+ghost use Rattle.engine_core.specs.Moves.{registered_keeps};
 
 use crate::ArchiveView;
-use crate::count::layout_of;
-use archive_model::Registration;
 use control_core::Desk;
 use disk_core::{Disk, FileId};
+use engine_core::keeps_of;
 use frame_core::Refusal;
-use segment_store::{Keep, stale_files};
+use segment_store::stale_files;
 use std::alloc::Global;
 
 impl<D: Disk> ArchiveView<D> {
@@ -91,32 +89,4 @@ fn stale_of<D: Disk>(alloc: Global, disk: &mut D, desk: &Desk) -> Result<Vec<Fil
 {
     let keeps = keeps_of(alloc, desk)?;
     stale_files(disk, keeps.as_slice())
-}
-
-/// What a sweep is told of an archive: below which id recordings were given, and what each that is there keeps.
-/// `NoMemory`. Costs the recordings.
-fn keeps_of(alloc: Global, desk: &Desk) -> Result<Vec<Keep>, Refusal>
-    ensures ok { IfOk result (λ keeps. keeps.items ≡ registered_keeps desk.now.state.register) }
-    ensures err { IfErr result (λ refusal. refusal ≡ NoMemory) }
-    ensures keeps { KeepsDesk desk.now.state.register desk.now.state.callers }
-{
-    let recordings = desk.recordings();
-    let next = desk.next_recording();
-    let mut keeps = Vec::new(alloc);
-    keeps.push(Keep::Below { next })?;
-    for known in recordings {
-        keeps.push(keep_of(known))?;
-    }
-    Ok(keeps)
-}
-
-/// What a sweep is told of a recording.
-fn keep_of(known: &Registration) -> Keep
-    ensures { result ≡ registered_keep known.now }
-{
-    Keep::Recording {
-        layout: layout_of(&known.descriptor),
-        recorded: known.recorded,
-        active: known.is_active(),
-    }
 }

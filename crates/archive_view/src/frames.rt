@@ -13,9 +13,9 @@ ghost use Rattle.engine_core.specs.Recovery.{layout_of};
 ghost use Rattle.archive_view.specs.ShownFrames.{Bounds, Shows};
 
 use crate::ArchiveView;
-use crate::count::layout_of;
 use archive_model::Registration;
 use disk_core::Disk;
+use engine_core::layout_of;
 use frame_core::{Frame, Refusal};
 use segment_store::read_frame;
 use std::alloc::Global;

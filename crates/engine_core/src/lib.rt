@@ -21,4 +21,6 @@ mod write;
 
 pub use compacting::compact;
 pub use engine::{Engine, OpenRefusal};
+pub use reading::layout_of;
 pub use storage::Storage;
+pub use sweep::keeps_of;

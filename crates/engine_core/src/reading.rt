@@ -34,7 +34,7 @@ pub(crate) struct Given {
 }
 
 /// Where the frames of a recording lie.
-pub(crate) fn layout_of(descriptor: &Descriptor) -> Layout
+pub fn layout_of(descriptor: &Descriptor) -> Layout
     ensures { result ≡ layout_of descriptor.now }
 {
     Layout {

@@ -1,15 +1,16 @@
 //! Segment files that no recording needs go. docs/STORAGE.md, "Stale files".
 
-ghost use Rattle.std.specs.Prelude.{◌≡◌, ◌∷◌, map, IfErr, IfOk};
-ghost use Rattle.frame_core.specs.declared.refusal.Refusal.TheVariants.{NoMemory};
+ghost use Rattle.std.specs.Prelude.{◌≡◌, ◌∷◌, map, All, IfErr, IfOk};
 ghost use Rattle.segment_store.specs.declared.keep.Keep.TheVariants.{Below};
+ghost use Rattle.frame_core.specs.declared.refusal.Refusal.TheVariants.{NoMemory};
+ghost use Rattle.segment_store.specs.Stale.{IsKeep};
 ghost use Rattle.control_core.specs.declared.event.Event.TheVariants as events;
-ghost use Rattle.engine_core.specs.Moves.{registered_keep};
+ghost use Rattle.engine_core.specs.Moves.{registered_keep, registered_keeps};
 
 use crate::Engine;
 use crate::reading::layout_of;
 use archive_model::{Registration, Reply};
-use control_core::decide_sweep;
+use control_core::{Desk, decide_sweep};
 use disk_core::Disk;
 use frame_core::Refusal;
 use segment_store::Keep;
@@ -27,15 +28,24 @@ impl<D: Disk> Engine<D> {
         ensures { HasAnswered D.life self.old self.new events.Sweep result }
     {
         decide_sweep(&self.desk)?;
-        let keeps = keeps_of(alloc, &self.desk.next_recording(), self.desk.recordings())?;
+        let keeps = keeps_of(alloc, &self.desk)?;
         let removed = self.storage.sweep(keeps.as_slice())?;
         Ok(Reply::Swept { removed })
     }
 }
 
-/// What a sweep is told of an archive: below which id recordings were given, and what each that is there keeps.
+/// What a sweep is told of the archive of a desk: below which id recordings were given, and what each that is there keeps.
 /// `NoMemory`. Costs the recordings.
-fn keeps_of(alloc: Global, next: &i64, recordings: &[Registration]) -> Result<Vec<Keep>, Refusal>
+pub fn keeps_of(alloc: Global, desk: &Desk) -> Result<Vec<Keep>, Refusal>
+    ensures ok { IfOk result (λ keeps. keeps.items ≡ registered_keeps desk.now.state.register) }
+    ensures keeps { IfOk result (λ keeps. All IsKeep keeps.items) }
+    ensures err { IfErr result (λ refusal. refusal ≡ NoMemory) }
+{
+    kept_by(alloc, &desk.next_recording(), desk.recordings())
+}
+
+/// What a sweep is told of an archive with these recordings, and this id for the next.
+fn kept_by(alloc: Global, next: &i64, recordings: &[Registration]) -> Result<Vec<Keep>, Refusal>
     ensures ok { IfOk result (λ keeps. keeps.items
         ≡ Below next.now ∷ map registered_keep recordings.now) }
     ensures err { IfErr result (λ refusal. refusal ≡ NoMemory) }

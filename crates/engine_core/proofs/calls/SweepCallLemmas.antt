@@ -1,7 +1,7 @@
 -- How a sweep of an archive ends.
 use Rattle.std.proofs.Common.{◌≡◌, ◌∙◌, inl, inr, sym, ap, subst, refl, ℕ, ℤ, pos, ◌+◌, ◌≤◌, Bool, true, true≢false, false, List, Option, Some, arith}
 use Rattle.std.proofs.lemmas.Int.{ints}
-use Rattle.std.specs.Prelude.{IsTrue, IsErrOf, Result, Ok, Err, not}
+use Rattle.std.specs.Prelude.{◌⊎◌, IsTrue, IsErrOf, Result, Ok, Err, not}
 use Rattle.frame_core.specs.declared.refusal.Refusal.{Refusal}
 use Rattle.frame_core.specs.declared.refusal.Refusal.TheVariants.{DeviceFault, NoMemory}
 use Rattle.frame_core.specs.Block.{covered}
@@ -184,25 +184,39 @@ unswept_ends : (a : Archive) (faulted : Type 0) (x : Unit {0}) (refusal : Refusa
 unswept_ends a faulted x refusal decided cause (inl fault) = subst (λ (r : Refusal). CallEnds a events.Sweep faulted (Err r) a) (sym fault) (inr (cause fault, inl (sweep_passes a.desk x decided, refl)))
 unswept_ends a faulted x refusal decided cause (inr memory) = subst (λ (r : Refusal). CallEnds a events.Sweep faulted (Err r) a) (sym memory) (inr refl)
 
-pub unswept_answers : (old new : EngineState) (keeps : List Keep) (outcome : Result Reply Refusal) (refusal : Refusal) → outcome ≡ Err refusal → SweepsFiles old new keeps → IsOutside refusal → (refusal ≡ NoMemory → IsQuiet old.life new.life) → (refusal ≡ DeviceFault → HasFailed old.life new.life) → AnswersEvent old new events.Sweep outcome
-unswept_answers old new keeps outcome refusal is did outside quiet cause = subst (AnswersEvent old new events.Sweep) (sym is) (record {
+memory_other : NoMemory ≡ DeviceFault → ⊥
+memory_other is = cc
+
+-- why it failed, and what that left
+abbrev pub HowUnswept : EngineState → EngineState → Refusal → Type 0
+HowUnswept old new refusal = ((refusal ≡ DeviceFault) × HasFailed old.life new.life)
+    ⊎ ((refusal ≡ NoMemory) × IsQuiet old.life new.life)
+
+unswept_outside : (old new : EngineState) (refusal : Refusal) → HowUnswept old new refusal → IsOutside refusal
+unswept_outside old new refusal (inl fault) = inl fault.0
+unswept_outside old new refusal (inr memory) = inr memory.0
+
+unswept_cause : (old new : EngineState) (refusal : Refusal) → HowUnswept old new refusal
+    → refusal ≡ DeviceFault → HasFailed old.life new.life
+unswept_cause old new refusal (inl fault) is = fault.1
+unswept_cause old new refusal (inr memory) is = absurd (memory_other (sym memory.0 ∙ is))
+
+pub unswept_answers : (old new : EngineState) (keeps : List Keep) (outcome : Result Reply Refusal) (refusal : Refusal) → outcome ≡ Err refusal → SweepsFiles old new keeps → HowUnswept old new refusal → AnswersEvent old new events.Sweep outcome
+unswept_answers old new keeps outcome refusal is did how = subst (AnswersEvent old new events.Sweep) (sym is) (record {
   goes_on = record { obeyed = did.spares.obeyed; faults = did.spares.faults };
   bank = same_bank old.log new.log did.log;
-  cause = λ fault. cause (one_refusal _ refusal DeviceFault refl fault);
-  machine = subst (λ (d : DeskState). Stepped old.desk calls.Sweep (Err refusal) d) (sym did.desk) (unswept_step old.desk did.decided.0 refusal did.decided.1 outside);
-  kept = λ harmless. elim outside [
-    | inl fault ↦ absurd ((harmless fault).0 refl)
-    | inr memory ↦ record { files = quiet memory; log = did.log; desk = did.desk }
+  cause = λ fault. unswept_cause old new refusal how (one_refusal _ refusal DeviceFault refl fault);
+  machine = subst (λ (d : DeskState). Stepped old.desk calls.Sweep (Err refusal) d) (sym did.desk) (unswept_step old.desk did.decided.0 refusal did.decided.1 (unswept_outside old new refusal how));
+  kept = λ harmless. elim how [
+    | inl fault ↦ absurd ((harmless fault.0).0 refl)
+    | inr memory ↦ record { files = memory.1; log = did.log; desk = did.desk }
   ];
   swept = λ removed sweep told. absurd (let clash = told in cc);
   ended = λ c was cut. sweep_ended old new keeps c (EndsAs old.life new.life events.Sweep (archive_of old c) (Err refusal)) did was
-      ((λ reads. unswept_ends (archive_of old c) (HasFailed old.life new.life) did.decided.0 refusal did.decided.1 cause outside), refl);
+      ((λ reads. unswept_ends (archive_of old c) (HasFailed old.life new.life) did.decided.0 refusal did.decided.1 (unswept_cause old new refusal how) (unswept_outside old new refusal how)), refl);
 })
 
 -- ---- a sweep that was not
-
-memory_other : NoMemory ≡ DeviceFault → ⊥
-memory_other is = cc
 
 -- for want of memory
 pub unkept_answers : (old : EngineState) (outcome : Result Reply Refusal) (refusal : Refusal)

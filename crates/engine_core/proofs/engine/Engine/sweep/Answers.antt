@@ -1,4 +1,4 @@
-use Rattle.std.proofs.Common.{rules, ◌≡◌, sym, subst, ap, refl, All, Err, List}
+use Rattle.std.proofs.Common.{rules, ◌≡◌, sym, subst, refl, All, Err, List}
 use Rattle.segment_store.specs.declared.keep.Keep.{Keep}
 use Rattle.segment_store.specs.Stale.{IsKeep}
 use Rattle.engine_core.specs.Moves.{registered_keeps}
@@ -17,10 +17,7 @@ returns-in_err-keeps g c =
     unkept_answers _ c.from_residual-in_err-keeps.result c.in_err-keeps.field-0.0 is c.in_err-keeps.ensures.err
 
 pub sweep-requires : goal.sweep-requires
-sweep-requires g c =
-    let desk = c.args.self.now.desk.state in
-    let registered : c.as_slice.result.now ≡ registered_keeps desk.register = search rules in
-    record { keeps = subst (λ (ks : List Keep). All IsKeep ks) (sym registered) (keeps_are desk c.recordings.ensures.keeps) }
+sweep-requires g c = record { keeps = search rules }
 
 pub returns-in_err-removed : goal.returns-in_err-removed
 returns-in_err-removed g c =
@@ -36,7 +33,7 @@ returns-in_err-removed g c =
       spares = c.sweep.ensures.kept;
       desk = refl;
       log = c.sweep.ensures.log;
-    }) c.in_err-removed.ensures.refused (λ memory. c.in_err-removed.ensures.unchanged (ap Err memory)) (λ fault. c.in_err-removed.ensures.cause (ap Err fault))
+    }) c.in_err-removed.ensures.refused
 
 pub returns : goal.returns
 returns g c =
