@@ -1,7 +1,6 @@
 //! A folder that is only read: docs/STORAGE.md, "Looking at an archive".
 #![tactic(auto)]
 
-mod file_names;
 mod looked;
 pub mod read_folder;
 mod record;

@@ -8,14 +8,12 @@ ghost use Rattle.disk_core.specs.FileNames.{file_cmp};
 ghost use Rattle.host_disk.specs.Events.{Given, opened, measured, measure_failed, asked, gave, read_failed, listed, refused};
 ghost use Rattle.host_disk.specs.Faults.{after_list_fault};
 
-use crate::file_names::file_named;
 use crate::record::{Note, Record};
 use disk_core::{Fault, FileId, ListFault};
-use host_disk::{FailedCall, LastFault, OpenFault};
+use host_disk::{FailedCall, LastFault, OpenFault, files_in};
 use std::alloc::Global;
-use std::collections::BTreeSet;
 use std::fmt::Write;
-use std::fs::{self, DirEntry, File, OpenOptions};
+use std::fs::{self, File, OpenOptions};
 use std::io;
 use std::os::unix::fs::{FileExt, MetadataExt};
 use std::path::Path;
@@ -111,7 +109,7 @@ impl Looked {
             (λ files. events_of self.new ≡ listed files.items ∷ events_of self.old)
             (λ fault. events_of self.new ≡ after_list_fault fault (events_of self.old)) }
     {
-        match names_in(&self.rt, self.alloc, self.folder.as_str()) {
+        match files_in(&self.rt, self.alloc, self.folder.as_str()) {
             Ok(files) => {
                 self.record = self.record.then(&Note::Listed(&files));
                 Ok(files)
@@ -187,22 +185,14 @@ impl Looked {
 
 /// The path of a folder that is there, with a slash behind it. What is none is not opened: a pipe would wait.
 fn real_folder(rt: &HostRuntime, alloc: Global, path: Path<'_>) -> Result<String, OpenFault> {
-    let real = fs::canonicalize(rt, path).map_err(fault_of)?;
-    if !fs::metadata(rt, real.as_path()).map_err(fault_of)?.is_dir() {
+    let real = fs::canonicalize(rt, path).map_err(OpenFault::of)?;
+    if !fs::metadata(rt, real.as_path())
+        .map_err(OpenFault::of)?
+        .is_dir()
+    {
         return Err(OpenFault::NoFolder);
     }
     format!(in alloc; "{}/", real.display()).map_err(|_| OpenFault::NoMemory)
-}
-
-/// What the system's answer to its path says of a folder.
-fn fault_of(error: io::Error) -> OpenFault {
-    match error.kind() {
-        io::ErrorKind::NotFound => OpenFault::Missing,
-        io::ErrorKind::NotADirectory => OpenFault::NoFolder,
-        io::ErrorKind::PermissionDenied => OpenFault::Denied,
-        io::ErrorKind::OutOfMemory => OpenFault::NoMemory,
-        _ => OpenFault::Device,
-    }
 }
 
 /// Opens a file for reading, if it is there. Whatever else has its name is refused, and a link is not followed.
@@ -225,44 +215,4 @@ fn opened_file(rt: &HostRuntime, path: &str) -> io::Result<Option<File>> {
         return Err(io::ErrorKind::Unsupported.into());
     }
     Ok(Some(handle))
-}
-
-/// The files of a folder, in order.
-fn names_in(rt: &HostRuntime, alloc: Global, folder: &str) -> io::Result<Vec<FileId>>
-    ensures { IfOk result (λ files. IsStrictlySortedBy file_cmp files.items) }
-{
-    let mut found = BTreeSet::new(alloc);
-    for entry in fs::read_dir(rt, folder)? {
-        if let Some(file) = listed_file(alloc, entry)? {
-            if found.insert(file).is_err() {
-                return Err(io::ErrorKind::OutOfMemory.into());
-            }
-        }
-    }
-    in_order(alloc, &found)
-}
-
-/// The file of an entry of the folder, none for another name. What has a file's name must be a file.
-fn listed_file(
-    alloc: Global,
-    entry: io::Result<DirEntry<HostRuntime>>,
-) -> io::Result<Option<FileId>> {
-    let entry = match entry {
-        Ok(entry) => entry,
-        // A name that is no UTF-8 is no file's.
-        Err(error) if error.kind() == io::ErrorKind::InvalidFilename => return Ok(None),
-        Err(error) => return Err(error),
-    };
-    let named = file_named(alloc, entry.file_name())?;
-    if named.is_none() || entry.file_type()?.is_file() {
-        Ok(named)
-    } else {
-        Err(io::ErrorKind::Unsupported.into())
-    }
-}
-
-fn in_order(alloc: Global, files: &BTreeSet<FileId>) -> io::Result<Vec<FileId>>
-    ensures { IfOk result (λ files. IsStrictlySortedBy file_cmp files.items) }
-{
-    Ok(files.iter().copied().collect(alloc)?)
 }

@@ -4,6 +4,7 @@ pub mod Replay
 pub mod Lost
 pub mod Faults
 pub mod ArchiveFiles
+pub mod OpenFaults
 pub mod FolderDisk
 pub mod HostDisk
 -- what only private functions say, representation, and the proof of a law

@@ -19,3 +19,4 @@ pub use host_folder::HostFolder;
 pub use last_fault::{FailedCall, LastFault};
 pub use lost::Lost;
 pub use open_fault::OpenFault;
+pub use system::files_in;

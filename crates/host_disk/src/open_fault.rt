@@ -1,4 +1,8 @@
 //! Why a folder is not opened.
+ghost use Rattle.std.specs.Prelude.{◌≡◌};
+ghost use Rattle.std.specs.IoError.{error_kind};
+ghost use Rattle.host_disk.specs.OpenFaults.{open_fault_of};
+
 use std::io;
 use thiserror::Error;
 
@@ -27,7 +31,9 @@ pub enum OpenFault {
 
 impl OpenFault {
     /// What the system's answer to its path or its opening says of a folder.
-    pub(crate) fn of(error: io::Error) -> OpenFault {
+    pub fn of(error: io::Error) -> OpenFault
+        ensures { result ≡ open_fault_of (error_kind error) }
+    {
         match error.kind() {
             io::ErrorKind::NotFound => OpenFault::Missing,
             io::ErrorKind::NotADirectory => OpenFault::NoFolder,

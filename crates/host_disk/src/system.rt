@@ -360,7 +360,7 @@ pub(crate) fn list_files(
         (λ files. noted notes.new ≡ listed files.items ∷ noted notes.old)
         (λ fault. noted notes.new ≡ after_list_fault fault (noted notes.old)) }
 {
-    match names_in(rt, alloc, names.path()) {
+    match files_in(rt, alloc, names.path()) {
         Ok(files) => {
             notes.add(&Note::Listed(&files));
             Ok(files)
@@ -373,8 +373,9 @@ pub(crate) fn list_files(
     }
 }
 
-/// The files of a folder, in order.
-fn names_in(rt: &HostRuntime, alloc: Global, folder: &str) -> io::Result<Vec<FileId>>
+/// The files of an archive that a folder holds, in order. Another name is passed over; what has a file's name and is no file is
+/// refused by `Unsupported`, and want of memory by `OutOfMemory`. docs/STORAGE.md, "Files".
+pub fn files_in(rt: &HostRuntime, alloc: Global, folder: &str) -> io::Result<Vec<FileId>>
     ensures { IfOk result (λ files. IsStrictlySortedBy file_cmp files.items) }
 {
     let mut found = BTreeSet::new(alloc);
