@@ -1,12 +1,6 @@
 -- Recordings of an archive that is only looked at, verified one after another.
-use Rattle.std.proofs.Common.{◌≡◌, ◌∙◌, ◌≤◌, ◌+◌, ◌<◌, ◌++◌, refl, sym, ap, ap₂, subst, ℕ, ℤ, pos, Bool, true, false, IsTrue, List, [], ◌∷◌, length, take, get_or, Option, None, Some, arith}
-use Rattle.std.proofs.lemmas.List.{append-nil, length-append, length-take-le, take_all, take_more}
-use Rattle.std.proofs.lemmas.List.Concat.{flat_map-append}
-use Rattle.std.proofs.lemmas.List.Folds.{list_all-append}
-use Rattle.std.proofs.KnownBytes.{Appends-nil, Appends-trans, Appends-kept}
-use Rattle.std.specs.Io.KnownBytes.{Appends}
-use Rattle.std.specs.List.{AllZip, list_all}
-use Rattle.std.specs.Prelude.{Result, Ok, Err, IfErr, MatchResult, is_ok, ◌&&◌, if◌then◌else◌}
+use Rattle.std.proofs.Common.{◌≡◌, ◌∙◌, refl, sym, ap, subst, inl, inr, ℕ, suc, ℤ, Bool, IsTrue, List, [], ◌∷◌, length, take, Option, None, Some}
+use Rattle.std.specs.Prelude.{Result, Ok, Err, IfErr, MatchResult}
 use Rattle.frame_core.specs.declared.refusal.Refusal.{Refusal}
 use Rattle.disk_core.specs.DiskImage.{DiskImage, MayLeave, reads}
 use Rattle.disk_core.specs.Life.{Life}
@@ -21,11 +15,8 @@ use Rattle.tool_core.specs.declared.commands.CommandFault.{CommandFault}
 use Rattle.tool_core.specs.declared.commands.Stopped.{Stopped}
 use Rattle.tool_core.specs.declared.commands.Stopped.TheVariants as stops
 use Rattle.tool_core.specs.declared.fault.EarlyEnd.{EarlyEnd}
-use Rattle.tool_core.specs.declared.fault.EarlyEnd.TheVariants as ends
 use Rattle.tool_core.specs.declared.reports.Verdict.{Verdict}
-use Rattle.tool_core.specs.declared.reports.Verdict.TheVariants.{Whole, Refused}
-use Rattle.tool_core.specs.Answering.{FailsToAnswer, outcome_text}
-use Rattle.tool_core.specs.Reports.{IsWrittenBefore, outcomes_text}
+use Rattle.tool_core.specs.Reports.{HasReported, HasReportedFirst, InTurn, InTurnAndOne}
 use Rattle.archive_view.specs.declared.read_only.ReadOnly.{ReadOnly}
 use Rattle.archive_view.specs.declared.view.ArchiveView.{ArchiveView}
 use Rattle.archive_view.specs.ReadOnly.{IsOnlyRead, Looks, Refuses, disk_of}
@@ -36,17 +27,8 @@ use Rattle.archive_view.specs.Viewed.{desk_of, read_of}
 use Rattle.archive_view.specs.Asked.{Answers, HasAsked}
 use Rattle.archive_report.specs.Describing.{IsLookedOn}
 use Rattle.archive_report.specs.Viewing.{FailsToList, IsUnviewedBy, inner}
-use Rattle.archive_report.specs.Verifying.{FailsToVerify, Tells, VerifiesAll, VerifiesEach, VerifiesFirst, VerifiesOne, ids_of}
-
-and-true : (b : Bool) → (b && true) ≡ b
-and-true true = refl
-and-true false = refl
-
-each_more : (R : ℤ → Result Reply Refusal → Type 0) (ids : List ℤ) (outcomes : List (Result Reply Refusal)) (id : ℤ) (outcome : Result Reply Refusal) → AllZip R ids outcomes → R id outcome → AllZip R (ids ++ id ∷ []) (outcomes ++ outcome ∷ [])
-each_more R [] [] id o all one = (one, tt)
-each_more R [] (p ∷ os) id o all one = absurd all
-each_more R (i ∷ ids) [] id o all one = absurd all
-each_more R (i ∷ ids) (p ∷ os) id o all one = (all.0, each_more R ids os id o all.1 one)
+use Rattle.archive_report.specs.declared.verify.Seen.{Seen}
+use Rattle.archive_report.specs.Verifying.{FailsToVerify, TellEach, Tells, VerifiesEach, seen_verifies}
 
 -- ---- a disk that is only read
 
@@ -91,19 +73,17 @@ module _ {D : Type 0} (life : D → Life) where
         each = λ obeys. (subst (λ (o : Result Reply Refusal). Tells (reads (inner life old).now) (registration_in (desk_of old).register id) o) (sym is) (told.1 obeys), tt);
       }
 
-  -- one more
-  pub more : (old mid new : ArchiveView D) (ids : List ℤ) (outcomes : List (Result Reply Refusal)) (id : ℤ) (outcome : Result Reply Refusal) → VerifiesEach life old mid ids outcomes → VerifiesEach life mid new (id ∷ []) (outcome ∷ [])
-      → VerifiesEach life old new (ids ++ id ∷ []) (outcomes ++ outcome ∷ [])
-  more old mid new ids outcomes id outcome so_far last = record {
-    inside = read_on (inner life old) (inner life mid) (inner life new) so_far.inside last.inside;
-    same = last.same ∙ so_far.same;
-    desk = last.desk ∙ so_far.desk;
-    total = let same = so_far.total in length-append outcomes (outcome ∷ []) ∙ ap (λ n. n + 1) same ∙ sym (length-append ids (id ∷ []));
+  -- one before the others
+  before : (old mid new : ArchiveView D) (id : ℤ) (ids : List ℤ) (outcome : Result Reply Refusal) (outcomes : List (Result Reply Refusal)) → VerifiesEach life old mid (id ∷ []) (outcome ∷ []) → VerifiesEach life mid new ids outcomes
+      → VerifiesEach life old new (id ∷ ids) (outcome ∷ outcomes)
+  before old mid new id ids outcome outcomes first rest = record {
+    inside = read_on (inner life old) (inner life mid) (inner life new) first.inside rest.inside;
+    same = rest.same ∙ first.same;
+    desk = rest.desk ∙ first.desk;
+    total = ap suc rest.total;
     each = λ obeys.
-        let here = (last.each obeys).0 in
-        let there = subst (λ (d : DeskState). Tells (reads (inner life mid).now) (registration_in d.register id) outcome) so_far.desk here in
-        each_more (λ id outcome. Tells (reads (inner life old).now) (registration_in (desk_of old).register id) outcome) ids outcomes id outcome (so_far.each (last.inside.obeyed obeys))
-        (subst (λ (image : DiskImage). Tells image (registration_in (desk_of old).register id) outcome) so_far.same there);
+        let there = subst (λ (d : DeskState). TellEach (reads (inner life mid).now) d.register ids outcomes) first.desk (rest.each obeys) in
+        ((first.each (rest.inside.obeyed obeys)).0, subst (λ (image : DiskImage). TellEach image (desk_of old).register ids outcomes) first.same there);
   }
 
   -- a later view, of whose call no answer was written
@@ -117,76 +97,25 @@ module _ {D : Type 0} (life : D → Life) where
     each = λ obeys. so_far.each (last.inside.obeyed obeys);
   }
 
-  -- ---- the loop
+  -- ---- in turn
 
-  -- the first so many recordings were verified, and the answers are written
-  pub record HasCome (old now : ArchiveView D) (ids : List ℤ) (count : ℕ) (contents written : Option (List ℕ)) (is_whole : Bool) : Type 0 where
-    pub outcomes : List (Result Reply Refusal)
-    pub answers : VerifiesEach life old now (take count ids) outcomes
-    pub told : Appends contents written (outcomes_text outcomes)
-    pub judged : is_whole ≡ list_all is_ok outcomes
+  in_turn : (old new : Seen D) (ids : List ℤ) (outcomes : List (Result Reply Refusal)) → InTurn (seen_verifies life) old new ids outcomes → VerifiesEach life old.view new.view ids outcomes
+  in_turn old new [] [] is = subst (λ (s : Seen D). VerifiesEach life old.view s.view [] []) (sym is) (none_yet old.view)
+  in_turn old new (id ∷ ids) (o ∷ os) (mid, first, turn) = before old.view mid.view new.view id ids o os first (in_turn mid new ids os turn)
+  in_turn old new [] (o ∷ os) turn = absurd turn
+  in_turn old new (id ∷ ids) [] turn = absurd turn
 
-  pub begun : (view : ArchiveView D) (ids : List ℤ) (contents : Option (List ℕ)) → HasCome view view ids 0 contents contents true
-  begun view ids contents = record { outcomes = []; answers = none_yet view; told = Appends-nil contents; judged = refl }
+  and_one : (old new : Seen D) (ids : List ℤ) (outcomes : List (Result Reply Refusal)) → InTurnAndOne (seen_verifies life) old new ids outcomes → VerifiesEach life old.view new.view ids outcomes
+  and_one old new ids os (mid, turn, inl is) = subst (λ (s : Seen D). VerifiesEach life old.view s.view ids os) (sym is) (in_turn old mid ids os turn)
+  and_one old new ids os (mid, turn, inr (id, outcome, last)) = later old.view mid.view new.view ids os id outcome (in_turn old mid ids os turn) last
 
-  pub next : (old mid new : ArchiveView D) (ids : List ℤ) (count : ℕ) (id : ℤ) (contents written final : Option (List ℕ)) (is_whole is_verified : Bool) → count < length ids → id ≡ get_or ids count (pos 0)
-      → HasCome old mid ids count contents written is_whole → VerifiesOne life mid new id written final (Ok is_verified)
-      → HasCome old new ids (count + 1) contents final (is_whole && is_verified)
-  next old mid new ids count id contents written final is_whole is_verified lt is come last = record {
-    outcomes = come.outcomes ++ last.outcome ∷ [];
-    answers = subst (λ l. VerifiesEach life old new l (come.outcomes ++ last.outcome ∷ [])) taken (more old mid new (take count ids) come.outcomes id last.outcome come.answers last.answers);
-    told = subst (λ text. Appends contents final text) text (Appends-trans contents written final (outcomes_text come.outcomes) (outcome_text last.outcome) come.told last.told.0);
-    judged = judged;
-  }
-    where
-      taken : take count ids ++ id ∷ [] ≡ take (count + 1) ids
-      taken = ap (λ (i : ℤ). take count ids ++ i ∷ []) is ∙ sym (take_more ids count (pos 0) lt)
+  pub verified : (ids : List ℤ) (old new : Seen D) (contents written : Option (List ℕ)) (verdict : Verdict) → HasReported (InTurn (seen_verifies life)) ids old new contents written verdict
+      → HasReported (VerifiesEach life) ids old.view new.view contents written verdict
+  verified ids old new contents written verdict did = record { outcomes = did.outcomes; answers = in_turn old new ids did.outcomes did.answers; told = did.told; judged = did.judged }
 
-      text : outcomes_text come.outcomes ++ outcome_text last.outcome ≡ outcomes_text (come.outcomes ++ last.outcome ∷ [])
-      text = ap (λ l. outcomes_text come.outcomes ++ l) (sym (append-nil (outcome_text last.outcome))) ∙ sym (flat_map-append outcome_text come.outcomes (last.outcome ∷ []))
-
-      judged : (is_whole && is_verified) ≡ list_all is_ok (come.outcomes ++ last.outcome ∷ [])
-      judged = ap₂ (λ (a b : Bool). a && b) come.judged (last.told.1 ∙ sym (and-true (is_ok last.outcome))) ∙ sym (list_all-append is_ok come.outcomes (last.outcome ∷ []))
-
-  -- all are verified
-  pub at_end : (old new : ArchiveView D) (ids : List ℤ) (count : ℕ) (contents written : Option (List ℕ)) (is_whole : Bool) (verdict : Verdict) → ids ≡ ids_of (desk_of old) → length ids ≤ count
-      → HasCome old new ids count contents written is_whole → verdict ≡ (if is_whole then Whole else Refused) → VerifiesAll life old new contents written verdict
-  at_end old new ids count contents written is_whole verdict are all come judged = record {
-    outcomes = come.outcomes;
-    answers = subst (λ l. VerifiesEach life old new l come.outcomes) (take_all count ids all ∙ are) come.answers;
-    told = come.told;
-    judged = judged ∙ ap (λ (b : Bool). if b then Whole else Refused) come.judged;
-  }
-
-  -- the answer to one was not written
-  pub at_fault : (old mid new : ArchiveView D) (ids : List ℤ) (count : ℕ) (id : ℤ) (contents written final : Option (List ℕ)) (is_whole : Bool) (end : EarlyEnd) → ids ≡ ids_of (desk_of old) → count < length ids
-      → HasCome old mid ids count contents written is_whole → VerifiesOne life mid new id written final (Err end) → VerifiesFirst life old new contents final end
-  at_fault old mid new ids count id contents written final is_whole end are lt come last = record {
-    outcomes = come.outcomes;
-    answers = subst (λ l. VerifiesEach life old new l come.outcomes) same (later old mid new (take count ids) come.outcomes id last.outcome come.answers last.answers);
-    told = by end last.told;
-  }
-    where
-      same : take count ids ≡ take (length come.outcomes) (ids_of (desk_of old))
-      same = ap (λ (n : ℕ). take n ids) (sym (come.answers.total ∙ length-take-le count ids (omega (arith, lt)))) ∙ ap (take (length come.outcomes)) are
-
-      by : (end : EarlyEnd) → FailsToAnswer end written final → IsWrittenBefore end contents final (outcomes_text come.outcomes)
-      by ends.Read told = absurd told
-      by ends.Memory told = Appends-kept contents written final (outcomes_text come.outcomes) come.told told
-      by ends.Write told = tt
-
-  -- there is no list of ids
-  pub at_start : (view : ArchiveView D) (contents : Option (List ℕ)) → VerifiesFirst life view view contents contents ends.Memory
-  at_start view contents = record { outcomes = []; answers = none_yet view; told = Appends-nil contents }
-
-  -- what is written of one answer
-  pub told_one : (old new : ArchiveView D) (id : ℤ) (contents written : Option (List ℕ)) (outcome : Result Reply Refusal) → VerifiesEach life old new (id ∷ []) (outcome ∷ []) → Appends contents written (outcome_text outcome)
-      → (is_verified : Bool) → is_verified ≡ is_ok outcome → VerifiesOne life old new id contents written (Ok is_verified)
-  told_one old new id contents written outcome answers told is_verified is = record { outcome = outcome; answers = answers; told = (told, is) }
-
-  pub untold_one : (old new : ArchiveView D) (id : ℤ) (contents written : Option (List ℕ)) (outcome : Result Reply Refusal) (end : EarlyEnd) → VerifiesEach life old new (id ∷ []) (outcome ∷ []) → FailsToAnswer end contents written
-      → VerifiesOne life old new id contents written (Err end)
-  untold_one old new id contents written outcome end answers fails = record { outcome = outcome; answers = answers; told = fails }
+  pub verified_first : (ids : List ℤ) (old new : Seen D) (contents written : Option (List ℕ)) (end : EarlyEnd) → HasReportedFirst (InTurnAndOne (seen_verifies life)) ids old new contents written end
+      → HasReportedFirst (VerifiesEach life) ids old.view new.view contents written end
+  verified_first ids old new contents written end did = record { outcomes = did.outcomes; answers = and_one old new (take (length did.outcomes) ids) did.outcomes did.answers; told = did.told }
 
 -- ---- archives that are not seen
 

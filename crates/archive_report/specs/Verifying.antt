@@ -1,7 +1,6 @@
 -- What `verify` tells of an archive that is only looked at.
-use Rattle.std.specs.Prelude.{◌≡◌, ℕ, ℤ, Bool, true, IsTrue, List, [], ◌∷◌, length, map, take, Option, None, Some, Result, Ok, Err, MatchResult, is_ok}
+use Rattle.std.specs.Prelude.{◌≡◌, ℕ, ℤ, true, IsTrue, List, [], ◌∷◌, length, Option, None, Some, Result, Ok, Err}
 use Rattle.std.specs.List.{AllZip}
-use Rattle.std.specs.Io.KnownBytes.{Appends}
 use Rattle.frame_core.specs.declared.refusal.Refusal.{Refusal}
 use Rattle.frame_core.specs.declared.refusal.Refusal.TheVariants.{UnknownRecording}
 use Rattle.disk_core.specs.DiskImage.{DiskImage, reads}
@@ -9,19 +8,19 @@ use Rattle.disk_core.specs.Life.{Life}
 use Rattle.archive_model.specs.declared.registration.Registration.{Registration}
 use Rattle.archive_model.specs.declared.reply.Reply.{Reply}
 use Rattle.archive_model.specs.declared.reply.Reply.TheVariants.{Verified}
-use Rattle.archive_model.specs.Register.{RegisterState, id_of, registration_in}
+use Rattle.archive_model.specs.Register.{RegisterState, registration_in}
 use Rattle.control_core.specs.Desk.{DeskState}
 use Rattle.engine_core.specs.Reading.{RefusesCount}
 use Rattle.tool_core.specs.declared.commands.Stopped.{Stopped}
 use Rattle.tool_core.specs.declared.commands.Stopped.TheVariants.{Refused, Cut}
 use Rattle.tool_core.specs.declared.fault.EarlyEnd.{EarlyEnd}
 use Rattle.tool_core.specs.declared.reports.Verdict.{Verdict}
-use Rattle.tool_core.specs.Answering.{FailsToAnswer, outcome_text}
-use Rattle.tool_core.specs.Reports.{IsWrittenBefore, outcomes_text, verdict_of}
+use Rattle.tool_core.specs.Reports.{HasReported, HasReportedFirst, Verification, ids_in}
 use Rattle.archive_view.specs.declared.view.ArchiveView.{ArchiveView}
 use Rattle.archive_view.specs.ReadOnly.{IsOnlyRead}
 use Rattle.archive_view.specs.View.{HasFrames}
 use Rattle.archive_view.specs.Viewed.{desk_of}
+use Rattle.archive_report.specs.declared.verify.Seen.{Seen}
 use Rattle.archive_report.specs.Viewing.{IsUnviewedBy, ShowsDesk, inner}
 
 -- what is answered of a recording on such an image
@@ -36,9 +35,9 @@ Tells image (Some g) (Err refusal) = RefusesCount true image g refusal
 abbrev pub TellEach : DiskImage → RegisterState → List ℤ → List (Result Reply Refusal) → Type 0
 TellEach image g ids outcomes = AllZip (λ id outcome. Tells image (registration_in g id) outcome) ids outcomes
 
--- the ids of a desk's recordings
-abbrev pub ids_of : DeskState → List ℤ
-ids_of desk = map id_of desk.register.recordings
+-- what is known of an archive that was seen
+abbrev pub desk_seen : {D : Type 0} → Seen D → DeskState
+desk_seen seen = desk_of seen.view
 
 module _ {D : Type 0} (life : D → Life) where
   -- Each of these recordings was verified; the disk was only read, and reads as before.
@@ -49,40 +48,23 @@ module _ {D : Type 0} (life : D → Life) where
     pub total : length outcomes ≡ length ids
     pub each : IsTrue (inner life new).obeys → TellEach (reads (inner life old).now) (desk_of old).register ids outcomes
 
-  -- one was; what is written of the answer, and whether it is a reply
-  pub record VerifiesOne (old new : ArchiveView D) (id : ℤ) (contents written : Option (List ℕ)) (result : Result Bool EarlyEnd) : Type 0 where
-    pub outcome : Result Reply Refusal
-    pub answers : VerifiesEach old new (id ∷ []) (outcome ∷ [])
-    pub told : MatchResult result
-        (λ is_verified. Appends contents written (outcome_text outcome) × (is_verified ≡ is_ok outcome))
-        (λ end. FailsToAnswer end contents written)
-
-  -- all were, and the answers are written
-  pub record VerifiesAll (old new : ArchiveView D) (contents written : Option (List ℕ)) (verdict : Verdict) : Type 0 where
-    pub outcomes : List (Result Reply Refusal)
-    pub answers : VerifiesEach old new (ids_of (desk_of old)) outcomes
-    pub told : Appends contents written (outcomes_text outcomes)
-    pub judged : verdict ≡ verdict_of outcomes
-
-  -- the first were
-  pub record VerifiesFirst (old new : ArchiveView D) (contents written : Option (List ℕ)) (end : EarlyEnd) : Type 0 where
-    pub outcomes : List (Result Reply Refusal)
-    pub answers : VerifiesEach old new (take (length outcomes) (ids_of (desk_of old))) outcomes
-    pub told : IsWrittenBefore end contents written (outcomes_text outcomes)
+  -- a recording of an archive that was seen is verified
+  abbrev pub seen_verifies : Verification (Seen D)
+  seen_verifies old id outcome new = VerifiesEach old.view new.view (id ∷ []) (outcome ∷ [])
 
   -- the archive was seen, and then each of its recordings; behind that the disk was at most read
   pub record HasVerified (old new : Life) (contents written : Option (List ℕ)) (verdict : Verdict) : Type 0 where
     pub seen : ArchiveView D
     pub shown : ShowsDesk old (inner life seen) (desk_of seen)
     pub last : ArchiveView D
-    pub verified : VerifiesAll seen last contents written verdict
+    pub verified : HasReported VerifiesEach (ids_in (desk_of seen)) seen last contents written verdict
     pub left : IsOnlyRead (inner life last) new
 
   pub record HasVerifiedFirst (old new : Life) (contents written : Option (List ℕ)) (end : EarlyEnd) : Type 0 where
     pub seen : ArchiveView D
     pub shown : ShowsDesk old (inner life seen) (desk_of seen)
     pub last : ArchiveView D
-    pub verified : VerifiesFirst seen last contents written end
+    pub verified : HasReportedFirst VerifiesEach (ids_in (desk_of seen)) seen last contents written end
     pub left : IsOnlyRead (inner life last) new
 
   -- it was not seen, and nothing is written; or it was

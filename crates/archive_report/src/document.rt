@@ -1,7 +1,6 @@
 //! An archive as one JSON text. docs/CONTROL.md, "A page for people".
 
 use crate::dates::Date;
-use crate::page::is_unknown;
 use crate::summary::{Staleness, Summary, recorded_bytes};
 use archive_model::Registration;
 use control_core::Desk;
@@ -17,7 +16,7 @@ pub(crate) fn document_of(
     let total = summary.of_all();
     let recordings = recordings_of(alloc, desk, summary)?;
     let stale = stale_of(alloc, desk, summary)?;
-    let unknown = unknown_of(alloc, desk, summary)?;
+    let unknown = unknown_of(alloc, summary)?;
     let document = json!(in alloc; {
         "recordings": recordings,
         "stale_files": stale,
@@ -93,12 +92,10 @@ fn stale_of(alloc: Global, desk: &Desk, summary: &Summary) -> Result<Value, Allo
 }
 
 /// Each file that no recording knows.
-fn unknown_of(alloc: Global, desk: &Desk, summary: &Summary) -> Result<Value, AllocError> {
+fn unknown_of(alloc: Global, summary: &Summary) -> Result<Value, AllocError> {
     let mut found = Vec::new(alloc);
-    for measured in summary.files.as_slice() {
-        if is_unknown(desk, &measured.file) {
-            found.push(Value::String(measured.file.name(alloc)?))?;
-        }
+    for file in summary.unknown.as_slice() {
+        found.push(Value::String(file.name(alloc)?))?;
     }
     Ok(Value::Array(found))
 }

@@ -15,5 +15,5 @@ mod viewing;
 pub use describe::{Form, describe_archive};
 pub use export::export_view;
 pub use list::list_view;
-pub use progress::{ExportObserver, ExportProgress, ExportTeller, Extent};
+pub use progress::{ExportObserver, ExportTeller, Extent};
 pub use verify::{Finding, verify_view};

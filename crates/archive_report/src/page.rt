@@ -4,7 +4,6 @@ use crate::dates::Date;
 use crate::summary::{Staleness, Summary, recorded_bytes};
 use archive_model::Registration;
 use control_core::Desk;
-use disk_core::FileId;
 use std::alloc::{AllocError, Global};
 
 /// The page: a part for each recording, and then one for the archive. An error where there is no memory for it.
@@ -19,7 +18,9 @@ pub(crate) fn page_of(alloc: Global, desk: &Desk, summary: &Summary) -> Result<S
         let why = Staleness::of(desk, file).text();
         writeln!(page, "stale      {file}: {why}")?;
     }
-    add_unknown(desk, summary, &mut page)?;
+    for file in summary.unknown.as_slice() {
+        writeln!(page, "unknown    {file}")?;
+    }
     Ok(page)
 }
 
@@ -86,22 +87,4 @@ fn add_totals(desk: &Desk, summary: &Summary, page: &mut String) -> Result<(), A
         desk.counted(),
         desk.limit()
     )
-}
-
-/// The files that no recording knows.
-fn add_unknown(desk: &Desk, summary: &Summary, page: &mut String) -> Result<(), AllocError> {
-    for found in summary.files.as_slice() {
-        if is_unknown(desk, &found.file) {
-            writeln!(page, "unknown    {}", found.file)?;
-        }
-    }
-    Ok(())
-}
-
-/// Whether a file is a segment of no recording that the archive has, or ever had.
-pub(crate) fn is_unknown(desk: &Desk, file: &FileId) -> bool {
-    match file {
-        FileId::BankA | FileId::BankB => false,
-        FileId::Segment { recording, .. } => *recording >= desk.next_recording(),
-    }
 }

@@ -7,7 +7,7 @@ use archive_view::ArchiveView;
 use control_core::Desk;
 use disk_core::{Disk, FileId};
 use frame_core::Refusal;
-use std::alloc::Global;
+use std::alloc::{AllocError, Global};
 
 /// A file with its length in bytes.
 #[derive(Clone, Copy, Debug)]
@@ -23,6 +23,8 @@ pub(crate) struct Summary {
     pub files: Vec<Measured>,
     /// The segment files that a sweep would remove.
     pub stale: Vec<FileId>,
+    /// The segment files of no recording that the archive has, or ever had.
+    pub unknown: Vec<FileId>,
 }
 
 /// How many files there are, and how many bytes they have on the disk.
@@ -89,7 +91,12 @@ impl Summary {
         let stale = view.stale_files(alloc)?;
         let files = view.files()?;
         let files = lengths_of(alloc, view, &files)?;
-        Ok(Summary { files, stale })
+        let unknown = unknown_among(alloc, view, files.as_slice())?;
+        Ok(Summary {
+            files,
+            stale,
+            unknown,
+        })
     }
 
     /// How many segment files a recording has, and how many bytes.
@@ -143,4 +150,19 @@ fn lengths_of<D: Disk>(
         found.push(Measured { file: *file, bytes })?;
     }
     Ok(found)
+}
+
+/// Those of these files that no recording knows.
+fn unknown_among<D: Disk>(
+    alloc: Global,
+    view: &ArchiveView<D>,
+    files: &[Measured],
+) -> Result<Vec<FileId>, AllocError> {
+    let mut unknown = Vec::new(alloc);
+    for found in files {
+        if view.is_unknown(&found.file) {
+            unknown.push(found.file)?;
+        }
+    }
+    Ok(unknown)
 }

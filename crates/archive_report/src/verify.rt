@@ -1,19 +1,21 @@
 //! What `verify --read-only` tells of an archive. docs/CONTROL.md, "Looking without a change".
 
-ghost use Rattle.std.specs.Prelude.{◌≡◌, ◌∷◌, [], IfErr, IfOk, IsTrue, map};
-ghost use Rattle.archive_model.specs.Register.{id_of};
+ghost use Rattle.std.specs.Prelude.{◌≡◌, IfErr, IfOk, IsTrue};
 ghost use Rattle.archive_view.specs.ReadOnly.{IsOnlyRead};
 ghost use Rattle.archive_report.specs.Viewing.{inner};
-ghost use Rattle.archive_report.specs.Verifying.{FailsToVerify, HasVerified, VerifiesAll, VerifiesEach, VerifiesFirst, VerifiesOne};
+ghost use Rattle.archive_report.specs.Verifying.{FailsToVerify, HasVerified, desk_seen, seen_verifies};
 
 use crate::viewing::viewed;
-use archive_model::{Registration, Reply};
+use archive_model::Reply;
 use archive_view::ArchiveView;
+use control_core::Desk;
 use disk_core::Disk;
 use frame_core::Refusal;
-use std::alloc::{AllocError, Global};
+use std::alloc::Global;
 use std::io::Write;
-use tool_core::{CommandFault, EarlyEnd, Observer, Stopped, Verdict, write_outcome};
+use tool_core::{
+    CommandFault, EarlyEnd, Observer, Stopped, Verdict, Verifiable, verify_recordings,
+};
 
 /// What the verifying of an archive found.
 #[derive(Clone, Copy, Debug, PartialEq, Eq)]
@@ -23,6 +25,27 @@ pub struct Finding {
     /// One was not, and the catalogue has moved meanwhile: the archive is being written, and what was told of it may be of
     /// no moment at all.
     pub is_moving: bool,
+}
+
+/// An archive that was seen, whose recordings can be verified.
+#[derive(Drop)]
+struct Seen<D> {
+    view: ArchiveView<D>,
+}
+
+impl<D: Disk> Verifiable for Seen<D> {
+    ghost desk_of = { desk_seen };
+
+    ghost verifies = { seen_verifies D.life };
+
+    fn desk(&self) -> &Desk {
+        self.view.desk()
+    }
+
+    fn verify(&mut self, alloc: Global, recording: &i64) -> Result<Reply, Refusal> {
+        let frames = self.view.verify(alloc, recording)?;
+        Ok(Reply::Verified { frames })
+    }
 }
 
 /// Verifies each recording of the archive of a disk as it stands, by rising id, and writes the answer to each:
@@ -44,8 +67,10 @@ pub fn verify_view<W: Write, D: Disk, O: Observer>(
     ensures fault { IfErr result (λ fault. FailsToVerify D.life (D.life disk) fault.disk fault.why
         (W.contents writer.old) (W.contents writer.new)) }
 {
-    let mut view = viewed(alloc, disk, observer)?;
-    let outcome = verify_each(alloc, &mut view, writer, observer);
+    let view = viewed(alloc, disk, observer)?;
+    let mut seen = Seen { view };
+    let outcome = verify_recordings(alloc, &mut seen, writer, observer);
+    let mut view = seen.view;
     let is_moving = is_moving(alloc, &mut view, &outcome);
     let disk = view.into_disk().into_disk();
     match outcome {
@@ -70,69 +95,4 @@ fn is_moving<D: Disk>(
         Ok(Verdict::Refused) => view.has_moved(alloc).unwrap_or(true),
         _ => false,
     }
-}
-
-/// Verifies each recording of an archive, by rising id, and writes the answer to each.
-fn verify_each<W: Write, D: Disk, O: Observer>(
-    alloc: Global,
-    view: &mut ArchiveView<D>,
-    writer: &mut W,
-    observer: &mut O,
-) -> Result<Verdict, EarlyEnd>
-    ensures whole { IfOk result
-        (VerifiesAll D.life view.old view.new (W.contents writer.old) (W.contents writer.new)) }
-    ensures early { IfErr result
-        (VerifiesFirst D.life view.old view.new (W.contents writer.old) (W.contents writer.new)) }
-{
-    let ids = ids_of(alloc, view.desk().recordings())?;
-    let mut is_whole = true;
-    for id in ids.as_slice() {
-        let is_verified = report(alloc, view, id, writer, observer)?;
-        is_whole = is_whole && is_verified;
-    }
-    Ok(if is_whole {
-        Verdict::Whole
-    } else {
-        Verdict::Refused
-    })
-}
-
-/// The ids of recordings.
-fn ids_of(alloc: Global, recordings: &[Registration]) -> Result<Vec<i64>, AllocError>
-    ensures { IfOk result (λ ids. ids.items ≡ map id_of recordings.now) }
-{
-    recordings
-        .iter()
-        .map(|known| known.descriptor.recording)
-        .collect(alloc)
-}
-
-/// Verifies a recording, writes the answer, and says whether it was verified.
-fn report<W: Write, D: Disk, O: Observer>(
-    alloc: Global,
-    view: &mut ArchiveView<D>,
-    recording: &i64,
-    writer: &mut W,
-    observer: &mut O,
-) -> Result<bool, EarlyEnd>
-    ensures { VerifiesOne D.life view.old view.new recording.now (W.contents writer.old) (W.contents writer.new) result }
-{
-    let outcome = verify(alloc, view, recording);
-    if let Some(known) = view.desk().recording(recording) {
-        observer.verified(known, &outcome);
-    }
-    write_outcome(alloc, &outcome, writer)?;
-    Ok(outcome.is_ok())
-}
-
-/// Verifies a recording.
-fn verify<D: Disk>(
-    alloc: Global,
-    view: &mut ArchiveView<D>,
-    recording: &i64,
-) -> Result<Reply, Refusal>
-    ensures { VerifiesEach D.life view.old view.new (recording.now ∷ []) (result ∷ []) }
-{
-    let frames = view.verify(alloc, recording)?;
-    Ok(Reply::Verified { frames })
 }

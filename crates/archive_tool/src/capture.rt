@@ -8,14 +8,14 @@ use crate::outlet::Outlet;
 use crate::reason::Reason;
 use crate::status::Ending;
 use archive_export::Span;
-use archive_report::{ExportProgress, ExportTeller, Extent, export_view};
+use archive_report::{ExportTeller, Extent, export_view};
 use folder_view::ReadFolder;
 use frame_core::Refusal;
 use std::cell::Cell;
 use std::fs::{self, File};
 use std::io::{self, BufWriter, ErrorKind, IsTerminal, Write};
 use std::path::Path;
-use tool_core::{CommandFault, EarlyEnd, OpeningProgress, Screen, Stopped, Watched};
+use tool_core::{CommandFault, EarlyEnd, OpeningProgress, Progress, Screen, Stopped, Watched};
 
 /// Bytes that are written at once.
 const BUFFER: usize = 65_536;
@@ -27,7 +27,7 @@ type Folder<'a> = Watched<
     ReadFolder,
     (
         Option<OpeningProgress<'a, HostRuntime>>,
-        Option<ExportProgress<'a, HostRuntime>>,
+        Option<Progress<'a, HostRuntime, &'a Extent>>,
     ),
 >;
 
@@ -50,7 +50,7 @@ pub(crate) fn export<W: Write>(
     writer: &mut W,
 ) -> Result<(), Ended> {
     let screen = Screen::new(&rt);
-    let extent = Cell::new(None);
+    let extent = Extent::unknown();
     let disk = folder_of(rt, folder)?;
     keep_apart(rt, folder, pcap)?;
     let disk = Watched::new(
@@ -193,10 +193,10 @@ fn unwritten(error: Option<io::Error>) -> Ended {
 fn progress_of<'a>(
     rt: &'a HostRuntime,
     screen: &'a Screen<'a, HostRuntime>,
-    extent: &'a Cell<Option<Extent>>,
-) -> Option<ExportProgress<'a, HostRuntime>> {
+    extent: &'a Extent,
+) -> Option<Progress<'a, HostRuntime, &'a Extent>> {
     if rt.stderr().is_terminal() {
-        Some(ExportProgress::new(rt, screen, extent))
+        Some(Progress::new(rt, screen, extent))
     } else {
         None
     }

@@ -23,9 +23,9 @@ use std::rt::Clock;
 use std::sync::Wait;
 use std::thread::Threads;
 use tool_core::{
-    CommandFault, Listing, OpeningProgress, Progress, Screen, Stage, Stopped, Unobserved, Verdict,
-    Watched, compact_archive, create_archive, list_archive, list_frames, run_script,
-    verify_archive,
+    CommandFault, ListedFiles, Listing, OpeningProgress, Progress, Screen, Stage, Stopped,
+    Unobserved, Verdict, Watched, compact_archive, create_archive, list_archive, list_frames,
+    run_script, verify_archive,
 };
 
 /// Does what a command asks for, hands on what it writes, and answers how that ended.
@@ -273,9 +273,10 @@ pub(crate) fn progress_of<'a, D: Disk>(
     rt: &'a HostRuntime,
     screen: &'a Screen<'a, HostRuntime>,
     disk: &mut D,
-) -> Option<Progress<'a, HostRuntime>> {
+) -> Option<Progress<'a, HostRuntime, ListedFiles>> {
     if rt.stderr().is_terminal() {
-        Progress::of(rt.alloc(), rt, screen, disk)
+        let files = ListedFiles::of(rt.alloc(), disk)?;
+        Some(Progress::new(rt, screen, files))
     } else {
         None
     }

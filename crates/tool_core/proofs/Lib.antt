@@ -19,6 +19,7 @@ mod ScriptLemmas
 mod WholeLemmas
 mod GoingOnLemmas
 mod ReportLemmas
+mod VerifiedLemmas
 mod QuietLemmas
 mod StoredLemmas
 mod FrameLinesLemmas

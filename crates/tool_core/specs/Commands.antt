@@ -18,7 +18,7 @@ use Rattle.tool_core.specs.declared.fault.EarlyEnd.TheVariants as ends
 use Rattle.tool_core.specs.declared.reports.Verdict.{Verdict}
 use Rattle.tool_core.specs.Answering.{FailsToAnswer}
 use Rattle.tool_core.specs.Archives.{HasCompacted, HasNotCompacted}
-use Rattle.tool_core.specs.Reports.{HasReported, HasReportedFirst, life_in}
+use Rattle.tool_core.specs.Reports.{AnswersEach, HasReported, HasReportedFirst, desk_in, ids_in, life_in}
 
 -- the reply of the line `list 0 1024` over an engine's recordings
 abbrev pub list_text : {D : Type 0} → Engine D → List ℕ
@@ -87,7 +87,7 @@ module _ {D : Type 0} (life : D → Life) where
     pub opened : Engine D
     pub opens : IsOpenedBy old opened
     pub last : Engine D
-    pub reported : HasReported life opened last contents written verdict
+    pub reported : HasReported (AnswersEach life) (ids_in (desk_in opened)) opened last contents written verdict
     pub left : new ≡ life_in life last
 
   -- the first of them were
@@ -95,7 +95,7 @@ module _ {D : Type 0} (life : D → Life) where
     pub opened : Engine D
     pub opens : IsOpenedBy old opened
     pub last : Engine D
-    pub reported : HasReportedFirst life opened last contents written end
+    pub reported : HasReportedFirst (AnswersEach life) (ids_in (desk_in opened)) opened last contents written end
     pub left : new ≡ life_in life last
 
   -- it was not opened, and nothing is written; or it was

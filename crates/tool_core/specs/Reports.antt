@@ -1,5 +1,5 @@
 -- What `verify` tells of an archive: docs/CONTROL.md, "The program".
-use Rattle.std.specs.Prelude.{◌≡◌, ℕ, ℤ, Bool, IsTrue, List, [], ◌∷◌, length, map, take, Option, Result, MatchResult, is_ok, if◌then◌else◌}
+use Rattle.std.specs.Prelude.{◌≡◌, ◌⊎◌, ℕ, ℤ, Bool, IsTrue, List, [], ◌∷◌, length, map, take, Option, Result, MatchResult, is_ok, if◌then◌else◌}
 use Rattle.std.specs.List.{AllZip, flat_map, list_all}
 use Rattle.std.specs.Io.KnownBytes.{Appends}
 use Rattle.frame_core.specs.declared.refusal.Refusal.{Refusal}
@@ -7,9 +7,10 @@ use Rattle.disk_core.specs.Life.{Life}
 use Rattle.archive_model.specs.declared.reply.Reply.{Reply}
 use Rattle.archive_model.specs.Register.{id_of}
 use Rattle.control_core.specs.declared.event.Event.TheVariants.{Verify}
+use Rattle.control_core.specs.Desk.{DeskState}
 use Rattle.control_core.specs.Exact.{Archive, CallEnds}
 use Rattle.engine_core.specs.declared.engine.Engine.{Engine}
-use Rattle.engine_core.specs.Calls.{HasFailedOften, faults_in}
+use Rattle.engine_core.specs.Calls.{AnswersEvent, HasFailedOften, faults_in}
 use Rattle.engine_core.specs.Engine.{DiskGoesOn}
 use Rattle.engine_core.specs.Consistent.{KeepsArchive}
 use Rattle.engine_core.specs.Seen.{seen}
@@ -33,9 +34,55 @@ IsWrittenBefore ends.Read contents written text = ⊥
 IsWrittenBefore ends.Memory contents written text = Appends contents written text
 IsWrittenBefore ends.Write contents written text = Unit {0}
 
--- the ids of an engine's recordings, as they rise
-abbrev pub ids_in : {D : Type 0} → Engine D → List ℤ
-ids_in engine = map id_of engine.desk.state.register.recordings
+-- the ids of a desk's recordings, as they rise
+abbrev pub ids_in : DeskState → List ℤ
+ids_in desk = map id_of desk.register.recordings
+
+-- what the verifying of a recording may answer, and leave
+abbrev pub Verification : Type 0 → Type 1
+Verification A = A → ℤ → Result Reply Refusal → A → Type 0
+
+-- and of several
+abbrev pub Verifications : Type 0 → Type 1
+Verifications A = A → A → List ℤ → List (Result Reply Refusal) → Type 0
+
+module _ {A : Type 0} (one : Verification A) where
+  -- one after another
+  abbrev pub InTurn : Verifications A
+  InTurn old new [] [] = new ≡ old
+  InTurn old new (id ∷ ids) (outcome ∷ outcomes) = (mid : A) × one old id outcome mid × InTurn mid new ids outcomes
+  InTurn old new ids outcomes = ⊥
+
+  -- and behind them at most one more, whose answer is not among these
+  abbrev pub InTurnAndOne : Verifications A
+  InTurnAndOne old new ids outcomes =
+      (mid : A) × InTurn old mid ids outcomes × ((new ≡ mid) ⊎ ((id : ℤ) × (outcome : Result Reply Refusal) × one mid id outcome new))
+
+  -- one recording was verified; what is written of the answer, and whether it is a reply
+  pub record HasReportedOne (old new : A) (id : ℤ) (contents written : Option (List ℕ)) (result : Result Bool EarlyEnd) : Type 0 where
+    pub outcome : Result Reply Refusal
+    pub answer : one old id outcome new
+    pub told : MatchResult result
+        (λ is_verified. Appends contents written (outcome_text outcome) × (is_verified ≡ is_ok outcome))
+        (λ end. FailsToAnswer end contents written)
+
+module _ {A : Type 0} (each : Verifications A) (ids : List ℤ) where
+  -- each recording was verified, and the answers are written
+  pub record HasReported (old new : A) (contents written : Option (List ℕ)) (verdict : Verdict) : Type 0 where
+    pub outcomes : List (Result Reply Refusal)
+    pub answers : each old new ids outcomes
+    pub told : Appends contents written (outcomes_text outcomes)
+    pub judged : verdict ≡ verdict_of outcomes
+
+  -- the first recordings were verified, and the answers are written
+  pub record HasReportedFirst (old new : A) (contents written : Option (List ℕ)) (end : EarlyEnd) : Type 0 where
+    pub outcomes : List (Result Reply Refusal)
+    pub answers : each old new (take (length outcomes) ids) outcomes
+    pub told : IsWrittenBefore end contents written (outcomes_text outcomes)
+
+-- what is known of an engine's archive
+abbrev pub desk_in : {D : Type 0} → Engine D → DeskState
+desk_in engine = engine.desk.state
 
 module _ {D : Type 0} (life : D → Life) where
   -- the disk of an engine
@@ -45,6 +92,10 @@ module _ {D : Type 0} (life : D → Life) where
   -- the engine is a crash-consistent archive's
   abbrev pub IsEngineOf : Archive → Engine D → Type 0
   IsEngineOf a engine = KeepsArchive (seen life engine) a
+
+  -- a recording is verified as the engine answers that event
+  abbrev pub verifies_by : Verification (Engine D)
+  verifies_by old id outcome new = AnswersEvent (seen life old) (seen life new) (Verify id) outcome
 
   -- An answer to the verifying of each of these recordings, so many of them device faults at most as calls of the disk have
   -- failed; where the disk obeys the crash model each is one that the call may have over the archive. The archive stays,
@@ -56,24 +107,3 @@ module _ {D : Type 0} (life : D → Life) where
     pub stays : (a : Archive) → IsEngineOf a old → IsEngineOf a new
     pub exact : (a : Archive) → IsEngineOf a old → IsTrue (life_in new).obeys →
         AllZip (λ id outcome. CallEnds a (Verify id) (Unit {0}) outcome a) ids outcomes
-
-  -- each recording was verified, and the answers are written
-  pub record HasReported (old new : Engine D) (contents written : Option (List ℕ)) (verdict : Verdict) : Type 0 where
-    pub outcomes : List (Result Reply Refusal)
-    pub answers : AnswersEach old new (ids_in old) outcomes
-    pub told : Appends contents written (outcomes_text outcomes)
-    pub judged : verdict ≡ verdict_of outcomes
-
-  -- the first recordings were verified, and the answers are written
-  pub record HasReportedFirst (old new : Engine D) (contents written : Option (List ℕ)) (end : EarlyEnd) : Type 0 where
-    pub outcomes : List (Result Reply Refusal)
-    pub answers : AnswersEach old new (take (length outcomes) (ids_in old)) outcomes
-    pub told : IsWrittenBefore end contents written (outcomes_text outcomes)
-
-  -- one recording was verified; what is written of the answer, and whether it is a reply
-  pub record HasReportedOne (old new : Engine D) (id : ℤ) (contents written : Option (List ℕ)) (result : Result Bool EarlyEnd) : Type 0 where
-    pub outcome : Result Reply Refusal
-    pub answers : AnswersEach old new (id ∷ []) (outcome ∷ [])
-    pub told : MatchResult result
-        (λ is_verified. Appends contents written (outcome_text outcome) × (is_verified ≡ is_ok outcome))
-        (λ end. FailsToAnswer end contents written)

@@ -1,23 +1,26 @@
-//! What a terminal shows of an opening and of a verification that last. docs/CONTROL.md, "Standard error".
+//! What a terminal shows of an opening and of a reading of segment files that last. docs/CONTROL.md, "Standard error".
 
 ghost use Rattle.std.specs.Prelude.{◌≡◌, ◌+◌, IfSome, IsTrue};
 ghost use Rattle.disk_core.specs.DiskImage.{reads};
 ghost use Rattle.disk_core.specs.Life.{IsQuiet};
 ghost use Rattle.tool_core.specs.Progress.{AreListed, bytes_before, bytes_in, counted, hundredths, segment_bytes};
 
+use crate::pace::Pace;
 use crate::screen::{Screen, Stage};
 use crate::watched::Viewer;
 use disk_core::{Disk, FileId};
 use std::alloc::Global;
 use std::io::Eprint;
-use std::time::{Clock, Duration, Instant};
+use std::time::{Clock, Duration};
 
 /// Reads of a disk from one read of the clock to the next.
 const READS_PER_CLOCK_READ: u32 = 256;
-/// How long a line stays at least, in milliseconds.
-const SHOWN_FOR_MILLIS: u64 = 200;
-/// How long an opening lasts at least of which something is shown, in milliseconds.
-const OPENING_SHOWN_AFTER_MILLIS: u64 = 500;
+
+/// What is read of a disk's segment files, as far as it can be measured.
+pub trait Measure {
+    /// How many hundredths of it lie before an offset in a segment file, a hundred at most; none where that is not known.
+    fn percent_before(&self, file: FileId, end: u64) -> Option<u128>;
+}
 
 /// A file of a disk, and its length in bytes: none of a bank.
 #[derive(Clone, Copy, Debug, PartialEq, Eq)]
@@ -26,71 +29,74 @@ pub(crate) struct ListedFile {
     pub length: u64,
 }
 
-/// Shows which recording is read, how much of all segment files lies before that, and how many bytes a second were read: a
-/// line that is written anew about five times a second.
+/// All files of a disk, as they rise, with the lengths that its segment files had when they were listed.
 #[derive(Drop)]
-pub struct Progress<'a, R> {
-    screen: &'a Screen<'a, R>,
-    clock: &'a R,
-    /// The files, as they rise.
+pub struct ListedFiles {
     files: Vec<ListedFile>,
-    /// Reads of the disk since the clock was read.
-    reads: u32,
-    /// When the clock was read first.
-    begun: Option<Instant>,
-    /// Bytes that were read since then.
-    read: u64,
-    /// When the line was written last.
-    shown: Option<Instant>,
 }
 
-impl<'a, R: Eprint + Clock> Progress<'a, R> {
-    /// What is shown of a disk's segment files, with the lengths that they have now. None where a call of the disk fails
-    /// or there is no memory for a list of the files: then nothing is shown. docs/CONTROL.md, "Standard error".
-    pub fn of<D: Disk>(
-        alloc: Global,
-        clock: &'a R,
-        screen: &'a Screen<'a, R>,
-        disk: &mut D,
-    ) -> Option<Progress<'a, R>>
-        ensures { IsQuiet (D.life disk.old) (D.life disk.new) }
+impl ListedFiles {
+    /// The files of a disk, as they are now. None where a call of the disk fails or there is no memory for a list of them.
+    pub fn of<D: Disk>(alloc: Global, disk: &mut D) -> Option<ListedFiles>
+        ensures listed { IfSome result (λ listed. IsTrue (D.life disk.new).obeys →
+            AreListed (reads (D.life disk.old).now) listed.files.items) }
+        ensures quiet { IsQuiet (D.life disk.old) (D.life disk.new) }
     {
         let files = listed_files(alloc, disk)?;
-        Some(Progress {
+        Some(ListedFiles { files })
+    }
+}
+
+impl Measure for ListedFiles {
+    fn percent_before(&self, file: FileId, end: u64) -> Option<u128> {
+        Some(percent_of(file, end, self.files.as_slice()))
+    }
+}
+
+/// Shows which recording is read, how many hundredths of what is to be read lie before that, and how many bytes a second were
+/// read, once that has lasted half a second: a line that is written anew about five times a second.
+#[derive(Drop)]
+pub struct Progress<'a, R, M> {
+    screen: &'a Screen<'a, R>,
+    pace: Pace<'a, R>,
+    measure: M,
+    /// Reads of the disk since the clock was read.
+    reads: u32,
+    /// Bytes that were read since the clock was read first.
+    read: u64,
+}
+
+impl<'a, R: Eprint + Clock, M: Measure> Progress<'a, R, M> {
+    /// What is shown of a reading of all that this measures; it begins when the clock is read first.
+    pub fn new(clock: &'a R, screen: &'a Screen<'a, R>, measure: M) -> Progress<'a, R, M> {
+        Progress {
             screen,
-            clock,
-            files,
+            pace: Pace::new(clock),
+            measure,
             reads: 0,
-            begun: None,
             read: 0,
-            shown: None,
-        })
+        }
     }
 
-    /// Reads the clock, and writes the line anew unless that was done a moment ago. `end` is where the last read of the
-    /// file ended.
+    /// Reads the clock, and writes the line anew where that is due. `end` is where the last read of the file ended.
     fn time(&mut self, recording: i64, file: FileId, end: u64) {
-        let Ok(now) = Instant::now(self.clock) else {
-            return;
-        };
-        let Some(begun) = self.begun else {
-            self.begun = Some(now);
+        if !self.pace.has_begun() {
+            self.pace.begin();
             self.read = 0;
             return;
-        };
-        if now.duration_since(self.shown.unwrap_or(begun))
-            < Duration::from_millis(SHOWN_FOR_MILLIS)
-        {
-            return;
         }
-        self.shown = Some(now);
-        let percent = percent_of(file, end, self.files.as_slice());
-        let rate = megabytes_a_second(self.read, now.duration_since(begun));
+        let Some(lasted) = self.pace.due() else {
+            return;
+        };
+        let Some(percent) = self.measure.percent_before(file, end) else {
+            return;
+        };
+        let rate = megabytes_a_second(self.read, lasted);
         self.screen.show(format_args!("recording {recording} {percent:>3} % {rate:>4} MB/s"));
     }
 }
 
-impl<D, R: Eprint + Clock> Viewer<D> for Progress<'_, R> {
+impl<D, R: Eprint + Clock, M: Measure> Viewer<D> for Progress<'_, R, M> {
     fn saw(&mut self, file: FileId, at: u64, count: usize) {
         let FileId::Segment { recording, .. } = file else {
             return;
@@ -109,40 +115,29 @@ impl<D, R: Eprint + Clock> Viewer<D> for Progress<'_, R> {
 #[derive(Drop)]
 pub struct OpeningProgress<'a, R> {
     screen: &'a Screen<'a, R>,
-    clock: &'a R,
-    begun: Option<Instant>,
+    pace: Pace<'a, R>,
     /// Segment files that were synced.
     synced: u64,
     /// Bytes of the catalogue that were read.
     read: u64,
-    /// When the line was written last.
-    shown: Option<Instant>,
 }
 
 impl<'a, R: Eprint + Clock> OpeningProgress<'a, R> {
     /// What is shown of an opening that begins now.
     pub fn new(clock: &'a R, screen: &'a Screen<'a, R>) -> OpeningProgress<'a, R> {
+        let mut pace = Pace::new(clock);
+        pace.begin();
         OpeningProgress {
             screen,
-            clock,
-            begun: Instant::now(clock).ok(),
+            pace,
             synced: 0,
             read: 0,
-            shown: None,
         }
     }
 
-    /// Reads the clock, and writes the line anew where the opening lasts and that was not done a moment ago.
+    /// Reads the clock, and writes the line anew where that is due.
     fn time(&mut self) {
-        let (Some(begun), Ok(now)) = (self.begun, Instant::now(self.clock)) else {
-            return;
-        };
-        let is_due = match self.shown {
-            None => is_after(now, begun, OPENING_SHOWN_AFTER_MILLIS),
-            Some(shown) => is_after(now, shown, SHOWN_FOR_MILLIS),
-        };
-        if is_due {
-            self.shown = Some(now);
+        if self.pace.due().is_some() {
             let OpeningProgress { synced, read, .. } = self;
             self.screen.show(format_args!(
                 "opening: {synced} segment files, {read} bytes of the catalogue"
@@ -169,11 +164,6 @@ impl<D, R: Eprint + Clock> Viewer<D> for OpeningProgress<'_, R> {
             }
         }
     }
-}
-
-/// Whether so many milliseconds lie between two moments.
-fn is_after(now: Instant, then: Instant, millis: u64) -> bool {
-    now.duration_since(then) >= Duration::from_millis(millis)
 }
 
 /// The files of a disk, with the lengths of its segment files.

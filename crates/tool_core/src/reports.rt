@@ -1,13 +1,14 @@
 //! What `list` and `verify` tell of an archive. docs/CONTROL.md, "The program".
 
-ghost use Rattle.std.specs.Prelude.{◌≡◌, ◌∷◌, [], pos, IfErr, IfOk, OnOk, map};
+ghost use Rattle.std.specs.Prelude.{◌≡◌, pos, IfErr, IfOk, OnOk, map};
 ghost use Rattle.std.specs.Io.KnownBytes.{Appends};
 ghost use Rattle.archive_model.specs.declared.reply.Reply.TheVariants.{Recordings};
 ghost use Rattle.archive_model.specs.Register.{id_of};
 ghost use Rattle.control_core.specs.Decisions.{listed};
 ghost use Rattle.control_lines.specs.ReplyText.{reply_text};
 ghost use Rattle.tool_core.specs.Answering.{FailsToAnswer};
-ghost use Rattle.tool_core.specs.Reports.{AnswersEach, HasReported, HasReportedFirst, HasReportedOne};
+ghost use Rattle.control_core.specs.Desk.{DeskState};
+ghost use Rattle.tool_core.specs.Reports.{HasReported, HasReportedFirst, HasReportedOne, InTurn, InTurnAndOne, Verification, desk_in, ids_in, verifies_by};
 
 use crate::answers::{write_outcome, write_reply};
 use crate::fault::EarlyEnd;
@@ -52,26 +53,59 @@ pub fn list_recordings<W: Write>(alloc: Global, desk: &Desk, writer: &mut W) -> 
     write_reply(alloc, &reply, writer)
 }
 
-/// Verifies each recording, by rising id, and writes the answer to each as a script does: `verified <frames>`, or the
-/// line of its refusal. The archive stays as it is. An observer is told of each answer before it is written.
+/// An archive whose recordings can be verified, one after another.
+pub trait Verifiable {
+    /// What is known of the archive.
+    ghost desk_of: { Self → DeskState };
+    /// What the verifying of a recording may answer, and leave.
+    ghost verifies: { Verification Self };
+
+    /// What is known of the archive.
+    fn desk(&self) -> &Desk
+        ensures { result.now.state ≡ desk_of self.now };
+
+    /// Verification a recording.
+    fn verify(&mut self, alloc: Global, recording: &i64) -> Result<Reply, Refusal>
+        ensures { verifies self.old recording.now result self.new };
+}
+
+impl<D: Disk> Verifiable for Engine<D> {
+    ghost desk_of = { desk_in };
+
+    ghost verifies = { verifies_by D.life };
+
+    fn desk(&self) -> &Desk {
+        self.desk()
+    }
+
+    fn verify(&mut self, alloc: Global, recording: &i64) -> Result<Reply, Refusal> {
+        let event = Event::Verify {
+            recording: *recording,
+        };
+        self.step(alloc, &event)
+    }
+}
+
+/// Verification each recording, by rising id, and writes the answer to each as a script does: `verified <frames>`, or the
+/// line of its refusal. An observer is told of each answer before it is written.
 ///
 /// `Memory` where there is none for the list of ids or for a reply's text, and `Write` where the writer fails: what was
 /// written before stays written. Costs what each recorded frame costs. docs/CONTROL.md, "The program".
-pub fn verify_recordings<W: Write, D: Disk, O: Observer>(
+pub fn verify_recordings<W: Write, A: Verifiable, O: Observer>(
     alloc: Global,
-    engine: &mut Engine<D>,
+    archive: &mut A,
     writer: &mut W,
     observer: &mut O,
 ) -> Result<Verdict, EarlyEnd>
-    ensures whole { IfOk result
-        (HasReported D.life engine.old engine.new (W.contents writer.old) (W.contents writer.new)) }
-    ensures early { IfErr result
-        (HasReportedFirst D.life engine.old engine.new (W.contents writer.old) (W.contents writer.new)) }
+    ensures whole { IfOk result (HasReported (InTurn A.verifies) (ids_in (A.desk_of archive.old)) archive.old archive.new
+        (W.contents writer.old) (W.contents writer.new)) }
+    ensures early { IfErr result (HasReportedFirst (InTurnAndOne A.verifies) (ids_in (A.desk_of archive.old)) archive.old
+        archive.new (W.contents writer.old) (W.contents writer.new)) }
 {
-    let ids = ids_of(alloc, engine.desk().recordings())?;
+    let ids = ids_of(alloc, archive.desk().recordings())?;
     let mut is_whole = true;
     for id in ids.as_slice() {
-        let is_verified = report(alloc, engine, id, writer, observer)?;
+        let is_verified = report(alloc, archive, id, writer, observer)?;
         is_whole = is_whole && is_verified;
     }
     Ok(if is_whole {
@@ -91,30 +125,21 @@ fn ids_of(alloc: Global, recordings: &[Registration]) -> Result<Vec<i64>, AllocE
         .collect(alloc)
 }
 
-/// Verifies a recording, writes the answer, and says whether it was verified.
-fn report<W: Write, D: Disk, O: Observer>(
+/// Verification a recording, writes the answer, and says whether it was verified.
+fn report<W: Write, A: Verifiable, O: Observer>(
     alloc: Global,
-    engine: &mut Engine<D>,
+    archive: &mut A,
     recording: &i64,
     writer: &mut W,
     observer: &mut O,
 ) -> Result<bool, EarlyEnd>
-    ensures { HasReportedOne D.life engine.old engine.new recording.now (W.contents writer.old) (W.contents writer.new) result }
+    ensures { HasReportedOne A.verifies archive.old archive.new recording.now (W.contents writer.old)
+        (W.contents writer.new) result }
 {
-    let outcome = verify(alloc, engine, recording);
-    if let Some(known) = engine.desk().recording(recording) {
+    let outcome = archive.verify(alloc, recording);
+    if let Some(known) = archive.desk().recording(recording) {
         observer.verified(known, &outcome);
     }
     write_outcome(alloc, &outcome, writer)?;
     Ok(outcome.is_ok())
-}
-
-/// Verifies a recording.
-fn verify<D: Disk>(alloc: Global, engine: &mut Engine<D>, recording: &i64) -> Result<Reply, Refusal>
-    ensures { AnswersEach D.life engine.old engine.new (recording.now ∷ []) (result ∷ []) }
-{
-    let event = Event::Verify {
-        recording: *recording,
-    };
-    engine.step(alloc, &event)
 }

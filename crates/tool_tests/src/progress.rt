@@ -1,6 +1,6 @@
 //! What is shown of a long verification, by a clock of the tests.
 
-use super::reports::two_recordings;
+use super::reports::{check_archive, opened, two_recordings};
 use disk_core::{Disk, FileId, MemoryDisk};
 use engine_core::Engine;
 use std::alloc::Global;
@@ -9,9 +9,7 @@ use std::fmt::Display;
 use std::io::Eprint;
 use std::test::*;
 use std::time::{Clock, Duration};
-use tool_core::{
-    OpeningProgress, Progress, Screen, Unobserved, Verdict, Viewer, Watched, verify_recordings,
-};
+use tool_core::{ListedFiles, OpeningProgress, Progress, Screen, Verdict, Viewer, Watched};
 
 /// A clock that goes on by 150 milliseconds at each read, and a terminal that counts what is printed, and whether the text that
 /// is awaited was among it.
@@ -76,37 +74,60 @@ fn see<V: Viewer<MemoryDisk>>(viewer: &mut V, file: FileId, count: u64) {
     }
 }
 
-/// The clock is read at each 256th read: at 0, 150, 300, 450 and 600 milliseconds, and the line is written at 300 and
-/// at 600. The first file has 128 bytes and the second 64.
+/// The files of a disk.
+fn listed(alloc: Global, disk: &mut MemoryDisk) -> Result<ListedFiles, Fail> {
+    match ListedFiles::of(alloc, disk) {
+        Some(files) => Ok(files),
+        None => Err(Fail::new("the files were not listed")),
+    }
+}
+
+/// The files of an archive with two recordings.
+fn two_listed(alloc: Global) -> Result<ListedFiles, Fail> {
+    let mut disk = two_recordings(alloc)?;
+    listed(alloc, &mut disk)
+}
+
+/// How often something was printed, and whether the awaited text was, while so many bytes of a file are read; and how often
+/// once the line is cleared twice.
+fn printed(desktop: &Desktop<'_>, files: ListedFiles, file: FileId) -> (u32, bool, u32) {
+    let screen = Screen::new(desktop);
+    let mut progress = Progress::new(desktop, &screen, files);
+    see(&mut progress, file, 1_792);
+    let (times, has_come) = (desktop.printed.get(), desktop.has_come.get());
+    screen.clear();
+    screen.clear();
+    (times, has_come, desktop.printed.get())
+}
+
+/// The clock is read at each 256th read: at 0 milliseconds and then each 150, and the line is written at 600 and at 900. The
+/// first file has 128 bytes and the second 64.
 #[test]
 fn the_line_is_written_now_and_then(rt: HostRuntime) -> Result<(), Fail> {
+    let files = two_listed(rt.alloc())?;
     let desktop = Desktop::new(rt.alloc(), "\rrecording 1 100 %    0 MB/s\x1b[K");
-    let screen = Screen::new(&desktop);
-    let mut disk = two_recordings(rt.alloc())?;
-    let Some(mut progress) = Progress::of(rt.alloc(), &desktop, &screen, &mut disk) else {
-        return Err(Fail::new("there is no progress"));
-    };
-    see(&mut progress, SECOND, 1_280);
-    assert!(rt; desktop.printed.get() == 2 && desktop.has_come.get());
-    screen.clear();
-    screen.clear();
-    assert!(rt; desktop.printed.get() == 3);
+    let printed = printed(&desktop, files, SECOND);
+    assert!(rt; printed == (2, true, 3));
     Ok(())
+}
+
+/// The same at reads of no bytes.
+fn printed_of_nothing(desktop: &Desktop<'_>, files: ListedFiles) -> (u32, bool) {
+    let screen = Screen::new(desktop);
+    let mut progress = Progress::new(desktop, &screen, files);
+    for _ in 0..1_792 {
+        Viewer::<MemoryDisk>::saw(&mut progress, SECOND, 0, 0);
+    }
+    (desktop.printed.get(), desktop.has_come.get())
 }
 
 /// Each further file counts the bytes of those before it.
 #[test]
 fn the_files_before_count(rt: HostRuntime) -> Result<(), Fail> {
+    let files = two_listed(rt.alloc())?;
     let desktop = Desktop::new(rt.alloc(), "\rrecording 1  66 %    0 MB/s\x1b[K");
-    let screen = Screen::new(&desktop);
-    let mut disk = two_recordings(rt.alloc())?;
-    let Some(mut progress) = Progress::of(rt.alloc(), &desktop, &screen, &mut disk) else {
-        return Err(Fail::new("there is no progress"));
-    };
-    for _ in 0..1_280 {
-        Viewer::<MemoryDisk>::saw(&mut progress, SECOND, 0, 0);
-    }
-    assert!(rt; desktop.printed.get() == 2 && desktop.has_come.get());
+    let printed = printed_of_nothing(&desktop, files);
+    assert!(rt; printed == (2, true));
     Ok(())
 }
 
@@ -130,15 +151,10 @@ fn an_opening_is_shown_once_it_lasts(rt: HostRuntime) {
 /// Nothing is written of the catalogue's banks by a verification, and no line is cleared that was not written.
 #[test]
 fn banks_are_not_shown(rt: HostRuntime) -> Result<(), Fail> {
+    let files = listed(rt.alloc(), &mut MemoryDisk::new(rt.alloc()))?;
     let desktop = Desktop::new(rt.alloc(), "");
-    let screen = Screen::new(&desktop);
-    let mut disk = MemoryDisk::new(rt.alloc());
-    let Some(mut progress) = Progress::of(rt.alloc(), &desktop, &screen, &mut disk) else {
-        return Err(Fail::new("there is no progress"));
-    };
-    see(&mut progress, FileId::BankA, 1_280);
-    screen.clear();
-    assert!(rt; desktop.printed.get() == 0);
+    let printed = printed(&desktop, files, FileId::BankA);
+    assert!(rt; printed == (0, false, 0));
     Ok(())
 }
 
@@ -156,18 +172,25 @@ impl Viewer<MemoryDisk> for Counter {
     }
 }
 
+/// Of how many bytes the viewer of an archive's disk was told, where it has one.
+fn bytes_told(engine: Engine<Watched<MemoryDisk, Option<Counter>>>) -> Option<u64> {
+    let (_, viewer) = engine.into_disk().into_parts();
+    viewer.map(|counter| counter.bytes)
+}
+
+/// Of how many bytes a viewer is told while two recordings are verified.
+fn bytes_verified(alloc: Global) -> Result<Option<u64>, Fail> {
+    let disk = Watched::new(two_recordings(alloc)?, Some(Counter { bytes: 0 }));
+    let mut engine = opened(alloc, disk)?;
+    let told = "verified 2\nverified 1\n";
+    check_archive(alloc, &mut engine, told, Verdict::Whole)?;
+    Ok(bytes_told(engine))
+}
+
 /// A watched disk gives what it gives unwatched, and its viewer is told of each frame's bytes.
 #[test]
 fn a_watched_disk(rt: HostRuntime) -> Result<(), Fail> {
-    let disk = Watched::new(two_recordings(rt.alloc())?, Some(Counter { bytes: 0 }));
-    let Ok((mut engine, _)) = Engine::open(rt.alloc(), disk) else {
-        return Err(Fail::new("the archive was not opened"));
-    };
-    let mut out = Vec::new(rt.alloc());
-    let judged = verify_recordings(rt.alloc(), &mut engine, &mut out, &mut Unobserved);
-    assert!(rt; judged == Ok(Verdict::Whole));
-    assert!(rt; out.as_slice() == b"verified 2\nverified 1\n".as_slice());
-    let (_, viewer) = engine.into_disk().into_parts();
-    assert!(rt; viewer.is_some_and(|counter| counter.bytes >= 3 * 37));
+    let bytes = bytes_verified(rt.alloc())?;
+    assert!(rt; bytes.is_some_and(|bytes| bytes >= 3 * 37));
     Ok(())
 }

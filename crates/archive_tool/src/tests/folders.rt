@@ -83,70 +83,80 @@ fn script(rt: HostRuntime, folder: &str, told: &[u8]) -> Result<(), Fail> {
     }
 }
 
+/// A command over a folder, or over the first segment file in it.
+#[derive(Clone, Copy)]
+enum Word {
+    Create(u32),
+    List,
+    ListReadOnly,
+    Verify,
+    VerifyReadOnly,
+    Compact,
+    Frames,
+}
+
+fn command<'a>(word: Word, folder: &'a str, file: &'a str) -> ToolCommand<'a> {
+    match word {
+        Word::Create(history) => ToolCommand::Create { folder, history },
+        Word::List | Word::ListReadOnly => ToolCommand::List {
+            folder,
+            read_only: matches!(word, Word::ListReadOnly),
+        },
+        Word::Verify | Word::VerifyReadOnly => ToolCommand::Verify {
+            folder,
+            read_only: matches!(word, Word::VerifyReadOnly),
+        },
+        Word::Compact => ToolCommand::Compact { folder },
+        Word::Frames => ToolCommand::Frames { file },
+    }
+}
+
+/// What each of these commands writes over a folder has to be its text, and its status that number.
+fn check_each<
+    R: Threads + Wait + Clock + Eprint + Net<Listener = TcpListener, Stream = TcpStream> + Sync,
+>(net: &R, rt: HostRuntime, folder: &str, rows: &[(Word, &str, u8)]) -> Result<(), Fail> {
+    let file = within(rt, folder, "0-0.rec")?;
+    for (word, told, status) in rows {
+        check(
+            net,
+            rt,
+            command(*word, folder, file.as_str()),
+            told,
+            *status,
+        )?;
+    }
+    Ok(())
+}
+
+/// An archive without recordings is made.
+const CREATED: [(Word, &str, u8); 1] = [(Word::Create(16), "created\n", 0)];
+
+/// Cuts the catalogue of an archive to a length.
+fn cut_catalogue(rt: HostRuntime, folder: &str, length: u64) -> Result<(), Fail> {
+    let mut disk = disk_of(rt, folder)?;
+    disk.cut(FileId::BankA, length)?;
+    Ok(())
+}
+
 #[test]
 fn an_archive_outlives_its_process(rt: HostRuntime) -> Result<(), Fail> {
     let path = unused(rt, "whole")?;
     let folder = path.as_str();
-    let history = 16;
-    check(
-        &rt,
-        rt,
-        ToolCommand::Create { folder, history },
-        "created\n",
-        0,
-    )?;
-    check(&rt, rt, ToolCommand::Create { folder, history }, "", 1)?;
-    check(
-        &rt,
-        rt,
-        ToolCommand::List {
-            folder,
-            read_only: false,
-        },
-        "end 0\n",
-        0,
-    )?;
-    check(
-        &rt,
-        rt,
-        ToolCommand::Verify {
-            folder,
-            read_only: false,
-        },
-        "",
-        0,
-    )?;
+    check_each(&rt, rt, folder, &CREATED)?;
+    let empty = [
+        (Word::Create(16), "", 1),
+        (Word::List, "end 0\n", 0),
+        (Word::Verify, "", 0),
+    ];
+    check_each(&rt, rt, folder, &empty)?;
     record(rt, folder)?;
     let listed = "recording 0 1000 -1 0 64 42 131072 65536 1408 7 1001 c\nend 1\n";
-    check(
-        &rt,
-        rt,
-        ToolCommand::List {
-            folder,
-            read_only: false,
-        },
-        listed,
-        0,
-    )?;
-    check(
-        &rt,
-        rt,
-        ToolCommand::Verify {
-            folder,
-            read_only: false,
-        },
-        "verified 1\n",
-        0,
-    )?;
-    let file = within(rt, folder, "0-0.rec")?;
-    let file = file.as_str();
-    check(
-        &rt,
-        rt,
-        ToolCommand::Frames { file },
-        "frame 42 0 1 37 c0\nend 1\n",
-        0,
-    )?;
+    let recorded = [
+        (Word::List, listed, 0),
+        (Word::Verify, "verified 1\n", 0),
+        (Word::Frames, "frame 42 0 1 37 c0\nend 1\n", 0),
+    ];
+    check_each(&rt, rt, folder, &recorded)?;
     fs::remove_dir_all(&rt, folder)?;
     Ok(())
 }
@@ -156,57 +166,17 @@ fn an_archive_outlives_its_process(rt: HostRuntime) -> Result<(), Fail> {
 fn looking_stops_no_recording(rt: HostRuntime) -> Result<(), Fail> {
     let path = unused(rt, "looked-at")?;
     let folder = path.as_str();
-    let history = 16;
-    check(
-        &rt,
-        rt,
-        ToolCommand::Create { folder, history },
-        "created\n",
-        0,
-    )?;
+    check_each(&rt, rt, folder, &CREATED)?;
     record(rt, folder)?;
-    let held = disk_of(rt, folder)?;
     let active = "recording 0 1000 -1 0 -1 42 131072 65536 1408 7 1001 c\nend 1\n";
-    check(
-        &rt,
-        rt,
-        ToolCommand::List {
-            folder,
-            read_only: true,
-        },
-        active,
-        0,
-    )?;
-    check(
-        &rt,
-        rt,
-        ToolCommand::Verify {
-            folder,
-            read_only: true,
-        },
-        "verified 1\n",
-        0,
-    )?;
-    check(
-        &rt,
-        rt,
-        ToolCommand::List {
-            folder,
-            read_only: true,
-        },
-        active,
-        0,
-    )?;
-    check(
-        &rt,
-        rt,
-        ToolCommand::List {
-            folder,
-            read_only: false,
-        },
-        "",
-        3,
-    )?;
+    let rows = [
+        (Word::ListReadOnly, active, 0),
+        (Word::VerifyReadOnly, "verified 1\n", 0),
+        (Word::ListReadOnly, active, 0),
+        (Word::List, "", 3),
+    ];
+    let held = disk_of(rt, folder)?;
+    check_each(&rt, rt, folder, &rows)?;
     drop(held);
     fs::remove_dir_all(&rt, folder)?;
     Ok(())
@@ -217,34 +187,23 @@ fn looking_stops_no_recording(rt: HostRuntime) -> Result<(), Fail> {
 fn a_full_history_is_compacted(rt: HostRuntime) -> Result<(), Fail> {
     let path = unused(rt, "full")?;
     let folder = path.as_str();
-    check(&rt, rt, ToolCommand::Compact { folder }, "", 3)?;
-    check(
-        &rt,
-        rt,
-        ToolCommand::Create { folder, history: 2 },
-        "created\n",
-        0,
-    )?;
+    let new = [(Word::Compact, "", 3), (Word::Create(2), "created\n", 0)];
+    check_each(&rt, rt, folder, &new)?;
     record(rt, folder)?;
-    check(&rt, rt, ToolCommand::Compact { folder }, "compacted\n", 0)?;
+    check_each(&rt, rt, folder, &[(Word::Compact, "compacted\n", 0)])?;
     record_more(rt, folder)?;
-    check(
+    check_each(
         &rt,
         rt,
-        ToolCommand::Verify {
-            folder,
-            read_only: false,
-        },
-        "verified 1\nverified 1\n",
-        0,
+        folder,
+        &[(Word::Verify, "verified 1\nverified 1\n", 0)],
     )?;
     let held = disk_of(rt, folder)?;
-    check(&rt, rt, ToolCommand::Compact { folder }, "", 3)?;
+    check_each(&rt, rt, folder, &[(Word::Compact, "", 3)])?;
     drop(held);
-    let mut disk = disk_of(rt, folder)?;
-    disk.remove(FileId::BankA)?;
-    drop(disk);
-    check(&rt, rt, ToolCommand::Compact { folder }, "", 1)?;
+    let bank = within(rt, folder, "catalogue-a.bank")?;
+    fs::remove_file(&rt, bank.as_str())?;
+    check_each(&rt, rt, folder, &[(Word::Compact, "", 1)])?;
     fs::remove_dir_all(&rt, folder)?;
     Ok(())
 }
@@ -255,16 +214,7 @@ fn a_full_history_is_compacted(rt: HostRuntime) -> Result<(), Fail> {
 fn a_refused_export_leaves_no_file(rt: HostRuntime) -> Result<(), Fail> {
     let path = unused(rt, "exported")?;
     let folder = path.as_str();
-    check(
-        &rt,
-        rt,
-        ToolCommand::Create {
-            folder,
-            history: 16,
-        },
-        "created\n",
-        0,
-    )?;
+    check_each(&rt, rt, folder, &CREATED)?;
     record(rt, folder)?;
     let beside = unused(rt, "captured")?;
     fs::create_dir(&rt, beside.as_str())?;
@@ -299,66 +249,21 @@ fn a_refused_export_leaves_no_file(rt: HostRuntime) -> Result<(), Fail> {
 fn damage_in_a_folder_is_told(rt: HostRuntime) -> Result<(), Fail> {
     let path = unused(rt, "damaged")?;
     let folder = path.as_str();
-    check(
-        &rt,
-        rt,
-        ToolCommand::Create {
-            folder,
-            history: 16,
-        },
-        "created\n",
-        0,
-    )?;
+    check_each(&rt, rt, folder, &CREATED)?;
     record(rt, folder)?;
     let mut disk = disk_of(rt, folder)?;
     disk.write_at(SEGMENT, 0, &[1])?;
     disk.sync(SEGMENT)?;
     drop(disk);
-    check(
-        &rt,
-        rt,
-        ToolCommand::Verify {
-            folder,
-            read_only: false,
-        },
-        "error 15 Damaged 0 0\n",
-        3,
-    )?;
-    let file = within(rt, folder, "0-0.rec")?;
-    let file = file.as_str();
-    check(
-        &rt,
-        rt,
-        ToolCommand::Frames { file },
-        "error 21 BadFrame 0\n",
-        3,
-    )?;
-    let mut disk = disk_of(rt, folder)?;
-    disk.cut(FileId::BankA, 40)?;
-    drop(disk);
-    check(
-        &rt,
-        rt,
-        ToolCommand::List {
-            folder,
-            read_only: false,
-        },
-        "",
-        3,
-    )?;
-    let mut disk = disk_of(rt, folder)?;
-    disk.cut(FileId::BankA, 31)?;
-    drop(disk);
-    check(
-        &rt,
-        rt,
-        ToolCommand::List {
-            folder,
-            read_only: false,
-        },
-        "",
-        1,
-    )?;
+    let rows = [
+        (Word::Verify, "error 15 Damaged 0 0\n", 3),
+        (Word::Frames, "error 21 BadFrame 0\n", 3),
+    ];
+    check_each(&rt, rt, folder, &rows)?;
+    cut_catalogue(rt, folder, 40)?;
+    check_each(&rt, rt, folder, &[(Word::List, "", 3)])?;
+    cut_catalogue(rt, folder, 31)?;
+    check_each(&rt, rt, folder, &[(Word::List, "", 1)])?;
     fs::remove_dir_all(&rt, folder)?;
     Ok(())
 }
@@ -367,51 +272,17 @@ fn damage_in_a_folder_is_told(rt: HostRuntime) -> Result<(), Fail> {
 fn folders_that_hold_no_archive(rt: HostRuntime) -> Result<(), Fail> {
     let path = unused(rt, "empty")?;
     let folder = path.as_str();
-    let file = folder;
-    check(
-        &rt,
-        rt,
-        ToolCommand::List {
-            folder,
-            read_only: false,
-        },
-        "",
-        3,
-    )?;
-    check(&rt, rt, ToolCommand::Frames { file }, "", 3)?;
-    check(&rt, rt, ToolCommand::Create { folder, history: 0 }, "", 1)?;
-    check(
-        &rt,
-        rt,
-        ToolCommand::List {
-            folder,
-            read_only: false,
-        },
-        "",
-        1,
-    )?;
-    check(
-        &rt,
-        rt,
-        ToolCommand::Verify {
-            folder,
-            read_only: false,
-        },
-        "",
-        1,
-    )?;
-    let disk = disk_of(rt, folder)?;
-    check(
-        &rt,
-        rt,
-        ToolCommand::List {
-            folder,
-            read_only: false,
-        },
-        "",
-        3,
-    )?;
-    drop(disk);
+    let missing = [
+        (Word::List, "", 3),
+        (Word::Frames, "", 3),
+        (Word::Create(0), "", 1),
+        (Word::List, "", 1),
+        (Word::Verify, "", 1),
+    ];
+    check_each(&rt, rt, folder, &missing)?;
+    let held = disk_of(rt, folder)?;
+    check_each(&rt, rt, folder, &[(Word::List, "", 3)])?;
+    drop(held);
     fs::remove_dir_all(&rt, folder)?;
     Ok(())
 }

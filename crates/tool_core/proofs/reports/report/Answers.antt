@@ -8,9 +8,9 @@ use Rattle.tool_core.proofs.reports.report.Goals as goal
 pub returns-in_err-write_outcome : goal.returns-in_err-write_outcome
 returns-in_err-write_outcome g c =
     let failed : c.from_residual.result ≡ Err c.in_err-write_outcome.field-0.0 = search rules in
-    subst (λ (r : Result Bool EarlyEnd). HasReportedOne g.D.Disk.life c.args.engine.now c.verify-outcome.new.engine c.args.recording.now (g.W.Write.contents c.args.writer.now) (g.W.Write.contents c.write_outcome.new.writer) r) (sym failed)
-    (untold_one g.D.Disk.life c.args.engine.now c.verify-outcome.new.engine c.args.recording.now _ _ c.verify-outcome.result c.in_err-write_outcome.field-0.0 c.verify-outcome.ensures c.in_err-write_outcome.ensures.err)
+    subst (λ (r : Result Bool EarlyEnd). HasReportedOne g.A.Verifiable.verifies c.args.archive.now c.verify-outcome.new.self c.args.recording.now (g.W.Write.contents c.args.writer.now) (g.W.Write.contents c.write_outcome.new.writer) r) (sym failed)
+    (untold_one g.A.Verifiable.verifies c.args.archive.now c.verify-outcome.new.self c.args.recording.now _ _ c.verify-outcome.result c.in_err-write_outcome.field-0.0 c.verify-outcome.ensures c.in_err-write_outcome.ensures.err)
 
 pub returns : goal.returns
 returns g c =
-    told_one g.D.Disk.life c.args.engine.now c.verify-outcome.new.engine c.args.recording.now _ _ c.verify-outcome.result c.verify-outcome.ensures c.in_ok-write_outcome.ensures.ok c.is_ok.result c.is_ok.ensures.value
+    told_one g.A.Verifiable.verifies c.args.archive.now c.verify-outcome.new.self c.args.recording.now _ _ c.verify-outcome.result c.verify-outcome.ensures c.in_ok-write_outcome.ensures.ok c.is_ok.result c.is_ok.ensures.value

@@ -2,4 +2,4 @@ use Rattle.tool_core.proofs.ReportLemmas.{HasCome}
 use Rattle.tool_core.proofs.reports.verify_recordings.Given as goal
 
 abbrev pub invariant-loop-id : goal.invariant-loop-id
-invariant-loop-id g l = HasCome g.D.Disk.life l.fn.engine l.engine l.id-items l.id-index (g.W.Write.contents l.fn.writer) (g.W.Write.contents l.writer) l.is_whole
+invariant-loop-id g l = HasCome g.A.Verifiable.verifies l.fn.archive l.archive l.id-items l.id-index (g.W.Write.contents l.fn.writer) (g.W.Write.contents l.writer) l.is_whole

@@ -1,0 +1,93 @@
+-- What an engine answers to the verifying of recordings.
+use Rattle.std.proofs.Common.{◌≡◌, ◌+◌, refl, sym, ap, subst, inl, inr, ℕ, suc, ℤ, true≢false, cond, List, [], ◌∷◌, length, take, Option, arith}
+use Rattle.std.proofs.lemmas.List.Sums.{sum_by-cons}
+use Rattle.std.specs.Prelude.{IsTrue, Result, Err}
+use Rattle.frame_core.specs.declared.refusal.Refusal.{Refusal}
+use Rattle.frame_core.specs.declared.refusal.Refusal.TheVariants.{DeviceFault}
+use Rattle.disk_core.specs.Life.{HasFailed, Life}
+use Rattle.archive_model.specs.declared.reply.Reply.{Reply}
+use Rattle.control_core.specs.declared.event.Event.TheVariants.{Verify}
+use Rattle.control_core.specs.Exact.{Archive, CallEnds}
+use Rattle.engine_core.specs.declared.engine.Engine.{Engine}
+use Rattle.engine_core.specs.Calls.{AnswersEvent, HasFailedOften, faults_in, is_fault}
+use Rattle.engine_core.specs.Consistent.{IsCrashConsistent}
+use Rattle.engine_core.specs.Engine.{DiskGoesOn, archive_of}
+use Rattle.engine_core.specs.Seen.{seen}
+use Rattle.tool_core.specs.declared.fault.EarlyEnd.{EarlyEnd}
+use Rattle.tool_core.specs.declared.reports.Verdict.{Verdict}
+use Rattle.tool_core.specs.Reports.{AnswersEach, HasReported, HasReportedFirst, InTurn, InTurnAndOne, IsEngineOf, life_in, verifies_by}
+use Rattle.tool_core.proofs.CallLemmas.{answered_at, wider_cause}
+
+-- a device fault is answered where a call of the disk has failed; those of both have their causes
+faults_then : (old mid new : Life) (outcome : Result Reply Refusal) (last : List (Result Reply Refusal)) → DiskGoesOn old mid → (outcome ≡ Err DeviceFault → HasFailed old mid) → HasFailedOften (faults_in last) mid new
+    → HasFailedOften (faults_in (outcome ∷ last)) old new
+faults_then old mid new outcome last goes cause behind = subst (λ (n : ℕ). HasFailedOften n old new) (sym (sum_by-cons (λ o. cond (is_fault o) 1 0) outcome last)) (by outcome cause)
+  where
+    by : (o : Result Reply Refusal) → (o ≡ Err DeviceFault → HasFailed old mid) → HasFailedOften (cond (is_fault o) 1 0 + faults_in last) old new
+    by (Err DeviceFault) cause = let failed = cause refl in omega (arith, failed, behind)
+    by o cause = omega (arith, goes.faults, behind)
+
+faults_since : (old mid new : Life) (outcomes : List (Result Reply Refusal)) → HasFailedOften (faults_in outcomes) old mid → DiskGoesOn mid new → HasFailedOften (faults_in outcomes) old new
+faults_since old mid new outcomes first goes = omega (arith, first, goes.faults)
+
+goes_then : (old mid new : Life) → DiskGoesOn old mid → DiskGoesOn mid new → DiskGoesOn old new
+goes_then old mid new first behind =
+    let early = first.faults in
+    let late = behind.faults in
+    record { obeyed = λ obeys. first.obeyed (behind.obeyed obeys); faults = omega (arith, early, late) }
+
+module _ {D : Type 0} (life : D → Life) where
+  none_yet : (engine : Engine D) → AnswersEach life engine engine [] []
+  none_yet engine = record { goes_on = record { obeyed = λ obeys. obeys; faults = omega arith }; each = refl; cause = omega arith; stays = λ a is. is; exact = λ a is obeys. tt }
+
+  -- the archive of one verifying stays, and its answer is one that the call may have
+  stays_one : (old new : Engine D) (id : ℤ) (outcome : Result Reply Refusal) → verifies_by life old id outcome new → (a : Archive) → IsEngineOf life a old → IsEngineOf life a new
+  stays_one old new id outcome answers a was =
+      let ended = answered_at (seen life old) (seen life new) a (Verify id) outcome was.desk was.consistent answers (λ cut. absurd (true≢false (sym cut))) in
+      record { desk = ap (λ (b : Archive). b.desk) ended.ends.1; consistent = subst (λ (b : Archive). IsCrashConsistent (life_in life new) new.storage.log b) ended.ends.1 ended.consistent }
+
+  exact_one : (old new : Engine D) (id : ℤ) (outcome : Result Reply Refusal) → verifies_by life old id outcome new → (a : Archive) → IsEngineOf life a old → IsTrue (life_in life new).obeys → CallEnds a (Verify id) (Unit {0}) outcome a
+  exact_one old new id outcome answers a was obeys =
+      let ended = answered_at (seen life old) (seen life new) a (Verify id) outcome was.desk was.consistent answers (λ cut. obeys) in
+      let b : Archive = archive_of (seen life new) ended.after in
+      let ends = wider_cause a (Verify id) (HasFailed (life_in life old) (life_in life new)) (Unit {0}) outcome b (λ failed. tt) (ended.ends.0 (λ reads. obeys)) in
+      subst (λ (x : Archive). CallEnds a (Verify id) (Unit {0}) outcome x) ended.ends.1 ends
+
+  -- one before the others
+  before : (old mid new : Engine D) (id : ℤ) (ids : List ℤ) (outcome : Result Reply Refusal) (outcomes : List (Result Reply Refusal)) → verifies_by life old id outcome mid → AnswersEach life mid new ids outcomes → AnswersEach life old new (id ∷ ids) (outcome ∷ outcomes)
+  before old mid new id ids outcome outcomes first rest = record {
+    goes_on = goes_then (life_in life old) (life_in life mid) (life_in life new) first.goes_on rest.goes_on;
+    each = ap suc rest.each;
+    cause = faults_then (life_in life old) (life_in life mid) (life_in life new) outcome outcomes first.goes_on first.cause rest.cause;
+    stays = λ a is. rest.stays a (stays_one old mid id outcome first a is);
+    exact = λ a is obeys. (exact_one old mid id outcome first a is (rest.goes_on.obeyed obeys), rest.exact a (stays_one old mid id outcome first a is) obeys);
+  }
+
+  -- a later engine, of whose call no answer was written
+  later : (old mid new : Engine D) (ids : List ℤ) (outcomes : List (Result Reply Refusal)) (id : ℤ) (outcome : Result Reply Refusal) → AnswersEach life old mid ids outcomes → verifies_by life mid id outcome new → AnswersEach life old new ids outcomes
+  later old mid new ids outcomes id outcome so_far last = record {
+    goes_on = goes_then (life_in life old) (life_in life mid) (life_in life new) so_far.goes_on last.goes_on;
+    each = so_far.each;
+    cause = faults_since (life_in life old) (life_in life mid) (life_in life new) outcomes so_far.cause last.goes_on;
+    stays = λ a is. stays_one mid new id outcome last a (so_far.stays a is);
+    exact = λ a is obeys. so_far.exact a is (last.goes_on.obeyed obeys);
+  }
+
+  in_turn : (old new : Engine D) (ids : List ℤ) (outcomes : List (Result Reply Refusal)) → InTurn (verifies_by life) old new ids outcomes → AnswersEach life old new ids outcomes
+  in_turn old new [] [] is = subst (λ (e : Engine D). AnswersEach life old e [] []) (sym is) (none_yet old)
+  in_turn old new (id ∷ ids) (o ∷ os) (mid, first, turn) = before old mid new id ids o os first (in_turn mid new ids os turn)
+  in_turn old new [] (o ∷ os) turn = absurd turn
+  in_turn old new (id ∷ ids) [] turn = absurd turn
+
+  and_one : (old new : Engine D) (ids : List ℤ) (outcomes : List (Result Reply Refusal)) → InTurnAndOne (verifies_by life) old new ids outcomes → AnswersEach life old new ids outcomes
+  and_one old new ids os (mid, turn, inl is) = subst (λ (e : Engine D). AnswersEach life old e ids os) (sym is) (in_turn old mid ids os turn)
+  and_one old new ids os (mid, turn, inr (id, outcome, last)) = later old mid new ids os id outcome (in_turn old mid ids os turn) last
+
+  -- all that verifying each in turn promises
+  pub verified : (ids : List ℤ) (old new : Engine D) (contents written : Option (List ℕ)) (verdict : Verdict) → HasReported (InTurn (verifies_by life)) ids old new contents written verdict
+      → HasReported (AnswersEach life) ids old new contents written verdict
+  verified ids old new contents written verdict did = record { outcomes = did.outcomes; answers = in_turn old new ids did.outcomes did.answers; told = did.told; judged = did.judged }
+
+  pub verified_first : (ids : List ℤ) (old new : Engine D) (contents written : Option (List ℕ)) (end : EarlyEnd) → HasReportedFirst (InTurnAndOne (verifies_by life)) ids old new contents written end
+      → HasReportedFirst (AnswersEach life) ids old new contents written end
+  verified_first ids old new contents written end did = record { outcomes = did.outcomes; answers = and_one old new (take (length did.outcomes) ids) did.outcomes did.answers; told = did.told }
