@@ -11,6 +11,7 @@ use agents_core::{
 use archive_lock::{Call, Made, Naming, SharedArchive};
 use archive_model::PolledFrame;
 use call_history::{Opened, Pass, Stored};
+use control_core::Event;
 use control_lines::{Line, parse_line};
 use disk_core::{Disk, MemoryDisk};
 use engine_core::Engine;
@@ -131,27 +132,30 @@ fn two_recorders_and_two_replayers(rt: HostRuntime) -> Result<(), Fail> {
 fn begun(alloc: Global) -> Result<Engine<MemoryDisk>, Refusal> {
     let made = Engine::create(alloc, MemoryDisk::new(alloc), 64);
     let mut engine = made.map_err(|refused| refused.refusal)?;
-    step(
-        alloc,
-        &mut engine,
-        "start 1001 7 42 65536 1408 65536 0 1000 c",
-    )?;
-    step(
-        alloc,
-        &mut engine,
-        "start 1001 7 42 65536 1408 65536 0 1000 c",
-    )?;
-    step(alloc, &mut engine, "replay 0 0 192")?;
-    step(alloc, &mut engine, "replay 1 0 192")?;
+    begin(alloc, &mut engine)?;
     Ok(engine)
 }
 
-fn step<D: Disk>(alloc: Global, engine: &mut Engine<D>, line: &str) -> Result<(), Refusal> {
+/// Asks for two recordings, and a replay of each.
+fn begin(alloc: Global, engine: &mut Engine<MemoryDisk>) -> Result<(), Refusal> {
+    step(alloc, engine, "start 1001 7 42 65536 1408 65536 0 1000 c")?;
+    step(alloc, engine, "start 1001 7 42 65536 1408 65536 0 1000 c")?;
+    step(alloc, engine, "replay 0 0 192")?;
+    step(alloc, engine, "replay 1 0 192")
+}
+
+fn step(alloc: Global, engine: &mut Engine<MemoryDisk>, line: &str) -> Result<(), Refusal> {
+    let event = event_of(alloc, line)?;
+    match engine.step(alloc, &event) {
+        Ok(_) => Ok(()),
+        Err(refusal) => Err(refusal),
+    }
+}
+
+/// The event of a line.
+fn event_of(alloc: Global, line: &str) -> Result<Event, Refusal> {
     match parse_line(alloc, line.as_bytes())? {
-        Line::Event(event) => {
-            engine.step(alloc, &event)?;
-            Ok(())
-        }
+        Line::Event(event) => Ok(event),
         _ => Err(Refusal::BadLine),
     }
 }
@@ -206,10 +210,22 @@ fn seated<'a, A: Naming>(
     let Ok((board, mut writers, mut readers)) = Board::new(alloc, &[0, 0], 2) else {
         return None;
     };
-    let late = replayer(alloc, passes.pop()?, 1, readers.pop()?, None);
-    let follower = replayer(alloc, passes.pop()?, 0, readers.pop()?, Some(sink));
-    let second = RecorderSeat::new(1, passes.pop()?, writers.pop()?);
-    let first = RecorderSeat::new(0, passes.pop()?, writers.pop()?);
+    let (Some(late), Some(follower)) = (passes.pop(), passes.pop()) else {
+        return None;
+    };
+    let (Some(second), Some(first)) = (passes.pop(), passes.pop()) else {
+        return None;
+    };
+    let (Some(late_reader), Some(reader)) = (readers.pop(), readers.pop()) else {
+        return None;
+    };
+    let (Some(second_writer), Some(writer)) = (writers.pop(), writers.pop()) else {
+        return None;
+    };
+    let late = replayer(alloc, late, 1, late_reader, None);
+    let follower = replayer(alloc, follower, 0, reader, Some(sink));
+    let second = RecorderSeat::new(1, second, second_writer);
+    let first = RecorderSeat::new(0, first, writer);
     let agents = agents_of::<A>(alloc, &board, source, first, second, follower, late)?;
     Some((board, agents))
 }
@@ -257,6 +273,20 @@ fn run<D: Disk + Drop + Send, A: Naming + Send + Sync, R: Threads + Wait + Sync>
     let (agents, outcome) = run_agents(rt, alloc, &archive, board, agents, &gate);
     outcome.ok()?;
     let told = told_by(&agents);
+    let calls = closed(alloc, archive, board, agents)?;
+    Some(Told { calls, ..told })
+}
+
+/// How many calls were stored of an archive that is closed with the agents' passes.
+fn closed<D: Disk + Drop, A: Naming>(
+    alloc: Global,
+    archive: SharedArchive<D, A>,
+    board: &Board,
+    agents: Agents<Listed<'_>, Counting<'_>>,
+) -> Option<usize>
+    requires recorders { AreSeated A.table board.now agents.recorders.items }
+    requires replayers { AreReading A.table board.now agents.replayers.items }
+{
     let Agents {
         receivers: _,
         recorders,
@@ -264,10 +294,7 @@ fn run<D: Disk + Drop + Send, A: Naming + Send + Sync, R: Threads + Wait + Sync>
     } = agents;
     let passes = passes_of::<A>(alloc, board, recorders, replayers)?;
     let closed = archive.close(passes).ok()?;
-    Some(Told {
-        calls: calls_in(&closed.history),
-        ..told
-    })
+    Some(calls_in(&closed.history))
 }
 
 /// How many calls were stored.
@@ -280,55 +307,83 @@ fn calls_in(history: &Stored<Call>) -> usize {
 
 fn told_by(agents: &Agents<Listed<'_>, Counting<'_>>) -> Told {
     let mut told = Told {
-        refused: 0,
+        refused: refused_of(agents.recorders.as_slice()),
         rising: 0,
         frames: 0,
         calls: 0,
         polls: 0,
     };
-    for recorder in agents.recorders.as_slice() {
-        if recorder.refused.is_some() {
-            told.refused = told.refused.saturating_add(1);
-        }
-    }
     for replayer in agents.replayers.as_slice() {
-        if replayer.refused.is_some() {
-            told.refused = told.refused.saturating_add(1);
-        }
-        if replayer.looked.as_slice().is_sorted() {
-            told.rising = told.rising.saturating_add(1);
-        }
-        told.frames = told.frames.saturating_add(replayer.sink.frames);
-        told.polls = told.polls.saturating_add(replayer.looked.len());
+        note(&mut told, replayer);
     }
     told
+}
+
+/// How many recorders were refused.
+fn refused_of(recorders: &[Recorder]) -> usize {
+    let mut refused = 0_usize;
+    for recorder in recorders {
+        if recorder.refused.is_some() {
+            refused = refused.saturating_add(1);
+        }
+    }
+    refused
+}
+
+/// Adds what a replayer did.
+fn note(told: &mut Told, replayer: &Replayer<Counting<'_>>) {
+    if replayer.refused.is_some() {
+        told.refused = told.refused.saturating_add(1);
+    }
+    if replayer.looked.as_slice().is_sorted() {
+        told.rising = told.rising.saturating_add(1);
+    }
+    told.frames = told.frames.saturating_add(replayer.sink.frames);
+    told.polls = told.polls.saturating_add(replayer.looked.len());
 }
 
 /// The passes of all agents.
 fn passes_of<A: Naming>(
     alloc: Global,
     board: &Board,
-    mut recorders: Vec<Recorder>,
-    mut replayers: Vec<Replayer<Counting<'_>>>,
+    recorders: Vec<Recorder>,
+    replayers: Vec<Replayer<Counting<'_>>>,
 ) -> Option<Vec<Pass<Made>>>
     requires recorders { AreSeated A.table board.now recorders.items }
     requires replayers { AreReading A.table board.now replayers.items }
     ensures { IfSome result (λ passes. AllOfTable A.table passes.items) }
 {
-    let mut passes = Vec::new(alloc);
-    passes
-        .push(recorder_pass::<A>(board, &mut recorders)?)
-        .ok()?;
-    passes
-        .push(recorder_pass::<A>(board, &mut recorders)?)
-        .ok()?;
-    passes
-        .push(replayer_pass::<A>(board, &mut replayers)?)
-        .ok()?;
-    passes
-        .push(replayer_pass::<A>(board, &mut replayers)?)
-        .ok()?;
-    Some(passes)
+    let (first, second) = recorder_passes::<A>(board, recorders)?;
+    let (third, fourth) = replayer_passes::<A>(board, replayers)?;
+    vec![in alloc; first, second, third, fourth].ok()
+}
+
+/// The passes of two recorders.
+fn recorder_passes<A: Naming>(
+    board: &Board,
+    mut recorders: Vec<Recorder>,
+) -> Option<(Pass<Made>, Pass<Made>)>
+    requires { AreSeated A.table board.now recorders.items }
+    ensures first { IfSome result (λ passes. passes.0.table ≡ A.table) }
+    ensures second { IfSome result (λ passes. passes.1.table ≡ A.table) }
+{
+    let first = recorder_pass::<A>(board, &mut recorders)?;
+    let second = recorder_pass::<A>(board, &mut recorders)?;
+    Some((first, second))
+}
+
+/// The passes of two replayers.
+fn replayer_passes<A: Naming>(
+    board: &Board,
+    mut replayers: Vec<Replayer<Counting<'_>>>,
+) -> Option<(Pass<Made>, Pass<Made>)>
+    requires { AreReading A.table board.now replayers.items }
+    ensures first { IfSome result (λ passes. passes.0.table ≡ A.table) }
+    ensures second { IfSome result (λ passes. passes.1.table ≡ A.table) }
+{
+    let first = replayer_pass::<A>(board, &mut replayers)?;
+    let second = replayer_pass::<A>(board, &mut replayers)?;
+    Some((first, second))
 }
 
 fn recorder_pass<A: Naming>(board: &Board, recorders: &mut Vec<Recorder>) -> Option<Pass<Made>>

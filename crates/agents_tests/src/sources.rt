@@ -1,8 +1,10 @@
 //! Blocks from datagrams: the scenario of docs/SCENARIOS.md.
 
 use agents_core::{BlockSource, DatagramEnd, ImageSource};
-use frame_core::{Block, Setup};
+use frame_core::{Block, Refusal, Setup};
 use image_core::Image;
+use std::alloc::Global;
+use std::sync::Wait;
 use std::test::Fail;
 
 /// `hello`, term 42, offset 0.
@@ -74,20 +76,39 @@ fn told(block: Option<Block>) -> Option<(i64, usize, i32)> {
     Some((block.position, block.frames.len(), last.term_offset))
 }
 
-#[test]
-fn blocks_come_in_order_behind_a_loss(rt: HostRuntime) -> Result<(), Fail> {
-    let image = Image::from_setup(rt.alloc(), &Setup::decode(&SETUP)?)?;
+/// What three calls of a source give.
+fn three_of(source: &mut impl BlockSource) -> [Option<(i64, usize, i32)>; 3] {
+    let first = told(source.next());
+    let second = told(source.next());
+    let third = told(source.next());
+    [first, second, third]
+}
+
+/// What three calls of a source of these datagrams give, and its end behind them.
+fn given<R: Wait + Drop + Send>(
+    rt: R,
+    alloc: Global,
+    datagrams: &'static [&'static [u8]],
+) -> Result<([Option<(i64, usize, i32)>; 3], ListedEnd), Refusal> {
+    let image = Image::from_setup(alloc, &Setup::decode(&SETUP)?)?;
     let end = ListedEnd {
-        datagrams: &[HELLO_AT_0, CUT_OFF, HELLO_AT_128, HELLO_AT_64],
+        datagrams,
         given: 0,
         requests: 0,
         last: [0; 28],
     };
-    let mut source = sent(ImageSource::new(&rt, rt.alloc(), image, end)?);
-    for given in [Some((0, 1, 0)), Some((64, 2, 128)), None] {
-        assert!(rt; told(source.next()) == given);
-    }
+    let mut source = sent(ImageSource::new(rt, alloc, image, end)?);
+    let given = three_of(&mut source);
     let (_, end) = source.into_parts();
+    Ok((given, end))
+}
+
+const DATAGRAMS: &[&[u8]] = &[HELLO_AT_0, CUT_OFF, HELLO_AT_128, HELLO_AT_64];
+
+#[test]
+fn blocks_come_in_order_behind_a_loss(rt: HostRuntime) -> Result<(), Fail> {
+    let (given, end) = given(&rt, rt.alloc(), DATAGRAMS)?;
+    assert!(rt; given == [Some((0, 1, 0)), Some((64, 2, 128)), None]);
     assert!(rt; end.requests == 1 && end.last == NAK_AT_64);
     Ok(())
 }

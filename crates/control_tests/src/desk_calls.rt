@@ -1,6 +1,6 @@
 //! What a desk decides on the calls that are no requests, what is looked for, and the limits: docs/CONTROL.md, by example.
 
-use crate::desks::{asked, begin, make, told};
+use crate::desks::{begin, make_asked, told, told_of};
 use crate::requests::{start, start_of_bad_terms};
 use archive_model::{Channel, Reply};
 use control_core::{
@@ -15,8 +15,7 @@ use std::test::*;
 /// An archive of so many active recordings.
 fn recording(alloc: Global, count: u8, limit: u32) -> Result<Desk, Refusal> {
     let mut desk = Desk::new(alloc, limit);
-    begin(alloc, &mut desk, count)?;
-    Ok(desk)
+    begin(alloc, &mut desk, count).and(Ok(desk))
 }
 
 /// Opens a replay of a recording from its start.
@@ -45,6 +44,17 @@ fn opened(decision: &OpeningDecision) -> u8 {
     }
 }
 
+/// The refusal of a session's block of 64 bytes from such a position on, or 0.
+fn written(desk: &Desk, number: i64, first: i64) -> u8 {
+    let block = Written {
+        first,
+        last: first.saturating_add(64),
+    };
+    let writer = desk.session(&number);
+    let fits = writer.is_some();
+    number_of(&decide_write(desk, &number, &writer, &block, fits))
+}
+
 /// The refusal of a call by its kind, or 0. Replay 0 and session 0 are of recording 0, which is active and empty.
 fn called(desk: &Desk, kind: u8, number: i64, other: i64) -> u8 {
     match kind {
@@ -55,15 +65,7 @@ fn called(desk: &Desk, kind: u8, number: i64, other: i64) -> u8 {
         4 => number_of(&decide_sweep(desk)),
         5 => number_of(&decide_verify(desk, &number)),
         7 => number_of(&read_terms(desk, &number)),
-        _ => {
-            let block = Written {
-                first: other,
-                last: other.saturating_add(64),
-            };
-            let writer = desk.session(&number);
-            let fits = writer.is_some();
-            number_of(&decide_write(desk, &number, &writer, &block, fits))
-        }
+        _ => written(desk, number, other),
     }
 }
 
@@ -97,31 +99,46 @@ const CALLS: [(bool, u8, i64, i64, u8); 22] = [
 
 fn with_replay(alloc: Global, is_broken: bool) -> Result<Desk, Refusal> {
     let mut desk = recording(alloc, 1, 2)?;
-    open(&mut desk, 0)?;
+    let opened = open(&mut desk, 0);
     if is_broken {
         desk.break_down();
     }
-    Ok(desk)
+    opened.and(Ok(desk))
+}
+
+fn called_with_replay(
+    alloc: Global,
+    is_broken: bool,
+    kind: u8,
+    number: i64,
+    other: i64,
+) -> Result<u8, Refusal> {
+    let desk = with_replay(alloc, is_broken)?;
+    Ok(called(&desk, kind, number, other))
 }
 
 #[test]
 fn calls_are_refused_in_their_order(rt: HostRuntime) -> Result<(), Fail> {
     for (is_broken, kind, number, other, refusal) in CALLS {
-        let desk = with_replay(rt.alloc(), is_broken)?;
-        assert!(rt; called(&desk, kind, number, other) == refusal);
+        let called = called_with_replay(rt.alloc(), is_broken, kind, number, other)?;
+        assert!(rt; called == refusal);
     }
     Ok(())
 }
 
+fn terms_of_one(alloc: Global) -> Result<Geometry, Refusal> {
+    let desk = recording(alloc, 1, 1)?;
+    read_terms(&desk, &0)
+}
+
 #[test]
 fn bytes_are_read_by_the_terms_of_the_recording(rt: HostRuntime) -> Result<(), Fail> {
-    let desk = recording(rt.alloc(), 1, 1)?;
     let terms = Geometry {
         initial_term_id: 42,
         term_length: 65_536,
         mtu: 1_408,
     };
-    let found = read_terms(&desk, &0)?;
+    let found = terms_of_one(rt.alloc())?;
     assert!(rt; found == terms);
     Ok(())
 }
@@ -144,8 +161,7 @@ fn note(desk: &mut Desk, last: i64) -> Result<(), Refusal> {
 
 fn with_blocks(alloc: Global, last: i64) -> Result<Desk, Refusal> {
     let mut desk = recording(alloc, 1, 1)?;
-    note(&mut desk, last)?;
-    Ok(desk)
+    note(&mut desk, last).and(Ok(desk))
 }
 
 // Where the written blocks end, the kind of `called`, a position: the history is full. A segment has 131,072 bytes.
@@ -157,11 +173,16 @@ const WRITTEN: [(i64, u8, i64, u8); 5] = [
     (64, 0, 0, 11),
 ];
 
+fn called_with_blocks(alloc: Global, last: i64, kind: u8, position: i64) -> Result<u8, Refusal> {
+    let desk = with_blocks(alloc, last)?;
+    Ok(called(&desk, kind, 0, position))
+}
+
 #[test]
 fn written_blocks_are_settled_before_the_next_segment(rt: HostRuntime) -> Result<(), Fail> {
     for (last, kind, position, refusal) in WRITTEN {
-        let desk = with_blocks(rt.alloc(), last)?;
-        assert!(rt; called(&desk, kind, 0, position) == refusal);
+        let called = called_with_blocks(rt.alloc(), last, kind, position)?;
+        assert!(rt; called == refusal);
     }
     Ok(())
 }
@@ -189,42 +210,50 @@ const KEPT: [(u8, u8, i64, u8); 8] = [
     (3, 2, 131_072, 11),
 ];
 
-fn prepare(alloc: Global, desk: &mut Desk, state: u8) -> Result<(), Refusal> {
+fn prepare_recording(alloc: Global, desk: &mut Desk, state: u8) -> Result<(), Refusal> {
     match state {
-        0 => (),
-        1 => make(alloc, desk, &asked(0, 0, 5))?,
-        _ => record_a_segment(desk)?,
+        0 => Ok(()),
+        1 => make_asked(alloc, desk, 0, 0, 5),
+        _ => record_a_segment(desk),
     }
-    if state == 3 {
-        return Ok(());
-    }
-    open(desk, 0)
+}
+
+fn prepare(alloc: Global, desk: &mut Desk, state: u8) -> Result<(), Refusal> {
+    prepare_recording(alloc, desk, state)?;
+    if state == 3 { Ok(()) } else { open(desk, 0) }
 }
 
 /// 0: active, 1: stopped, 2 and 3: recorded to where its second segment begins. A replay from 0 on is open, but in 3.
 fn kept(alloc: Global, state: u8) -> Result<Desk, Refusal> {
     let mut desk = recording(alloc, 1, if state == 0 { 1 } else { 2 })?;
-    prepare(alloc, &mut desk, state)?;
-    Ok(desk)
+    prepare(alloc, &mut desk, state).and(Ok(desk))
+}
+
+fn told_where_kept(alloc: Global, state: u8, kind: u8, position: i64) -> Result<u8, Refusal> {
+    let desk = kept(alloc, state)?;
+    Ok(told_of(alloc, &desk, kind, 0, position))
 }
 
 /// In each row the next rule is broken, too.
 #[test]
 fn a_replay_keeps_its_recording(rt: HostRuntime) -> Result<(), Fail> {
     for (state, kind, position, refusal) in KEPT {
-        let desk = kept(rt.alloc(), state)?;
-        let decision = decide(rt.alloc(), &desk, &asked(kind, 0, position));
-        assert!(rt; told(&decision) == refusal);
+        let told = told_where_kept(rt.alloc(), state, kind, position)?;
+        assert!(rt; told == refusal);
+    }
+    Ok(())
+}
+
+fn open_many(desk: &mut Desk, count: u8) -> Result<(), Refusal> {
+    for _ in 0..count {
+        open(desk, 0)?;
     }
     Ok(())
 }
 
 fn many_replays(alloc: Global) -> Result<Desk, Refusal> {
     let mut desk = recording(alloc, 1, 1)?;
-    for _ in 0..64 {
-        open(&mut desk, 0)?;
-    }
-    Ok(desk)
+    open_many(&mut desk, 64).and(Ok(desk))
 }
 
 /// A recording, a position, and what the opening of one more is told. Of a recording that is not there no position is bad.
@@ -239,22 +268,36 @@ fn at_most_64_replays_are_open(rt: HostRuntime) -> Result<(), Fail> {
     Ok(())
 }
 
+/// What a request is told.
+fn told_by(alloc: Global, desk: &Desk, request: Request) -> u8 {
+    told(&decide(alloc, desk, &request))
+}
+
 /// What a start whose terms are bad is told, and what one is whose terms are good.
 fn starts(alloc: Global, desk: &Desk) -> Result<(u8, u8), Refusal> {
-    let bad = decide(alloc, desk, &start_of_bad_terms(alloc)?);
-    let good = decide(alloc, desk, &start(alloc)?);
-    Ok((told(&bad), told(&good)))
+    let bad = told_by(alloc, desk, start_of_bad_terms(alloc)?);
+    let good = told_by(alloc, desk, start(alloc)?);
+    Ok((bad, good))
+}
+
+/// Both before a write fails, and both then.
+fn starts_around_a_fault(alloc: Global, desk: &mut Desk) -> Result<[(u8, u8); 2], Refusal> {
+    let refused = starts(alloc, desk)?;
+    desk.break_down();
+    let broken = starts(alloc, desk)?;
+    Ok([refused, broken])
+}
+
+fn starts_beside_64(alloc: Global) -> Result<[(u8, u8); 2], Refusal> {
+    let mut desk = recording(alloc, 64, 64)?;
+    starts_around_a_fault(alloc, &mut desk)
 }
 
 /// The history is full, too; then a write fails.
 #[test]
 fn at_most_64_recordings_are_active(rt: HostRuntime) -> Result<(), Fail> {
-    let mut desk = recording(rt.alloc(), 64, 64)?;
-    let refused = starts(rt.alloc(), &desk)?;
-    assert!(rt; refused == (10, 7));
-    desk.break_down();
-    let broken = starts(rt.alloc(), &desk)?;
-    assert!(rt; broken == (16, 16));
+    let told = starts_beside_64(rt.alloc())?;
+    assert!(rt; told == [(10, 7), (16, 16)]);
     Ok(())
 }
 
@@ -291,12 +334,26 @@ const SOUGHT: [(i64, i32, &'static str, i64); 7] = [
     (0, 7, "", -11),
 ];
 
+fn found_on(alloc: Global, desk: &Desk, request: Request) -> i64 {
+    found(&decide(alloc, desk, &request))
+}
+
+/// What is found of two recordings.
+fn found_of_two(
+    alloc: Global,
+    least: i64,
+    session_id: i32,
+    fragment: &'static str,
+) -> Result<i64, Refusal> {
+    let desk = recording(alloc, 2, 2)?;
+    Ok(found_on(alloc, &desk, sought(alloc, least, session_id, fragment)?))
+}
+
 #[test]
 fn the_greatest_id_is_found(rt: HostRuntime) -> Result<(), Fail> {
-    let desk = recording(rt.alloc(), 2, 2)?;
     for (least, session_id, fragment, id) in SOUGHT {
-        let request = sought(rt.alloc(), least, session_id, fragment)?;
-        assert!(rt; found(&decide(rt.alloc(), &desk, &request)) == id);
+        let found = found_of_two(rt.alloc(), least, session_id, fragment)?;
+        assert!(rt; found == id);
     }
     Ok(())
 }

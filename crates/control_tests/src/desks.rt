@@ -8,7 +8,7 @@ use std::alloc::Global;
 use std::test::*;
 
 /// A request by its kind and two numbers.
-pub(crate) fn asked(kind: u8, recording: i64, number: i64) -> Request {
+fn asked(kind: u8, recording: i64, number: i64) -> Request {
     match kind {
         0 => Request::Stop {
             recording,
@@ -41,7 +41,7 @@ pub(crate) fn asked(kind: u8, recording: i64, number: i64) -> Request {
 }
 
 /// Makes an accepted request.
-pub(crate) fn make(alloc: Global, desk: &mut Desk, request: &Request) -> Result<(), Refusal> {
+fn make(alloc: Global, desk: &mut Desk, request: &Request) -> Result<(), Refusal> {
     laws::what_is_decided_is_allowed();
     let Decision::Accepted(command) = decide(alloc, desk, request) else {
         return Err(Refusal::BadLine);
@@ -51,22 +51,49 @@ pub(crate) fn make(alloc: Global, desk: &mut Desk, request: &Request) -> Result<
     Ok(())
 }
 
+/// The same of a request by its kind and two numbers.
+pub(crate) fn make_asked(
+    alloc: Global,
+    desk: &mut Desk,
+    kind: u8,
+    recording: i64,
+    number: i64,
+) -> Result<(), Refusal> {
+    let request = asked(kind, recording, number);
+    make(alloc, desk, &request)
+}
+
+/// What such a request is told.
+pub(crate) fn told_of(alloc: Global, desk: &Desk, kind: u8, recording: i64, number: i64) -> u8 {
+    let request = asked(kind, recording, number);
+    told(&decide(alloc, desk, &request))
+}
+
+/// Makes a request so many times.
+fn make_times(alloc: Global, desk: &mut Desk, request: &Request, count: u8) -> Result<(), Refusal> {
+    for _ in 0..count {
+        make(alloc, desk, request)?;
+    }
+    Ok(())
+}
+
 /// Begins so many more recordings.
 pub(crate) fn begin(alloc: Global, desk: &mut Desk, count: u8) -> Result<(), Refusal> {
     let request = start(alloc)?;
-    for _ in 0..count {
-        make(alloc, desk, &request)?;
-    }
-    Ok(())
+    make_times(alloc, desk, &request, count)
+}
+
+/// Begins two recordings, stops the second, and begins so many more.
+fn begin_two(alloc: Global, desk: &mut Desk, more: u8) -> Result<(), Refusal> {
+    begin(alloc, desk, 2)?;
+    make_asked(alloc, desk, 0, 1, 5)?;
+    begin(alloc, desk, more)
 }
 
 /// Recording 0 is active, recording 1 is stopped where it began, and so many more are active; three more entries count.
 fn two_recordings(alloc: Global, more: u8, limit: u32) -> Result<Desk, Refusal> {
     let mut desk = Desk::new(alloc, limit);
-    begin(alloc, &mut desk, 2)?;
-    make(alloc, &mut desk, &asked(0, 1, 5))?;
-    begin(alloc, &mut desk, more)?;
-    Ok(desk)
+    begin_two(alloc, &mut desk, more).and(Ok(desk))
 }
 
 /// 0: there is room; 1: there is none; 2: none, and a write failed; 3: none, and 64 recordings are active.
@@ -126,12 +153,17 @@ const ROWS: [(u8, u8, i64, i64, u8); 31] = [
     (2, 5, -1, 1_025, 10),
 ];
 
+/// What a request is told by a desk of such a state.
+fn told_in(alloc: Global, state: u8, kind: u8, recording: i64, number: i64) -> Result<u8, Refusal> {
+    let desk = desk_of(alloc, state)?;
+    Ok(told_of(alloc, &desk, kind, recording, number))
+}
+
 #[test]
 fn refusals_come_in_their_order(rt: HostRuntime) -> Result<(), Fail> {
     for (state, kind, recording, number, refusal) in ROWS {
-        let desk = desk_of(rt.alloc(), state)?;
-        let decision = decide(rt.alloc(), &desk, &asked(kind, recording, number));
-        assert!(rt; told(&decision) == refusal);
+        let told = told_in(rt.alloc(), state, kind, recording, number)?;
+        assert!(rt; told == refusal);
     }
     Ok(())
 }

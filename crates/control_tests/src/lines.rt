@@ -1,7 +1,7 @@
 //! Control lines read, and replies and refusals printed: docs/CONTROL.md, "Lines" and "Refusals", by example.
 
 use archive_model::{Channel, Descriptor, PolledFrame, Reply, StartFields};
-use control_core::{Event, Request};
+use control_core::{Event, FindFields, Request};
 use control_lines::{Line, MergeLine, parse_line, print_refusal, print_reply};
 use frame_core::{Frame, FrameKind, Items, Refusal};
 use std::alloc::Global;
@@ -9,13 +9,6 @@ use std::test::*;
 
 const START_LINE: &[u8] =
     b"start 1001 7 42 65536 1408 131072 0 1000 aeron:udp?endpoint=localhost:40123";
-
-fn start_fields(alloc: Global) -> Result<StartFields, Refusal> {
-    match parse_line(alloc, START_LINE)? {
-        Line::Event(Event::Ask(Request::Start(fields))) => Ok(fields),
-        _ => Err(Refusal::BadLine),
-    }
-}
 
 fn has_terms(fields: &StartFields) -> bool {
     fields.initial_term_id == 42 && fields.term_length == 65_536 && fields.mtu == 1_408
@@ -25,13 +18,48 @@ fn has_numbers(fields: &StartFields) -> bool {
     fields.segment_length == 131_072 && fields.start_position == 0 && fields.timestamp == 1_000
 }
 
+fn has_stream(fields: &StartFields) -> bool {
+    fields.stream_id == 1_001 && fields.session_id == 7
+}
+
+fn has_channel(fields: &StartFields) -> bool {
+    fields.channel.as_str() == "aeron:udp?endpoint=localhost:40123"
+}
+
+/// Which fields of a line that starts a recording are as told: of the stream, terms, numbers, and the channel.
+fn started(line: &Line) -> Option<[bool; 4]> {
+    match line {
+        Line::Event(Event::Ask(Request::Start(fields))) => Some([
+            has_stream(fields),
+            has_terms(fields),
+            has_numbers(fields),
+            has_channel(fields),
+        ]),
+        _ => None,
+    }
+}
+
 #[test]
 fn a_line_that_starts_a_recording(rt: HostRuntime) -> Result<(), Fail> {
-    let fields = start_fields(rt.alloc())?;
-    assert!(rt; fields.stream_id == 1_001 && fields.session_id == 7);
-    assert!(rt; has_terms(&fields) && has_numbers(&fields));
-    assert!(rt; fields.channel.as_str() == "aeron:udp?endpoint=localhost:40123");
+    let are_told = started(&parse_line(rt.alloc(), START_LINE)?);
+    assert!(rt; are_told == Some([true; 4]));
     Ok(())
+}
+
+/// The bytes of a line that has some.
+fn bytes_of(line: &Line) -> Option<&[u8]> {
+    match line {
+        Line::Write { session: 0, bytes } => Some(bytes.as_slice()),
+        Line::Block { session: 0, bytes } => Some(bytes.as_slice()),
+        Line::Merge(MergeLine::Replay(bytes)) => Some(bytes.as_slice()),
+        Line::Merge(MergeLine::Live(bytes)) => Some(bytes.as_slice()),
+        _ => None,
+    }
+}
+
+fn has_bytes(alloc: Global, line: &str) -> Result<bool, Refusal> {
+    let line = parse_line(alloc, line.as_bytes())?;
+    Ok(bytes_of(&line) == Some([0, 255, 160, 175].as_slice()))
 }
 
 #[test]
@@ -42,14 +70,8 @@ fn lines_with_bytes(rt: HostRuntime) -> Result<(), Fail> {
         "merge-replay 00ffA0aF",
         "merge-live 00ffA0aF",
     ] {
-        let bytes = match parse_line(rt.alloc(), line.as_bytes())? {
-            Line::Write { session: 0, bytes } => bytes,
-            Line::Block { session: 0, bytes } => bytes,
-            Line::Merge(MergeLine::Replay(bytes)) => bytes,
-            Line::Merge(MergeLine::Live(bytes)) => bytes,
-            _ => return Err(Fail::new(line)),
-        };
-        assert_eq!(rt; bytes.as_slice(), [0, 255, 160, 175].as_slice());
+        let has_bytes = has_bytes(rt.alloc(), line)?;
+        assert!(rt; has_bytes, "{line}");
     }
     Ok(())
 }
@@ -84,24 +106,43 @@ const ASKED: [(&'static str, &'static str); 13] = [
     ("compact", "Compact"),
 ];
 
+/// Fails with what a line asks for, where that is another thing.
+fn check_asked(alloc: Global, line: &str, asked: &str) -> Result<(), Fail> {
+    let line = parse_line(alloc, line.as_bytes())?;
+    let told = format!(in alloc; "{line:?}")?;
+    if told.as_str() == asked {
+        Ok(())
+    } else {
+        Err(Fail::new(told))
+    }
+}
+
 #[test]
 fn lines_that_ask_the_archive(rt: HostRuntime) -> Result<(), Fail> {
     for (line, asked) in ASKED {
-        let line = parse_line(rt.alloc(), line.as_bytes())?;
-        let told = format!(in rt.alloc(); "{line:?}")?;
-        assert!(rt; told.as_str() == asked);
+        check_asked(rt.alloc(), line, asked)?;
     }
     Ok(())
 }
 
+fn seeks(fields: &FindFields) -> bool {
+    fields.least == 2 && fields.stream_id == 1_001 && fields.session_id == -7
+}
+
+/// Whether a line seeks a recording by the numbers that are told, and by which fragment.
+fn sought(line: &Line) -> Option<(bool, bool)> {
+    match line {
+        Line::Event(Event::Ask(Request::Find(fields))) => {
+            Some((seeks(fields), fields.fragment.as_str() == "a b"))
+        }
+        _ => None,
+    }
+}
+
 #[test]
 fn a_line_that_seeks_a_recording(rt: HostRuntime) -> Result<(), Fail> {
-    let fields = match parse_line(rt.alloc(), b"find 2 1001 -7 a b")? {
-        Line::Event(Event::Ask(Request::Find(fields))) => fields,
-        _ => return Err(Fail::new("no request")),
-    };
-    assert!(rt; fields.least == 2 && fields.stream_id == 1_001 && fields.session_id == -7);
-    assert!(rt; fields.fragment.as_str() == "a b");
+    let found = sought(&parse_line(rt.alloc(), b"find 2 1001 -7 a b")?);
+    assert!(rt; found == Some((true, true)));
     Ok(())
 }
 
@@ -131,85 +172,104 @@ write 0
 sweep 1
 compact 1";
 
-#[test]
-fn malformed_lines(rt: HostRuntime) -> Result<(), Fail> {
-    let alloc = rt.alloc();
-    for line in MALFORMED.split('\n') {
-        assert!(rt;
-            matches!(parse_line(alloc, line.as_bytes()), Err(Refusal::BadLine)),
-            "{line:?}"
-        );
-    }
-    assert!(rt; matches!(parse_line(alloc, b"quit\xff"), Err(Refusal::BadLine)));
+fn is_malformed(alloc: Global, line: &[u8]) -> bool {
+    matches!(parse_line(alloc, line), Err(Refusal::BadLine))
+}
+
+fn is_event(alloc: Global, line: &[u8]) -> bool {
+    matches!(parse_line(alloc, line), Ok(Line::Event(_)))
+}
+
+/// Whether a line of 262,144 bytes is read, and whether one of a byte more is malformed.
+fn longest(alloc: Global) -> Result<(bool, bool), Fail> {
     let mut line = Vec::from_slice(alloc, b"start 1 2 3 4 5 6 7 8 ")?;
     line.resize(262_144, b'c')?;
-    assert!(rt; matches!(parse_line(alloc, line.as_slice()), Ok(Line::Event(_))));
+    let is_read = is_event(alloc, line.as_slice());
     line.push(b'c')?;
-    assert!(rt; matches!(parse_line(alloc, line.as_slice()), Err(Refusal::BadLine)));
+    Ok((is_read, is_malformed(alloc, line.as_slice())))
+}
+
+#[test]
+fn malformed_lines(rt: HostRuntime) -> Result<(), Fail> {
+    for line in MALFORMED.split('\n') {
+        assert!(rt; is_malformed(rt.alloc(), line.as_bytes()), "{line:?}");
+    }
+    assert!(rt; is_malformed(rt.alloc(), b"quit\xff"));
+    let longest = longest(rt.alloc())?;
+    assert!(rt; longest == (true, true));
     Ok(())
 }
 
-fn printed(alloc: Global, reply: &Reply) -> Result<String, Fail> {
-    Ok(String::from_utf8(print_reply(alloc, reply)?)?)
+/// Fails with what is printed for a reply, where that is another text.
+fn check_printed(alloc: Global, reply: Reply, text: &str) -> Result<(), Fail> {
+    let printed = print_reply(alloc, &reply)?;
+    if printed.as_slice() == text.as_bytes() {
+        Ok(())
+    } else {
+        Err(Fail::new(std::str::from_utf8(printed.as_slice())?))
+    }
+}
+
+/// What recorders are told.
+fn check_recorders(alloc: Global) -> Result<(), Fail> {
+    let started = Reply::Started {
+        recording: 12,
+        session: 9_223_372_036_854_775_807,
+    };
+    check_printed(alloc, started, "started 12 9223372036854775807\n")?;
+    check_printed(alloc, Reply::Extended { session: 1 }, "extended 1\n")?;
+    check_printed(alloc, Reply::Written { position: 64 }, "written 64\n")?;
+    check_printed(alloc, Reply::Settled { position: 128 }, "settled 128\n")?;
+    check_printed(alloc, Reply::Stopped { position: 0 }, "stopped 0\n")
+}
+
+/// What is told of recordings.
+fn check_recordings(alloc: Global) -> Result<(), Fail> {
+    check_printed(alloc, Reply::Truncated { position: 64 }, "truncated 64\n")?;
+    check_printed(alloc, Reply::Purged { segments: 1 }, "purged 1\n")?;
+    check_printed(alloc, Reply::PurgedRecording, "purged-recording\n")?;
+    check_printed(alloc, Reply::Found { recording: -1 }, "found -1\n")?;
+    let positions = Reply::Positions {
+        start: 0,
+        recorded: 128,
+        stop: -1,
+    };
+    check_printed(alloc, positions, "positions 0 128 -1\n")
+}
+
+/// What is told of replays, of reading and of the archive.
+fn check_archive(alloc: Global) -> Result<(), Fail> {
+    check_printed(alloc, Reply::ReplayOpened { replay: 0 }, "replay 0\n")?;
+    check_printed(alloc, Reply::Closed, "closed\n")?;
+    check_printed(alloc, Reply::Swept { removed: true }, "swept 1\n")?;
+    check_printed(alloc, Reply::Swept { removed: false }, "swept 0\n")?;
+    check_printed(alloc, Reply::Verified { frames: 2 }, "verified 2\n")?;
+    check_printed(alloc, Reply::Reopened { recordings: 1 }, "reopened 1\n")?;
+    check_printed(alloc, Reply::Compacted, "compacted\n")
+}
+
+fn check_state(alloc: Global, is_merged: bool, cursor: i64, text: &str) -> Result<(), Fail> {
+    check_printed(alloc, Reply::MergeState { is_merged, cursor }, text)
+}
+
+/// What is told of a merge, and at the end.
+fn check_merges(alloc: Global) -> Result<(), Fail> {
+    check_printed(alloc, Reply::MergeOpened { position: 0 }, "merge 0\n")?;
+    check_printed(alloc, Reply::Held, "held\n")?;
+    check_printed(alloc, Reply::Ignored, "ignored\n")?;
+    check_printed(alloc, Reply::Full, "full\n")?;
+    check_printed(alloc, Reply::Taken(None), "none\n")?;
+    check_state(alloc, true, 128, "merged yes 128\n")?;
+    check_state(alloc, false, 0, "merged no 0\n")?;
+    check_printed(alloc, Reply::Bye, "bye\n")
 }
 
 #[test]
 fn replies_of_one_word_and_numbers(rt: HostRuntime) -> Result<(), Fail> {
-    for (reply, text) in [
-        (
-            Reply::Started {
-                recording: 12,
-                session: 9_223_372_036_854_775_807,
-            },
-            "started 12 9223372036854775807\n",
-        ),
-        (Reply::Extended { session: 1 }, "extended 1\n"),
-        (Reply::Written { position: 64 }, "written 64\n"),
-        (Reply::Settled { position: 128 }, "settled 128\n"),
-        (Reply::Stopped { position: 0 }, "stopped 0\n"),
-        (Reply::Truncated { position: 64 }, "truncated 64\n"),
-        (Reply::Purged { segments: 1 }, "purged 1\n"),
-        (Reply::PurgedRecording, "purged-recording\n"),
-        (Reply::Found { recording: -1 }, "found -1\n"),
-        (
-            Reply::Positions {
-                start: 0,
-                recorded: 128,
-                stop: -1,
-            },
-            "positions 0 128 -1\n",
-        ),
-        (Reply::ReplayOpened { replay: 0 }, "replay 0\n"),
-        (Reply::Closed, "closed\n"),
-        (Reply::Swept { removed: true }, "swept 1\n"),
-        (Reply::Swept { removed: false }, "swept 0\n"),
-        (Reply::Verified { frames: 2 }, "verified 2\n"),
-        (Reply::Reopened { recordings: 1 }, "reopened 1\n"),
-        (Reply::Compacted, "compacted\n"),
-        (Reply::MergeOpened { position: 0 }, "merge 0\n"),
-        (Reply::Held, "held\n"),
-        (Reply::Ignored, "ignored\n"),
-        (Reply::Full, "full\n"),
-        (Reply::Taken(None), "none\n"),
-        (
-            Reply::MergeState {
-                is_merged: true,
-                cursor: 128,
-            },
-            "merged yes 128\n",
-        ),
-        (
-            Reply::MergeState {
-                is_merged: false,
-                cursor: 0,
-            },
-            "merged no 0\n",
-        ),
-        (Reply::Bye, "bye\n"),
-    ] {
-        assert_eq!(rt; printed(rt.alloc(), &reply)?.as_str(), text);
-    }
-    Ok(())
+    check_recorders(rt.alloc())?;
+    check_recordings(rt.alloc())?;
+    check_archive(rt.alloc())?;
+    check_merges(rt.alloc())
 }
 
 fn descriptor(alloc: Global, recording: i64) -> Result<Descriptor, Fail> {
@@ -229,17 +289,21 @@ fn descriptor(alloc: Global, recording: i64) -> Result<Descriptor, Fail> {
     })
 }
 
-#[test]
-fn descriptor_lines(rt: HostRuntime) -> Result<(), Fail> {
-    let alloc = rt.alloc();
+/// The recordings of a list of one.
+fn one_listed(alloc: Global) -> Result<Reply, Fail> {
     let mut found = Items::new(alloc);
     found.push(descriptor(alloc, 12)?)?;
-    assert_eq!(rt;
-        printed(alloc, &Reply::Recordings(found))?.as_str(),
+    Ok(Reply::Recordings(found))
+}
+
+#[test]
+fn descriptor_lines(rt: HostRuntime) -> Result<(), Fail> {
+    check_printed(
+        rt.alloc(),
+        one_listed(rt.alloc())?,
         "recording 12 1000 -1 0 -1 42 131072 65536 1408 7 1001 aeron:udp?endpoint=localhost:40123\n\
-         end 1\n"
-    );
-    Ok(())
+         end 1\n",
+    )
 }
 
 /// `hello` and a pad of 64 bytes, each where it lies.
@@ -267,18 +331,17 @@ fn two_frames(alloc: Global) -> Result<Items<PolledFrame>, Fail> {
 
 #[test]
 fn frame_lines(rt: HostRuntime) -> Result<(), Fail> {
-    let frames = two_frames(rt.alloc())?;
     let polled = Reply::Polled {
-        frames,
+        frames: two_frames(rt.alloc())?,
         next: Some(65_536),
     };
-    assert_eq!(rt;
-        printed(rt.alloc(), &polled)?.as_str(),
+    check_printed(
+        rt.alloc(),
+        polled,
         "frame 64 2500000000c001004000000007000000e90300002a000000000000000000000068656c6c6f\n\
          frame 65472 4000000000c00000c0ff000007000000e90300002a0000000000000000000000\n\
-         more 65536\n"
-    );
-    Ok(())
+         more 65536\n",
+    )
 }
 
 const REFUSALS: [(Refusal, &'static str); 22] = [
@@ -319,23 +382,32 @@ fn refusal_lines(rt: HostRuntime) {
     }
 }
 
+/// Whether a line is read that is not the last; read again where a request for memory was refused.
+fn goes_on(alloc: Global, line: &[u8]) -> Result<bool, Refusal> {
+    let line = match parse_line(alloc, line) {
+        Err(Refusal::NoMemory) => parse_line(alloc, line),
+        line => line,
+    };
+    Ok(!matches!(line?, Line::Quit))
+}
+
+/// Printed again, where a request for memory was refused.
+fn printed(alloc: Global, reply: &Reply) -> Result<Vec<u8>, Refusal> {
+    match print_reply(alloc, reply) {
+        Err(Refusal::NoMemory) => print_reply(alloc, reply),
+        text => text,
+    }
+}
+
 /// A refused request for memory is told as NoMemory, and the call may be made again: trials/refused_memory.py runs
 /// this test for each of its requests for memory, which it refuses.
 #[test]
 fn refused_memory_is_told(rt: HostRuntime) -> Result<(), Fail> {
-    let alloc = rt.alloc();
     for line in [START_LINE, b"block 0 00ff", b"merge-live 00ff"] {
-        let line = match parse_line(alloc, line) {
-            Err(Refusal::NoMemory) => parse_line(alloc, line)?,
-            line => line?,
-        };
-        assert!(rt; !matches!(line, Line::Quit));
+        let goes_on = goes_on(rt.alloc(), line)?;
+        assert!(rt; goes_on);
     }
-    let reply = Reply::Settled { position: 64 };
-    let text = match print_reply(alloc, &reply) {
-        Err(Refusal::NoMemory) => print_reply(alloc, &reply)?,
-        text => text?,
-    };
-    assert_eq!(rt; text.as_slice(), b"settled 64\n".as_slice());
+    let text = printed(rt.alloc(), &Reply::Settled { position: 64 })?;
+    assert!(rt; text.as_slice() == b"settled 64\n".as_slice());
     Ok(())
 }

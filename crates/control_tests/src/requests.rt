@@ -24,67 +24,92 @@ fn request_of(alloc: Global, line: &[u8]) -> Result<Request, Refusal> {
     }
 }
 
+/// What a decision is, as far as the tests here ask.
+#[derive(Clone, Copy, Debug, PartialEq, Eq)]
+enum Decided {
+    AStart,
+    AnotherCommand,
+    Recordings,
+    NothingFound,
+    HistoryFull,
+    UnknownRecording,
+    Another,
+}
+
+fn named(decision: &Decision) -> Decided {
+    match decision {
+        Decision::Accepted(Command::Start(_)) => Decided::AStart,
+        Decision::Accepted(_) => Decided::AnotherCommand,
+        Decision::Answered(Reply::Recordings(_)) => Decided::Recordings,
+        Decision::Answered(Reply::Found { recording: -1 }) => Decided::NothingFound,
+        Decision::Refused(Refusal::HistoryFull) => Decided::HistoryFull,
+        Decision::Refused(Refusal::UnknownRecording) => Decided::UnknownRecording,
+        _ => Decided::Another,
+    }
+}
+
+/// What is decided on a request where so many entries may be made.
+fn decided_at(alloc: Global, limit: u32, request: &Request) -> Decided {
+    let desk = Desk::new(alloc, limit);
+    named(&decide(alloc, &desk, request))
+}
+
+/// The same of the request of one line.
+fn start_decided(alloc: Global, limit: u32) -> Result<Decided, Refusal> {
+    let request = start(alloc)?;
+    Ok(decided_at(alloc, limit, &request))
+}
+
 #[test]
 fn a_start_is_accepted(rt: HostRuntime) -> Result<(), Fail> {
-    let desk = Desk::new(rt.alloc(), 1);
-    let decision = decide(rt.alloc(), &desk, &start(rt.alloc())?);
-    assert!(rt; matches!(decision, Decision::Accepted(Command::Start(_))));
+    let decided = start_decided(rt.alloc(), 1)?;
+    assert!(rt; decided == Decided::AStart);
     Ok(())
 }
 
 #[test]
 fn nothing_is_listed(rt: HostRuntime) {
-    let request = Request::List { from: 0, count: 10 };
-    let desk = Desk::new(rt.alloc(), 1);
-    let decision = decide(rt.alloc(), &desk, &request);
-    assert!(rt; matches!(decision, Decision::Answered(Reply::Recordings(_))));
+    let decided = decided_at(rt.alloc(), 1, &Request::List { from: 0, count: 10 });
+    assert!(rt; decided == Decided::Recordings);
+}
+
+fn sought(alloc: Global) -> Result<Request, Fail> {
+    Ok(Request::Find(FindFields {
+        least: 0,
+        stream_id: 1_001,
+        session_id: 7,
+        fragment: Channel::new(String::from_str(alloc, "c")?),
+    }))
 }
 
 #[test]
 fn nothing_is_found(rt: HostRuntime) -> Result<(), Fail> {
-    let request = Request::Find(FindFields {
-        least: 0,
-        stream_id: 1_001,
-        session_id: 7,
-        fragment: Channel::new(String::from_str(rt.alloc(), "c")?),
-    });
-    let desk = Desk::new(rt.alloc(), 1);
-    let decision = decide(rt.alloc(), &desk, &request);
-    assert!(rt; matches!(decision, Decision::Answered(Reply::Found { recording: -1 })));
+    let decided = decided_at(rt.alloc(), 1, &sought(rt.alloc())?);
+    assert!(rt; decided == Decided::NothingFound);
     Ok(())
-}
-
-fn is_full(decision: &Decision) -> bool {
-    matches!(decision, Decision::Refused(Refusal::HistoryFull))
-}
-
-fn is_unknown(decision: &Decision) -> bool {
-    matches!(decision, Decision::Refused(Refusal::UnknownRecording))
 }
 
 /// No entry may be made.
 #[test]
 fn a_full_history_refuses_a_start(rt: HostRuntime) -> Result<(), Fail> {
-    let request = start(rt.alloc())?;
-    let desk = Desk::new(rt.alloc(), 0);
-    let decision = decide(rt.alloc(), &desk, &request);
-    assert!(rt; is_full(&decision));
+    let decided = start_decided(rt.alloc(), 0)?;
+    assert!(rt; decided == Decided::HistoryFull);
     Ok(())
 }
 
 #[test]
 fn no_recording_is_purged(rt: HostRuntime) {
-    let request = Request::PurgeRecording { recording: 5 };
-    let desk = Desk::new(rt.alloc(), 0);
-    let decision = decide(rt.alloc(), &desk, &request);
-    assert!(rt; is_unknown(&decision));
+    let decided = decided_at(rt.alloc(), 0, &Request::PurgeRecording { recording: 5 });
+    assert!(rt; decided == Decided::UnknownRecording);
 }
 
 /// Asked for again, where a request for memory was refused.
-fn decided<'a>(alloc: Global, desk: &'a Desk, request: &Request) -> Decision<'a> {
+fn is_accepted(alloc: Global, desk: &Desk, request: &Request) -> bool {
     match decide(alloc, desk, request) {
-        Decision::Refused(Refusal::NoMemory) => decide(alloc, desk, request),
-        decision => decision,
+        Decision::Refused(Refusal::NoMemory) => {
+            matches!(decide(alloc, desk, request), Decision::Accepted(_))
+        }
+        decision => matches!(decision, Decision::Accepted(_)),
     }
 }
 
@@ -99,8 +124,7 @@ fn started(alloc: Global) -> Result<Request, Refusal> {
 #[test]
 fn refused_memory_at_a_decision(rt: HostRuntime) -> Result<(), Fail> {
     let request = started(rt.alloc())?;
-    let desk = Desk::new(rt.alloc(), 1);
-    let decision = decided(rt.alloc(), &desk, &request);
-    assert!(rt; matches!(decision, Decision::Accepted(_)));
+    let is_accepted = is_accepted(rt.alloc(), &Desk::new(rt.alloc(), 1), &request);
+    assert!(rt; is_accepted);
     Ok(())
 }

@@ -206,19 +206,32 @@ fn events_in(alloc: Global, script: &str, most: usize) -> Result<Vec<Event>, Ref
     Ok(events)
 }
 
+/// Makes calls, whatever they are answered.
+fn drive(alloc: Global, engine: &mut Engine<MemoryDisk>, events: &[Event]) -> Result<(), Refusal> {
+    engine.drive(alloc, events)?;
+    Ok(())
+}
+
+/// The same of the first calls of a script.
+fn run_first(
+    alloc: Global,
+    engine: &mut Engine<MemoryDisk>,
+    script: &str,
+    most: usize,
+) -> Result<(), Refusal> {
+    let events = events_in(alloc, script, most)?;
+    drive(alloc, engine, events.as_slice())
+}
+
 /// Makes the calls of a script, whatever they are answered.
 pub fn run(alloc: Global, engine: &mut Engine<MemoryDisk>, script: &str) -> Result<(), Refusal> {
-    let events = events_in(alloc, script, 100)?;
-    engine.drive(alloc, events.as_slice())?;
-    Ok(())
+    run_first(alloc, engine, script, 100)
 }
 
 /// The disk of a new archive behind the first calls of a script.
 pub fn disk_behind(alloc: Global, script: &str, most: usize) -> Result<MemoryDisk, Refusal> {
-    let events = events_in(alloc, script, most)?;
     let mut engine = made(alloc, MemoryDisk::new(alloc), 16)?;
-    engine.drive(alloc, events.as_slice())?;
-    Ok(engine.into_disk())
+    run_first(alloc, &mut engine, script, most).and(Ok(engine.into_disk()))
 }
 
 /// Adds a call to a transcript, and behind a colon what is answered.
@@ -228,11 +241,10 @@ fn put(
     text: &mut Vec<u8>,
     call: &str,
 ) -> Result<(), Refusal> {
-    let mut lines = answered(alloc, engine, call)?;
     text.extend_from_slice(call.as_bytes())?;
     text.extend_from_slice(b": ")?;
-    text.append(&mut lines)?;
-    Ok(())
+    let mut lines = answered(alloc, engine, call)?;
+    Ok(text.append(&mut lines)?)
 }
 
 /// The transcript of the calls of a script, which stand each in a line before a colon.
@@ -288,8 +300,10 @@ pub fn plays(
     script: &str,
 ) -> Result<MemoryDisk, Fail> {
     let mut engine = made(alloc, disk, limit)?;
-    answers(rt, alloc, &mut engine, script)?;
-    Ok(engine.into_disk())
+    match answers(rt, alloc, &mut engine, script) {
+        Ok(()) => Ok(engine.into_disk()),
+        Err(fail) => Err(fail),
+    }
 }
 
 /// The archive of a disk has to answer as a script says.

@@ -21,15 +21,22 @@ fn write_blocks(
     Ok(())
 }
 
-/// What a settle of so many blocks answers in which the disk stops after so many changes, and the disk.
+/// What a settle of so many blocks answers.
+fn settle(alloc: Global, engine: &mut Engine<MemoryDisk>, blocks: u64) -> Result<Vec<u8>, Refusal> {
+    run(alloc, engine, "start 0")?;
+    write_blocks(alloc, engine, blocks)?;
+    answered(alloc, engine, "settle 0")
+}
+
+/// The same where the disk stops after so many changes, and the disk.
 fn settled(alloc: Global, blocks: u64, changes: u64) -> Result<(Vec<u8>, MemoryDisk), Refusal> {
     let mut disk = MemoryDisk::new(alloc);
     disk.stop_after(changes.wrapping_add(blocks).wrapping_add(10));
     let mut engine = made(alloc, disk, 3)?;
-    run(alloc, &mut engine, "start 0")?;
-    write_blocks(alloc, &mut engine, blocks)?;
-    let text = answered(alloc, &mut engine, "settle 0")?;
-    Ok((text, engine.into_disk()))
+    match settle(alloc, &mut engine, blocks) {
+        Ok(text) => Ok((text, engine.into_disk())),
+        Err(refusal) => Err(refusal),
+    }
 }
 
 /// What the archive of a disk answers on where its recording lies.
@@ -46,10 +53,15 @@ struct Stop {
     choice: u8,
 }
 
+/// What the archive that a crash leaves answers on where its recording lies.
+fn positions_left(alloc: Global, disk: MemoryDisk, choice: u8) -> Result<Vec<u8>, Refusal> {
+    positions(alloc, disk.crash(&[choice])?)
+}
+
 /// What the settle answers, and behind it the archive that the crash leaves.
 fn stopped_after(alloc: Global, stop: &Stop) -> Result<Vec<u8>, Refusal> {
     let (mut text, disk) = settled(alloc, stop.blocks, stop.changes)?;
-    let mut left = positions(alloc, disk.crash(&[stop.choice])?)?;
+    let mut left = positions_left(alloc, disk, stop.choice)?;
     text.append(&mut left)?;
     Ok(text)
 }
@@ -133,16 +145,23 @@ stop 0 2000: error 16 Broken
 verify 0: verified 0
 ";
 
+/// Whether a fault breaks the archive, and its disk then.
+fn broken(rt: &impl Abort, alloc: Global) -> Result<(bool, MemoryDisk), Fail> {
+    let mut disk = MemoryDisk::new(alloc);
+    disk.fail_at(13);
+    let mut engine = made(alloc, disk, 3)?;
+    answers(rt, alloc, &mut engine, BROKEN)?;
+    let is_broken = engine.desk().is_broken();
+    Ok((is_broken, engine.into_disk()))
+}
+
 /// Behind a fault the archive takes nothing more, and goes on with what it read; another opening makes it good.
 #[test]
 fn a_fault_breaks_the_archive(rt: HostRuntime) -> Result<(), Fail> {
-    let mut disk = MemoryDisk::new(rt.alloc());
-    disk.fail_at(13);
-    let mut engine = made(rt.alloc(), disk, 3)?;
-    answers(&rt, rt.alloc(), &mut engine, BROKEN)?;
-    assert!(rt; engine.desk().is_broken());
-    let disk = engine.into_disk();
-    goes_on(&rt, rt.alloc(), disk, "truncate 0 0: truncated 0\n")
+    let (is_broken, disk) = broken(&rt, rt.alloc())?;
+    goes_on(&rt, rt.alloc(), disk, "truncate 0 0: truncated 0\n")?;
+    assert!(rt; is_broken);
+    Ok(())
 }
 
 const UNREAD: &str = "\
@@ -222,8 +241,10 @@ fn calls_to_begin(alloc: Global, disk: MemoryDisk) -> Result<(u64, Option<i64>),
 /// commits a restart by four.
 #[test]
 fn a_disk_is_listed_once(rt: HostRuntime) -> Result<(), Fail> {
+    let calls = calls_to_begin(rt.alloc(), MemoryDisk::new(rt.alloc()))?;
+    assert!(rt; calls == (7, None));
     let there = disk_behind(rt.alloc(), "start 0\nwrite 0 0", 100)?;
-    assert!(rt; calls_to_begin(rt.alloc(), MemoryDisk::new(rt.alloc()))? == (7, None));
-    assert!(rt; calls_to_begin(rt.alloc(), there)? == (11, Some(1)));
+    let calls = calls_to_begin(rt.alloc(), there)?;
+    assert!(rt; calls == (11, Some(1)));
     Ok(())
 }

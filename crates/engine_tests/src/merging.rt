@@ -43,21 +43,21 @@ const HELLO_AT_128: &[u8] =
 fn recorded(alloc: Global) -> Result<Engine<MemoryDisk>, Refusal> {
     let mut engine = made(alloc, MemoryDisk::new(alloc), 16)?;
     let script = "start 0\nwrite 0 0\nsettle 0\nwrite 0 64\nsettle 0\nreplay 0 0 -1";
-    run(alloc, &mut engine, script)?;
-    Ok(engine)
+    run(alloc, &mut engine, script).and(Ok(engine))
 }
 
-/// The frames that the replay gives.
-fn replayed(alloc: Global) -> Result<Vec<Frame>, Refusal> {
-    let mut engine = recorded(alloc)?;
-    match answer(
-        alloc,
-        &mut engine,
-        &Event::ReplayPoll { replay: 0, max: 10 },
-    )? {
+/// The frames that the replay of an archive gives.
+fn polled(alloc: Global, engine: &mut Engine<MemoryDisk>) -> Result<Vec<Frame>, Refusal> {
+    match answer(alloc, engine, &Event::ReplayPoll { replay: 0, max: 10 })? {
         Reply::Polled { frames, .. } => frames_of(alloc, frames.into_vec()),
         _ => Err(Refusal::BadLine),
     }
+}
+
+/// The frames that are recorded.
+fn replayed(alloc: Global) -> Result<Vec<Frame>, Refusal> {
+    let mut engine = recorded(alloc)?;
+    polled(alloc, &mut engine)
 }
 
 fn frames_of(alloc: Global, polled: Vec<PolledFrame>) -> Result<Vec<Frame>, Refusal> {
@@ -68,15 +68,20 @@ fn frames_of(alloc: Global, polled: Vec<PolledFrame>) -> Result<Vec<Frame>, Refu
     Ok(frames)
 }
 
-/// The live frames at 64 and 128.
-fn live(alloc: Global) -> Result<Vec<Frame>, Refusal> {
-    let mut image = Image::from_setup(alloc, &SETUP)?;
+/// The frames at 64 and 128 of an image, which gets them.
+fn taken(image: &mut Image) -> Result<Vec<Frame>, Refusal> {
     image.insert(HELLO_AT_64)?;
     image.insert(HELLO_AT_128)?;
     match image.take_block()? {
         Some(block) => Ok(block.frames.into_vec()),
         None => Err(Refusal::BadBlock),
     }
+}
+
+/// The live frames at 64 and 128.
+fn live(alloc: Global) -> Result<Vec<Frame>, Refusal> {
+    let mut image = Image::from_setup(alloc, &SETUP)?;
+    taken(&mut image)
 }
 
 /// Where the frames of the output begin in their term.
@@ -107,20 +112,31 @@ fn replay(merge: &mut Merge, frames: Vec<Frame>) -> Result<(), Refusal> {
     Ok(())
 }
 
-/// Whether the live frames are held, where the frames of the output begin, and whether it is merged then.
-fn merged(alloc: Global) -> Result<(bool, Vec<i32>, bool), Refusal> {
+/// Whether the frames of the output begin at 0, 64 and 128.
+fn is_whole(alloc: Global, merge: &mut Merge) -> Result<bool, Refusal> {
+    let offsets = output(alloc, merge)?;
+    Ok(offsets.as_slice() == [0, 64, 128].as_slice())
+}
+
+/// Whether the live frames are held, whether the output is whole, and whether it is merged then.
+fn merge_both(alloc: Global, merge: &mut Merge) -> Result<(bool, bool, bool), Refusal> {
+    let are_held = are_held(merge, live(alloc)?)?;
+    replay(merge, replayed(alloc)?)?;
+    let is_whole = is_whole(alloc, merge)?;
+    Ok((are_held, is_whole, merge.is_merged()))
+}
+
+/// The same of a merge from the stream's start on.
+fn merged(alloc: Global) -> Result<(bool, bool, bool), Refusal> {
     let mut merge = Merge::new(alloc, TERMS, 0);
-    let are_held = are_held(&mut merge, live(alloc)?)?;
-    replay(&mut merge, replayed(alloc)?)?;
-    let offsets = output(alloc, &mut merge)?;
-    Ok((are_held, offsets, merge.is_merged()))
+    merge_both(alloc, &mut merge)
 }
 
 #[test]
 fn a_replay_is_merged_with_the_live_stream(rt: HostRuntime) -> Result<(), Fail> {
-    let (are_held, offsets, is_merged) = merged(rt.alloc())?;
+    let (are_held, is_whole, is_merged) = merged(rt.alloc())?;
     assert!(rt; are_held);
-    assert!(rt; offsets.as_slice() == [0, 64, 128].as_slice());
+    assert!(rt; is_whole);
     assert!(rt; is_merged);
     Ok(())
 }

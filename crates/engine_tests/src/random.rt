@@ -96,13 +96,19 @@ impl Run {
     fn new(alloc: Global, changes: u64) -> Result<Run, Refusal> {
         let mut disk = MemoryDisk::new(alloc);
         disk.stop_after(changes.wrapping_add(6));
-        Ok(Run {
-            story: Story::new(alloc),
+        let engine = made(alloc, disk, LIMIT)?;
+        Ok(Run::of(alloc, Story::new(alloc), engine))
+    }
+
+    /// A run that goes on from such a book and archive.
+    fn of(alloc: Global, story: Story, engine: Engine<MemoryDisk>) -> Run {
+        Run {
+            story,
             answers: Vec::new(alloc),
             doubt: None,
             has_stopped: false,
-            engine: made(alloc, disk, LIMIT)?,
-        })
+            engine,
+        }
     }
 
     /// Makes a call.
@@ -131,23 +137,38 @@ impl Run {
     }
 }
 
-fn played(alloc: Global, changes: u64) -> Result<Run, Refusal> {
-    let mut run = Run::new(alloc, changes)?;
+/// Makes a call by chance.
+fn make_call(alloc: Global, run: &mut Run, dice: &mut Dice) -> Result<(), Refusal> {
+    let (word, of, at) = call_by_chance(dice, &run.story);
+    run.make(alloc, event_of(alloc, word, of, at, 0)?)
+}
+
+/// Makes 200 calls by chance, or as many until the disk stops.
+fn play(alloc: Global, run: &mut Run) -> Result<(), Refusal> {
     let mut dice = Dice { thrown: 1 };
     for _ in 0..200 {
         if run.has_stopped {
             break;
         }
-        let (word, of, at) = call_by_chance(&mut dice, &run.story);
-        run.make(alloc, event_of(alloc, word, of, at, 0)?)?;
+        make_call(alloc, run, &mut dice)?;
     }
-    Ok(run)
+    Ok(())
+}
+
+fn played(alloc: Global, changes: u64) -> Result<Run, Refusal> {
+    let mut run = Run::new(alloc, changes)?;
+    play(alloc, &mut run).and(Ok(run))
 }
 
 /// What a crash leaves, as text.
 fn text_left(alloc: Global, disk: &MemoryDisk, choice: u8) -> Result<Vec<u8>, Refusal> {
     let mut engine = opened(alloc, disk.crash(&[choice])?)?;
     text_of(alloc, &mut engine)
+}
+
+/// The disk of an archive that is closed and opened again.
+fn reopened(alloc: Global, disk: MemoryDisk) -> Result<MemoryDisk, Refusal> {
+    Ok(opened(alloc, disk)?.into_disk())
 }
 
 /// The disk of a run's archive that is closed once its recordings have stopped, and the book of its calls and that restart.
@@ -157,44 +178,73 @@ fn closed(alloc: Global, run: Run) -> Result<(MemoryDisk, Story), Refusal> {
         engine,
         ..
     } = run;
-    let engine = opened(alloc, engine.into_disk())?;
-    story.restart(alloc)?;
-    Ok((engine.into_disk(), story))
+    let disk = reopened(alloc, engine.into_disk());
+    match story.restart(alloc).and(disk) {
+        Ok(disk) => Ok((disk, story)),
+        Err(refusal) => Err(refusal),
+    }
+}
+
+/// The same of one that stops after so many changes.
+fn compaction_leaves(
+    alloc: Global,
+    disk: &MemoryDisk,
+    changes: u64,
+    text: &[u8],
+) -> Result<bool, Refusal> {
+    let mut tried = disk.crash(&[0])?;
+    tried.stop_after(changes);
+    let _ = compact(alloc, &mut tried);
+    leaves(alloc, &tried, text, text)
 }
 
 /// Whether a compaction that stops after any of its changes, and a crash then, leave this text.
 fn compactions_leave(alloc: Global, disk: &MemoryDisk, text: &[u8]) -> Result<bool, Refusal> {
     for stop in 0..11u64 {
-        let mut tried = disk.crash(&[0])?;
-        tried.stop_after(stop);
-        let _ = compact(alloc, &mut tried);
-        if !leaves(alloc, &tried, text, text)? {
+        if !compaction_leaves(alloc, disk, stop, text)? {
             return Ok(false);
         }
     }
     Ok(true)
 }
 
-/// A run that goes on over an archive that was closed and compacted.
-fn gone_on(alloc: Global, disk: MemoryDisk, story: Story) -> Result<Run, Refusal> {
+/// The archive of a disk, compacted.
+fn compacted(alloc: Global, disk: MemoryDisk) -> Result<Engine<MemoryDisk>, Refusal> {
     let mut disk = disk;
     compact(alloc, &mut disk)?;
-    Ok(Run {
-        story,
-        answers: Vec::new(alloc),
-        doubt: None,
-        has_stopped: false,
-        engine: opened(alloc, disk)?,
-    })
+    opened(alloc, disk)
+}
+
+/// A run that goes on over an archive that was closed and compacted.
+fn gone_on(alloc: Global, disk: MemoryDisk, story: Story) -> Result<Run, Refusal> {
+    match compacted(alloc, disk) {
+        Ok(engine) => Ok(Run::of(alloc, story, engine)),
+        Err(refusal) => Err(refusal),
+    }
 }
 
 /// Makes 60 calls by chance.
 fn make_calls(alloc: Global, run: &mut Run, dice: &mut Dice) -> Result<(), Refusal> {
     for _ in 0..60 {
-        let (word, of, at) = call_by_chance(dice, &run.story);
-        run.make(alloc, event_of(alloc, word, of, at, 0)?)?;
+        make_call(alloc, run, dice)?;
     }
     Ok(())
+}
+
+/// Whether each crash of a compaction leaves the text of the book.
+fn is_kept(alloc: Global, disk: &MemoryDisk, story: &Story) -> Result<bool, Refusal> {
+    let text = text_of_book(alloc, &story.book)?;
+    compactions_leave(alloc, disk, text.as_slice())
+}
+
+/// A run that is closed and compacted and goes on, where each crash of the compaction leaves the text of the book.
+fn compaction_survived(alloc: Global, run: Run) -> Result<Option<Run>, Refusal> {
+    let (disk, story) = closed(alloc, run)?;
+    match is_kept(alloc, &disk, &story) {
+        Ok(true) => Ok(Some(gone_on(alloc, disk, story)?)),
+        Ok(false) => Ok(None),
+        Err(refusal) => Err(refusal),
+    }
 }
 
 /// Whether each crash of five compactions with calls between them leaves what the book makes of the calls.
@@ -203,12 +253,10 @@ fn compactions_survived(alloc: Global) -> Result<bool, Refusal> {
     let mut dice = Dice { thrown: 7 };
     for _ in 0..5 {
         make_calls(alloc, &mut run, &mut dice)?;
-        let (disk, story) = closed(alloc, run)?;
-        let text = text_of_book(alloc, &story.book)?;
-        if !compactions_leave(alloc, &disk, text.as_slice())? {
+        let Some(next) = compaction_survived(alloc, run)? else {
             return Ok(false);
-        }
-        run = gone_on(alloc, disk, story)?;
+        };
+        run = next;
     }
     Ok(true)
 }
@@ -236,6 +284,17 @@ fn texts(
     Ok((before, after))
 }
 
+/// Whether a crash leaves the book before the command that was in flight, or after it.
+fn is_left(
+    alloc: Global,
+    disk: &MemoryDisk,
+    story: Story,
+    doubt: Option<Command>,
+) -> Result<bool, Refusal> {
+    let (before, after) = texts(alloc, story, doubt)?;
+    leaves(alloc, disk, before.as_slice(), after.as_slice())
+}
+
 /// Whether a run whose disk stops after so many changes leaves what it may, and whether it stopped.
 fn survived(alloc: Global, changes: u64) -> Result<(bool, bool), Refusal> {
     let Run {
@@ -245,9 +304,7 @@ fn survived(alloc: Global, changes: u64) -> Result<(bool, bool), Refusal> {
         engine,
         ..
     } = played(alloc, changes)?;
-    let (before, after) = texts(alloc, story, doubt)?;
-    let disk = engine.into_disk();
-    let survives = leaves(alloc, &disk, before.as_slice(), after.as_slice())?;
+    let survives = is_left(alloc, &engine.into_disk(), story, doubt)?;
     Ok((survives, has_stopped))
 }
 

@@ -116,13 +116,15 @@ impl Story {
 
     /// Notes that the archive was closed and opened again: its recordings have stopped, and its sessions are gone.
     pub fn restart(&mut self, alloc: Global) -> Result<(), Refusal> {
-        self.book.apply(&Command::Restart)?;
+        apply(&mut self.book, &Command::Restart)?;
         self.sessions = Vec::new(alloc);
         Ok(())
     }
 
     fn write(&mut self, number: i64, block: Block, end: i64) -> Result<(), Refusal> {
-        let index = usize::try_from(number).map_err(|_| Refusal::StaleSession)?;
+        let Ok(index) = usize::try_from(number) else {
+            return Err(Refusal::StaleSession);
+        };
         if let Some(session) = self.sessions.as_mut_slice().get_mut(index) {
             session.written.push(block)?;
             session.end = end;
@@ -132,7 +134,7 @@ impl Story {
 
     fn accept(&mut self, alloc: Global, command: &Command) -> Result<(), Refusal> {
         let next = self.book.next_recording();
-        self.book.apply(command)?;
+        apply(&mut self.book, command)?;
         match command {
             Command::Start(_) => self.begin(alloc, next),
             Command::Extend(fields) => self.begin(alloc, fields.recording),
@@ -147,6 +149,14 @@ impl Story {
             end: 0,
         })?;
         Ok(())
+    }
+}
+
+/// Makes a command of a book.
+fn apply(book: &mut Book, command: &Command) -> Result<(), Refusal> {
+    match book.apply(command) {
+        Ok(_) => Ok(()),
+        Err(refusal) => Err(refusal),
     }
 }
 
@@ -188,9 +198,9 @@ pub fn text_after(
     doubt: Option<&Command>,
 ) -> Result<Vec<u8>, Refusal> {
     if let Some(command) = doubt {
-        book.apply(command)?;
+        apply(book, command)?;
     }
-    book.apply(&Command::Restart)?;
+    apply(book, &Command::Restart)?;
     text_of_book(alloc, book)
 }
 
@@ -252,6 +262,7 @@ fn frames_in(
     engine: &mut Engine<MemoryDisk>,
     replay: i64,
 ) -> Result<Vec<u8>, Refusal> {
-    let polled = answer(alloc, engine, &Event::ReplayPoll { replay, max: 4_096 });
+    let event = Event::ReplayPoll { replay, max: 4_096 };
+    let polled = answer(alloc, engine, &event);
     told(alloc, &polled)
 }

@@ -55,17 +55,32 @@ impl<D: Disk> Disk for Synced<D> {
     }
 }
 
+/// Adds the call of a word, with a position where it has one.
+fn add(alloc: Global, events: &mut Vec<Event>, word: &str, at: i64) -> Result<(), Refusal> {
+    Ok(events.push(event_of(alloc, word, 0, at, 0)?)?)
+}
+
+/// Adds so many blocks of a recording, each settled alone or all together.
+fn add_blocks(
+    alloc: Global,
+    events: &mut Vec<Event>,
+    blocks: i64,
+    together: bool,
+) -> Result<(), Refusal> {
+    for block in 0..blocks {
+        add(alloc, events, "write", block.wrapping_mul(64))?;
+        if !together || block.wrapping_add(1) == blocks {
+            add(alloc, events, "settle", 0)?;
+        }
+    }
+    Ok(())
+}
+
 /// A recording and so many blocks of it, each settled alone or all together.
 fn events(alloc: Global, blocks: i64, together: bool) -> Result<Vec<Event>, Refusal> {
     let mut events = Vec::new(alloc);
-    events.push(event_of(alloc, "start", 0, 0, 0)?)?;
-    for block in 0..blocks {
-        events.push(event_of(alloc, "write", 0, block.wrapping_mul(64), 0)?)?;
-        if !together || block.wrapping_add(1) == blocks {
-            events.push(event_of(alloc, "settle", 0, 0, 0)?)?;
-        }
-    }
-    Ok(events)
+    add(alloc, &mut events, "start", 0)?;
+    add_blocks(alloc, &mut events, blocks, together).and(Ok(events))
 }
 
 /// How many changes these make of the disk of a new archive, and how many of them are syncs.
@@ -80,10 +95,16 @@ fn counted(alloc: Global, events: &[Event]) -> Result<(u64, u64), Refusal> {
     Ok((disk.changes(), syncs))
 }
 
+/// The same of a recording and so many blocks of it.
+fn counted_of(alloc: Global, blocks: i64, together: bool) -> Result<(u64, u64), Refusal> {
+    let events = events(alloc, blocks, together)?;
+    counted(alloc, events.as_slice())
+}
+
 /// The same of so many blocks alone.
 fn of_blocks(alloc: Global, blocks: i64, together: bool) -> Result<(u64, u64), Refusal> {
-    let (before, synced) = counted(alloc, events(alloc, 0, together)?.as_slice())?;
-    let (changes, syncs) = counted(alloc, events(alloc, blocks, together)?.as_slice())?;
+    let (before, synced) = counted_of(alloc, 0, together)?;
+    let (changes, syncs) = counted_of(alloc, blocks, together)?;
     Ok((changes.wrapping_sub(before), syncs.wrapping_sub(synced)))
 }
 

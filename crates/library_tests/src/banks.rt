@@ -4,12 +4,13 @@
 ghost use Rattle.std.specs.Prelude.{IfOk, IsTrue};
 ghost use Rattle.catalogue_entries.specs.EntryBytes.{is_short};
 
-use archive_model::{Channel, Descriptor};
+use archive_model::{Channel, Descriptor, Register};
 use catalogue_entries::put_opened;
-use catalogue_log::{Bank, Entry, Spare, create, open, open_register, write_anew};
-use disk_core::{Disk, FileId, MemoryDisk};
+use catalogue_log::{Bank, Entry, Log, Spare, create, open, open_register, write_anew};
+use disk_core::{Disk, Fault, FileId, MemoryDisk};
 use frame_core::Refusal;
 use std::alloc::{AllocError, Global};
+use std::process::Abort;
 use std::test::Fail;
 
 // A bank with the epoch 1, the limit 3 and the closed gate of its first entry.
@@ -97,15 +98,25 @@ fn the_open_bank_of_the_later_epoch_is_in_use(rt: HostRuntime) -> Result<(), Fai
     Ok(())
 }
 
+/// Adds a restart to the catalogue, which is in bank B and has the epoch 3.
+fn add_to_b(rt: &impl Abort, alloc: Global, disk: &mut MemoryDisk) -> Result<(), Refusal> {
+    let (mut log, _) = open(alloc, disk)?;
+    assert!(rt; log.bank() == Bank::B && log.epoch() == 3);
+    log.append(disk, &Entry::Restart)
+}
+
+/// How long the two banks are.
+fn lengths(disk: &mut MemoryDisk) -> Result<(u64, u64), Fault> {
+    Ok((disk.len(FileId::BankA)?, disk.len(FileId::BankB)?))
+}
+
 #[test]
 fn entries_are_added_to_bank_b(rt: HostRuntime) -> Result<(), Fail> {
     let mut disk = two_restarts(rt.alloc())?;
     empty_bank(&mut disk, FileId::BankB, 1, 1, 3)?;
-    let (mut log, _) = open(rt.alloc(), &mut disk)?;
-    assert!(rt; log.bank() == Bank::B && log.epoch() == 3);
-    log.append(&mut disk, &Entry::Restart)?;
+    add_to_b(&rt, rt.alloc(), &mut disk)?;
     assert!(rt; answer(rt.alloc(), &mut disk) == ("B", 1));
-    assert!(rt; disk.len(FileId::BankA)? == 41 && disk.len(FileId::BankB)? == 37);
+    assert!(rt; lengths(&mut disk)? == (41, 37));
     Ok(())
 }
 
@@ -122,15 +133,20 @@ fn many_restarts(alloc: Global, count: usize) -> Result<MemoryDisk, Fail> {
     Ok(disk)
 }
 
+/// How many entries a catalogue of so many restarts has, and how many calls its opening makes.
+fn opening(alloc: Global, count: usize) -> Result<(usize, Option<u64>), Fail> {
+    let mut disk = many_restarts(alloc, count)?;
+    let before = disk.calls();
+    let (_, entries) = open(alloc, &mut disk)?;
+    Ok((entries.len(), disk.calls().checked_sub(before)))
+}
+
 /// An opening makes two syncs, a read of each bank's header, and one for each 64,512 bytes: of 65,536 that are read at once
 /// the last 1,024 may be too few for an entry.
 #[test]
 fn an_opening_reads_each_part_once(rt: HostRuntime) -> Result<(), Fail> {
     for (count, calls) in [(0, 5), (16_000, 5), (32_000, 6), (64_000, 8)] {
-        let mut disk = many_restarts(rt.alloc(), count)?;
-        let before = disk.calls();
-        let (_, entries) = open(rt.alloc(), &mut disk)?;
-        assert!(rt; entries.len() == count && disk.calls().checked_sub(before) == Some(calls));
+        assert!(rt; opening(rt.alloc(), count)? == (count, Some(calls)));
     }
     Ok(())
 }
@@ -156,32 +172,56 @@ fn found_after(
     Ok(answer(alloc, &mut left))
 }
 
+/// The bank that is found after a stop and a crash by a choice, where bank B was open or not.
+fn bank_after(alloc: Global, is_open: bool, stop: u64, choice: u8) -> Result<&'static str, Fail> {
+    let found = if is_open {
+        found_after(alloc, &EMPTY, true, stop, choice)?
+    } else {
+        found_after(alloc, &[7; 400], false, stop, choice)?
+    };
+    Ok(found.0)
+}
+
 #[test]
 fn a_stop_while_a_bank_is_written_anew(rt: HostRuntime) -> Result<(), Fail> {
-    // Behind a closed gate: five changes, of which the fourth opens the gate.
-    for (stop, found) in [(0, "A"), (1, "A"), (2, "A"), (3, "A"), (5, "B"), (6, "B")] {
+    let rows = [
+        // Behind a closed gate: five changes, of which the fourth opens the gate.
+        (false, 0, "A"),
+        (false, 1, "A"),
+        (false, 2, "A"),
+        (false, 3, "A"),
+        (false, 5, "B"),
+        (false, 6, "B"),
+        // Behind an open one, of an earlier epoch: two changes more close it first.
+        (true, 0, "A"),
+        (true, 1, "A"),
+        (true, 2, "A"),
+        (true, 4, "A"),
+        (true, 5, "A"),
+        (true, 7, "B"),
+    ];
+    for (is_open, stop, found) in rows {
         for choice in [0u8, 1, 7, 255] {
-            assert!(rt; found_after(rt.alloc(), &[7; 400], false, stop, choice)?.0 == found);
-        }
-    }
-    // Behind an open one, of an earlier epoch: two changes more close it first.
-    for (stop, found) in [(0, "A"), (1, "A"), (2, "A"), (4, "A"), (5, "A"), (7, "B")] {
-        for choice in [0u8, 1, 7, 255] {
-            assert!(rt; found_after(rt.alloc(), &EMPTY, true, stop, choice)?.0 == found);
+            assert!(rt; bank_after(rt.alloc(), is_open, stop, choice)? == found);
         }
     }
     Ok(())
 }
 
-#[test]
-fn a_bank_is_written_anew(rt: HostRuntime) -> Result<(), Fail> {
-    let mut disk = MemoryDisk::new(rt.alloc());
-    create(rt.alloc(), &mut disk, 3)?;
+/// Writes an empty bank B of epoch 2 beside a new bank A, and tells how many calls that makes.
+fn write_second(alloc: Global, disk: &mut MemoryDisk) -> Result<Option<u64>, Refusal> {
+    create(alloc, disk, 3)?;
     let mut bytes = EMPTY;
     bytes[8] = 2;
     let before = disk.calls();
-    write_anew(&mut disk, Bank::A, false, &bytes[1..])?;
-    assert!(rt; disk.calls().checked_sub(before) == Some(5));
+    write_anew(disk, Bank::A, false, &bytes[1..])?;
+    Ok(disk.calls().checked_sub(before))
+}
+
+#[test]
+fn a_bank_is_written_anew(rt: HostRuntime) -> Result<(), Fail> {
+    let mut disk = MemoryDisk::new(rt.alloc());
+    assert!(rt; write_second(rt.alloc(), &mut disk)? == Some(5));
     assert!(rt; answer(rt.alloc(), &mut disk) == ("B", 0));
     Ok(())
 }
@@ -237,15 +277,26 @@ fn a_kept_recording_is_written_byte_for_byte(rt: HostRuntime) -> Result<(), Fail
     Ok(())
 }
 
-#[test]
-fn a_kept_recording_is_opened(rt: HostRuntime) -> Result<(), Fail> {
-    let mut disk = MemoryDisk::new(rt.alloc());
+/// A disk whose bank B is written anew with them.
+fn with_kept(alloc: Global) -> Result<MemoryDisk, Fail> {
+    let bytes = kept_bytes(alloc)?;
+    let mut disk = MemoryDisk::new(alloc);
     disk.write_at(FileId::BankB, 0, &[0])?;
-    let bytes = kept_bytes(rt.alloc())?;
     write_anew(&mut disk, Bank::A, false, bytes.as_slice())?;
-    let (log, register) = open_register(rt.alloc(), &mut disk)?;
+    Ok(disk)
+}
+
+/// The catalogue with the recording is in bank B, and its other bank may not be written.
+fn check_kept(rt: &impl Abort, log: &Log, register: &Register) {
     assert!(rt; log.bank() == Bank::B && log.counted() == 0 && log.spare() == Spare::Unusable);
     assert!(rt; register.next_recording() == 1 && register.active_count() == 0);
+}
+
+#[test]
+fn a_kept_recording_is_opened(rt: HostRuntime) -> Result<(), Fail> {
+    let mut disk = with_kept(rt.alloc())?;
+    let (log, register) = open_register(rt.alloc(), &mut disk)?;
+    check_kept(&rt, &log, &register);
     Ok(())
 }
 

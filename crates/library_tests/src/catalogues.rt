@@ -4,9 +4,9 @@
 ghost use Rattle.std.specs.Prelude.{◌≡◌, length, IfOk, IsTrue};
 ghost use Rattle.catalogue_entries.specs.EntryBytes.{is_short};
 
-use archive_model::{Channel, Command, StartFields};
+use archive_model::{Channel, Command, Register, StartFields};
 use catalogue_log::{Entry, Log, create, open, register_from};
-use disk_core::{Disk, FileId, MemoryDisk};
+use disk_core::{Disk, Fault, FileId, MemoryDisk};
 use frame_core::Refusal;
 use std::alloc::{AllocError, Global};
 use std::process::Abort;
@@ -60,12 +60,32 @@ const STOP: Entry = Entry::Stop {
     timestamp: 2_000,
 };
 
+/// Adds an entry.
+fn add(log: &mut Log, disk: &mut MemoryDisk, entry: &Entry) -> Result<(), Refusal>
+    requires { IsTrue (is_short entry.now) }
+{
+    log.append(disk, entry)
+}
+
+/// A catalogue with this entry and a settle.
+fn bank_from(alloc: Global, disk: &mut MemoryDisk, first: &Entry) -> Result<Log, Refusal>
+    requires { IsTrue (is_short first.now) }
+{
+    let mut log = create(alloc, disk, 3)?;
+    add(&mut log, disk, first)?;
+    add(&mut log, disk, &SETTLE)?;
+    Ok(log)
+}
+
+/// The bank after its start and its settle.
+fn bank(alloc: Global, disk: &mut MemoryDisk) -> Result<Log, Refusal> {
+    bank_from(alloc, disk, &start(alloc)?)
+}
+
 /// A catalogue with three entries, or with as many as the disk lets it have.
 fn story(alloc: Global, disk: &mut MemoryDisk) -> Result<(), Refusal> {
-    let mut log = create(alloc, disk, 3)?;
-    log.append(disk, &start(alloc)?)?;
-    log.append(disk, &SETTLE)?;
-    log.append(disk, &STOP)
+    let mut log = bank(alloc, disk)?;
+    add(&mut log, disk, &STOP)
 }
 
 /// What opening answers: its name, and how many entries there are or at which offset the bank is damaged.
@@ -87,12 +107,14 @@ fn bytes_of(alloc: Global, disk: &mut MemoryDisk, file: FileId) -> Result<Vec<u8
     Ok(bytes)
 }
 
-/// The bank after its start and its settle.
-fn bank(alloc: Global, disk: &mut MemoryDisk) -> Result<Log, Fail> {
-    let mut log = create(alloc, disk, 3)?;
-    log.append(disk, &start(alloc)?)?;
-    log.append(disk, &SETTLE)?;
-    Ok(log)
+/// Whether bank A is the one of docs/STORAGE.md.
+fn is_bank(alloc: Global, disk: &mut MemoryDisk) -> Result<bool, Fail> {
+    Ok(bytes_of(alloc, disk, FileId::BankA)?.as_slice() == BANK.as_slice())
+}
+
+/// Whether bank B has its closed gate alone.
+fn is_spare(alloc: Global, disk: &mut MemoryDisk) -> Result<bool, Fail> {
+    Ok(bytes_of(alloc, disk, FileId::BankB)?.as_slice() == [0].as_slice())
 }
 
 #[test]
@@ -100,70 +122,109 @@ fn a_bank_is_written_byte_for_byte(rt: HostRuntime) -> Result<(), Fail> {
     let mut disk = MemoryDisk::new(rt.alloc());
     bank(rt.alloc(), &mut disk)?;
     assert!(rt; disk.changes() == 14 && disk.calls() == 14);
-    assert!(rt; bytes_of(rt.alloc(), &mut disk, FileId::BankA)?.as_slice() == BANK.as_slice());
-    assert!(rt; bytes_of(rt.alloc(), &mut disk, FileId::BankB)?.as_slice() == [0].as_slice());
+    assert!(rt; is_bank(rt.alloc(), &mut disk)? && is_spare(rt.alloc(), &mut disk)?);
     Ok(())
+}
+
+/// A disk with that bank.
+fn with_bank(alloc: Global) -> Result<MemoryDisk, Fault> {
+    let mut disk = MemoryDisk::new(alloc);
+    disk.write_at(FileId::BankA, 0, &BANK)?;
+    Ok(disk)
+}
+
+/// The limit, the epoch and the counted entries of the catalogue that is opened, and how many entries there are.
+fn opened(alloc: Global, disk: &mut MemoryDisk) -> Result<(u32, u64, usize, usize), Refusal> {
+    let (log, entries) = open(alloc, disk)?;
+    Ok((log.limit(), log.epoch(), log.counted(), entries.len()))
 }
 
 #[test]
 fn a_bank_is_opened(rt: HostRuntime) -> Result<(), Fail> {
-    let mut disk = MemoryDisk::new(rt.alloc());
-    disk.write_at(FileId::BankA, 0, &BANK)?;
-    let (log, entries) = open(rt.alloc(), &mut disk)?;
-    assert!(rt; log.limit() == 3 && log.epoch() == 1 && log.counted() == 2);
-    assert!(rt; entries.len() == 2 && disk.changes() == 3);
+    let mut disk = with_bank(rt.alloc())?;
+    assert!(rt; opened(rt.alloc(), &mut disk) == Ok((3, 1, 2, 2)));
+    assert!(rt; disk.changes() == 3);
     Ok(())
+}
+
+/// The entry of the command that starts the bank's recording.
+fn start_of_command(alloc: Global) -> Result<Entry, Refusal> {
+    let command = Command::Start(fields(alloc)?);
+    Ok(Entry::of_command(alloc, &0, &command)?)
 }
 
 #[test]
 fn a_start_is_committed_byte_for_byte(rt: HostRuntime) -> Result<(), Fail> {
     let mut disk = MemoryDisk::new(rt.alloc());
-    let mut log = create(rt.alloc(), &mut disk, 3)?;
-    let command = Command::Start(fields(rt.alloc())?);
-    let entry = Entry::of_command(rt.alloc(), &0, &command)?;
+    let entry = start_of_command(rt.alloc())?;
     assert!(rt; entry.is_short());
-    log.append(&mut disk, &entry)?;
-    log.append(&mut disk, &SETTLE)?;
-    assert!(rt; bytes_of(rt.alloc(), &mut disk, FileId::BankA)?.as_slice() == BANK.as_slice());
+    bank_from(rt.alloc(), &mut disk, &entry)?;
+    assert!(rt; is_bank(rt.alloc(), &mut disk)?);
     Ok(())
+}
+
+/// Adds an entry that is prepared before.
+fn add_prepared(
+    rt: &impl Abort,
+    log: &mut Log,
+    disk: &mut MemoryDisk,
+    entry: &Entry,
+) -> Result<(), Refusal> {
+    assert!(rt; entry.is_short());
+    log.prepare(entry)?;
+    add(log, disk, entry)
+}
+
+/// The bank, of prepared entries.
+fn prepared_bank(rt: &impl Abort, alloc: Global, disk: &mut MemoryDisk) -> Result<(), Refusal> {
+    let mut log = create(alloc, disk, 3)?;
+    add_prepared(rt, &mut log, disk, &start(alloc)?)?;
+    add_prepared(rt, &mut log, disk, &SETTLE)
 }
 
 #[test]
 fn prepared_entries_are_added(rt: HostRuntime) -> Result<(), Fail> {
     let mut disk = MemoryDisk::new(rt.alloc());
-    let mut log = create(rt.alloc(), &mut disk, 3)?;
-    for entry in [start(rt.alloc())?, SETTLE] {
-        assert!(rt; entry.is_short());
-        log.prepare(&entry)?;
-        log.append(&mut disk, &entry)?;
-    }
-    assert!(rt; bytes_of(rt.alloc(), &mut disk, FileId::BankA)?.as_slice() == BANK.as_slice());
+    prepared_bank(&rt, rt.alloc(), &mut disk)?;
+    assert!(rt; is_bank(rt.alloc(), &mut disk)?);
     Ok(())
+}
+
+/// The register of what is opened.
+fn register_in(alloc: Global, disk: &mut MemoryDisk) -> Result<Register, Refusal> {
+    let (_, entries) = open(alloc, disk)?;
+    register_from(alloc, entries.as_slice())
+}
+
+/// Whether a register has the bank's recording, settled at 64.
+fn has_settled(register: &Register) -> bool {
+    let Some(found) = register.recording(&0) else {
+        return false;
+    };
+    found.recorded == 64 && register.next_recording() == 1 && register.active_count() == 1
 }
 
 #[test]
 fn entries_make_a_register(rt: HostRuntime) -> Result<(), Fail> {
-    let mut disk = MemoryDisk::new(rt.alloc());
-    disk.write_at(FileId::BankA, 0, &BANK)?;
-    let (_, entries) = open(rt.alloc(), &mut disk)?;
-    let register = register_from(rt.alloc(), entries.as_slice())?;
-    assert!(rt; register.next_recording() == 1 && register.active_count() == 1);
-    assert!(rt;
-        register
-            .recording(&0)
-            .is_some_and(|found| found.recorded == 64)
-    );
+    let mut disk = with_bank(rt.alloc())?;
+    assert!(rt; has_settled(&register_in(rt.alloc(), &mut disk)?));
     Ok(())
+}
+
+/// Fills the history of a catalogue, and tells how many of its entries count.
+fn filled(rt: &impl Abort, alloc: Global, disk: &mut MemoryDisk) -> Result<usize, Refusal> {
+    let mut log = bank(alloc, disk)?;
+    add(&mut log, disk, &STOP)?;
+    assert!(rt; add(&mut log, disk, &SETTLE) == Err(Refusal::HistoryFull));
+    add(&mut log, disk, &Entry::Restart)?;
+    Ok(log.counted())
 }
 
 #[test]
 fn a_full_history_takes_no_counted_entry(rt: HostRuntime) -> Result<(), Fail> {
     let mut disk = MemoryDisk::new(rt.alloc());
-    let mut log = bank(rt.alloc(), &mut disk)?;
-    log.append(&mut disk, &STOP)?;
-    assert!(rt; log.append(&mut disk, &SETTLE) == Err(Refusal::HistoryFull));
-    log.append(&mut disk, &Entry::Restart)?;
-    assert!(rt; log.counted() == 3 && answer(rt.alloc(), &mut disk) == ("entries", 4));
+    assert!(rt; filled(&rt, rt.alloc(), &mut disk)? == 3);
+    assert!(rt; answer(rt.alloc(), &mut disk) == ("entries", 4));
     Ok(())
 }
 
@@ -177,8 +238,7 @@ fn a_limit_out_of_range_is_refused(rt: HostRuntime) {
 
 /// What opening the bank answers where its file is cut to a length.
 fn cut_bank(alloc: Global, length: u64) -> Result<(&'static str, i64), Fail> {
-    let mut disk = MemoryDisk::new(alloc);
-    disk.write_at(FileId::BankA, 0, &BANK)?;
+    let mut disk = with_bank(alloc)?;
     disk.cut(FileId::BankA, length)?;
     Ok(answer(alloc, &mut disk))
 }
@@ -202,8 +262,7 @@ fn a_bank_is_cut_at_each_length(rt: HostRuntime) -> Result<(), Fail> {
 
 /// What opening the bank answers where a byte of it is 255.
 fn changed_bank(alloc: Global, offset: u64) -> Result<(&'static str, i64), Fail> {
-    let mut disk = MemoryDisk::new(alloc);
-    disk.write_at(FileId::BankA, 0, &BANK)?;
+    let mut disk = with_bank(alloc)?;
     disk.write_at(FileId::BankA, offset, &[255])?;
     Ok(answer(alloc, &mut disk))
 }
@@ -316,22 +375,62 @@ fn a_stop_at_each_change_of_three_appends(rt: HostRuntime) -> Result<(), Fail> {
         (18, [3, 3, 3]),
     ];
     for (stop, found) in rows {
-        assert!(rt; found_after(rt.alloc(), stop, 0)? == ("entries", found[0]));
-        assert!(rt; found_after(rt.alloc(), stop, 1)? == ("entries", found[1]));
-        assert!(rt; found_after(rt.alloc(), stop, 255)? == ("entries", found[2]));
+        for (choice, count) in [(0u8, found[0]), (1, found[1]), (255, found[2])] {
+            assert!(rt; found_after(rt.alloc(), stop, choice)? == ("entries", count));
+        }
     }
+    Ok(())
+}
+
+/// A log whose disk fails at an append.
+fn check_broken(rt: &impl Abort, alloc: Global, disk: &mut MemoryDisk) -> Result<(), Refusal> {
+    let mut log = bank(alloc, disk)?;
+    disk.fail_at(4);
+    assert!(rt; add(&mut log, disk, &STOP) == Err(Refusal::DeviceFault));
+    assert!(rt; add(&mut log, disk, &STOP) == Err(Refusal::Broken));
     Ok(())
 }
 
 #[test]
 fn a_log_is_broken_after_a_fault(rt: HostRuntime) -> Result<(), Fail> {
     let mut disk = MemoryDisk::new(rt.alloc());
-    let mut log = bank(rt.alloc(), &mut disk)?;
-    disk.fail_at(4);
-    assert!(rt; log.append(&mut disk, &STOP) == Err(Refusal::DeviceFault));
-    assert!(rt; log.append(&mut disk, &STOP) == Err(Refusal::Broken));
+    check_broken(&rt, rt.alloc(), &mut disk)?;
     assert!(rt; answer(rt.alloc(), &mut disk) == ("entries", 3));
     Ok(())
+}
+
+/// The start, made again where memory is refused.
+fn start_again(alloc: Global) -> Result<Entry, AllocError>
+    ensures { IfOk result (λ entry. IsTrue (is_short entry)) }
+{
+    match start(alloc) {
+        Ok(entry) => Ok(entry),
+        Err(_) => start(alloc),
+    }
+}
+
+/// An empty catalogue, created again where memory is refused.
+fn create_again(alloc: Global, disk: &mut MemoryDisk) -> Result<Log, Refusal> {
+    match create(alloc, disk, 3) {
+        Ok(log) => Ok(log),
+        Err(_) => create(alloc, disk, 3),
+    }
+}
+
+/// The log that is opened, behind an entry more where it has no more than so many.
+fn add_opened(
+    alloc: Global,
+    disk: &mut MemoryDisk,
+    entry: &Entry,
+    entries: usize,
+) -> Result<Log, Refusal>
+    requires { IsTrue (is_short entry.now) }
+{
+    let (mut log, found) = open(alloc, disk)?;
+    if found.len() == entries {
+        add(&mut log, disk, entry)?;
+    }
+    Ok(log)
 }
 
 /// The log behind one entry more, where one request for memory is refused in the whole run. Where the log finds none, the
@@ -342,46 +441,58 @@ fn append_again(
     disk: &mut MemoryDisk,
     mut log: Log,
     entry: &Entry,
-) -> Result<Log, Fail>
+) -> Result<Log, Refusal>
     requires { IsTrue (is_short entry.now) }
 {
     let changes = disk.changes();
     let entries = log.counted();
-    match log.append(disk, entry) {
+    match add(&mut log, disk, entry) {
         Ok(()) => Ok(log),
         Err(Refusal::NoMemory) => {
             assert!(rt; disk.changes() == changes && log.counted() == entries);
-            log.append(disk, entry)?;
+            add(&mut log, disk, entry)?;
             Ok(log)
         }
-        Err(_) => {
-            let (mut log, found) = open(alloc, disk)?;
-            if found.len() == entries {
-                log.append(disk, entry)?;
-            }
-            Ok(log)
-        }
+        Err(_) => add_opened(alloc, disk, entry, entries),
+    }
+}
+
+/// How many entries of the bank count, each added again where memory is refused.
+fn bank_again(rt: &impl Abort, alloc: Global, disk: &mut MemoryDisk) -> Result<usize, Refusal> {
+    let first = start_again(alloc)?;
+    let log = create_again(alloc, disk)?;
+    let log = append_again(rt, alloc, disk, log, &first)?;
+    let log = append_again(rt, alloc, disk, log, &SETTLE)?;
+    Ok(log.counted())
+}
+
+/// How many entries are found, and how many of them count.
+fn counts(alloc: Global, disk: &mut MemoryDisk) -> Result<(usize, usize), Refusal> {
+    let (log, entries) = open(alloc, disk)?;
+    Ok((entries.len(), log.counted()))
+}
+
+fn counts_again(alloc: Global, disk: &mut MemoryDisk) -> Result<(usize, usize), Refusal> {
+    match counts(alloc, disk) {
+        Ok(found) => Ok(found),
+        Err(_) => counts(alloc, disk),
     }
 }
 
 #[test]
 fn refused_memory_leaves_the_catalogue(rt: HostRuntime) -> Result<(), Fail> {
     let mut disk = MemoryDisk::new(rt.alloc());
-    let first = match start(rt.alloc()) {
-        Ok(entry) => entry,
-        Err(_) => start(rt.alloc())?,
-    };
-    let mut log = match create(rt.alloc(), &mut disk, 3) {
-        Ok(log) => log,
-        Err(_) => create(rt.alloc(), &mut disk, 3)?,
-    };
-    log = append_again(&rt, rt.alloc(), &mut disk, log, &first)?;
-    log = append_again(&rt, rt.alloc(), &mut disk, log, &SETTLE)?;
-    let (log_again, entries) = match open(rt.alloc(), &mut disk) {
-        Ok(found) => found,
-        Err(_) => open(rt.alloc(), &mut disk)?,
-    };
-    assert!(rt; entries.len() == 2 && log_again.counted() == log.counted());
+    let counted = bank_again(&rt, rt.alloc(), &mut disk)?;
+    assert!(rt; counts_again(rt.alloc(), &mut disk)? == (2, counted));
+    Ok(())
+}
+
+/// Prepares a restart, again where memory is refused.
+fn prepare_again(rt: &impl Abort, log: &mut Log) -> Result<(), Refusal> {
+    if log.prepare(&Entry::Restart).is_err() {
+        assert!(rt; log.counted() == 0);
+        log.prepare(&Entry::Restart)?;
+    }
     Ok(())
 }
 
@@ -390,14 +501,8 @@ fn refused_memory_leaves_the_catalogue(rt: HostRuntime) -> Result<(), Fail> {
 #[test]
 fn refused_memory_comes_before_a_prepared_entry(rt: HostRuntime) -> Result<(), Fail> {
     let mut disk = MemoryDisk::new(rt.alloc());
-    let mut log = match create(rt.alloc(), &mut disk, 3) {
-        Ok(log) => log,
-        Err(_) => create(rt.alloc(), &mut disk, 3)?,
-    };
-    if log.prepare(&Entry::Restart).is_err() {
-        assert!(rt; log.counted() == 0);
-        log.prepare(&Entry::Restart)?;
-    }
-    assert!(rt; log.append(&mut disk, &Entry::Restart) != Err(Refusal::NoMemory));
+    let mut log = create_again(rt.alloc(), &mut disk)?;
+    prepare_again(&rt, &mut log)?;
+    assert!(rt; add(&mut log, &mut disk, &Entry::Restart) != Err(Refusal::NoMemory));
     Ok(())
 }

@@ -6,6 +6,7 @@ use catalogue_log::{Bank, Entry, compact, create, open, open_register};
 use disk_core::{Disk, Fault, FileId, MemoryDisk};
 use frame_core::Refusal;
 use std::alloc::Global;
+use std::process::Abort;
 use std::test::Fail;
 
 // Bank A of docs/STORAGE.md, "Entries", stopped by a restart: the limit 3, the start of the recording 0, and its settlement
@@ -90,20 +91,29 @@ fn answer(alloc: Global, disk: &mut MemoryDisk) -> &'static str {
     }
 }
 
+/// What a compaction answers, and by how many changes.
+fn answer_counted(alloc: Global, disk: &mut MemoryDisk) -> (&'static str, Option<u64>) {
+    let before = disk.changes();
+    let told = answer(alloc, disk);
+    (told, disk.changes().checked_sub(before))
+}
+
+/// Whether a bank has these bytes and no more.
+fn holds(alloc: Global, disk: &mut MemoryDisk, file: FileId, bytes: &[u8]) -> Result<bool, Fail> {
+    Ok(bytes_of(alloc, disk, file)?.as_slice() == bytes)
+}
+
 #[test]
 fn a_catalogue_is_compacted_byte_for_byte(rt: HostRuntime) -> Result<(), Fail> {
     let mut disk = with_banks(rt.alloc(), &BANK, &[0])?;
-    let before = disk.changes();
-    assert!(rt; answer(rt.alloc(), &mut disk) == "compacted");
-    assert!(rt; disk.changes().checked_sub(before) == Some(7));
-    assert!(rt; bytes_of(rt.alloc(), &mut disk, FileId::BankB)?.as_slice() == COMPACTED.as_slice());
-    assert!(rt; bytes_of(rt.alloc(), &mut disk, FileId::BankA)?.as_slice() == BANK.as_slice());
+    assert!(rt; answer_counted(rt.alloc(), &mut disk) == ("compacted", Some(7)));
+    assert!(rt; holds(rt.alloc(), &mut disk, FileId::BankB, &COMPACTED)?);
+    assert!(rt; holds(rt.alloc(), &mut disk, FileId::BankA, &BANK)?);
     // Once more, into bank A: its gate is closed first, and the epoch is 3.
-    assert!(rt; answer(rt.alloc(), &mut disk) == "compacted");
-    assert!(rt; disk.changes().checked_sub(before) == Some(16));
+    assert!(rt; answer_counted(rt.alloc(), &mut disk) == ("compacted", Some(9)));
     let mut third = COMPACTED;
     third[8] = 3;
-    assert!(rt; bytes_of(rt.alloc(), &mut disk, FileId::BankA)?.as_slice() == third.as_slice());
+    assert!(rt; holds(rt.alloc(), &mut disk, FileId::BankA, &third)?);
     assert!(rt; kept_in(rt.alloc(), &mut disk) == "A");
     Ok(())
 }
@@ -120,46 +130,76 @@ fn stopped(
     Ok(disk.crash(&[choice])?)
 }
 
+/// A disk after the first stop, and the bank that is in use then.
+fn stopped_first(alloc: Global, stop: u64, choice: u8) -> Result<(MemoryDisk, &'static str), Fail> {
+    let mut disk = with_banks(alloc, &BANK, &[0])?;
+    let mut left = stopped(alloc, &mut disk, stop, choice)?;
+    let found = kept_in(alloc, &mut left);
+    Ok((left, found))
+}
+
+/// A disk after ten further stops, each after a change more, and after each of which a bank is in use.
+fn stopped_on(
+    rt: &impl Abort,
+    alloc: Global,
+    mut left: MemoryDisk,
+    choice: u8,
+) -> Result<MemoryDisk, Fail> {
+    for second in 0..10u64 {
+        left = stopped(alloc, &mut left, second, choice)?;
+        let kept = kept_in(alloc, &mut left);
+        assert!(rt; kept == "A" || kept == "B");
+    }
+    Ok(left)
+}
+
 #[test]
 fn a_compaction_is_stopped_and_compacted_again(rt: HostRuntime) -> Result<(), Fail> {
     for first in 0..8u64 {
         for choice in [0u8, 1, 7, 255] {
-            let mut disk = with_banks(rt.alloc(), &BANK, &[0])?;
-            let mut left = stopped(rt.alloc(), &mut disk, first, choice)?;
-            let found = kept_in(rt.alloc(), &mut left);
+            let (left, found) = stopped_first(rt.alloc(), first, choice)?;
             assert!(rt; found == "A" || found == "B" && first > 5);
-            for second in 0..10u64 {
-                let mut last = stopped(rt.alloc(), &mut left, second, choice)?;
-                let kept = kept_in(rt.alloc(), &mut last);
-                assert!(rt; kept == "A" || kept == "B");
-                left = last;
-            }
-            assert!(rt; answer(rt.alloc(), &mut left) == "compacted");
+            let mut last = stopped_on(&rt, rt.alloc(), left, choice)?;
+            assert!(rt; answer(rt.alloc(), &mut last) == "compacted");
         }
     }
     Ok(())
 }
 
-/// What a compaction answers beside this other bank, and by how many changes.
-fn beside(alloc: Global, bank_b: &[u8]) -> Result<(&'static str, u64), Fail> {
-    let mut disk = with_banks(alloc, &BANK, bank_b)?;
-    let before = disk.changes();
-    let told = answer(alloc, &mut disk);
-    Ok((told, disk.changes().saturating_sub(before)))
+/// What a compaction answers over these banks, and by how many changes.
+fn over(alloc: Global, a: &[u8], b: &[u8]) -> Result<(&'static str, Option<u64>), Fail> {
+    let mut disk = with_banks(alloc, a, b)?;
+    Ok(answer_counted(alloc, &mut disk))
 }
 
 #[test]
 fn only_a_bank_that_is_the_archives_is_written(rt: HostRuntime) -> Result<(), Fail> {
     let mut earlier = COMPACTED;
     earlier[8] = 0;
-    // Absent; an open gate and nothing behind it, or too little; anything behind a closed gate; a bank of an earlier epoch.
-    assert!(rt; beside(rt.alloc(), &[])? == ("NotCatalogue", 2));
-    assert!(rt; beside(rt.alloc(), &[1])? == ("NotCatalogue", 2));
-    assert!(rt; beside(rt.alloc(), &earlier[..31])? == ("NotCatalogue", 2));
-    assert!(rt; beside(rt.alloc(), &[7])? == ("compacted", 7));
-    assert!(rt; beside(rt.alloc(), &[0; 400])? == ("compacted", 7));
-    assert!(rt; beside(rt.alloc(), &earlier[..32])? == ("compacted", 9));
-    assert!(rt; beside(rt.alloc(), &earlier)? == ("compacted", 9));
+    let rows = [
+        // Absent; an open gate and nothing behind it, or too little.
+        ([].as_slice(), "NotCatalogue", 2),
+        ([1].as_slice(), "NotCatalogue", 2),
+        (&earlier[..31], "NotCatalogue", 2),
+        // Anything behind a closed gate; a bank of an earlier epoch.
+        ([7].as_slice(), "compacted", 7),
+        ([0; 400].as_slice(), "compacted", 7),
+        (&earlier[..32], "compacted", 9),
+        (earlier.as_slice(), "compacted", 9),
+    ];
+    for (bank_b, told, changes) in rows {
+        assert!(rt; over(rt.alloc(), &BANK, bank_b)? == (told, Some(changes)));
+    }
+    Ok(())
+}
+
+/// An active recording is told before a spare bank that may not be written, and the bank in use stays as it was.
+fn check_active(rt: &impl Abort, alloc: Global) -> Result<(), Fail> {
+    let mut active = BANK;
+    active[107] = 0;
+    let mut disk = with_banks(alloc, &active[..108], &[1])?;
+    assert!(rt; answer(alloc, &mut disk) == "ActiveRecording");
+    assert!(rt; holds(alloc, &mut disk, FileId::BankA, &active[..108])?);
     Ok(())
 }
 
@@ -177,25 +217,24 @@ fn a_compaction_is_refused_in_order(rt: HostRuntime) -> Result<(), Fail> {
         (last.as_slice(), [0].as_slice(), "HistoryFull"),
     ];
     for (a, b, told) in rows {
-        let mut disk = with_banks(rt.alloc(), a, b)?;
-        assert!(rt; answer(rt.alloc(), &mut disk) == told);
+        assert!(rt; over(rt.alloc(), a, b)?.0 == told);
     }
-    let mut active = BANK;
-    active[107] = 0;
-    let mut disk = with_banks(rt.alloc(), &active[..108], &[1])?;
-    assert!(rt; answer(rt.alloc(), &mut disk) == "ActiveRecording");
-    assert!(rt; bytes_of(rt.alloc(), &mut disk, FileId::BankA)?.as_slice() == &active[..108]);
-    Ok(())
+    check_active(&rt, rt.alloc())
+}
+
+/// The disk with both banks, made again where memory is refused.
+fn with_banks_again(alloc: Global) -> Result<MemoryDisk, Fault> {
+    match with_banks(alloc, &BANK, &[0]) {
+        Ok(disk) => Ok(disk),
+        Err(_) => with_banks(alloc, &BANK, &[0]),
+    }
 }
 
 /// Where memory is refused once, the catalogue is as it was, and is compacted then; where the disk found none, that is a
 /// fault of it.
 #[test]
 fn refused_memory_leaves_what_is_compacted(rt: HostRuntime) -> Result<(), Fail> {
-    let mut disk = match with_banks(rt.alloc(), &BANK, &[0]) {
-        Ok(disk) => disk,
-        Err(_) => with_banks(rt.alloc(), &BANK, &[0])?,
-    };
+    let mut disk = with_banks_again(rt.alloc())?;
     let told = answer(rt.alloc(), &mut disk);
     if told != "compacted" {
         assert!(rt; told == "NoMemory" || told == "DeviceFault");
@@ -206,15 +245,20 @@ fn refused_memory_leaves_what_is_compacted(rt: HostRuntime) -> Result<(), Fail> 
     Ok(())
 }
 
+/// What the one entry of a compacted catalogue counts for, its epoch and its limit; and what counts behind a restart.
+fn restarted(rt: &impl Abort, alloc: Global, disk: &mut MemoryDisk) -> Result<usize, Refusal> {
+    let (mut log, entries) = open(alloc, disk)?;
+    assert!(rt; entries.len() == 1 && log.counted() == 0 && log.epoch() == 2 && log.limit() == 1);
+    log.append(disk, &Entry::Restart)?;
+    Ok(log.counted())
+}
+
 /// What a compaction writes counts for nothing: as many entries are added behind it as the limit lets through.
 #[test]
 fn a_compacted_history_is_empty_again(rt: HostRuntime) -> Result<(), Fail> {
     let mut disk = MemoryDisk::new(rt.alloc());
     create(rt.alloc(), &mut disk, 1)?;
     assert!(rt; answer(rt.alloc(), &mut disk) == "compacted");
-    let (mut log, entries) = open(rt.alloc(), &mut disk)?;
-    assert!(rt; entries.len() == 1 && log.counted() == 0 && log.epoch() == 2 && log.limit() == 1);
-    log.append(&mut disk, &Entry::Restart)?;
-    assert!(rt; log.counted() == 0);
+    assert!(rt; restarted(&rt, rt.alloc(), &mut disk)? == 0);
     Ok(())
 }

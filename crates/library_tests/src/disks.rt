@@ -3,6 +3,7 @@
 
 use disk_core::{Disk, Fault, FileId, ListFault, MemoryDisk};
 use frame_core::Refusal;
+use std::alloc::Global;
 use std::process::Abort;
 use std::test::Fail;
 
@@ -68,32 +69,80 @@ fn reads(
     Ok(())
 }
 
-#[test]
-fn a_crash_leaves_what_the_choice_says(rt: HostRuntime) -> Result<(), Fail> {
-    let mut disk = MemoryDisk::new(rt.alloc());
+/// A disk with three synced bytes, of which the second is written over.
+fn overwritten(alloc: Global) -> Result<MemoryDisk, Fault> {
+    let mut disk = MemoryDisk::new(alloc);
     disk.write_at(FILE, 0, &[1, 2, 3])?;
     disk.sync(FILE)?;
     disk.write_at(FILE, 1, &[9])?;
-    reads(&rt, &mut disk.crash(&[0])?, FILE, Some(&[1, 2, 3]))?;
-    reads(&rt, &mut disk.crash(&[1])?, FILE, Some(&[1, 9, 3]))?;
-    reads(&rt, &mut disk.crash(&[255])?, FILE, Some(&[1, 255, 3]))?;
-    reads(&rt, &mut disk.crash(&[])?, FILE, Some(&[1, 2, 3]))
+    Ok(disk)
+}
+
+/// What a file reads as behind a crash by a choice.
+fn left_reads(
+    rt: &impl Abort,
+    disk: &MemoryDisk,
+    choice: &[u8],
+    bytes: Option<&[u8]>,
+) -> Result<(), Fail> {
+    let mut left = disk.crash(choice)?;
+    reads(rt, &mut left, FILE, bytes)
+}
+
+/// What each choice leaves of it: as synced, as written, with another byte, and as synced.
+fn check_left(rt: &impl Abort, disk: &MemoryDisk) -> Result<(), Fail> {
+    left_reads(rt, disk, &[0], Some(&[1, 2, 3]))?;
+    left_reads(rt, disk, &[1], Some(&[1, 9, 3]))?;
+    left_reads(rt, disk, &[255], Some(&[1, 255, 3]))?;
+    left_reads(rt, disk, &[], Some(&[1, 2, 3]))
+}
+
+#[test]
+fn a_crash_leaves_what_the_choice_says(rt: HostRuntime) -> Result<(), Fail> {
+    let disk = overwritten(rt.alloc())?;
+    check_left(&rt, &disk)
+}
+
+/// Five calls that change nothing of a file that is absent.
+fn call_absent(disk: &mut MemoryDisk) -> Result<(), Fault> {
+    disk.sync(FILE)?;
+    disk.remove(FILE)?;
+    disk.cut(FILE, 1)?;
+    disk.write_at(FILE, 5, &[])?;
+    disk.sync(FILE)
 }
 
 /// A contract cannot tell a fault from want of memory, so that these calls succeed is asked here.
 #[test]
 fn calls_on_an_absent_file_succeed(rt: HostRuntime) -> Result<(), Fail> {
     let mut disk = MemoryDisk::new(rt.alloc());
-    disk.sync(FILE)?;
-    disk.remove(FILE)?;
-    disk.cut(FILE, 1)?;
-    disk.write_at(FILE, 5, &[])?;
-    disk.sync(FILE)?;
-    assert_eq!(rt; disk.len(FILE)?, 0);
+    call_absent(&mut disk)?;
+    assert!(rt; disk.len(FILE)? == 0);
     reads(&rt, &mut disk, FILE, None)?;
-    assert_eq!(rt; disk.changes(), 5);
-    assert_eq!(rt; disk.faults(), 0);
+    assert!(rt; disk.changes() == 5 && disk.faults() == 0);
     Ok(())
+}
+
+/// A call fails, and the file then reads so.
+fn check_failed(
+    rt: &impl Abort,
+    disk: &mut MemoryDisk,
+    step: Step<'_>,
+    bytes: Option<&[u8]>,
+) -> Result<(), Fail> {
+    assert!(rt; make(disk, step).is_err());
+    reads(rt, disk, FILE, bytes)
+}
+
+/// The next call fails, and the file then reads so.
+fn check_next_failed(
+    rt: &impl Abort,
+    disk: &mut MemoryDisk,
+    step: Step<'_>,
+    bytes: Option<&[u8]>,
+) -> Result<(), Fail> {
+    disk.fail_at(1);
+    check_failed(rt, disk, step, bytes)
 }
 
 #[test]
@@ -101,17 +150,12 @@ fn failing_calls_take_effect_and_stopped_ones_do_not(rt: HostRuntime) -> Result<
     let mut disk = MemoryDisk::new(rt.alloc());
     disk.fail_at(2);
     disk.write_at(FILE, 0, &[1])?;
-    assert!(rt; disk.write_at(FILE, 1, &[2]).is_err());
-    reads(&rt, &mut disk, FILE, Some(&[1, 2]))?;
-    disk.fail_at(1);
-    assert!(rt; disk.cut(FILE, 1).is_err());
-    reads(&rt, &mut disk, FILE, Some(&[1]))?;
-    disk.fail_at(1);
-    assert!(rt; disk.remove(FILE).is_err());
-    reads(&rt, &mut disk, FILE, None)?;
+    check_failed(&rt, &mut disk, Step::Write(FILE, 1, &[2]), Some(&[1, 2]))?;
+    check_next_failed(&rt, &mut disk, Step::Cut(FILE, 1), Some(&[1]))?;
+    check_next_failed(&rt, &mut disk, Step::Remove(FILE), None)?;
     disk.stop_after(0);
-    assert!(rt; disk.write_at(FILE, 0, &[9]).is_err());
-    reads(&rt, &mut disk.crash(&[1])?, FILE, None)
+    assert!(rt; make(&mut disk, Step::Write(FILE, 0, &[9])).is_err());
+    left_reads(&rt, &disk, &[1], None)
 }
 
 // What a crash leaves of a file by the bytes 0, 1 and 9.
@@ -160,14 +204,62 @@ const SCRIPT: [(Step<'_>, Left<'_>, Left<'_>); 7] = [
     ),
 ];
 
+/// What the two banks read as.
+fn both_read(
+    rt: &impl Abort,
+    disk: &mut MemoryDisk,
+    a: Option<&[u8]>,
+    b: Option<&[u8]>,
+) -> Result<(), Fail> {
+    reads(rt, disk, FileId::BankA, a)?;
+    reads(rt, disk, FileId::BankB, b)
+}
+
+/// What they read as behind a crash by a byte.
+fn both_left(
+    rt: &impl Abort,
+    disk: &MemoryDisk,
+    byte: u8,
+    a: Option<&[u8]>,
+    b: Option<&[u8]>,
+) -> Result<(), Fail> {
+    let mut left = crashed(rt, disk, &[byte])?;
+    both_read(rt, &mut left, a, b)
+}
+
 /// The disk reads as a crash by 1 leaves it, and crashes leave these banks.
 fn leaves(rt: &impl Abort, disk: &mut MemoryDisk, a: Left<'_>, b: Left<'_>) -> Result<(), Fail> {
-    reads(rt, disk, FileId::BankA, a[1])?;
-    reads(rt, disk, FileId::BankB, b[1])?;
+    both_read(rt, disk, a[1], b[1])?;
     for (i, byte) in [0, 1, 9].into_iter().enumerate() {
-        let mut left = crashed(rt, disk, &[byte])?;
-        reads(rt, &mut left, FileId::BankA, a[i])?;
-        reads(rt, &mut left, FileId::BankB, b[i])?;
+        both_left(rt, disk, byte, a[i], b[i])?;
+    }
+    Ok(())
+}
+
+/// Makes a call, and makes it again where it failed, which has changed nothing of the banks.
+fn make_again(
+    rt: &impl Abort,
+    disk: &mut MemoryDisk,
+    step: Step<'_>,
+    a: Left<'_>,
+    b: Left<'_>,
+) -> Result<(), Fail> {
+    if make(disk, step).is_err() {
+        leaves(rt, disk, a, b)?;
+        make(disk, step)?;
+    }
+    Ok(())
+}
+
+/// Makes the calls of the script, each again where it failed.
+fn run_script(rt: &impl Abort, disk: &mut MemoryDisk) -> Result<(), Fail> {
+    let mut a = [None; 3];
+    let mut b = [None; 3];
+    for (step, next_a, next_b) in SCRIPT {
+        make_again(rt, disk, step, a, b)?;
+        leaves(rt, disk, next_a, next_b)?;
+        a = next_a;
+        b = next_b;
     }
     Ok(())
 }
@@ -177,18 +269,7 @@ fn leaves(rt: &impl Abort, disk: &mut MemoryDisk, a: Left<'_>, b: Left<'_>) -> R
 #[test]
 fn refused_memory_changes_nothing(rt: HostRuntime) -> Result<(), Fail> {
     let mut disk = MemoryDisk::new(rt.alloc());
-    let mut a = [None; 3];
-    let mut b = [None; 3];
-    for (step, next_a, next_b) in SCRIPT {
-        if make(&mut disk, step).is_err() {
-            leaves(&rt, &mut disk, a, b)?;
-            make(&mut disk, step)?;
-        }
-        leaves(&rt, &mut disk, next_a, next_b)?;
-        a = next_a;
-        b = next_b;
-    }
-    Ok(())
+    run_script(&rt, &mut disk)
 }
 
 #[test]
@@ -198,7 +279,7 @@ fn files_have_names(rt: HostRuntime) -> Result<(), Fail> {
         (FileId::BankB, "catalogue-b.bank"),
         (FILE, "7-65536.rec"),
     ] {
-        assert_eq!(rt; file.name(rt.alloc())?.as_str(), name);
+        assert!(rt; file.name(rt.alloc())?.as_str() == name);
     }
     Ok(())
 }

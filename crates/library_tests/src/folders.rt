@@ -1,8 +1,9 @@
 //! A disk over a real folder: docs/STORAGE.md, "Folders". Each test has a folder of its own under the system's
 //! folder for temporary files.
 
-use disk_core::{Disk, FileId, ListFault};
+use disk_core::{Disk, Fault, FileId, ListFault};
 use host_disk::{HostDisk, OpenFault};
+use std::alloc::Global;
 use std::os::unix::fs::symlink;
 use std::path::Path;
 use std::process::Abort;
@@ -39,47 +40,184 @@ fn opened(abort: &impl Abort, rt: HostRuntime, path: &str) -> HostDisk {
     }
 }
 
+// A call on a disk.
+#[derive(Clone, Copy)]
+enum Call {
+    Length(FileId),
+    Write(FileId, u64, &'static [u8]),
+    Cut(FileId, u64),
+    Remove(FileId),
+    Sync(FileId),
+    List,
+    Faults,
+}
+
+// A call and its answer: a length, or how many files or faults there are; 0 where it tells nothing.
+type Row = (Call, Result<u64, ListFault>);
+
+const DONE: Result<u64, ListFault> = Ok(0);
+
+const FAULT: Result<u64, ListFault> = Err(ListFault::Device);
+
+fn told(answer: Result<u64, Fault>) -> Result<u64, ListFault> {
+    match answer {
+        Ok(length) => Ok(length),
+        Err(Fault) => FAULT,
+    }
+}
+
+fn told_done(answer: Result<(), Fault>) -> Result<u64, ListFault> {
+    match answer {
+        Ok(()) => DONE,
+        Err(Fault) => FAULT,
+    }
+}
+
+fn listed(disk: &mut HostDisk) -> Result<u64, ListFault> {
+    Ok(disk.list()?.len() as u64)
+}
+
+/// What a disk answers to a call.
+fn answer(disk: &mut HostDisk, call: Call) -> Result<u64, ListFault> {
+    match call {
+        Call::Length(file) => told(disk.len(file)),
+        Call::Write(file, at, bytes) => told_done(disk.write_at(file, at, bytes)),
+        Call::Cut(file, length) => told_done(disk.cut(file, length)),
+        Call::Remove(file) => told_done(disk.remove(file)),
+        Call::Sync(file) => told_done(disk.sync(file)),
+        Call::List => listed(disk),
+        Call::Faults => Ok(disk.faults()),
+    }
+}
+
+/// Makes calls one after another, which have to answer so.
+fn play(rt: &impl Abort, disk: &mut HostDisk, rows: &[Row]) {
+    for (index, (call, wanted)) in rows.iter().enumerate() {
+        assert!(rt; answer(disk, *call) == *wanted, "row {index}");
+    }
+}
+
+/// The same over the disk of a folder, which is closed then.
+fn play_in(abort: &impl Abort, rt: HostRuntime, path: &str, rows: &[Row]) {
+    let mut disk = opened(abort, rt, path);
+    play(abort, &mut disk, rows);
+}
+
+/// Some calls while a folder has the segment's name, and others on the same disk once it is gone.
+fn play_around(
+    abort: &impl Abort,
+    rt: HostRuntime,
+    path: &str,
+    before: &[Row],
+    after: &[Row],
+) -> Result<(), Fail> {
+    let in_the_way = within(rt, path, "3-131072.rec")?;
+    fs::create_dir(&rt, in_the_way.as_str())?;
+    let mut disk = opened(abort, rt, path);
+    play(abort, &mut disk, before);
+    fs::remove_dir(&rt, in_the_way.as_str())?;
+    play(abort, &mut disk, after);
+    Ok(())
+}
+
+/// How many bytes of the segment are read at an offset, and what stands in the buffer then, which had sevens.
+fn read(disk: &mut HostDisk, at: u64) -> Result<(usize, [u8; 8]), Fault> {
+    let mut buffer = [7u8; 8];
+    let count = disk.read_at(SEGMENT, at, &mut buffer)?;
+    Ok((count, buffer))
+}
+
+fn check_written(abort: &impl Abort, rt: HostRuntime, path: &str) {
+    let mut disk = opened(abort, rt, path);
+    play(abort, &mut disk, &[(Call::Length(SEGMENT), Ok(0))]);
+    assert!(abort; read(&mut disk, 0) == Ok((0, [7; 8])));
+    play(
+        abort,
+        &mut disk,
+        &[
+            (Call::Write(SEGMENT, 4, b"abcd"), DONE),
+            (Call::Sync(SEGMENT), DONE),
+        ],
+    );
+}
+
+fn check_again(abort: &impl Abort, rt: HostRuntime, path: &str) {
+    let mut again = opened(abort, rt, path);
+    play(abort, &mut again, &WRITTEN);
+    assert!(abort; read(&mut again, 2) == Ok((6, *b"\0\0abcd\x07\x07")));
+    play(abort, &mut again, &NO_FAULTS);
+}
+
+const WRITTEN: [Row; 1] = [(Call::Length(SEGMENT), Ok(8))];
+
+const NO_FAULTS: [Row; 1] = [(Call::Faults, Ok(0))];
+
 #[test]
 fn what_is_written_is_read_when_opened_again(rt: HostRuntime) -> Result<(), Fail> {
     let path = scratch(rt, "written")?;
-    let mut disk = opened(&rt, rt, path.as_str());
-    let mut buffer = [7u8; 8];
-    assert!(rt; disk.len(SEGMENT)? == 0);
-    assert!(rt; disk.read_at(SEGMENT, 0, &mut buffer)? == 0);
-    disk.write_at(SEGMENT, 4, b"abcd")?;
-    disk.sync(SEGMENT)?;
-    drop(disk);
-    let mut again = opened(&rt, rt, path.as_str());
-    assert!(rt; again.len(SEGMENT)? == 8);
-    assert!(rt; again.read_at(SEGMENT, 2, &mut buffer)? == 6);
-    assert!(rt; buffer == *b"\0\0abcd\x07\x07");
-    assert!(rt; again.faults() == 0);
-    drop(again);
+    check_written(&rt, rt, path.as_str());
+    check_again(&rt, rt, path.as_str());
     fs::remove_dir_all(&rt, path.as_str())?;
+    Ok(())
+}
+
+/// Whether a folder has something of a name.
+fn is_there(rt: HostRuntime, path: &str, name: &str) -> Result<bool, Fail> {
+    Ok(fs::exists(&rt, within(rt, path, name)?.as_str())?)
+}
+
+const CUTS: [Row; 13] = [
+    (Call::Cut(SEGMENT, 1), DONE),
+    (Call::Remove(SEGMENT), DONE),
+    (Call::Sync(SEGMENT), DONE),
+    (Call::List, Ok(0)),
+    (Call::Write(SEGMENT, 0, b"abcdef"), DONE),
+    (Call::Cut(SEGMENT, 100), DONE),
+    (Call::Length(SEGMENT), Ok(6)),
+    (Call::Cut(SEGMENT, 2), DONE),
+    (Call::Sync(SEGMENT), DONE),
+    (Call::Length(SEGMENT), Ok(2)),
+    (Call::Remove(SEGMENT), DONE),
+    (Call::Sync(SEGMENT), DONE),
+    (Call::Length(SEGMENT), Ok(0)),
+];
+
+fn check_cuts(abort: &impl Abort, rt: HostRuntime, path: &str) -> Result<(), Fail> {
+    let mut disk = opened(abort, rt, path);
+    play(abort, &mut disk, &CUTS);
+    assert!(abort; !is_there(rt, path, "3-131072.rec")?);
+    play(abort, &mut disk, &NO_FAULTS);
     Ok(())
 }
 
 #[test]
 fn cuts_and_removes(rt: HostRuntime) -> Result<(), Fail> {
     let path = scratch(rt, "cut")?;
-    let mut disk = opened(&rt, rt, path.as_str());
-    disk.cut(SEGMENT, 1)?;
-    disk.remove(SEGMENT)?;
-    disk.sync(SEGMENT)?;
-    assert!(rt; disk.list()?.is_empty());
-    disk.write_at(SEGMENT, 0, b"abcdef")?;
-    disk.cut(SEGMENT, 100)?;
-    assert!(rt; disk.len(SEGMENT)? == 6);
-    disk.cut(SEGMENT, 2)?;
-    disk.sync(SEGMENT)?;
-    assert!(rt; disk.len(SEGMENT)? == 2);
-    disk.remove(SEGMENT)?;
-    disk.sync(SEGMENT)?;
-    assert!(rt; disk.len(SEGMENT)? == 0);
-    assert!(rt; !fs::exists(&rt, within(rt, path.as_str(), "3-131072.rec")?.as_str())?);
-    assert!(rt; disk.faults() == 0);
-    drop(disk);
+    check_cuts(&rt, rt, path.as_str())?;
     fs::remove_dir_all(&rt, path.as_str())?;
+    Ok(())
+}
+
+/// Writes a file of one byte.
+fn put(rt: HostRuntime, path: &str, name: &str) -> Result<(), Fail> {
+    Ok(fs::write(&rt, within(rt, path, name)?.as_str(), "x")?)
+}
+
+fn lists(disk: &mut HostDisk, wanted: &[FileId]) -> Result<bool, ListFault> {
+    Ok(disk.list()?.as_slice() == wanted)
+}
+
+/// Writes some files out of order, which are listed in order.
+fn check_listed(abort: &impl Abort, rt: HostRuntime, path: &str) -> Result<(), Fail> {
+    let later = FileId::Segment {
+        recording: 10,
+        base: 0,
+    };
+    let mut disk = opened(abort, rt, path);
+    for file in [later, SEGMENT, FileId::BankB, FileId::BankA] {
+        assert!(abort; answer(&mut disk, Call::Write(file, 0, b"x")) == DONE);
+    }
+    assert!(abort; lists(&mut disk, &[FileId::BankA, FileId::BankB, SEGMENT, later])?);
     Ok(())
 }
 
@@ -100,132 +238,174 @@ fn files_are_listed_in_order_and_other_names_ignored(rt: HostRuntime) -> Result<
         "3-0.rec~",
         "catalogue-c.bank",
     ] {
-        fs::write(&rt, within(rt, path.as_str(), name)?.as_str(), "x")?;
+        put(rt, path.as_str(), name)?;
     }
-    let later = FileId::Segment {
-        recording: 10,
-        base: 0,
-    };
-    let mut disk = opened(&rt, rt, path.as_str());
-    for file in [later, SEGMENT, FileId::BankB, FileId::BankA] {
-        disk.write_at(file, 0, b"x")?;
-    }
-    let files = disk.list()?;
-    assert!(rt; files.as_slice() == [FileId::BankA, FileId::BankB, SEGMENT, later].as_slice());
-    drop(disk);
+    check_listed(&rt, rt, path.as_str())?;
     fs::remove_dir_all(&rt, path.as_str())?;
     Ok(())
+}
+
+/// Why a folder is not opened.
+fn why_not(rt: HostRuntime, path: &str) -> Option<OpenFault> {
+    disk_at(rt, path).err()
+}
+
+fn check_busy(abort: &impl Abort, rt: HostRuntime, path: &str) {
+    let _disk = opened(abort, rt, path);
+    assert!(abort; why_not(rt, path) == Some(OpenFault::Busy));
 }
 
 #[test]
 fn a_folder_is_opened_once(rt: HostRuntime) -> Result<(), Fail> {
     let path = scratch(rt, "opened")?;
-    let disk = opened(&rt, rt, path.as_str());
-    assert!(rt; matches!(disk_at(rt, path.as_str()), Err(OpenFault::Busy)));
-    drop(disk);
+    check_busy(&rt, rt, path.as_str());
     drop(opened(&rt, rt, path.as_str()));
     fs::remove_dir_all(&rt, path.as_str())?;
-    assert!(rt; matches!(disk_at(rt, path.as_str()), Err(OpenFault::Missing)));
+    assert!(rt; why_not(rt, path.as_str()) == Some(OpenFault::Missing));
+    Ok(())
+}
+
+/// Makes a link of a name to a file outside of the archive.
+fn make_link(rt: HostRuntime, path: &str, name: &str) -> Result<(), Fail> {
+    let outside = within(rt, path, "outside.txt")?;
+    fs::write(&rt, outside.as_str(), "outside")?;
+    Ok(symlink(&rt, outside.as_str(), within(rt, path, name)?.as_str())?)
+}
+
+fn make_folder(rt: HostRuntime, path: &str, name: &str) -> Result<(), Fail> {
+    Ok(fs::create_dir(&rt, within(rt, path, name)?.as_str())?)
+}
+
+fn is_file(rt: HostRuntime, path: &str, name: &str) -> Result<bool, Fail> {
+    Ok(fs::symlink_metadata(&rt, within(rt, path, name)?.as_str())?.is_file())
+}
+
+fn holds(rt: HostRuntime, path: &str, name: &str, bytes: &[u8]) -> Result<bool, Fail> {
+    Ok(fs::read(&rt, within(rt, path, name)?.as_str())?.as_slice() == bytes)
+}
+
+const REFUSED: [Row; 5] = [
+    (Call::Length(SEGMENT), FAULT),
+    (Call::List, FAULT),
+    (Call::Length(FileId::BankB), FAULT),
+    (Call::Remove(SEGMENT), FAULT),
+    (Call::Faults, Ok(4)),
+];
+
+fn check_links(abort: &impl Abort, rt: HostRuntime, path: &str) -> Result<(), Fail> {
+    make_link(rt, path, "3-131072.rec")?;
+    make_folder(rt, path, "catalogue-b.bank")?;
+    play_in(abort, rt, path, &REFUSED);
+    assert!(abort; !is_file(rt, path, "3-131072.rec")?);
+    assert!(abort; holds(rt, path, "outside.txt", b"outside")?);
     Ok(())
 }
 
 #[test]
 fn links_and_folders_are_refused(rt: HostRuntime) -> Result<(), Fail> {
     let path = scratch(rt, "links")?;
-    let outside = within(rt, path.as_str(), "outside.txt")?;
-    fs::write(&rt, outside.as_str(), "outside")?;
-    let link = within(rt, path.as_str(), "3-131072.rec")?;
-    symlink(&rt, outside.as_str(), link.as_str())?;
-    fs::create_dir(&rt, within(rt, path.as_str(), "catalogue-b.bank")?.as_str())?;
-    let mut disk = opened(&rt, rt, path.as_str());
-    assert!(rt; disk.len(SEGMENT).is_err());
-    assert!(rt; disk.list() == Err(ListFault::Device));
-    assert!(rt; disk.len(FileId::BankB).is_err());
-    assert!(rt; disk.remove(SEGMENT).is_err());
-    assert!(rt; disk.faults() == 4);
-    drop(disk);
-    assert!(rt; !fs::symlink_metadata(&rt, link.as_str())?.is_file());
-    assert!(rt; fs::read(&rt, outside.as_str())?.as_slice() == b"outside".as_slice());
+    check_links(&rt, rt, path.as_str())?;
     fs::remove_dir_all(&rt, path.as_str())?;
     Ok(())
 }
+
+const LOST: [Row; 6] = [
+    (Call::Write(SEGMENT, 0, b"x"), FAULT),
+    (Call::Sync(SEGMENT), FAULT),
+    (Call::List, FAULT),
+    (Call::Write(FileId::BankA, 0, b"x"), DONE),
+    (Call::Sync(FileId::BankA), DONE),
+    (Call::Faults, Ok(4)),
+];
+
+const UNSYNCED: [Row; 1] = [(Call::Sync(SEGMENT), FAULT)];
+
+const AGAIN: [Row; 2] = [(Call::Length(SEGMENT), Ok(0)), (Call::List, Ok(1))];
 
 #[test]
 fn a_file_whose_sync_failed_is_asked_no_more(rt: HostRuntime) -> Result<(), Fail> {
     let path = scratch(rt, "lost")?;
-    let in_the_way = within(rt, path.as_str(), "3-131072.rec")?;
-    fs::create_dir(&rt, in_the_way.as_str())?;
-    let mut disk = opened(&rt, rt, path.as_str());
-    assert!(rt; disk.sync(SEGMENT).is_err());
-    fs::remove_dir(&rt, in_the_way.as_str())?;
-    assert!(rt; disk.write_at(SEGMENT, 0, b"x").is_err());
-    assert!(rt; disk.sync(SEGMENT).is_err());
-    assert!(rt; disk.list() == Err(ListFault::Device));
-    disk.write_at(FileId::BankA, 0, b"x")?;
-    disk.sync(FileId::BankA)?;
-    assert!(rt; disk.faults() == 4);
-    drop(disk);
-    let mut again = opened(&rt, rt, path.as_str());
-    assert!(rt; again.len(SEGMENT)? == 0);
-    assert!(rt; again.list()?.len() == 1);
-    drop(again);
+    play_around(&rt, rt, path.as_str(), &UNSYNCED, &LOST)?;
+    play_in(&rt, rt, path.as_str(), &AGAIN);
     fs::remove_dir_all(&rt, path.as_str())?;
     Ok(())
 }
 
+const FAILED: [Row; 3] = [
+    (Call::Write(SEGMENT, 0, b"x"), FAULT),
+    (Call::Cut(SEGMENT, 0), FAULT),
+    (Call::Remove(SEGMENT), FAULT),
+];
+
+const BEHIND: [Row; 5] = [
+    (Call::Length(SEGMENT), Ok(0)),
+    (Call::Write(SEGMENT, 0, b"x"), DONE),
+    (Call::Sync(SEGMENT), DONE),
+    (Call::List, Ok(1)),
+    (Call::Faults, Ok(3)),
+];
+
 #[test]
 fn reading_goes_on_after_a_failed_write(rt: HostRuntime) -> Result<(), Fail> {
     let path = scratch(rt, "failed")?;
-    let in_the_way = within(rt, path.as_str(), "3-131072.rec")?;
-    fs::create_dir(&rt, in_the_way.as_str())?;
-    let mut disk = opened(&rt, rt, path.as_str());
-    assert!(rt; disk.write_at(SEGMENT, 0, b"x").is_err());
-    assert!(rt; disk.cut(SEGMENT, 0).is_err());
-    assert!(rt; disk.remove(SEGMENT).is_err());
-    fs::remove_dir(&rt, in_the_way.as_str())?;
-    assert!(rt; disk.len(SEGMENT)? == 0);
-    disk.write_at(SEGMENT, 0, b"x")?;
-    disk.sync(SEGMENT)?;
-    assert!(rt; disk.list()?.len() == 1);
-    assert!(rt; disk.faults() == 3);
-    drop(disk);
+    play_around(&rt, rt, path.as_str(), &FAILED, &BEHIND)?;
     fs::remove_dir_all(&rt, path.as_str())?;
+    Ok(())
+}
+
+/// Whether the last fault of a disk is told so.
+fn tells(alloc: Global, disk: &HostDisk, text: &str) -> Result<bool, Fail> {
+    let Some(fault) = disk.last_fault() else {
+        return Err(Fail::new("no fault"));
+    };
+    Ok(format!(in alloc; "{fault}")?.as_str() == text)
+}
+
+const UNWRITTEN: [Row; 1] = [(Call::Write(SEGMENT, 0, b"x"), FAULT)];
+
+fn check_last_fault(abort: &impl Abort, rt: HostRuntime, path: &str) -> Result<(), Fail> {
+    let mut disk = opened(abort, rt, path);
+    assert!(abort; disk.last_fault().is_none());
+    make_folder(rt, path, "3-131072.rec")?;
+    play(abort, &mut disk, &UNWRITTEN);
+    assert!(abort; tells(rt.alloc(), &disk, "write 3-131072.rec: unsupported")?);
     Ok(())
 }
 
 #[test]
 fn the_last_fault_is_kept(rt: HostRuntime) -> Result<(), Fail> {
     let path = scratch(rt, "fault")?;
-    let mut disk = opened(&rt, rt, path.as_str());
-    assert!(rt; disk.last_fault().is_none());
-    fs::create_dir(&rt, within(rt, path.as_str(), "3-131072.rec")?.as_str())?;
-    assert!(rt; disk.write_at(SEGMENT, 0, b"x").is_err());
-    let Some(fault) = disk.last_fault() else {
-        return Err(Fail::new("no fault"));
-    };
-    let told = format!(in rt.alloc(); "{fault}")?;
-    assert!(rt; told.as_str() == "write 3-131072.rec: unsupported");
-    drop(disk);
+    check_last_fault(&rt, rt, path.as_str())?;
     fs::remove_dir_all(&rt, path.as_str())?;
     Ok(())
+}
+
+const fn segment(recording: i64) -> FileId {
+    FileId::Segment { recording, base: 0 }
+}
+
+fn check_room(abort: &impl Abort, rt: HostRuntime, path: &str) {
+    let mut disk = opened(abort, rt, path);
+    for recording in 0..128 {
+        assert!(abort; answer(&mut disk, Call::Write(segment(recording), 0, b"x")) == DONE);
+    }
+    for (call, wanted) in [
+        (Call::Length(segment(200)), Ok(0)),
+        (Call::Write(segment(128), 0, b"x"), FAULT),
+        (Call::Sync(segment(5)), DONE),
+        (Call::Write(segment(129), 0, b"x"), DONE),
+        (Call::Length(segment(5)), FAULT),
+        (Call::Sync(segment(129)), DONE),
+        (Call::Length(segment(5)), Ok(1)),
+    ] {
+        assert!(abort; answer(&mut disk, call) == wanted);
+    }
 }
 
 #[test]
 fn no_unsynced_file_is_closed_to_make_room(rt: HostRuntime) -> Result<(), Fail> {
     let path = scratch(rt, "room")?;
-    let mut disk = opened(&rt, rt, path.as_str());
-    let segment = |recording: i64| FileId::Segment { recording, base: 0 };
-    for recording in 0..128 {
-        disk.write_at(segment(recording), 0, b"x")?;
-    }
-    assert!(rt; disk.len(segment(200))? == 0);
-    assert!(rt; disk.write_at(segment(128), 0, b"x").is_err());
-    disk.sync(segment(5))?;
-    disk.write_at(segment(129), 0, b"x")?;
-    assert!(rt; disk.len(segment(5)).is_err());
-    disk.sync(segment(129))?;
-    assert!(rt; disk.len(segment(5))? == 1);
-    drop(disk);
+    check_room(&rt, rt, path.as_str());
     fs::remove_dir_all(&rt, path.as_str())?;
     Ok(())
 }

@@ -90,6 +90,13 @@ fn changed(alloc: Global, bytes: &[u8], offset: usize, new: &[u8]) -> Result<Vec
     Ok(out)
 }
 
+/// Whether a vector with these bytes from an offset on is refused as a bad frame at 0.
+fn is_refused(alloc: Global, vector: &[u8], offset: usize, new: &[u8]) -> Result<bool, AllocError> {
+    let bytes = changed(alloc, vector, offset, new)?;
+    let found = decode_front(&bytes);
+    Ok(matches!(found, Err(Refusal::BadFrame { offset: 0 })))
+}
+
 #[test]
 fn bad_frame_headers_are_refused(rt: HostRuntime) -> Result<(), Fail> {
     for (vector, offset, new) in [
@@ -103,10 +110,8 @@ fn bad_frame_headers_are_refused(rt: HostRuntime) -> Result<(), Fail> {
         (PAD_AT_TERM_END, 0, &[31]),
         (HEARTBEAT_AT_256, 6, &[0]),
     ] {
-        let bytes = changed(rt.alloc(), vector, offset, new)?;
-        let found = decode_front(&bytes);
         assert!(rt;
-            matches!(found, Err(Refusal::BadFrame { offset: 0 })),
+            is_refused(rt.alloc(), vector, offset, new)?,
             "{offset} {new:?}"
         );
     }
@@ -121,15 +126,17 @@ fn datagram(alloc: Global, first: &[u8], second: &[u8]) -> Result<Vec<u8>, Alloc
     Ok(bytes)
 }
 
+/// How many frames such a datagram has.
+fn count_of(alloc: Global, first: &[u8], second: &[u8]) -> Result<usize, Refusal> {
+    let bytes = datagram(alloc, first, second)?;
+    Ok(frames_of_datagram(alloc, &bytes)?.len())
+}
+
 #[test]
-fn datagrams(rt: HostRuntime) -> Result<(), Fail> {
-    let alloc = rt.alloc();
-    let two = datagram(alloc, HELLO_AT_0, HELLO_AT_64)?;
-    assert!(rt; frames_of_datagram(alloc, &two)?.len() == 2);
-    let late = datagram(alloc, HELLO_AT_0, HEARTBEAT_AT_256)?;
-    let found = frames_of_datagram(alloc, &late);
-    assert!(rt; matches!(found, Err(Refusal::BadFrame { offset: 64 })));
-    Ok(())
+fn datagrams(rt: HostRuntime) {
+    let late = Refusal::BadFrame { offset: 64 };
+    assert!(rt; count_of(rt.alloc(), HELLO_AT_0, HELLO_AT_64) == Ok(2));
+    assert!(rt; count_of(rt.alloc(), HELLO_AT_0, HEARTBEAT_AT_256) == Err(late));
 }
 
 #[test]
@@ -145,22 +152,23 @@ fn positions_wrap_past_the_largest_term_id(rt: HostRuntime) {
     assert!(rt; position(&geometry, 2_147_483_646, 0) == None);
 }
 
+/// Where the block of a vector begins and ends.
+fn ends(alloc: Global, bytes: &[u8]) -> Result<(i64, Option<i64>), Refusal> {
+    let block = block_of(alloc, &GEOMETRY, bytes)?;
+    Ok((block.position, block_end(&GEOMETRY, &PUBLICATION, &block)))
+}
+
 #[test]
-fn blocks_are_read(rt: HostRuntime) -> Result<(), Fail> {
-    let alloc = rt.alloc();
+fn blocks_are_read(rt: HostRuntime) {
     for (bytes, from, end) in [
         (HELLO_AT_TERM_END, 65_472, 65_536),
         (HELLO_IN_NEXT_TERM, 65_536, 65_600),
         (PAD_AT_TERM_END, 65_472, 65_536),
         (PAD_OF_NEXT_TERM, 65_536, 131_072),
     ] {
-        let block = block_of(alloc, &GEOMETRY, bytes)?;
-        let found = block_end(&GEOMETRY, &PUBLICATION, &block);
-        assert!(rt; block.position == from && found == Some(end), "{from}");
+        assert!(rt; ends(rt.alloc(), bytes) == Ok((from, Some(end))), "{from}");
     }
-    let found = block_of(alloc, &GEOMETRY, HEARTBEAT_AT_256);
-    assert!(rt; matches!(found, Err(Refusal::BadBlock)));
-    Ok(())
+    assert!(rt; ends(rt.alloc(), HEARTBEAT_AT_256) == Err(Refusal::BadBlock));
 }
 
 #[test]
@@ -263,6 +271,14 @@ fn block_at(alloc: Global, bytes: &[u8]) -> Result<Block, Refusal> {
     }
 }
 
+fn block_count(alloc: Global, bytes: &[u8]) -> Result<usize, Refusal> {
+    Ok(block_at(alloc, bytes)?.frames.len())
+}
+
+fn frame_length(alloc: Global, bytes: &[u8]) -> Result<i32, Refusal> {
+    Ok(frame_of(alloc, bytes)?.length)
+}
+
 fn item_count(alloc: Global) -> Result<usize, AllocError> {
     let mut items = Items::new(alloc);
     if items.push(1).is_err() {
@@ -276,11 +292,9 @@ fn item_count(alloc: Global) -> Result<usize, AllocError> {
 #[test]
 fn refused_memory_of_frames(rt: HostRuntime) -> Result<(), Fail> {
     let alloc = rt.alloc();
-    let frame = frame_of(alloc, HELLO_AT_0)?;
-    assert!(rt; frame.length == 37);
+    assert!(rt; frame_length(alloc, HELLO_AT_0)? == 37);
     assert!(rt; frame_count(alloc, HELLO_AT_0)? == 1);
-    let block = block_at(alloc, HELLO_AT_0)?;
-    assert!(rt; block.frames.len() == 1);
+    assert!(rt; block_count(alloc, HELLO_AT_0)? == 1);
     assert!(rt; item_count(alloc)? == 1);
     Ok(())
 }

@@ -88,10 +88,24 @@ fn three_calls(alloc: Global, keeps: bool) -> Result<(u64, Stored<Call>), Fail> 
         mut first,
         mut second,
     } = two_passes(alloc, keeps)?;
-    make_call(&mut history, &mut first, 10)?;
-    make_call(&mut history, &mut second, 20)?;
-    make_call(&mut history, &mut first, 11)?;
+    make_three(&mut history, &mut first, &mut second)?;
     close_twice(alloc, history, first, second)
+}
+
+fn make_three(
+    history: &mut History<u64, Call>,
+    first: &mut Pass<u64>,
+    second: &mut Pass<u64>,
+) -> Result<(), HistoryRefusal>
+    requires first { first.old.table ≡ history.old.table }
+    requires second { second.old.table ≡ history.old.table }
+    ensures history { history.new.table ≡ history.old.table }
+    ensures first { first.new.table ≡ first.old.table }
+    ensures second { second.new.table ≡ second.old.table }
+{
+    make_call(history, first, 10)?;
+    make_call(history, second, 20)?;
+    make_call(history, first, 11)
 }
 
 fn close_twice(
@@ -174,25 +188,38 @@ fn call_again(
     Ok(())
 }
 
+/// Five calls, each made again where memory is refused.
+fn five_again(
+    rt: &impl Abort,
+    history: &mut History<u64, Call>,
+    pass: &mut Pass<u64>,
+) -> Result<(), Fail>
+    requires { pass.old.table ≡ history.old.table }
+{
+    call_again(rt, history, pass, 10)?;
+    call_again(rt, history, pass, 11)?;
+    call_again(rt, history, pass, 12)?;
+    call_again(rt, history, pass, 13)?;
+    call_again(rt, history, pass, 14)
+}
+
+fn two_passes_again(alloc: Global) -> Result<Passes, HistoryRefusal> {
+    match two_passes(alloc, true) {
+        Ok(made) => Ok(made),
+        Err(_) => two_passes(alloc, true),
+    }
+}
+
 /// Where memory is refused once, nothing has changed, and the call may be made again: trials/refused_memory.py runs
 /// this test for each of its requests for memory, which it refuses.
 #[test]
 fn refused_memory_changes_nothing(rt: HostRuntime) -> Result<(), Fail> {
-    let alloc = rt.alloc();
-    let made = match two_passes(alloc, true) {
-        Ok(made) => made,
-        Err(_) => two_passes(alloc, true)?,
-    };
     let Passes {
         mut history,
         mut first,
         second: _,
-    } = made;
-    call_again(&rt, &mut history, &mut first, 10)?;
-    call_again(&rt, &mut history, &mut first, 11)?;
-    call_again(&rt, &mut history, &mut first, 12)?;
-    call_again(&rt, &mut history, &mut first, 13)?;
-    call_again(&rt, &mut history, &mut first, 14)?;
+    } = two_passes_again(rt.alloc())?;
+    five_again(&rt, &mut history, &mut first)?;
     assert!(rt; history.len() == 5);
     Ok(())
 }

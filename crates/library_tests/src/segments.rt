@@ -101,27 +101,52 @@ fn filled_up(alloc: Global, bytes: &[u8], size: usize) -> Result<Vec<u8>, AllocE
     Ok(whole)
 }
 
+/// Whether a frame that is filled up to 64 bytes is all that is read of the first segment file at an offset, by a size.
+fn stands_at(
+    alloc: Global,
+    disk: &mut MemoryDisk,
+    offset: u64,
+    size: usize,
+    frame: &[u8],
+) -> Result<bool, Fail> {
+    Ok(bytes_at(alloc, disk, offset, size)? == filled_up(alloc, frame, 64)?)
+}
+
+/// Writes the blocks of a pad at a term's end and of the frame behind it.
+fn store_both(rt: &impl Abort, alloc: Global, disk: &mut MemoryDisk) -> Result<(), Refusal> {
+    store(rt, alloc, disk, PAD_AT_TERM_END)?;
+    store(rt, alloc, disk, HELLO_IN_NEXT_TERM)
+}
+
+/// Whether both stand in the file.
+fn both_stand(alloc: Global, disk: &mut MemoryDisk) -> Result<bool, Fail> {
+    Ok(
+        stands_at(alloc, disk, 65_472, 64, PAD_AT_TERM_END)?
+            && stands_at(alloc, disk, 65_536, 100, HELLO_IN_NEXT_TERM)?,
+    )
+}
+
 #[test]
 fn a_pad_at_a_terms_end_and_its_file(rt: HostRuntime) -> Result<(), Fail> {
     let alloc = rt.alloc();
     let mut disk = MemoryDisk::new(alloc);
-    store(&rt, alloc, &mut disk, PAD_AT_TERM_END)?;
-    store(&rt, alloc, &mut disk, HELLO_IN_NEXT_TERM)?;
+    store_both(&rt, alloc, &mut disk)?;
     assert!(rt; disk.calls() == 2);
-    let pad = bytes_at(alloc, &mut disk, 65_472, 64)?;
-    assert!(rt; pad == filled_up(alloc, PAD_AT_TERM_END, 64)?);
-    let hello = bytes_at(alloc, &mut disk, 65_536, 100)?;
-    assert!(rt; hello == filled_up(alloc, HELLO_IN_NEXT_TERM, 64)?);
+    assert!(rt; both_stand(alloc, &mut disk)?);
     Ok(())
+}
+
+/// Whether the pad at the term's end is read.
+fn is_pad_read(alloc: Global, disk: &mut MemoryDisk) -> Result<bool, Refusal> {
+    let frame = frame_at(alloc, disk, 65_472, 65_536)?;
+    Ok(frame.kind == FrameKind::Pad && frame.length == 64)
 }
 
 #[test]
 fn a_frame_costs_one_call(rt: HostRuntime) -> Result<(), Fail> {
     let mut disk = MemoryDisk::new(rt.alloc());
     store(&rt, rt.alloc(), &mut disk, PAD_AT_TERM_END)?;
-    let frame = frame_at(rt.alloc(), &mut disk, 65_472, 65_536)?;
-    assert!(rt; frame.kind == FrameKind::Pad && frame.length == 64);
-    assert!(rt; disk.calls() == 2);
+    assert!(rt; is_pad_read(rt.alloc(), &mut disk)? && disk.calls() == 2);
     let damaged = Refusal::Damaged {
         recording: 0,
         position: 0,
@@ -130,17 +155,33 @@ fn a_frame_costs_one_call(rt: HostRuntime) -> Result<(), Fail> {
     Ok(())
 }
 
-/// What is found after a crash by a choice, where the second of two blocks and its sync stop after so many changes.
-fn torn(rt: &impl Abort, alloc: Global, stop: u64, choice: u8) -> Result<(), Fail> {
+/// A disk with a synced block.
+fn with_first(rt: &impl Abort, alloc: Global) -> Result<MemoryDisk, Refusal> {
     let mut disk = MemoryDisk::new(alloc);
     store(rt, alloc, &mut disk, HELLO_AT_0)?;
     synced(&mut disk)?;
+    Ok(disk)
+}
+
+/// What a crash by a choice leaves, where the second of two blocks and its sync stop after so many changes.
+fn left_torn(rt: &impl Abort, alloc: Global, stop: u64, choice: u8) -> Result<MemoryDisk, Refusal> {
+    let mut disk = with_first(rt, alloc)?;
     disk.stop_after(stop);
     let _ = store(rt, alloc, &mut disk, HELLO_AT_64);
     let _ = synced(&mut disk);
-    let mut left = disk.crash(&[choice])?;
-    let first = frame_at(alloc, &mut left, 0, 64)?;
-    assert!(rt; first.payload.as_slice() == b"hello".as_slice() && told(&mut left, 64, 64)?);
+    disk.crash(&[choice])
+}
+
+/// Whether the first of them is read, and 64 is a boundary.
+fn has_first(alloc: Global, disk: &mut MemoryDisk) -> Result<bool, Refusal> {
+    let first = frame_at(alloc, disk, 0, 64)?;
+    Ok(first.payload.as_slice() == b"hello".as_slice() && told(disk, 64, 64)?)
+}
+
+/// What is found then: the first block, and the second where it was synced or the choice kept it.
+fn torn(rt: &impl Abort, alloc: Global, stop: u64, choice: u8) -> Result<(), Fail> {
+    let mut left = left_torn(rt, alloc, stop, choice)?;
+    assert!(rt; has_first(alloc, &mut left)?);
     let is_second = frame_at(alloc, &mut left, 64, 128).is_ok();
     assert!(rt;
         is_second == (stop == 2 || (stop == 1 && choice == 1)),
@@ -159,14 +200,27 @@ fn synced_frames_stand_beside_a_torn_block(rt: HostRuntime) -> Result<(), Fail> 
     Ok(())
 }
 
+/// What is stale where recordings from 1 on are kept.
+const GONE: [Keep; 1] = [Keep::Below { next: 1 }];
+
+/// Whether the first segment is all that is stale.
+fn is_first_stale(disk: &mut MemoryDisk) -> Result<bool, Refusal> {
+    Ok(stale_files(disk, &GONE)?.as_slice() == [FIRST].as_slice())
+}
+
+/// Whether a sweep removes a file where all are kept, and where those are stale.
+fn sweeps(disk: &mut MemoryDisk) -> Result<(bool, bool), Refusal> {
+    Ok((
+        sweep_one(disk, &[])?,
+        is_first_stale(disk)? && sweep_one(disk, &GONE)?,
+    ))
+}
+
 #[test]
 fn a_sweep_removes_the_first_stale_file(rt: HostRuntime) -> Result<(), Fail> {
     let mut disk = MemoryDisk::new(rt.alloc());
     store(&rt, rt.alloc(), &mut disk, HELLO_AT_0)?;
-    let gone = [Keep::Below { next: 1 }];
-    assert!(rt; !sweep_one(&mut disk, &[])?);
-    assert!(rt; stale_files(&mut disk, &gone)?.as_slice() == [FIRST].as_slice());
-    assert!(rt; sweep_one(&mut disk, &gone)? && disk.len(FIRST)? == 0);
+    assert!(rt; sweeps(&mut disk)? == (false, true) && disk.len(FIRST)? == 0);
     Ok(())
 }
 
@@ -210,6 +264,15 @@ fn holds(
     Ok(count == 64 && bytes == filled_up(alloc, frame, 64)?)
 }
 
+/// Whether its three frames stand in two files.
+fn holds_all(alloc: Global, disk: &mut MemoryDisk) -> Result<bool, Fail> {
+    Ok(
+        holds(alloc, disk, 65_536, 96, AT_THE_START)?
+            && holds(alloc, disk, 65_536, 131_008, IN_THE_FIRST)?
+            && holds(alloc, disk, 196_608, 0, IN_THE_SECOND)?,
+    )
+}
+
 #[test]
 fn segments_of_a_recording_that_starts_mid_stream(rt: HostRuntime) -> Result<(), Fail> {
     let alloc = rt.alloc();
@@ -218,9 +281,7 @@ fn segments_of_a_recording_that_starts_mid_stream(rt: HostRuntime) -> Result<(),
         store_mid_stream(&rt, alloc, &mut disk, bytes)?;
     }
     assert!(rt; disk.list()?.len() == 2);
-    assert!(rt; holds(alloc, &mut disk, 65_536, 96, AT_THE_START)?);
-    assert!(rt; holds(alloc, &mut disk, 65_536, 131_008, IN_THE_FIRST)?);
-    assert!(rt; holds(alloc, &mut disk, 196_608, 0, IN_THE_SECOND)?);
+    assert!(rt; holds_all(alloc, &mut disk)?);
     Ok(())
 }
 

@@ -38,8 +38,7 @@ impl<A: Naming> Seat<A> {
     pub fn into_pass(self) -> Pass<Made>
         ensures { result.table ≡ A.table }
     {
-        let Seat { pass, of: _ } = self;
-        pass
+        self.pass
     }
 
     /// What the archive answers to a line. Bytes of a block are read by the terms of their session first.

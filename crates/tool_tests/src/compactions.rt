@@ -2,7 +2,7 @@
 
 use super::disks::{recorded, with_short_history};
 use super::frames::FullWriter;
-use super::scenarios::{check, check_on};
+use super::scenarios::{check, check_on, expect, replies};
 use disk_core::{Disk, FileId, MemoryDisk};
 use std::alloc::Global;
 use std::test::*;
@@ -36,13 +36,27 @@ const BANK_A: [u8; 116] = [
     0x01, 0x00, 0x63, 0x00,
 ];
 
-/// Whether a file of the disk has these bytes and no more.
-fn holds(disk: MemoryDisk, file: FileId, bytes: &[u8]) -> Result<(MemoryDisk, bool), Fail> {
-    let mut disk = disk;
+/// Fails where a file of the disk has other bytes, or more.
+fn check_file(disk: &mut MemoryDisk, file: FileId, bytes: &[u8]) -> Result<(), Fail> {
     let mut read = [0; 200];
     let count = disk.read_at(file, 0, &mut read)?;
-    let same = read.get(..count) == Some(bytes);
-    Ok((disk, same))
+    if read.get(..count) == Some(bytes) {
+        Ok(())
+    } else {
+        Err(Fail::new("the bank has other bytes"))
+    }
+}
+
+/// Runs the lines, then looks at a file of the disk, and gives the disk.
+fn check_bank(
+    alloc: Global,
+    disk: MemoryDisk,
+    (lines, told): (&str, &str),
+    (file, bytes): (FileId, &[u8]),
+) -> Result<MemoryDisk, Fail> {
+    let mut disk = check_on(alloc, disk, lines, told)?;
+    check_file(&mut disk, file, bytes)?;
+    Ok(disk)
 }
 
 /// A history of three entries is full; it is compacted, and goes on.
@@ -63,17 +77,21 @@ fn full_history_and_compaction(rt: HostRuntime) -> Result<(), Fail> {
 /// The second bank behind such a compaction, and the first one behind a further one.
 #[test]
 fn banks_behind_a_compaction(rt: HostRuntime) -> Result<(), Fail> {
-    let disk = check_on(
+    let disk = check_bank(
         rt.alloc(),
         with_short_history(rt.alloc())?,
-        "start 1001 7 42 65536 1408 131072 0 1000 c; block 0 HELLO_AT_0; block 0 HELLO_AT_64; compact; truncate 0 64",
-        "started 0 0; settled 64; settled 128; compacted; truncated 64",
+        (
+            "start 1001 7 42 65536 1408 131072 0 1000 c; block 0 HELLO_AT_0; block 0 HELLO_AT_64; compact; truncate 0 64",
+            "started 0 0; settled 64; settled 128; compacted; truncated 64",
+        ),
+        (FileId::BankB, BANK_B.as_slice()),
     )?;
-    let (disk, same) = holds(disk, FileId::BankB, BANK_B.as_slice())?;
-    assert!(rt; same, "bank B");
-    let disk = check_on(rt.alloc(), disk, "compact", "compacted")?;
-    let (_disk, same) = holds(disk, FileId::BankA, BANK_A.as_slice())?;
-    assert!(rt; same, "bank A");
+    check_bank(
+        rt.alloc(),
+        disk,
+        ("compact", "compacted"),
+        (FileId::BankA, BANK_A.as_slice()),
+    )?;
     Ok(())
 }
 
@@ -115,15 +133,17 @@ fn a_compaction_that_is_refused(rt: HostRuntime) -> Result<(), Fail> {
     Ok(())
 }
 
-/// The disk behind a script that is compacted and whose disk stops after so many changes; and what a crash leaves of it.
-fn stopped(alloc: Global, changes: u64, choice: Option<u8>) -> Result<MemoryDisk, Fail> {
+/// The disk behind a script that is compacted and whose disk stops after so many changes.
+fn stopped(alloc: Global, changes: u64) -> Result<MemoryDisk, Fail> {
     let mut disk = recorded(alloc, MemoryDisk::new(alloc))?;
     disk.stop_after(changes);
-    let mut out = Vec::new(alloc);
-    let lines = b"compact\n".as_slice();
-    let Ok(mut disk) = run_script(alloc, lines, &mut out, disk, &mut Unobserved) else {
-        return Err(Fail::new("the script ended early"));
-    };
+    let (_, disk) = replies(alloc, disk, "compact\n")?;
+    Ok(disk)
+}
+
+/// What a crash leaves of such a disk, or the disk itself, which goes on.
+fn left(disk: MemoryDisk, choice: Option<u8>) -> Result<MemoryDisk, Fail> {
+    let mut disk = disk;
     disk.stop_after(100);
     match choice {
         Some(choice) => Ok(disk.crash(&[choice])?),
@@ -131,18 +151,27 @@ fn stopped(alloc: Global, changes: u64, choice: Option<u8>) -> Result<MemoryDisk
     }
 }
 
+/// Fails where the archive of such a disk does not open, says another thing, or is not compacted.
+fn check_stopped(alloc: Global, changes: u64, choice: Option<u8>) -> Result<(), Fail> {
+    check_on(
+        alloc,
+        left(stopped(alloc, changes)?, choice)?,
+        "positions 0; verify 0; compact; positions 0; verify 0",
+        "positions 0 64 64; verified 1; compacted; positions 0 64 64; verified 1",
+    )?;
+    Ok(())
+}
+
+/// The disk as it is, and three crashes.
+const CHOICES: [Option<u8>; 4] = [None, Some(0), Some(1), Some(255)];
+
 /// After each number of changes at which the disk may stop, and after each such crash, the archive opens and says the same,
 /// and is compacted.
 #[test]
 fn a_compaction_that_stops(rt: HostRuntime) -> Result<(), Fail> {
     for changes in 0..20 {
-        for choice in [None, Some(0), Some(1), Some(255)] {
-            check_on(
-                rt.alloc(),
-                stopped(rt.alloc(), changes, choice)?,
-                "positions 0; verify 0; compact; positions 0; verify 0",
-                "positions 0 64 64; verified 1; compacted; positions 0 64 64; verified 1",
-            )?;
+        for choice in CHOICES {
+            check_stopped(rt.alloc(), changes, choice)?;
         }
     }
     Ok(())
@@ -157,11 +186,17 @@ fn compacted(alloc: Global, disk: MemoryDisk) -> Result<(Vec<u8>, MemoryDisk), F
     }
 }
 
+/// The disk behind the command; fails where that writes another text.
+fn behind_the_command(alloc: Global, disk: MemoryDisk) -> Result<MemoryDisk, Fail> {
+    let (out, disk) = compacted(alloc, disk)?;
+    expect(out.as_slice(), "compacted\n")?;
+    Ok(disk)
+}
+
 #[test]
 fn the_command_compacts(rt: HostRuntime) -> Result<(), Fail> {
     let disk = recorded(rt.alloc(), MemoryDisk::new(rt.alloc()))?;
-    let (out, disk) = compacted(rt.alloc(), disk)?;
-    assert!(rt; out.as_slice() == b"compacted\n".as_slice());
+    let disk = behind_the_command(rt.alloc(), disk)?;
     check_on(
         rt.alloc(),
         disk,
@@ -202,6 +237,17 @@ impl Observer for Counting {
     }
 }
 
+/// What is told of a history of three entries by a script that starts and stops a recording.
+fn told_of_history(alloc: Global, counting: &mut Counting) -> Result<(), Fail> {
+    let lines = b"start 1001 7 42 65536 1408 131072 0 1000 c\nstop 0 1\nlist 0 1\n".as_slice();
+    let disk = with_short_history(alloc)?;
+    let mut out = Vec::new(alloc);
+    match run_script(alloc, lines, &mut out, disk, counting) {
+        Ok(_) => Ok(()),
+        Err(_) => Err(Fail::new("the script ended early")),
+    }
+}
+
 /// How full the history is, is told at the opening and behind each line.
 #[test]
 fn a_history_that_fills_up(rt: HostRuntime) -> Result<(), Fail> {
@@ -212,10 +258,7 @@ fn a_history_that_fills_up(rt: HostRuntime) -> Result<(), Fail> {
         },
         times: 0,
     };
-    let lines = b"start 1001 7 42 65536 1408 131072 0 1000 c\nstop 0 1\nlist 0 1\n".as_slice();
-    let disk = with_short_history(rt.alloc())?;
-    let mut out = Vec::new(rt.alloc());
-    assert!(rt; run_script(rt.alloc(), lines, &mut out, disk, &mut counting).is_ok());
+    told_of_history(rt.alloc(), &mut counting)?;
     assert!(rt; counting.times == 4 && counting.last.counted == 2 && counting.last.limit == 3);
     let text = counting.last.to_string(rt.alloc())?;
     assert!(rt; text.as_str() == "2 of the 3 entries of the history are used, 1 are left");

@@ -199,12 +199,18 @@ const CRASHES: [(u64, &str, u8, &str); 6] = [
     (16, "started 0 0; settled 64", 255, "positions 0 64 64"),
 ];
 
-/// The disk that a crash leaves behind a script in which the disk stops.
-fn crashed(alloc: Global, changes: u64, told: &str, choice: u8) -> Result<MemoryDisk, Fail> {
+/// The disk behind a script in which it stops.
+fn cut_short(alloc: Global, changes: u64, told: &str) -> Result<MemoryDisk, Fail> {
     let mut disk = MemoryDisk::new(alloc);
     disk.stop_after(changes);
     let lines = "start 1001 7 42 65536 1408 131072 0 1000 c; block 0 HELLO_AT_0";
-    Ok(check_on(alloc, disk, lines, told)?.crash(&[choice])?)
+    check_on(alloc, disk, lines, told)
+}
+
+/// What a crash leaves of it.
+fn crashed(alloc: Global, changes: u64, told: &str, choice: u8) -> Result<MemoryDisk, Fail> {
+    let disk = cut_short(alloc, changes, told)?;
+    Ok(disk.crash(&[choice])?)
 }
 
 /// A crash while a block is settled leaves it recorded or not, and once that is told, recorded.

@@ -1,9 +1,10 @@
 //! Readers and writers that fail.
 
 use disk_core::MemoryDisk;
+use std::alloc::Global;
 use std::io::{Error, ErrorKind, Read, Write};
 use std::test::*;
-use tool_core::{ScriptFault, Unobserved, run_script};
+use tool_core::{EarlyEnd, ScriptFault, Unobserved, run_script};
 
 /// Gives its bytes a few at a time, and then fails.
 #[derive(Drop)]
@@ -52,47 +53,74 @@ impl Write for FailingWriter {
     }
 }
 
+/// Why a script over an empty disk ended early, where it did.
+fn end_of<R: Read + Drop, W: Write>(alloc: Global, reader: R, writer: &mut W) -> Option<EarlyEnd> {
+    match run_script(
+        alloc,
+        reader,
+        writer,
+        MemoryDisk::new(alloc),
+        &mut Unobserved,
+    ) {
+        Ok(_) => None,
+        Err(ScriptFault::Read(_)) => Some(EarlyEnd::Read),
+        Err(ScriptFault::Write(_)) => Some(EarlyEnd::Write),
+        Err(ScriptFault::Memory(_)) => Some(EarlyEnd::Memory),
+    }
+}
+
+/// Why a script ended whose reader gives so many bytes at once, and whether what was answered before was written.
+fn end_of_reader(alloc: Global, at_once: usize) -> (Option<EarlyEnd>, bool) {
+    let reader = FailingReader {
+        bytes: b"list 0 0\nlist 0 x\nlist 0",
+        at_once,
+    };
+    let mut out = Vec::new(alloc);
+    let end = end_of(alloc, reader, &mut out);
+    (
+        end,
+        out.as_slice() == b"end 0\nerror 22 BadLine\n".as_slice(),
+    )
+}
+
 #[test]
 fn a_failing_reader_loses_no_reply(rt: HostRuntime) {
     for at_once in [1, 7, 1_000] {
-        let reader = FailingReader {
-            bytes: b"list 0 0\nlist 0 x\nlist 0",
-            at_once,
-        };
-        let mut out = Vec::new(rt.alloc());
-        let outcome = run_script(
-            rt.alloc(),
-            reader,
-            &mut out,
-            MemoryDisk::new(rt.alloc()),
-            &mut Unobserved,
-        );
-        assert!(rt; matches!(outcome, Err(ScriptFault::Read(_))), "{at_once}");
-        assert!(rt;
-            out.as_slice() == b"end 0\nerror 22 BadLine\n".as_slice(),
-            "{at_once}"
-        );
+        let end = end_of_reader(rt.alloc(), at_once);
+        assert!(rt; end == (Some(EarlyEnd::Read), true), "{at_once}");
     }
+}
+
+/// Why a script ended whose writer has room for so many bytes.
+fn end_of_writer(alloc: Global, room: usize) -> Option<EarlyEnd> {
+    let mut writer = FailingWriter {
+        room,
+        taken: 0,
+        holds: false,
+    };
+    end_of(alloc, b"list 0 0\nlist 0 0\n".as_slice(), &mut writer)
 }
 
 #[test]
 fn a_failing_writer_ends_the_script(rt: HostRuntime) {
     for room in 0..12 {
-        let mut writer = FailingWriter {
-            room,
-            taken: 0,
-            holds: false,
-        };
-        let (lines, disk) = (
-            b"list 0 0\nlist 0 0\n".as_slice(),
-            MemoryDisk::new(rt.alloc()),
-        );
-        let outcome = run_script(rt.alloc(), lines, &mut writer, disk, &mut Unobserved);
-        assert!(rt;
-            matches!(outcome, Err(ScriptFault::Write(_))),
-            "room for {room} bytes"
-        );
+        let end = end_of_writer(rt.alloc(), room);
+        assert!(rt; end == Some(EarlyEnd::Write), "room for {room} bytes");
     }
+}
+
+/// Why a script ended whose writer hands nothing on, and whose reader fails behind these bytes.
+fn end_of_holder(alloc: Global, bytes: &[u8]) -> Option<EarlyEnd> {
+    let mut writer = FailingWriter {
+        room: 1_000,
+        taken: 0,
+        holds: true,
+    };
+    let reader = FailingReader {
+        bytes,
+        at_once: 100,
+    };
+    end_of(alloc, reader, &mut writer)
 }
 
 /// A reply is handed on before the next read, also where half of the next line is at hand, and at the end; what could not
@@ -100,36 +128,16 @@ fn a_failing_writer_ends_the_script(rt: HostRuntime) {
 #[test]
 fn a_reply_is_handed_on_before_the_next_read(rt: HostRuntime) {
     for bytes in [b"list 0 0\n".as_slice(), b"list 0 0\nlist", b"quit\n"] {
-        let mut writer = FailingWriter {
-            room: 1_000,
-            taken: 0,
-            holds: true,
-        };
-        let reader = FailingReader {
-            bytes,
-            at_once: 100,
-        };
-        let outcome = run_script(
-            rt.alloc(),
-            reader,
-            &mut writer,
-            MemoryDisk::new(rt.alloc()),
-            &mut Unobserved,
-        );
-        assert!(rt; matches!(outcome, Err(ScriptFault::Write(_))), "{bytes:?}");
+        let end = end_of_holder(rt.alloc(), bytes);
+        assert!(rt; end == Some(EarlyEnd::Write), "{bytes:?}");
     }
 }
 
 #[test]
 fn what_was_written_before_stays(rt: HostRuntime) -> Result<(), Fail> {
     let mut out = b"before\n".to_vec(rt.alloc())?;
-    let outcome = run_script(
-        rt.alloc(),
-        b"quit\n".as_slice(),
-        &mut out,
-        MemoryDisk::new(rt.alloc()),
-        &mut Unobserved,
-    );
-    assert!(rt; outcome.is_ok() && out.as_slice() == b"before\nbye\n".as_slice());
+    let end = end_of(rt.alloc(), b"quit\n".as_slice(), &mut out);
+    let is_told = out.as_slice() == b"before\nbye\n".as_slice();
+    assert!(rt; end.is_none() && is_told);
     Ok(())
 }

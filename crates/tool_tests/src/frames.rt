@@ -33,31 +33,75 @@ fn add_changed(file: &mut Vec<u8>, at: usize, value: u8) -> Result<(), Fail> {
     add_bytes(file, 27, 0)
 }
 
+/// A part of a file.
+#[derive(Clone, Copy)]
+enum Part {
+    /// `hello` with one byte changed, if it has that byte, and zeros to its aligned length.
+    Changed(usize, u8),
+    /// The first bytes of `hello`.
+    Hello(usize),
+    /// The header of the pad.
+    Pad,
+    /// The first part of the long message.
+    Long,
+    /// So many bytes of a value.
+    Bytes(usize, u8),
+}
+
+/// The parts by their names.
+const PARTS: [(&'static str, Part); 17] = [
+    ("hello", Part::Changed(37, 0)),
+    ("version-1", Part::Changed(4, 1)),
+    ("setup", Part::Changed(6, 5)),
+    ("length-31", Part::Changed(0, 31)),
+    ("offset-16", Part::Changed(8, 16)),
+    ("heartbeat", Part::Changed(0, 0)),
+    ("hello-alone", Part::Hello(37)),
+    ("hello-cut", Part::Hello(36)),
+    ("hello-header", Part::Hello(32)),
+    ("hello-31", Part::Hello(31)),
+    ("pad", Part::Pad),
+    ("ones", Part::Bytes(32, 255)),
+    ("zeros", Part::Bytes(64, 0)),
+    ("4-zeros", Part::Bytes(4, 0)),
+    ("3-zeros", Part::Bytes(3, 0)),
+    ("one", Part::Bytes(1, 1)),
+    ("long", Part::Long),
+];
+
+/// Adds the first bytes of `hello`.
+fn add_first(file: &mut Vec<u8>, count: usize) -> Result<(), Fail> {
+    match HELLO.get(..count) {
+        Some(bytes) => Ok(file.extend_from_slice(bytes)?),
+        None => Err(Fail::new("hello has fewer bytes")),
+    }
+}
+
+/// Adds the header of the long message, and its bytes.
+fn add_long(file: &mut Vec<u8>) -> Result<(), Fail> {
+    file.extend_from_slice(&LONG)?;
+    add_bytes(file, 99_968, 255)
+}
+
+/// Adds a part of a file.
+fn add(file: &mut Vec<u8>, part: Part) -> Result<(), Fail> {
+    match part {
+        Part::Changed(at, value) => add_changed(file, at, value),
+        Part::Hello(count) => add_first(file, count),
+        Part::Pad => Ok(file.extend_from_slice(&PAD)?),
+        Part::Long => add_long(file),
+        Part::Bytes(count, value) => add_bytes(file, count, value),
+    }
+}
+
 /// Adds the part of a file that has this name.
 fn add_part(file: &mut Vec<u8>, name: &str) -> Result<(), Fail> {
-    match name {
-        "hello" => add_changed(file, 37, 0),
-        "version-1" => add_changed(file, 4, 1),
-        "setup" => add_changed(file, 6, 5),
-        "length-31" => add_changed(file, 0, 31),
-        "offset-16" => add_changed(file, 8, 16),
-        "heartbeat" => add_changed(file, 0, 0),
-        "hello-alone" => Ok(file.extend_from_slice(&HELLO)?),
-        "hello-cut" => Ok(file.extend_from_slice(&HELLO[..36])?),
-        "hello-header" => Ok(file.extend_from_slice(&HELLO[..32])?),
-        "hello-31" => Ok(file.extend_from_slice(&HELLO[..31])?),
-        "pad" => Ok(file.extend_from_slice(&PAD)?),
-        "ones" => add_bytes(file, 32, 255),
-        "zeros" => add_bytes(file, 64, 0),
-        "4-zeros" => add_bytes(file, 4, 0),
-        "3-zeros" => add_bytes(file, 3, 0),
-        "one" => add_bytes(file, 1, 1),
-        "long" => {
-            file.extend_from_slice(&LONG)?;
-            add_bytes(file, 99_968, 255)
+    for (known, part) in PARTS {
+        if known == name {
+            return add(file, part);
         }
-        _ => Ok(()),
     }
+    Ok(())
 }
 
 /// The file of these parts.
@@ -95,102 +139,146 @@ impl Read for SlowReader<'_> {
     }
 }
 
-/// Fails where the file of these parts, read so many bytes at a time, is listed otherwise. Lines stand apart by `; `.
-fn check(alloc: Global, parts: &str, at_once: usize, told: &str) -> Result<(), Fail> {
-    let file = file_of(alloc, parts)?;
-    let reader = SlowReader {
-        bytes: file.as_slice(),
-        at_once,
-        is_ready: false,
-        fails: false,
-    };
+/// How the listing of what a reader gives ended, and what was written.
+fn listed<R: Read + Drop>(alloc: Global, reader: R) -> Result<(Listing, Vec<u8>), Fail> {
     let mut out = Vec::new(alloc);
-    let listing = list_frames(alloc, reader, &mut out)?;
-    let text = std::str::from_utf8(out.as_slice())?;
-    let is_damaged = listing == Listing::Damaged;
-    if text.replace(alloc, "\n", "; ")?.as_str() == told && is_damaged == told.contains("error") {
-        Ok(())
-    } else {
-        Err(Fail::new(text.to_string(alloc)?))
+    match list_frames(alloc, reader, &mut out) {
+        Ok(listing) => Ok((listing, out)),
+        Err(end) => Err(Fail::from(end)),
     }
 }
 
+/// A reader of these bytes that gives so many at a time.
+fn slow(bytes: &[u8], at_once: usize) -> SlowReader<'_> {
+    SlowReader {
+        bytes,
+        at_once,
+        is_ready: false,
+        fails: false,
+    }
+}
+
+/// Whether these lines were written, which stand apart by `; ` here.
+fn is_told(alloc: Global, written: &[u8], told: &str) -> Result<bool, Fail> {
+    let text = std::str::from_utf8(written)?;
+    Ok(text.replace(alloc, "\n", "; ")?.as_str() == told)
+}
+
+/// Fails with what was written, where a file that is read so many bytes at a time is listed otherwise.
+fn check(alloc: Global, file: &[u8], at_once: usize, told: &str) -> Result<(), Fail> {
+    let (listing, out) = listed(alloc, slow(file, at_once))?;
+    let is_damaged = listing == Listing::Damaged;
+    if is_told(alloc, out.as_slice(), told)? && is_damaged == told.contains("error") {
+        Ok(())
+    } else {
+        Err(Fail::new(std::str::from_utf8(out.as_slice())?))
+    }
+}
+
+/// The same of the file of these parts, which is read a few bytes at a time, and then many.
+fn check_parts(alloc: Global, parts: &str, told: &str) -> Result<(), Fail> {
+    let file = file_of(alloc, parts)?;
+    check(alloc, file.as_slice(), 7, told)?;
+    check(alloc, file.as_slice(), 65_536, told)
+}
+
+/// The parts of a file, and the lines of its listing.
+const LISTINGS: [(&'static str, &'static str); 18] = [
+    ("", "end 0; "),
+    ("hello zeros", "frame 42 0 1 37 c0; end 1; "),
+    ("hello-alone", "frame 42 0 1 37 c0; end 1; "),
+    (
+        "hello hello zeros hello",
+        "frame 42 0 1 37 c0; frame 42 0 1 37 c0; end 2; ",
+    ),
+    (
+        "hello pad",
+        "frame 42 0 1 37 c0; frame 42 65472 0 64 c0; end 2; ",
+    ),
+    (
+        "pad ones hello",
+        "frame 42 65472 0 64 c0; frame 42 0 1 37 c0; end 2; ",
+    ),
+    (
+        "long hello",
+        "frame -1 32 1 100000 8a; frame 42 0 1 37 c0; end 2; ",
+    ),
+    ("hello 4-zeros one", "frame 42 0 1 37 c0; end 1; "),
+    ("heartbeat", "end 0; "),
+    ("one", "error 21 BadFrame 0; "),
+    ("3-zeros", "error 21 BadFrame 0; "),
+    ("version-1", "error 21 BadFrame 0; "),
+    ("setup", "error 21 BadFrame 0; "),
+    ("length-31", "error 21 BadFrame 0; "),
+    ("offset-16", "error 21 BadFrame 0; "),
+    (
+        "hello hello-cut",
+        "frame 42 0 1 37 c0; error 21 BadFrame 64; ",
+    ),
+    (
+        "pad ones hello-31",
+        "frame 42 65472 0 64 c0; error 21 BadFrame 64; ",
+    ),
+    (
+        "long hello-header",
+        "frame -1 32 1 100000 8a; error 21 BadFrame 100000; ",
+    ),
+];
+
 #[test]
 fn listings(rt: HostRuntime) -> Result<(), Fail> {
-    for (parts, told) in [
-        ("", "end 0; "),
-        ("hello zeros", "frame 42 0 1 37 c0; end 1; "),
-        ("hello-alone", "frame 42 0 1 37 c0; end 1; "),
-        (
-            "hello hello zeros hello",
-            "frame 42 0 1 37 c0; frame 42 0 1 37 c0; end 2; ",
-        ),
-        (
-            "hello pad",
-            "frame 42 0 1 37 c0; frame 42 65472 0 64 c0; end 2; ",
-        ),
-        (
-            "pad ones hello",
-            "frame 42 65472 0 64 c0; frame 42 0 1 37 c0; end 2; ",
-        ),
-        (
-            "long hello",
-            "frame -1 32 1 100000 8a; frame 42 0 1 37 c0; end 2; ",
-        ),
-        ("hello 4-zeros one", "frame 42 0 1 37 c0; end 1; "),
-        ("heartbeat", "end 0; "),
-        ("one", "error 21 BadFrame 0; "),
-        ("3-zeros", "error 21 BadFrame 0; "),
-        ("version-1", "error 21 BadFrame 0; "),
-        ("setup", "error 21 BadFrame 0; "),
-        ("length-31", "error 21 BadFrame 0; "),
-        ("offset-16", "error 21 BadFrame 0; "),
-        (
-            "hello hello-cut",
-            "frame 42 0 1 37 c0; error 21 BadFrame 64; ",
-        ),
-        (
-            "pad ones hello-31",
-            "frame 42 65472 0 64 c0; error 21 BadFrame 64; ",
-        ),
-        (
-            "long hello-header",
-            "frame -1 32 1 100000 8a; error 21 BadFrame 100000; ",
-        ),
-    ] {
-        for at_once in [7, 65_536] {
-            check(rt.alloc(), parts, at_once, told)?;
-        }
+    for (parts, told) in LISTINGS {
+        check_parts(rt.alloc(), parts, told)?;
     }
     Ok(())
+}
+
+/// So many times `hello`.
+fn hellos(alloc: Global, count: usize) -> Result<Vec<u8>, Fail> {
+    let mut file = Vec::new(alloc);
+    for _ in 0..count {
+        add_part(&mut file, "hello")?;
+    }
+    Ok(file)
+}
+
+/// How the listing of 65,600 bytes of frames ended, how long it is, and whether it ends as it has to.
+fn many_listed(alloc: Global) -> Result<(Listing, usize, bool), Fail> {
+    let file = hellos(alloc, 1_025)?;
+    let (listing, out) = listed(alloc, file.as_slice())?;
+    let end = b"frame 42 0 1 37 c0\nend 1025\n";
+    Ok((listing, out.len(), out.as_slice().ends_with(end)))
 }
 
 /// 65,600 bytes of frames, which are more than are read at once.
 #[test]
 fn many_frames(rt: HostRuntime) -> Result<(), Fail> {
-    let mut file = Vec::new(rt.alloc());
-    for _ in 0..1_025 {
-        add_part(&mut file, "hello")?;
-    }
-    let mut out = Vec::new(rt.alloc());
-    assert!(rt; list_frames(rt.alloc(), file.as_slice(), &mut out)? == Listing::Whole);
-    assert!(rt; out.len() == 1_025 * 19 + 9);
-    assert!(rt; out.as_slice().ends_with(b"frame 42 0 1 37 c0\nend 1025\n"));
+    let (listing, count, is_ended) = many_listed(rt.alloc())?;
+    assert!(rt; listing == Listing::Whole);
+    assert!(rt; count == 1_025 * 19 + 9);
+    assert!(rt; is_ended);
     Ok(())
+}
+
+/// Whether a listing ends early by its reader's fault, and whether so much was written by then.
+fn told_before_a_fault(alloc: Global, file: &[u8], told: &[u8]) -> Result<(bool, bool), Fail> {
+    let reader = SlowReader {
+        bytes: file,
+        at_once: 50,
+        is_ready: false,
+        fails: true,
+    };
+    let mut out = b"before\n".to_vec(alloc)?;
+    let is_fault = list_frames(alloc, reader, &mut out) == Err(EarlyEnd::Read);
+    Ok((is_fault, out.as_slice() == told))
 }
 
 #[test]
 fn a_failing_reader_loses_no_line(rt: HostRuntime) -> Result<(), Fail> {
     let file = file_of(rt.alloc(), "pad ones hello-alone")?;
-    let reader = SlowReader {
-        bytes: file.as_slice(),
-        at_once: 50,
-        is_ready: false,
-        fails: true,
-    };
-    let mut out = b"before\n".to_vec(rt.alloc())?;
-    assert!(rt; list_frames(rt.alloc(), reader, &mut out) == Err(EarlyEnd::Read));
-    assert!(rt; out.as_slice() == b"before\nframe 42 65472 0 64 c0\n".as_slice());
+    let told = b"before\nframe 42 65472 0 64 c0\n";
+    let found = told_before_a_fault(rt.alloc(), file.as_slice(), told)?;
+    assert!(rt; found == (true, true));
     Ok(())
 }
 

@@ -1,57 +1,100 @@
 //! What no clause says: that lines are read while there is memory, and what a failing input leads to.
 
 use std::alloc::Global;
-use std::io::{BufReader, Error, ErrorKind, Read};
+use std::io::{BufRead, BufReader, Error, ErrorKind, Read};
 use std::test::*;
 use tool_core::{EarlyEnd, LineBuffer, MAX_READS, read_line};
 
-/// Each line's bytes as text, or `-` where it is too long, each followed by `|`.
-fn lines_read(alloc: Global, input: &[u8], room: usize) -> Result<String, Fail> {
-    let mut reader = BufReader::with_capacity(alloc, room, input)?;
-    let (mut line, mut reads, mut out) = (LineBuffer::new(alloc), 0, String::new(alloc));
-    for _ in 0..=input.len() {
-        if !read_line(&mut reader, &mut reads, &mut line)? {
-            return Ok(out);
+/// Adds a line's bytes as text, or `-` where it is too long, followed by `|`.
+fn add_line(out: &mut String, line: &LineBuffer) -> Result<(), Fail> {
+    match line.bytes() {
+        Some(bytes) => out.push_str(std::str::from_utf8(bytes)?)?,
+        None => out.push('-')?,
+    }
+    Ok(out.push('|')?)
+}
+
+/// Adds each line of a reader. Fails where there are more than `most`.
+fn add_lines<R: BufRead>(
+    reader: &mut R,
+    most: usize,
+    line: &mut LineBuffer,
+    out: &mut String,
+) -> Result<(), Fail> {
+    let mut reads = 0;
+    for _ in 0..=most {
+        if !read_line(reader, &mut reads, line)? {
+            return Ok(());
         }
-        match line.bytes() {
-            Some(bytes) => out.push_str(std::str::from_utf8(bytes)?)?,
-            None => out.push('-')?,
-        }
-        out.push('|')?;
+        add_line(out, line)?;
     }
     Err(Fail::new("more lines than bytes"))
 }
 
+/// Each line's bytes as text, or `-` where it is too long, each followed by `|`.
+fn lines_read(alloc: Global, input: &[u8], room: usize) -> Result<String, Fail> {
+    let mut reader = BufReader::with_capacity(alloc, room, input)?;
+    let (mut line, mut out) = (LineBuffer::new(alloc), String::new(alloc));
+    add_lines(&mut reader, input.len(), &mut line, &mut out)?;
+    Ok(out)
+}
+
+/// Fails with the lines that were read, where they are others.
+fn check(alloc: Global, input: &str, room: usize, lines: &str) -> Result<(), Fail> {
+    let found = lines_read(alloc, input.as_bytes(), room)?;
+    if found.as_str() == lines {
+        Ok(())
+    } else {
+        Err(Fail::new(found))
+    }
+}
+
+/// Inputs, and their lines.
+const INPUTS: [(&'static str, &'static str); 4] = [
+    ("", ""),
+    ("\n\n", "||"),
+    ("list 0 10\nquit", "list 0 10|quit|"),
+    (" a \r\n\tb\n", " a \r|\tb|"),
+];
+
 #[test]
 fn lines_of_inputs(rt: HostRuntime) -> Result<(), Fail> {
-    for (input, lines) in [
-        ("", ""),
-        ("\n\n", "||"),
-        ("list 0 10\nquit", "list 0 10|quit|"),
-        (" a \r\n\tb\n", " a \r|\tb|"),
-    ] {
+    for (input, lines) in INPUTS {
         for room in [1, 3, 8_192] {
-            let found = lines_read(rt.alloc(), input.as_bytes(), room)?;
-            assert!(rt; found.as_str() == lines, "{input:?} {room}");
+            check(rt.alloc(), input, room, lines)?;
         }
     }
     Ok(())
 }
 
+/// Adds a line of so many bytes.
+fn add_long(input: &mut Vec<u8>, count: usize) -> Result<(), Fail> {
+    let end = input.len();
+    input.resize(end.saturating_add(count), b'x')?;
+    Ok(input.push(b'\n')?)
+}
+
 /// Lines of 262,144 and of 262,145 bytes, and a short one.
+fn long_input(alloc: Global) -> Result<Vec<u8>, Fail> {
+    let mut input = Vec::new(alloc);
+    add_long(&mut input, 262_144)?;
+    add_long(&mut input, 262_145)?;
+    input.extend_from_slice(b"quit")?;
+    Ok(input)
+}
+
+/// How long the text of the lines is, and whether the last ones are a line that is too long and a short one.
+fn long_read(alloc: Global, input: &[u8], room: usize) -> Result<(usize, bool), Fail> {
+    let lines = lines_read(alloc, input, room)?;
+    Ok((lines.len(), lines.as_str().ends_with("x|-|quit|")))
+}
+
 #[test]
 fn long_lines(rt: HostRuntime) -> Result<(), Fail> {
-    let alloc = rt.alloc();
-    let mut input = Vec::new(alloc);
-    input.resize(262_144, b'x')?;
-    input.push(b'\n')?;
-    let end = input.len();
-    input.resize(end + 262_145, b'x')?;
-    input.extend_from_slice(b"\nquit")?;
+    let input = long_input(rt.alloc())?;
     for room in [8_192, 262_144, 600_000] {
-        let lines = lines_read(alloc, input.as_slice(), room)?;
-        assert!(rt; lines.len() == 262_144 + 1 + 2 + 5);
-        assert!(rt; lines.as_str().ends_with("x|-|quit|"));
+        let found = long_read(rt.alloc(), input.as_slice(), room)?;
+        assert!(rt; found == (262_144 + 1 + 2 + 5, true));
     }
     Ok(())
 }
@@ -94,19 +137,27 @@ fn make_flaky(text: &[u8], fails_at: usize) -> Flaky<'_> {
     }
 }
 
+/// Whether a reader that fails at such a byte gives the first line in 18 reads, if it gives that, and then its fault.
+fn fails_in_turn<R: BufRead>(reader: &mut R, fails_at: usize, line: &mut LineBuffer) -> bool {
+    let mut reads = 0;
+    if fails_at > 8 && (read_line(reader, &mut reads, line) != Ok(true) || reads != 18) {
+        return false;
+    }
+    read_line(reader, &mut reads, line) == Err(EarlyEnd::Read)
+}
+
+/// The same of an input of two lines.
+fn input_fails(alloc: Global, fails_at: usize, line: &mut LineBuffer) -> Result<bool, Fail> {
+    let mut reader = BufReader::new(alloc, make_flaky(b"poll 0 1\nquit\n", fails_at))?;
+    Ok(fails_in_turn(&mut reader, fails_at, line))
+}
+
 #[test]
 fn an_input_that_fails(rt: HostRuntime) -> Result<(), Fail> {
-    let alloc = rt.alloc();
-    let mut line = LineBuffer::new(alloc);
+    let mut line = LineBuffer::new(rt.alloc());
     for fails_at in 0..12 {
-        let mut reader = BufReader::new(alloc, make_flaky(b"poll 0 1\nquit\n", fails_at))?;
-        let mut reads = 0;
-        if fails_at > 8 {
-            let found = read_line(&mut reader, &mut reads, &mut line);
-            assert!(rt; found == Ok(true) && reads == 18);
-        }
-        let found = read_line(&mut reader, &mut reads, &mut line);
-        assert!(rt; found == Err(EarlyEnd::Read), "{fails_at}");
+        let is_as_told = input_fails(rt.alloc(), fails_at, &mut line)?;
+        assert!(rt; is_as_told, "{fails_at}");
     }
     Ok(())
 }

@@ -1,11 +1,11 @@
 //! What `list` and `verify` tell of the archives of disks: docs/CONTROL.md, "The program".
 
-use super::scenarios::check_on;
+use super::scenarios::{check_on, expect};
 use disk_core::{Disk, FileId, MemoryDisk};
 use engine_core::Engine;
 use std::alloc::Global;
 use std::test::*;
-use tool_core::{Unobserved, Verdict, list_recordings, verify_recordings};
+use tool_core::{Unobserved, Verdict, Verifiable, list_recordings, verify_recordings};
 
 /// The disk of an archive with two recordings: one of two frames, which was stopped, and one of a frame, which was not.
 pub fn two_recordings(alloc: Global) -> Result<MemoryDisk, Fail> {
@@ -27,51 +27,74 @@ fn damaged(disk: MemoryDisk, recording: i64) -> Result<MemoryDisk, Fail> {
     Ok(disk)
 }
 
-/// What `list` tells of the archive of a disk.
-fn listed(alloc: Global, disk: MemoryDisk) -> Result<Vec<u8>, Fail> {
-    let Ok((engine, _)) = Engine::open(alloc, disk) else {
-        return Err(Fail::new("the archive was not opened"));
-    };
-    let mut out = Vec::new(alloc);
-    if list_recordings(alloc, engine.desk(), &mut out).is_err() {
-        return Err(Fail::new("the list ended early"));
+/// The archive of a disk.
+pub fn opened<D: Disk + Drop>(alloc: Global, disk: D) -> Result<Engine<D>, Fail> {
+    match Engine::open(alloc, disk) {
+        Ok((engine, _)) => Ok(engine),
+        Err(_) => Err(Fail::new("the archive was not opened")),
     }
-    Ok(out)
 }
 
-/// What `verify` tells of the archive of a disk, and its verdict.
-fn verified(alloc: Global, disk: MemoryDisk) -> Result<(Vec<u8>, Verdict), Fail> {
-    let Ok((mut engine, _)) = Engine::open(alloc, disk) else {
-        return Err(Fail::new("the archive was not opened"));
-    };
+/// What `list` tells of an archive.
+fn listed<D: Disk>(alloc: Global, engine: &Engine<D>) -> Result<Vec<u8>, Fail> {
     let mut out = Vec::new(alloc);
-    match verify_recordings(alloc, &mut engine, &mut out, &mut Unobserved) {
+    match list_recordings(alloc, engine.desk(), &mut out) {
+        Ok(()) => Ok(out),
+        Err(_) => Err(Fail::new("the list ended early")),
+    }
+}
+
+/// Fails with what `list` tells of the archive of a disk, where it is another text.
+fn check_listed(alloc: Global, disk: MemoryDisk, told: &str) -> Result<(), Fail> {
+    let engine = opened(alloc, disk)?;
+    let out = listed(alloc, &engine)?;
+    expect(out.as_slice(), told)
+}
+
+/// What `verify` tells of an archive, and its verdict.
+fn verified<A: Verifiable>(alloc: Global, archive: &mut A) -> Result<(Vec<u8>, Verdict), Fail> {
+    let mut out = Vec::new(alloc);
+    match verify_recordings(alloc, archive, &mut out, &mut Unobserved) {
         Ok(verdict) => Ok((out, verdict)),
         Err(_) => Err(Fail::new("the verification ended early")),
     }
 }
 
-/// Fails with what is told of the archive of a disk, where it is another text or verdict.
+/// Fails with what `verify` tells of an archive, where it is another text or verdict.
+pub fn check_archive<A: Verifiable>(
+    alloc: Global,
+    archive: &mut A,
+    told: &str,
+    verdict: Verdict,
+) -> Result<(), Fail> {
+    let (out, judged) = verified(alloc, archive)?;
+    expect(out.as_slice(), told)?;
+    if judged == verdict {
+        Ok(())
+    } else {
+        Err(Fail::new("another verdict"))
+    }
+}
+
+/// The same of the archive of a disk.
 fn check_verified(
     alloc: Global,
     disk: MemoryDisk,
     told: &str,
     verdict: Verdict,
 ) -> Result<(), Fail> {
-    let (out, judged) = verified(alloc, disk)?;
-    if out.as_slice() == told.as_bytes() && judged == verdict {
-        return Ok(());
-    }
-    Err(Fail::new(String::from_str(alloc, std::str::from_utf8(out.as_slice())?)?))
+    let mut engine = opened(alloc, disk)?;
+    check_archive(alloc, &mut engine, told, verdict)
 }
 
 #[test]
 fn each_recording_is_listed(rt: HostRuntime) -> Result<(), Fail> {
-    let out = listed(rt.alloc(), two_recordings(rt.alloc())?)?;
-    let told = b"recording 0 1000 2000 0 128 42 131072 65536 1408 7 1001 c\n\
-        recording 1 1000 -1 0 64 42 131072 65536 1408 7 1001 d\nend 2\n";
-    assert!(rt; out.as_slice() == told.as_slice());
-    Ok(())
+    check_listed(
+        rt.alloc(),
+        two_recordings(rt.alloc())?,
+        "recording 0 1000 2000 0 128 42 131072 65536 1408 7 1001 c\n\
+        recording 1 1000 -1 0 64 42 131072 65536 1408 7 1001 d\nend 2\n",
+    )
 }
 
 #[test]
@@ -113,9 +136,7 @@ fn there_is_no_recording(rt: HostRuntime) -> Result<(), Fail> {
 #[test]
 fn an_empty_list(rt: HostRuntime) -> Result<(), Fail> {
     let disk = check_on(rt.alloc(), MemoryDisk::new(rt.alloc()), "list 0 1", "end 0")?;
-    let out = listed(rt.alloc(), disk)?;
-    assert!(rt; out.as_slice() == b"end 0\n".as_slice());
-    Ok(())
+    check_listed(rt.alloc(), disk, "end 0\n")
 }
 
 /// A read fails once: the recording whose frames it was to give is not verified, and the next one is.

@@ -61,39 +61,62 @@ const VECTORS: [(&str, &str); 13] = [
     ),
 ];
 
-/// Adds a word of a script or of its replies, a vector in hex.
-fn add_word(text: &mut String, word: &str) -> Result<(), Fail> {
+/// The vector of this name in hex, or the word itself where it names none.
+fn meant(word: &str) -> &str {
     for (name, hex) in VECTORS {
         if name == word {
-            return Ok(text.push_str(hex)?);
+            return hex;
         }
     }
-    Ok(text.push_str(word)?)
+    word
+}
+
+/// Adds a line of a script or of its replies, in which a vector stands by its name.
+fn add_line(text: &mut String, line: &str) -> Result<(), Fail> {
+    for (index, word) in line.split(' ').enumerate() {
+        if index > 0 {
+            text.push(' ')?;
+        }
+        text.push_str(meant(word))?;
+    }
+    Ok(text.push('\n')?)
 }
 
 /// The text of these lines, which stand apart by `; ` here.
 fn text_of(alloc: Global, lines: &str) -> Result<String, Fail> {
     let mut text = String::new(alloc);
     for line in lines.split("; ") {
-        for (index, word) in line.split(' ').enumerate() {
-            if index > 0 {
-                text.push(' ')?;
-            }
-            add_word(&mut text, word)?;
-        }
-        text.push('\n')?;
+        add_line(&mut text, line)?;
     }
     Ok(text)
 }
 
+/// Fails with what was written, where that is another text.
+pub fn expect(written: &[u8], told: &str) -> Result<(), Fail> {
+    if written == told.as_bytes() {
+        return Ok(());
+    }
+    Err(Fail::new(std::str::from_utf8(written)?))
+}
+
 /// What a script answers over the archive of a disk, and the disk then.
-fn replies(alloc: Global, disk: MemoryDisk, script: &str) -> Result<(String, MemoryDisk), Fail> {
+pub fn replies(
+    alloc: Global,
+    disk: MemoryDisk,
+    script: &str,
+) -> Result<(Vec<u8>, MemoryDisk), Fail> {
     let mut out = Vec::new(alloc);
-    let Ok(disk) = run_script(alloc, script.as_bytes(), &mut out, disk, &mut Unobserved) else {
-        return Err(Fail::new("the script ended early"));
-    };
-    let text = std::str::from_utf8(out.as_slice())?;
-    Ok((String::from_str(alloc, text)?, disk))
+    match run_script(alloc, script.as_bytes(), &mut out, disk, &mut Unobserved) {
+        Ok(disk) => Ok((out, disk)),
+        Err(_) => Err(Fail::new("the script ended early")),
+    }
+}
+
+/// Runs a script over the archive of a disk, fails where it is answered otherwise, and gives the disk then.
+fn play(alloc: Global, disk: MemoryDisk, script: &str, told: &str) -> Result<MemoryDisk, Fail> {
+    let (out, disk) = replies(alloc, disk, script)?;
+    expect(out.as_slice(), told)?;
+    Ok(disk)
 }
 
 /// Runs the lines as one script over the archive of a disk, fails where the replies are others, and gives the disk then.
@@ -103,12 +126,9 @@ pub fn check_on(
     lines: &str,
     told: &str,
 ) -> Result<MemoryDisk, Fail> {
-    let (answered, disk) = replies(alloc, disk, text_of(alloc, lines)?.as_str())?;
-    if answered.as_str() == text_of(alloc, told)?.as_str() {
-        Ok(disk)
-    } else {
-        Err(Fail::new(answered))
-    }
+    let script = text_of(alloc, lines)?;
+    let told = text_of(alloc, told)?;
+    play(alloc, disk, script.as_str(), told.as_str())
 }
 
 /// The same on an empty disk.
@@ -313,8 +333,7 @@ fn lines_at_the_edges_of_a_script(rt: HostRuntime) -> Result<(), Fail> {
         ("quit\nlist 0 0\n", "bye\n"),
         ("quit \nlist 0 0", "error 22 BadLine\nend 0\n"),
     ] {
-        let (answered, _) = replies(rt.alloc(), MemoryDisk::new(rt.alloc()), script)?;
-        assert!(rt; answered.as_str() == told, "{script:?}");
+        play(rt.alloc(), MemoryDisk::new(rt.alloc()), script, told)?;
     }
     Ok(())
 }
