@@ -73,8 +73,7 @@ impl<A: Naming> Seat<A> {
     pub(crate) fn into_parts(self) -> (Pass<Made>, Vec<Said>)
         ensures { result.0.table ≡ A.table }
     {
-        let Seat { pass, said, of: _ } = self;
-        (pass, said)
+        (self.pass, self.said)
     }
 }
 
