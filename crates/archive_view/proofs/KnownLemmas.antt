@@ -1,18 +1,12 @@
 -- What a desk knows of its recordings.
-use Rattle.std.proofs.Common.{◌≡◌, subst, ℤ, pos, ◌≤ℤ◌, Bool, true, false, List, [], ◌∷◌, Some, All, cond, map, arith}
+use Rattle.std.proofs.Common.{◌≡◌, subst, ℤ, pos, ◌≤ℤ◌, Bool, true, false, List, [], ◌∷◌, Some, cond, arith}
 use Rattle.std.proofs.lemmas.Int.{ints}
-use Rattle.std.proofs.lemmas.List.Elements.{All-cons, All-nil}
 use Rattle.std.specs.Ordering.{int_eq}
-use Rattle.segment_store.specs.Layout.{IsLayout}
-use Rattle.segment_store.specs.Stale.{IsKeep}
-use Rattle.segment_store.specs.declared.keep.Keep.TheVariants.{Below}
 use Rattle.archive_model.specs.declared.registration.Registration.{Registration}
 use Rattle.archive_model.specs.Keyed.{Each, find}
 use Rattle.archive_model.specs.Register.{RegisterState, id_of, registration_in}
 use Rattle.control_core.specs.Callers.{CallersState}
-use Rattle.control_core.specs.Orderly.{IsLaid, IsLaidOut, KeepsDesk}
-use Rattle.engine_core.specs.Moves.{registered_keep, registered_keeps}
-use Rattle.engine_core.specs.Recovery.{layout_of}
+use Rattle.control_core.specs.Orderly.{IsLaid, KeepsDesk}
 
 -- a recording that is found is laid
 found_among : (id : ℤ) (rs : List Registration) (r : Registration) → Each IsLaid rs → find id_of id rs ≡ Some r → IsLaid r

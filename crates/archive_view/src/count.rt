@@ -1,19 +1,14 @@
 //! How many frames a recording has: docs/STORAGE.md, "Damaged frames".
 
-ghost use Rattle.std.specs.Prelude.{◌≡◌, ◌↔◌, IfErr, IfOk, None, Some};
-ghost use Rattle.frame_core.specs.declared.refusal.Refusal.TheVariants.{UnknownRecording};
-ghost use Rattle.archive_model.specs.Register.{registration_in};
+ghost use Rattle.std.specs.Prelude.{IfErr, IfOk, IsErrOf, IsTrue};
 ghost use Rattle.control_core.specs.Orderly.{IsLaid};
 ghost use Rattle.archive_view.specs.View.{HasFrames};
-ghost use Rattle.archive_view.specs.ReadOnly.{Looks, Refuses};
 ghost use Rattle.engine_core.specs.Reading.{RefusesCount};
-ghost use Rattle.engine_core.specs.Recovery.{layout_of};
 ghost use Rattle.disk_core.specs.DiskImage.{reads};
 ghost use Rattle.disk_core.specs.Life.{HasFailed, IsQuiet};
-ghost use Rattle.std.specs.Prelude.{IsErrOf, IsTrue};
 ghost use Rattle.frame_core.specs.declared.refusal.Refusal.TheVariants.{DeviceFault};
 
-use crate::{ArchiveView, ReadOnly};
+use crate::ArchiveView;
 use archive_model::Registration;
 use disk_core::Disk;
 use engine_core::layout_of;
@@ -22,7 +17,6 @@ use segment_store::read_frame;
 use std::alloc::Global;
 
 impl<D: Disk> ArchiveView<D> {
-    ghost use Rattle.archive_view.specs.Viewed.{desk_of, read_of};
     ghost use Rattle.archive_view.specs.Verified.{HasVerified};
 
     /// How many frames a recording has, from its start to its recorded position: each is read.

@@ -9,7 +9,7 @@ use Rattle.archive_model.specs.declared.reply.Reply.{Reply}
 use Rattle.control_core.specs.declared.event.Event.TheVariants.{Verify}
 use Rattle.control_core.specs.Exact.{Archive, CallEnds}
 use Rattle.engine_core.specs.declared.engine.Engine.{Engine}
-use Rattle.engine_core.specs.Calls.{AnswersEvent, HasFailedOften, faults_in, is_fault}
+use Rattle.engine_core.specs.Calls.{HasFailedOften, faults_in, is_fault}
 use Rattle.engine_core.specs.Consistent.{IsCrashConsistent}
 use Rattle.engine_core.specs.Engine.{DiskGoesOn, archive_of}
 use Rattle.engine_core.specs.Seen.{seen}

@@ -1,5 +1,5 @@
 -- Recordings that are laid are kept.
-use Rattle.std.proofs.Common.{rules, ◌≡◌, List, All, Result, Vec, subst, sym, refl}
+use Rattle.std.proofs.Common.{rules, ◌≡◌, List, All, Result, Vec, subst, sym}
 use Rattle.std.specs.declared.alloc.Global.{Global}
 use Rattle.std.specs.Prelude.{IfOk, Ok, Err}
 use Rattle.frame_core.specs.declared.refusal.Refusal.{Refusal}

@@ -1,8 +1,5 @@
-use Rattle.std.proofs.Common.{rules, ◌≡◌, sym, subst, refl, All, Err, List}
-use Rattle.segment_store.specs.declared.keep.Keep.{Keep}
-use Rattle.segment_store.specs.Stale.{IsKeep}
+use Rattle.std.proofs.Common.{rules, ◌≡◌, refl, Err}
 use Rattle.engine_core.specs.Moves.{registered_keeps}
-use Rattle.engine_core.proofs.calls.KnownLemmas.{keeps_are}
 use Rattle.engine_core.proofs.calls.SweepCallLemmas.{sweep_refused, swept_answers, unkept_answers, unswept_answers}
 use Rattle.engine_core.proofs.engine.Engine.sweep.Goals as goal
 
