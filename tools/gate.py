@@ -5,12 +5,13 @@ that wait for one another, and the dearest edits.
 
 Usage: tools/gate.py [NAME..]            runs `rt ci` from nothing at the top of the repository; its status is that of rt ci
 Where `rt ci` keeps what it passed (rattle-kit-13f) that is `rt ci --anew [NAME..]`; where it proves from nothing each time
-(rattle-kit-13b) it takes no crate's name.
+(rattle-kit-13b) it takes no crate's name. Broken off by Ctrl-C or SIGTERM, it ends the run, and tells what that had spent.
 The whole has to stay under 90 units, so that two slow cores run it in 180 minutes. The processors should be idle: minutes are
 by the clock. Processor seconds are sampled twice a second from /proc, so up to half a second of each process is missed.
 """
 import os
 import re
+import signal
 import subprocess
 import sys
 import tempfile
@@ -200,6 +201,17 @@ class Run:
         self.ran.wait()
         self.watcher.join()
 
+    def told(self, kept: re.Pattern) -> tuple[list[str], bool]:
+        """The lines that matter of what rt says, and whether the run was broken off."""
+        said: list[str] = []
+        try:
+            said += (line for line in self.lines() if kept.search(line))
+        except KeyboardInterrupt:
+            self.ran.terminate()
+            said += (line for line in self.lines() if kept.search(line))
+            return said, True
+        return said, False
+
 
 @contextmanager
 def unit():
@@ -228,12 +240,14 @@ def main() -> int:
     if sys.argv[1:] and not keeps():
         sys.exit("rt ci of this toolchain takes no crate's name: it proves all")
     kept = re.compile(r"^rt: |passed|FAILED|NOT ")
+    signal.signal(signal.SIGTERM, signal.default_int_handler)
     with unit() as unit_seconds:
         run = Run(ROOT, sys.argv[1:])
-        said = [line for line in run.lines() if kept.search(line)]
+        said, is_cut = run.told(kept)
         elapsed, of_unit = time.time() - run.begun, unit_seconds()
     units = sum(run.samples.seconds().values()) / of_unit
-    print(f"{units:.1f} units of {of_unit:.0f} processor seconds; the whole product has to stay under {MOST_UNITS}")
+    of_what = "broken off" if is_cut else f"the whole product has to stay under {MOST_UNITS}"
+    print(f"{units:.1f} units of {of_unit:.0f} processor seconds; {of_what}")
     print("".join(said), end="")
     report(run.samples, elapsed)
     return run.ran.returncode
