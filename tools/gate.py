@@ -3,7 +3,8 @@
 is proved beside it; then the minutes and processor seconds of each crate's proof, tests and edits, the longest chain of these
 that wait for one another, and the dearest edits.
 
-Usage: tools/gate.py [NAME..]            runs `rt ci` from nothing at the top of the repository; its status is that of rt ci
+Usage: tools/gate.py [--kept] [NAME..]   runs `rt ci` from nothing at the top of the repository; its status is that of rt ci
+With --kept over what earlier runs on this machine passed: so a gate can be measured in parts, each of which is done once.
 Where `rt ci` keeps what it passed (rattle-kit-13f) that is `rt ci --anew [NAME..]`; where it proves from nothing each time
 (rattle-kit-13b) it takes no crate's name. Broken off by Ctrl-C or SIGTERM, it ends the run, and tells what that had spent.
 The whole has to stay under 90 units, so that two slow cores run it in 180 minutes. The processors should be idle: minutes are
@@ -27,7 +28,7 @@ TICKS = os.sysconf("SC_CLK_TCK")
 PERIOD = 0.5
 PARTS = ("proof", "tests", "edits")
 UNIT, UNIT_CRATE, MOST_UNITS = "426571b", "frame_core", 90
-DEAREST = 20
+DEAREST = 40
 # What processes work at beside a crate's proof and tests: the check that its edits begin with, and the one that ends them. Of an
 # edit that is tried in turn, over what those before it left, the number is known by its folder alone.
 BEGIN, END, IN_TURN = "begin", "end", "in turn"
@@ -183,9 +184,9 @@ def report(samples: Samples, elapsed: float) -> None:
 class Run:
     """A run of rt ci, sampled until it ends."""
 
-    def __init__(self, top: Path, names: list[str]) -> None:
+    def __init__(self, top: Path, names: list[str], is_anew: bool) -> None:
         self.samples, self.begun = Samples(), time.time()
-        words = ["rt", "ci", *(["--anew"] if keeps() else []), *names]
+        words = ["rt", "ci", *(["--anew"] if is_anew and keeps() else []), *names]
         self.ran = subprocess.Popen(words, cwd=top, stdout=subprocess.PIPE, stderr=subprocess.STDOUT, text=True)
         self.watcher = threading.Thread(target=self.watch)
         self.watcher.start()
@@ -225,7 +226,7 @@ def unit():
         own = [line for line in lines.splitlines() if line.startswith(f"{UNIT_CRATE}:")]
         (top / "crates.txt").write_text(own[0] + "\n")
         subprocess.run(["git", "init", "-q", top], check=True)
-        run = Run(top, [])
+        run = Run(top, [], True)
 
         def seconds() -> float:
             said = "".join(run.lines())
@@ -237,16 +238,17 @@ def unit():
 
 
 def main() -> int:
+    is_kept, names = "--kept" in sys.argv[1:], [it for it in sys.argv[1:] if it != "--kept"]
     if sys.argv[1:] and not keeps():
-        sys.exit("rt ci of this toolchain takes no crate's name: it proves all")
+        sys.exit("rt ci of this toolchain takes no crate's name and keeps nothing: it proves all")
     kept = re.compile(r"^rt: |passed|FAILED|NOT ")
     signal.signal(signal.SIGTERM, signal.default_int_handler)
     with unit() as unit_seconds:
-        run = Run(ROOT, sys.argv[1:])
+        run = Run(ROOT, names, not is_kept)
         said, is_cut = run.told(kept)
         elapsed, of_unit = time.time() - run.begun, unit_seconds()
     units = sum(run.samples.seconds().values()) / of_unit
-    of_what = "broken off" if is_cut else f"the whole product has to stay under {MOST_UNITS}"
+    of_what = f"the whole product has to stay under {MOST_UNITS}{'; broken off' if is_cut else ''}"
     print(f"{units:.1f} units of {of_unit:.0f} processor seconds; {of_what}")
     print("".join(said), end="")
     report(run.samples, elapsed)
