@@ -36,7 +36,8 @@ BEGIN, END, IN_TURN = "begin", "end", "in turn"
 
 def keeps() -> bool:
     """Whether `rt ci` keeps what it passed, and takes nothing of it with --anew; it tries edits side by side then."""
-    return "--anew" in subprocess.run(["rt", "help"], capture_output=True, text=True).stdout
+    told = subprocess.run(["rt", "help"], stdout=subprocess.PIPE, stderr=subprocess.STDOUT, text=True)
+    return "--anew" in told.stdout
 
 
 def edits_of(crate: str) -> list[str]:
