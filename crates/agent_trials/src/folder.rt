@@ -1,17 +1,14 @@
 //! Two recorders into the archive of a folder, and a follower that tells each position as soon as it sees it, so that whoever
 //! kills the process knows what has to be there.
 
-ghost use Rattle.std.specs.Prelude.{◌≡◌, ◌<◌, []};
-ghost use Rattle.archive_lock.specs.Held.{engine_seen, view_of};
+ghost use Rattle.std.specs.Prelude.{◌≡◌, ◌<◌, IfSome};
 ghost use Rattle.agents_core.specs.Runs.{AreSeated};
 
-use crate::blocks::{SHORT_TERM, extension, fields, small_block};
-use crate::pairs::{add, run};
+use crate::blocks::{SHORT_TERM, small_block};
+use crate::crew::{Plan, begin, crewed};
+use crate::pairs::run;
 use agents_core::{BlockSource, Receiver, Recorder, RecorderSeat};
-use archive_lock::{Made, Naming, SharedArchive};
-use archive_model::Reply;
-use call_history::Opened;
-use control_core::{Event, Request};
+use archive_lock::{Naming, SharedArchive};
 use disk_core::Disk;
 use engine_core::Engine;
 use frame_core::{Block, Refusal};
@@ -19,18 +16,11 @@ use host_disk::HostDisk;
 use position_board::{Board, Reader};
 use std::alloc::{AllocError, Global};
 use std::io::Print;
-use std::marker::Brand;
 use std::path::Path;
+use std::rt::Clock;
 use std::sync::Wait;
 use std::sync::atomic::{AtomicBool, Ordering};
 use std::thread::{self, Threads, join};
-
-/// A recorder session, and the position that its recording is recorded to.
-#[derive(Clone, Copy)]
-struct Begun {
-    session: i64,
-    position: i64,
-}
 
 /// Blocks of one frame from a position on, so many.
 #[derive(Drop)]
@@ -58,111 +48,69 @@ impl BlockSource for Blocks {
 }
 
 /// Records so many blocks into each of two recordings of the archive of a folder.
-pub(crate) fn recorded<R: Threads + Wait + Print + Sync>(
+pub(crate) fn recorded<R: Threads + Wait + Clock + Print + Sync>(
     rt: &R,
     host: HostRuntime,
     folder: &str,
     blocks: u32,
 ) -> Result<(), Refusal> {
     let mut engine = engine_of(host, folder)?;
-    let begun = [
-        begin(host.alloc(), &mut engine, 0)?,
-        begin(host.alloc(), &mut engine, 1)?,
-    ];
-    opened(rt, host.alloc(), engine, begun, blocks)
+    let first = begin(host.alloc(), &mut engine, 0, SHORT_TERM);
+    let second = begin(host.alloc(), &mut engine, 1, SHORT_TERM);
+    let (Ok(first), Ok(second)) = (first, second) else {
+        return Err(Refusal::BadLine);
+    };
+    match crewed(
+        rt,
+        host.alloc(),
+        engine,
+        [first, second],
+        Plan::Follow(blocks),
+    ) {
+        Ok(_) => Ok(()),
+        Err(refusal) => Err(refusal),
+    }
 }
 
 /// The archive of a folder.
 fn engine_of(host: HostRuntime, folder: &str) -> Result<Engine<HostDisk>, Refusal> {
-    let disk = HostDisk::open(host, host.alloc(), Path::new(folder)).map_err(
-        |_| Refusal::DeviceFault,
-    )?;
+    let Ok(disk) = HostDisk::open(host, host.alloc(), Path::new(folder)) else {
+        return Err(Refusal::DeviceFault);
+    };
     match Engine::open(host.alloc(), disk) {
         Ok((engine, _)) => Ok(engine),
         Err(refused) => Err(refused.refusal),
     }
 }
 
-/// Begins a recording, or goes on where it stopped.
-fn begin<D: Disk>(alloc: Global, engine: &mut Engine<D>, recording: i64) -> Result<Begun, Refusal> {
-    let position = position_of(alloc, engine, recording);
-    let request = match position {
-        Some(position) => Request::Extend(extension(recording, position)),
-        None => Request::Start(fields(alloc, SHORT_TERM)?),
-    };
-    let session = match engine.step(alloc, &Event::Ask(request))? {
-        Reply::Started { session, .. } => session,
-        Reply::Extended { session } => session,
-        _ => return Err(Refusal::BadLine),
-    };
-    Ok(Begun {
-        session,
-        position: position.unwrap_or(0),
-    })
-}
-
-/// Where a recording is recorded to, if there is one of the number.
-fn position_of<D: Disk>(alloc: Global, engine: &mut Engine<D>, recording: i64) -> Option<i64> {
-    let positions = Event::Ask(Request::Positions { recording });
-    match engine.step(alloc, &positions) {
-        Ok(Reply::Positions { recorded, .. }) => Some(recorded),
-        _ => None,
-    }
-}
-
-fn opened<D: Disk + Drop + Send, R: Threads + Wait + Print + Sync>(
+/// Both seats record, and another thread follows them.
+pub(crate) fn follow_all<
+    D: Disk + Drop + Send,
+    A: Naming + Send + Sync,
+    R: Threads + Wait + Print + Sync,
+>(
     rt: &R,
     alloc: Global,
-    engine: Engine<D>,
-    begun: [Begun; 2],
+    archive: &SharedArchive<D, A>,
+    board: &Board,
+    first: RecorderSeat,
+    second: RecorderSeat,
+    reader: Reader,
+    starts: [i64; 2],
     blocks: u32,
-) -> Result<(), Refusal> {
-    let Ok(opened) = Opened::new(alloc, false) else {
-        return Err(Refusal::NoMemory);
-    };
-    shared::<D, Brand, R>(rt, alloc, opened, engine, begun, blocks)
-}
-
-fn shared<D: Disk + Drop + Send, A: Naming + Send + Sync, R: Threads + Wait + Print + Sync>(
-    rt: &R,
-    alloc: Global,
-    opened: Opened<Made>,
-    engine: Engine<D>,
-    begun: [Begun; 2],
-    blocks: u32,
-) -> Result<(), Refusal>
-    requires named { opened.table ≡ A.table }
-    requires counts { A.passes ≡ 2 }
-    requires stores { opened.keeps ≡ A.keeps }
-    requires opens { engine_seen D.life (view_of engine []) ≡ A.opening }
+) -> Result<u128, Refusal>
+    requires first { (first.pass.table ≡ A.table) × (first.writer.table ≡ board.now) }
+    requires second { (second.pass.table ≡ A.table) × (second.writer.table ≡ board.now) }
+    requires reader { reader.table ≡ board.now }
+    requires slots { 1 < board.now.words }
 {
-    let Ok((archive, mut passes)) = SharedArchive::<D, A>::new(alloc, opened, engine, 2) else {
+    let (Ok(receivers), Some(recorders)) = (
+        receivers(alloc, starts, blocks),
+        recorders::<A>(alloc, board, first, second),
+    ) else {
         return Err(Refusal::NoMemory);
     };
-    let [first, second] = begun;
-    let starts = [first.position, second.position];
-    let Ok((board, mut writers, mut readers)) = Board::new(alloc, &starts, 1) else {
-        return Err(Refusal::NoMemory);
-    };
-    let mut recorders = Vec::new(alloc);
-    let (pass, writer) = (
-        passes.pop().ok_or(Refusal::NoMemory)?,
-        writers.pop().ok_or(Refusal::NoMemory)?,
-    );
-    let other = RecorderSeat::new(second.session, pass, writer);
-    let (pass, writer) = (
-        passes.pop().ok_or(Refusal::NoMemory)?,
-        writers.pop().ok_or(Refusal::NoMemory)?,
-    );
-    add::<A>(
-        &mut recorders,
-        &board,
-        RecorderSeat::new(first.session, pass, writer),
-    )?;
-    add::<A>(&mut recorders, &board, other)?;
-    let reader = readers.pop().ok_or(Refusal::NoMemory)?;
-    let receivers = receivers(alloc, starts, blocks)?;
-    followed(rt, alloc, &archive, &board, receivers, recorders, reader)
+    followed(rt, alloc, archive, board, receivers, recorders, reader)
 }
 
 /// A receiver of so many blocks for each recording.
@@ -184,6 +132,28 @@ fn receivers(
     Ok(receivers)
 }
 
+fn recorders<A: Naming>(
+    alloc: Global,
+    board: &Board,
+    first: RecorderSeat,
+    second: RecorderSeat,
+) -> Option<Vec<Recorder>>
+    requires first { (first.pass.table ≡ A.table) × (first.writer.table ≡ board.now) }
+    requires second { (second.pass.table ≡ A.table) × (second.writer.table ≡ board.now) }
+    ensures { IfSome result (λ recorders. AreSeated A.table board.now recorders.items) }
+{
+    let _ = board;
+    let first = Recorder {
+        seat: first,
+        refused: None,
+    };
+    let second = Recorder {
+        seat: second,
+        refused: None,
+    };
+    vec![in alloc; first, second].ok()
+}
+
 /// The agents run, and another thread follows them.
 fn followed<D: Disk + Drop + Send, A: Naming + Send + Sync, R: Threads + Wait + Print + Sync>(
     rt: &R,
@@ -193,7 +163,7 @@ fn followed<D: Disk + Drop + Send, A: Naming + Send + Sync, R: Threads + Wait + 
     receivers: Vec<Receiver<Blocks>>,
     recorders: Vec<Recorder>,
     reader: Reader,
-) -> Result<(), Refusal>
+) -> Result<u128, Refusal>
     requires recorders { AreSeated A.table board.now recorders.items }
     requires reader { reader.table ≡ board.now }
     requires slots { 1 < board.now.words }
@@ -211,8 +181,7 @@ fn followed<D: Disk + Drop + Send, A: Naming + Send + Sync, R: Threads + Wait + 
         },
         move || follow(rt, alloc, board, has_ended, reader),
     );
-    outcome?;
-    told
+    outcome.and(told).and(Ok(0))
 }
 
 /// Tells each position that it sees, until the agents have ended.
@@ -231,27 +200,37 @@ fn follow<R: Wait + Print>(
         let is_last = has_ended.load(Ordering::SeqCst);
         let seen = [board.look(&mut reader, 0), board.look(&mut reader, 1)];
         say(rt, alloc, last, seen)?;
-        last = seen;
         if is_last {
             return say_end(rt);
         }
+        last = seen;
         thread::yield_now();
     }
     unreachable!()
 }
 
 fn say_end<R: Print>(rt: &R) -> Result<(), Refusal> {
-    rt.write_all(b"ended\n").map_err(|_| Refusal::DeviceFault)
+    say_line(rt, b"ended\n")
 }
 
 /// Writes a line for each slot that has risen, by one call.
 fn say<R: Print>(rt: &R, alloc: Global, last: [i64; 2], seen: [i64; 2]) -> Result<(), Refusal> {
     for slot in 0..2usize {
         if seen[slot] > last[slot] {
-            let line = format!(in alloc; "seen {slot} {}\n", seen[slot])?;
-            rt.write_all(line.as_bytes())
-                .map_err(|_| Refusal::DeviceFault)?;
+            say_one(rt, alloc, slot, seen[slot])?;
         }
     }
     Ok(())
+}
+
+fn say_one<R: Print>(rt: &R, alloc: Global, slot: usize, seen: i64) -> Result<(), Refusal> {
+    let line = format!(in alloc; "seen {slot} {seen}\n")?;
+    say_line(rt, line.as_bytes())
+}
+
+fn say_line<R: Print>(rt: &R, line: &[u8]) -> Result<(), Refusal> {
+    match rt.write_all(line) {
+        Ok(()) => Ok(()),
+        Err(_) => Err(Refusal::DeviceFault),
+    }
 }

@@ -3,11 +3,13 @@
 #![tactic(auto)]
 
 mod blocks;
+mod crew;
 mod folder;
 mod pairs;
 mod speed;
 
-use anyhow::{Context, Result, bail};
+use anyhow::{Result, bail};
+use frame_core::Refusal;
 use std::env;
 use std::io::Print;
 use std::rt::Clock;
@@ -15,20 +17,10 @@ use std::sync::Wait;
 use std::thread::Threads;
 
 fn main(rt: HostRuntime) -> Result<()> {
-    obeyed(&rt, rt)
-}
-
-/// Does what the words of the command line ask for. Threads are made by the handle, folders opened by the runtime.
-fn obeyed<R: Threads + Wait + Clock + Print + Sync>(rt: &R, host: HostRuntime) -> Result<()> {
-    let words = words_of(host)?;
-    let words = words.as_slice();
-    match word(words, 1)? {
-        "folder" => recorded(rt, host, words),
-        "look" => looked(rt, host, words),
-        "queue" => measured(rt, host, true, words),
-        "alone" => measured(rt, host, false, words),
-        "both" => both(rt, host, words),
-        _ => bail!("folder, look, queue, alone or both?"),
+    let words = words_of(rt)?;
+    match obeyed(&rt, rt, words.as_slice()) {
+        Ok(()) => Ok(()),
+        Err(refusal) => bail!("{refusal:?}"),
     }
 }
 
@@ -41,31 +33,41 @@ fn words_of(host: HostRuntime) -> Result<Vec<String>> {
     Ok(words)
 }
 
-fn word(words: &[String], index: usize) -> Result<&str> {
-    let word = words.get(index).context("a word is missing")?;
-    Ok(word.as_str())
-}
-
-fn recorded<R: Threads + Wait + Print + Sync>(
+/// Does what the words ask for: `BadLine` where they ask for nothing. Threads are made by the handle, folders opened by the
+/// runtime.
+fn obeyed<R: Threads + Wait + Clock + Print + Sync>(
     rt: &R,
     host: HostRuntime,
     words: &[String],
-) -> Result<()> {
-    match folder::recorded(rt, host, word(words, 2)?, word(words, 3)?.parse()?) {
-        Ok(()) => Ok(()),
-        Err(refusal) => bail!("{refusal:?}"),
+) -> Result<(), Refusal> {
+    match word(words, 1)? {
+        "folder" => folder::recorded(rt, host, word(words, 2)?, number(words, 3)?),
+        "look" => looked(rt, host, number(words, 2)?),
+        "queue" => measured(rt, host, true, number(words, 2)?),
+        "alone" => measured(rt, host, false, number(words, 2)?),
+        "both" => both(rt, host, number(words, 2)?),
+        _ => Err(Refusal::BadLine),
+    }
+}
+
+fn word(words: &[String], index: usize) -> Result<&str, Refusal> {
+    match words.get(index) {
+        Some(word) => Ok(word.as_str()),
+        None => Err(Refusal::BadLine),
+    }
+}
+
+fn number(words: &[String], index: usize) -> Result<u32, Refusal> {
+    match word(words, index)?.parse() {
+        Ok(number) => Ok(number),
+        Err(_) => Err(Refusal::BadLine),
     }
 }
 
 /// Prints the microseconds of looks, and of as many loads.
-fn looked<R: Clock + Print>(rt: &R, host: HostRuntime, words: &[String]) -> Result<()> {
-    match speed::looked(rt, host.alloc(), word(words, 2)?.parse()?) {
-        Ok((looks, loads)) => {
-            println!(rt; "{looks} {loads}")?;
-            Ok(())
-        }
-        Err(refusal) => bail!("{refusal:?}"),
-    }
+fn looked<R: Clock + Print>(rt: &R, host: HostRuntime, looks: u32) -> Result<(), Refusal> {
+    let (looks, loads) = speed::looked(rt, host.alloc(), looks)?;
+    printed(println!(rt; "{looks} {loads}").is_ok())
 }
 
 /// Prints the microseconds of so many blocks.
@@ -73,34 +75,28 @@ fn measured<R: Threads + Wait + Clock + Print + Sync>(
     rt: &R,
     host: HostRuntime,
     has_queue: bool,
-    words: &[String],
-) -> Result<()> {
-    let microseconds = took(rt, host, has_queue, words)?;
-    println!(rt; "{microseconds}")?;
-    Ok(())
+    blocks: u32,
+) -> Result<(), Refusal> {
+    let microseconds = speed::measured(rt, host.alloc(), has_queue, blocks)?;
+    printed(println!(rt; "{microseconds}").is_ok())
 }
 
 /// Records so many blocks both ways, and prints no time.
 fn both<R: Threads + Wait + Clock + Print + Sync>(
     rt: &R,
     host: HostRuntime,
-    words: &[String],
-) -> Result<()> {
-    took(rt, host, true, words)?;
-    took(rt, host, false, words)?;
-    println!(rt; "recorded both ways")?;
-    Ok(())
+    blocks: u32,
+) -> Result<(), Refusal> {
+    speed::measured(rt, host.alloc(), true, blocks)?;
+    speed::measured(rt, host.alloc(), false, blocks)?;
+    printed(println!(rt; "recorded both ways").is_ok())
 }
 
-/// The microseconds of so many blocks.
-fn took<R: Threads + Wait + Clock + Sync>(
-    rt: &R,
-    host: HostRuntime,
-    has_queue: bool,
-    words: &[String],
-) -> Result<u128> {
-    match speed::measured(rt, host.alloc(), has_queue, word(words, 2)?.parse()?) {
-        Ok(microseconds) => Ok(microseconds),
-        Err(refusal) => bail!("{refusal:?}"),
+/// A refusal where a line was not printed.
+fn printed(is: bool) -> Result<(), Refusal> {
+    if is {
+        Ok(())
+    } else {
+        Err(Refusal::DeviceFault)
     }
 }

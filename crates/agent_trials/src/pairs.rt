@@ -1,17 +1,14 @@
 //! Receivers with their recorders, whose runs nothing ends from outside.
 
-ghost use Rattle.std.specs.Prelude.{◌≡◌};
 ghost use Rattle.agents_core.specs.Runs.{AreSeated};
 
-use agents_core::{
-    Agents, BlockSource, FrameSink, Gate, Receiver, Recorder, RecorderSeat, run_agents,
-};
+use agents_core::{Agents, BlockSource, FrameSink, Gate, Receiver, Recorder, run_agents};
 use archive_lock::{Naming, SharedArchive};
 use archive_model::PolledFrame;
 use disk_core::Disk;
 use frame_core::Refusal;
 use position_board::Board;
-use std::alloc::{AllocError, Global};
+use std::alloc::Global;
 use std::sync::Wait;
 use std::thread::Threads;
 
@@ -40,25 +37,6 @@ impl FrameSink for NoSink {
     }
 }
 
-/// One recorder more.
-#[tactic(auto, using(crate::proofs::EachLemmas::each_push))]
-pub(crate) fn add<A: Naming>(
-    recorders: &mut Vec<Recorder>,
-    board: &Board,
-    seat: RecorderSeat,
-) -> Result<(), AllocError>
-    requires seated { AreSeated A.table board.now recorders.old.items }
-    requires pass { seat.pass.table ≡ A.table }
-    requires writer { seat.writer.table ≡ board.now }
-    ensures { AreSeated A.table board.now recorders.new.items }
-{
-    recorders.push(Recorder {
-        seat,
-        refused: None,
-    })?;
-    Ok(())
-}
-
 /// Runs pairs until each has ended: the first refusal of a recorder, if there is one.
 pub(crate) fn run<
     S: BlockSource + Drop + Send,
@@ -81,8 +59,12 @@ pub(crate) fn run<
         replayers: Vec::new(alloc),
     };
     let (agents, outcome) = run_agents(rt, alloc, archive, board, agents, &Open);
-    outcome?;
-    for recorder in agents.recorders {
+    outcome.and(accepted(agents.recorders.as_slice()))
+}
+
+/// The first refusal of a recorder, if there is one.
+fn accepted(recorders: &[Recorder]) -> Result<(), Refusal> {
+    for recorder in recorders {
         if let Some(refusal) = recorder.refused {
             return Err(refusal);
         }

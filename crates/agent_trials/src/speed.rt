@@ -1,22 +1,20 @@
 //! What a look costs beside a load, and what a queue between a receiver and a recorder costs beside one thread.
 
-ghost use Rattle.std.specs.Prelude.{◌≡◌, ◌<◌, []};
-ghost use Rattle.archive_lock.specs.Held.{engine_seen, view_of};
+ghost use Rattle.std.specs.Prelude.{◌≡◌, ◌<◌, IfSome};
+ghost use Rattle.agents_core.specs.Runs.{AreSeated};
 
-use crate::blocks::{LONG_TERM, SETUP, datagrams, fields};
-use crate::pairs::{add, run};
-use agents_core::{BlockSource, DatagramEnd, ImageSource, Receiver, RecorderSeat};
-use archive_lock::{Made, Naming, SharedArchive};
-use archive_model::Reply;
-use call_history::Opened;
-use control_core::{Event, Request};
+use crate::blocks::{LONG_TERM, SETUP, datagrams};
+use crate::crew::{Plan, begin, crewed};
+use crate::pairs::run;
+use agents_core::{BlockSource, DatagramEnd, ImageSource, Receiver, Recorder, RecorderSeat};
+use archive_lock::{Naming, SharedArchive};
 use disk_core::{Disk, MemoryDisk};
 use engine_core::Engine;
 use frame_core::Refusal;
 use image_core::Image;
 use position_board::{Board, Reader};
-use std::alloc::Global;
-use std::marker::Brand;
+use std::alloc::{AllocError, Global};
+use std::io::Print;
 use std::rt::Clock;
 use std::sync::Wait;
 use std::sync::atomic::{AtomicU64, Ordering};
@@ -26,13 +24,15 @@ use std::time::Instant;
 /// How many entries the history of an archive takes.
 const LIMIT: u32 = 1_000_000;
 
-fn now<R: Clock>(rt: &R) -> Result<Instant, Refusal> {
-    Instant::now(rt).map_err(|_| Refusal::DeviceFault)
+fn now<R: Clock>(rt: &R) -> Option<Instant> {
+    Instant::now(rt).ok()
 }
 
-fn since<R: Clock>(rt: &R, begun: &Instant) -> Result<u128, Refusal> {
-    let elapsed = begun.elapsed(rt).map_err(|_| Refusal::DeviceFault)?;
-    Ok(elapsed.as_micros())
+/// The microseconds from a time on.
+fn since<R: Clock>(rt: &R, begun: Option<Instant>) -> Option<u128> {
+    let begun = begun?;
+    let elapsed = begun.elapsed(rt).ok()?;
+    Some(elapsed.as_micros())
 }
 
 /// Microseconds of so many looks, and of as many loads of a word.
@@ -40,18 +40,33 @@ pub(crate) fn looked<R: Clock>(rt: &R, alloc: Global, looks: u32) -> Result<(u12
     let Ok((board, _, mut readers)) = Board::new(alloc, &[64], 1) else {
         return Err(Refusal::NoMemory);
     };
-    let reader = readers.pop().ok_or(Refusal::NoMemory)?;
+    match readers.pop() {
+        Some(reader) => compared(rt, &board, reader, looks),
+        None => Err(Refusal::NoMemory),
+    }
+}
+
+fn compared<R: Clock>(
+    rt: &R,
+    board: &Board,
+    reader: Reader,
+    looks: u32,
+) -> Result<(u128, u128), Refusal>
+    requires board { reader.table ≡ board.now }
+    requires slot { 0 < board.now.words }
+{
     let word = AtomicU64::new(64);
-    let begun = now(rt)?;
-    let seen = sum_of_looks(&board, reader, looks);
-    let of_looks = since(rt, &begun)?;
-    let begun = now(rt)?;
+    let begun = now(rt);
+    let seen = sum_of_looks(board, reader, looks);
+    let of_looks = since(rt, begun);
+    let begun = now(rt);
     let loaded = sum_of_loads(&word, looks);
-    let of_loads = since(rt, &begun)?;
-    if seen.unsigned_abs() == loaded {
-        Ok((of_looks, of_loads))
-    } else {
-        Err(Refusal::BadPosition)
+    let of_loads = since(rt, begun);
+    match (of_looks, of_loads) {
+        (Some(of_looks), Some(of_loads)) if seen.unsigned_abs() == loaded => {
+            Ok((of_looks, of_loads))
+        }
+        _ => Err(Refusal::BadPosition),
     }
 }
 
@@ -78,7 +93,7 @@ fn sum_of_loads(word: &AtomicU64, loads: u32) -> u64 {
 
 /// Datagrams that were made before, one after another.
 #[derive(Drop)]
-struct MadeEnd {
+pub(crate) struct MadeEnd {
     datagrams: Vec<Vec<u8>>,
     given: usize,
 }
@@ -105,76 +120,91 @@ impl DatagramEnd for MadeEnd {
 
 /// Microseconds in which so many blocks of 46 frames come from datagrams and are recorded in memory: by a receiver and a
 /// recorder, or by one thread.
-pub(crate) fn measured<R: Threads + Wait + Clock + Sync>(
+pub(crate) fn measured<R: Threads + Wait + Clock + Print + Sync>(
     rt: &R,
     alloc: Global,
     has_queue: bool,
     blocks: u32,
 ) -> Result<u128, Refusal> {
-    let engine = Engine::create(alloc, MemoryDisk::new(alloc), LIMIT).map_err(
-        |refused| refused.refusal,
-    )?;
-    opened(rt, alloc, engine, has_queue, blocks)
-}
-
-fn opened<D: Disk + Drop + Send, R: Threads + Wait + Clock + Sync>(
-    rt: &R,
-    alloc: Global,
-    mut engine: Engine<D>,
-    has_queue: bool,
-    blocks: u32,
-) -> Result<u128, Refusal> {
-    let session = started(alloc, &mut engine)?;
     let end = MadeEnd {
         datagrams: datagrams(alloc, blocks)?,
         given: 0,
     };
-    let Ok(opened) = Opened::new(alloc, false) else {
-        return Err(Refusal::NoMemory);
+    let plan = if has_queue {
+        Plan::Queue(end)
+    } else {
+        Plan::Alone(end)
     };
-    shared::<D, Brand, R>(rt, alloc, opened, engine, session, has_queue, end)
-}
-
-/// The recorder session of a new recording.
-fn started<D: Disk>(alloc: Global, engine: &mut Engine<D>) -> Result<i64, Refusal> {
-    let start = Event::Ask(Request::Start(fields(alloc, LONG_TERM)?));
-    match engine.step(alloc, &start)? {
-        Reply::Started { session, .. } => Ok(session),
-        _ => Err(Refusal::BadLine),
+    match Engine::create(alloc, MemoryDisk::new(alloc), LIMIT) {
+        Ok(engine) => recorded(rt, alloc, engine, plan),
+        Err(refused) => Err(refused.refusal),
     }
 }
 
-fn shared<D: Disk + Drop + Send, A: Naming + Send + Sync, R: Threads + Wait + Clock + Sync>(
+/// Does what is to be done with one recording, and one that nobody writes.
+fn recorded<R: Threads + Wait + Clock + Print + Sync>(
     rt: &R,
     alloc: Global,
-    opened: Opened<Made>,
-    engine: Engine<D>,
-    session: i64,
-    has_queue: bool,
-    end: MadeEnd,
-) -> Result<u128, Refusal>
-    requires named { opened.table ≡ A.table }
-    requires counts { A.passes ≡ 1 }
-    requires stores { opened.keeps ≡ A.keeps }
-    requires opens { engine_seen D.life (view_of engine []) ≡ A.opening }
-{
-    let Ok((archive, mut passes)) = SharedArchive::<D, A>::new(alloc, opened, engine, 1) else {
-        return Err(Refusal::NoMemory);
-    };
-    let Ok((board, mut writers, _)) = Board::new(alloc, &[0], 0) else {
-        return Err(Refusal::NoMemory);
-    };
-    let pass = passes.pop().ok_or(Refusal::NoMemory)?;
-    let writer = writers.pop().ok_or(Refusal::NoMemory)?;
-    let seat = RecorderSeat::new(session, pass, writer);
-    let source = ImageSource::new(rt, alloc, Image::from_setup(alloc, &SETUP)?, end)?;
-    let begun = now(rt)?;
-    if has_queue {
-        apart(rt, alloc, &archive, &board, source, seat)?;
-    } else {
-        alone(rt, alloc, &archive, &board, source, seat)?;
+    mut engine: Engine<MemoryDisk>,
+    plan: Plan,
+) -> Result<u128, Refusal> {
+    match begin(alloc, &mut engine, 0, LONG_TERM) {
+        Ok(first) => crewed(rt, alloc, engine, [first, first], plan),
+        Err(refusal) => Err(refusal),
     }
-    since(rt, &begun)
+}
+
+/// The first seat records what comes from an end.
+pub(crate) fn record_all<
+    D: Disk + Drop + Send,
+    A: Naming + Send + Sync,
+    R: Threads + Wait + Clock + Sync,
+>(
+    rt: &R,
+    alloc: Global,
+    archive: &SharedArchive<D, A>,
+    board: &Board,
+    seat: RecorderSeat,
+    end: MadeEnd,
+    has_queue: bool,
+) -> Result<u128, Refusal>
+    requires pass { seat.pass.table ≡ A.table }
+    requires writer { seat.writer.table ≡ board.now }
+{
+    let Ok(image) = Image::from_setup(alloc, &SETUP) else {
+        return Err(Refusal::BadParameter);
+    };
+    match ImageSource::new(rt, alloc, image, end) {
+        Ok(source) => timed(rt, alloc, archive, board, source, seat, has_queue),
+        Err(_) => Err(Refusal::NoMemory),
+    }
+}
+
+fn timed<
+    S: BlockSource + Drop + Send,
+    D: Disk + Drop + Send,
+    A: Naming + Send + Sync,
+    R: Threads + Wait + Clock + Sync,
+>(
+    rt: &R,
+    alloc: Global,
+    archive: &SharedArchive<D, A>,
+    board: &Board,
+    source: S,
+    seat: RecorderSeat,
+    has_queue: bool,
+) -> Result<u128, Refusal>
+    requires pass { seat.pass.table ≡ A.table }
+    requires writer { seat.writer.table ≡ board.now }
+{
+    let begun = now(rt);
+    let outcome = if has_queue {
+        apart(rt, alloc, archive, board, source, seat)
+    } else {
+        alone(rt, alloc, archive, board, source, seat)
+    };
+    let took = since(rt, begun);
+    outcome.and(took.ok_or(Refusal::DeviceFault))
 }
 
 /// A receiver and a recorder.
@@ -194,11 +224,34 @@ fn apart<
     requires pass { seat.pass.table ≡ A.table }
     requires writer { seat.writer.table ≡ board.now }
 {
+    let (Ok(receivers), Some(recorders)) = (
+        receivers(alloc, source),
+        recorders::<A>(alloc, board, seat),
+    ) else {
+        return Err(Refusal::NoMemory);
+    };
+    run(rt, alloc, archive, board, receivers, recorders)
+}
+
+fn receivers<S: BlockSource + Drop>(
+    alloc: Global,
+    source: S,
+) -> Result<Vec<Receiver<S>>, AllocError> {
     let mut receivers = Vec::new(alloc);
     receivers.push(Receiver { source })?;
-    let mut recorders = Vec::new(alloc);
-    add::<A>(&mut recorders, board, seat)?;
-    run(rt, alloc, archive, board, receivers, recorders)
+    Ok(receivers)
+}
+
+fn recorders<A: Naming>(alloc: Global, board: &Board, seat: RecorderSeat) -> Option<Vec<Recorder>>
+    requires { (seat.pass.table ≡ A.table) × (seat.writer.table ≡ board.now) }
+    ensures { IfSome result (λ recorders. AreSeated A.table board.now recorders.items) }
+{
+    let _ = board;
+    let recorder = Recorder {
+        seat,
+        refused: None,
+    };
+    vec![in alloc; recorder].ok()
 }
 
 /// One thread, without a queue.
@@ -217,8 +270,11 @@ fn alone<S: BlockSource + Drop, D: Disk, A: Naming, R: Wait>(
         let Some(block) = source.next() else {
             return Ok(());
         };
-        seat.write(rt, alloc, archive, block)?;
-        seat.settle(rt, alloc, archive, board)?;
+        if seat.write(rt, alloc, archive, block).is_err()
+            || seat.settle(rt, alloc, archive, board).is_err()
+        {
+            return Err(Refusal::BadLine);
+        }
     }
     unreachable!()
 }

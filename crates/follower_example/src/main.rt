@@ -2,7 +2,8 @@
 //! lock; and a late replayer. Recorders go on once that is printed, so the same is printed whatever the threads do.
 #![tactic(auto)]
 
-ghost use Rattle.std.specs.Prelude.{◌≡◌, ◌<◌, []};
+ghost use Rattle.std.specs.Prelude.{◌≡◌, ◌<◌, [], IfSome};
+ghost use Rattle.call_history.specs.Passes.{new_passes};
 ghost use Rattle.archive_lock.specs.Held.{engine_seen, view_of};
 
 use agents_core::RecorderSeat;
@@ -29,23 +30,43 @@ const POSITIONS: [i64; 3] = [0, 64, 128];
 /// How often a thread looks for what it waits for.
 const MOST_LOOKS: u32 = 100_000_000;
 
-fn main(rt: HostRuntime) -> Result<()> {
-    let alloc = rt.alloc();
-    let made = Engine::create(alloc, MemoryDisk::new(alloc), 64);
-    let engine = made.ok().context("no archive was made")?;
-    opened(&rt, alloc, engine).context("something was refused")
+/// A board, and who sits at it: two recorders, one that follows them, and one that replays later.
+#[derive(Drop)]
+struct Seats {
+    board: Board,
+    first: RecorderSeat,
+    second: RecorderSeat,
+    reader: Reader,
+    late: Pass<Made>,
 }
 
-/// Begins two recordings, and opens the history of the calls, by which the archive is named.
+fn main(rt: HostRuntime) -> Result<()> {
+    let engine = made(rt.alloc()).context("no archive was made")?;
+    opened(&rt, rt.alloc(), engine).context("something was refused")
+}
+
+/// An archive with two recordings.
+fn made(alloc: Global) -> Option<Engine<MemoryDisk>> {
+    let mut engine = Engine::create(alloc, MemoryDisk::new(alloc), 64).ok()?;
+    let begun = begin(alloc, &mut engine);
+    begun.and(Some(engine))
+}
+
+/// Begins two recordings.
+fn begin(alloc: Global, engine: &mut Engine<MemoryDisk>) -> Option<()> {
+    let Ok(Line::Event(start)) = parse_line(alloc, START) else {
+        return None;
+    };
+    let are_begun = engine.step(alloc, &start).is_ok() && engine.step(alloc, &start).is_ok();
+    are_begun.then_some(())
+}
+
+/// Opens the history of the calls, by which the archive is named.
 fn opened<D: Disk + Drop + Send, R: Threads + Wait + Print + Sync>(
     rt: &R,
     alloc: Global,
-    mut engine: Engine<D>,
+    engine: Engine<D>,
 ) -> Option<()> {
-    if let Ok(Line::Event(start)) = parse_line(alloc, START) {
-        engine.step(alloc, &start).ok()?;
-        engine.step(alloc, &start).ok()?;
-    }
     let opened = Opened::new(alloc, false).ok()?;
     shared::<D, Brand, R>(rt, alloc, opened, engine)
 }
@@ -61,18 +82,48 @@ fn shared<D: Disk + Drop + Send, A: Naming + Send + Sync, R: Threads + Wait + Pr
     requires stores { opened.keeps ≡ A.keeps }
     requires opens { engine_seen D.life (view_of engine []) ≡ A.opening }
 {
-    let Ok((archive, mut passes)) = SharedArchive::<D, A>::new(alloc, opened, engine, 3) else {
+    let Ok((archive, passes)) = SharedArchive::<D, A>::new(alloc, opened, engine, 3) else {
         return None;
     };
+    let Seats {
+        board,
+        first,
+        second,
+        reader,
+        late,
+    } = seats_of::<A>(alloc, passes)?;
+    followed(rt, alloc, &archive, &board, first, second, reader);
+    replay(rt, alloc, &archive, late)
+}
+
+/// A board of two slots that start at 0, and its seats.
+fn seats_of<A: Naming>(alloc: Global, mut passes: Vec<Pass<Made>>) -> Option<Seats>
+    requires { passes.items ≡ new_passes A.table 3 }
+    ensures first { IfSome result (λ seats. seats.first.pass.table ≡ A.table) }
+    ensures writer { IfSome result (λ seats. seats.first.writer.table ≡ seats.board) }
+    ensures second { IfSome result (λ seats. seats.second.pass.table ≡ A.table) }
+    ensures other { IfSome result (λ seats. seats.second.writer.table ≡ seats.board) }
+    ensures reader { IfSome result (λ seats. (seats.reader.table ≡ seats.board)
+        × (1 < seats.board.words)) }
+    ensures late { IfSome result (λ seats. seats.late.table ≡ A.table) }
+{
     let Ok((board, mut writers, mut readers)) = Board::new(alloc, &[0, 0], 1) else {
         return None;
     };
-    let late = passes.pop()?;
-    let second = RecorderSeat::new(1, passes.pop()?, writers.pop()?);
-    let first = RecorderSeat::new(0, passes.pop()?, writers.pop()?);
+    let (Some(late), Some(second), Some(first)) = (passes.pop(), passes.pop(), passes.pop()) else {
+        return None;
+    };
+    let (Some(other), Some(writer)) = (writers.pop(), writers.pop()) else {
+        return None;
+    };
     let reader = readers.pop()?;
-    followed(rt, alloc, &archive, &board, first, second, reader);
-    replay(rt, alloc, &archive, late)
+    Some(Seats {
+        board,
+        first: RecorderSeat::new(0, first, writer),
+        second: RecorderSeat::new(1, second, other),
+        reader,
+        late,
+    })
 }
 
 /// Two threads record while this one follows.
@@ -132,9 +183,12 @@ fn record<D: Disk, A: Naming, R: Wait>(
 {
     for position in POSITIONS {
         if was_printed(printed, position) {
-            seat.write(rt, alloc, archive, block_at(alloc, position).ok()?)
-                .ok()?;
-            seat.settle(rt, alloc, archive, board).ok()?;
+            let block = block_at(alloc, position).ok()?;
+            if seat.write(rt, alloc, archive, block).is_err()
+                || seat.settle(rt, alloc, archive, board).is_err()
+            {
+                return None;
+            }
         }
     }
     Some(())
@@ -184,13 +238,31 @@ fn replay<D: Disk, A: Naming, R: Wait + Print>(
 ) -> Option<()>
     requires { pass.table ≡ A.table }
 {
-    for line in ["replay 0 0 -1", "poll 0 10"] {
-        let Ok(Line::Event(event)) = parse_line(alloc, line.as_bytes()) else {
-            return None;
-        };
-        if let Reply::Polled { frames, .. } = archive.call(rt, alloc, &mut pass, &event).ok()? {
-            println!(rt; "replayed {} frames", frames.len()).ok()?;
-        }
+    call(rt, alloc, archive, &mut pass, "replay 0 0 -1")?;
+    let polled = call(rt, alloc, archive, &mut pass, "poll 0 10")?;
+    println!(rt; "replayed {} frames", frames_in(&polled)).ok()
+}
+
+fn frames_in(reply: &Reply) -> usize {
+    match reply {
+        Reply::Polled { frames, .. } => frames.len(),
+        _ => 0,
     }
-    Some(())
+}
+
+/// Makes the call of a control line.
+fn call<D: Disk, A: Naming, R: Wait>(
+    rt: &R,
+    alloc: Global,
+    archive: &SharedArchive<D, A>,
+    pass: &mut Pass<Made>,
+    line: &str,
+) -> Option<Reply>
+    requires { pass.old.table ≡ A.table }
+    ensures { pass.new.table ≡ pass.old.table }
+{
+    let Ok(Line::Event(event)) = parse_line(alloc, line.as_bytes()) else {
+        return None;
+    };
+    archive.call(rt, alloc, pass, &event).ok()
 }

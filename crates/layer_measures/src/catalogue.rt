@@ -1,13 +1,39 @@
 //! A bank of 100,000 entries on a disk in memory, opened again and again.
 
-use anyhow::{Result, bail};
 use archive_model::{Channel, StartFields};
 use catalogue_log::{Entry, Log, create, open};
 use disk_core::MemoryDisk;
 use std::alloc::Global;
 
-fn start(alloc: Global) -> Result<Entry> {
-    Ok(Entry::Start {
+/// Makes the bank and opens it so often. Gives the entries that were read in all.
+pub(crate) fn entries_read(alloc: Global, openings: u32) -> Option<u64> {
+    let mut disk = MemoryDisk::new(alloc);
+    fill(alloc, &mut disk)?;
+    let mut entries = 0u64;
+    for _ in 0..openings {
+        entries = entries.saturating_add(opened(alloc, &mut disk)? as u64);
+    }
+    Some(entries)
+}
+
+/// How many entries an opening reads.
+fn opened(alloc: Global, disk: &mut MemoryDisk) -> Option<usize> {
+    match open(alloc, disk) {
+        Ok((_, entries)) => Some(entries.len()),
+        Err(_) => None,
+    }
+}
+
+/// Makes the bank: a start, and then settlements.
+fn fill(alloc: Global, disk: &mut MemoryDisk) -> Option<()> {
+    let mut log = create(alloc, disk, 1_048_576).ok()?;
+    let is_full = add_start(alloc, disk, &mut log).is_some() && add_settlements(disk, &mut log);
+    is_full.then_some(())
+}
+
+fn add_start(alloc: Global, disk: &mut MemoryDisk, log: &mut Log) -> Option<()> {
+    let channel = Channel::new(String::from_str(alloc, "c").ok()?);
+    let start = Entry::Start {
         recording: 0,
         fields: StartFields {
             stream_id: 1_001,
@@ -18,51 +44,26 @@ fn start(alloc: Global) -> Result<Entry> {
             segment_length: 131_072,
             start_position: 0,
             timestamp: 1_000,
-            channel: Channel::new(String::from_str(alloc, "c")?),
+            channel,
         },
-    })
-}
-
-fn add(disk: &mut MemoryDisk, log: &mut Log, entry: &Entry) -> Result<()> {
-    if !entry.is_short() {
-        bail!("not added");
-    }
-    match log.append(disk, entry) {
-        Ok(()) => Ok(()),
-        Err(_) => bail!("not added"),
-    }
-}
-
-fn opened(alloc: Global, disk: &mut MemoryDisk) -> Result<usize> {
-    match open(alloc, disk) {
-        Ok((_, entries)) => Ok(entries.len()),
-        Err(_) => bail!("not opened"),
-    }
-}
-
-/// Makes the bank and opens it so often. Gives the entries that were read in all.
-pub(crate) fn entries_read(alloc: Global, openings: u32) -> Result<u64> {
-    let mut disk = made(alloc)?;
-    let mut entries = 0u64;
-    for _ in 0..openings {
-        entries = entries.saturating_add(opened(alloc, &mut disk)? as u64);
-    }
-    Ok(entries)
-}
-
-/// A disk with the bank: a start, and then settlements.
-fn made(alloc: Global) -> Result<MemoryDisk> {
-    let mut disk = MemoryDisk::new(alloc);
-    let Ok(mut log) = create(alloc, &mut disk, 1_048_576) else {
-        bail!("not created");
     };
-    add(&mut disk, &mut log, &start(alloc)?)?;
+    add(disk, log, &start).then_some(())
+}
+
+fn add_settlements(disk: &mut MemoryDisk, log: &mut Log) -> bool {
     for index in 1..100_000u32 {
         let settle = Entry::Settle {
             recording: 0,
             position: i64::from(index) * 64,
         };
-        add(&mut disk, &mut log, &settle)?;
+        if !add(disk, log, &settle) {
+            return false;
+        }
     }
-    Ok(disk)
+    true
+}
+
+/// Adds an entry. Whether it was added.
+fn add(disk: &mut MemoryDisk, log: &mut Log, entry: &Entry) -> bool {
+    entry.is_short() && log.append(disk, entry).is_ok()
 }

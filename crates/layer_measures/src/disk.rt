@@ -1,11 +1,10 @@
 //! Ten megabytes in writes of 64 bytes to a disk in memory.
 
-use anyhow::Result;
 use disk_core::{Disk, FileId, MemoryDisk};
 use std::alloc::Global;
 
 /// Writes to so many files in turn, with a sync after each ten. Gives how many calls have changed the disk.
-pub(crate) fn changes(alloc: Global, files: u32) -> Result<u64> {
+pub(crate) fn changes(alloc: Global, files: u32) -> Option<u64> {
     let files = u64::from(files.max(1));
     let mut disk = MemoryDisk::new(alloc);
     for i in 0..16_384u64 {
@@ -13,11 +12,16 @@ pub(crate) fn changes(alloc: Global, files: u32) -> Result<u64> {
             recording: (i % files) as i64,
             base: 0,
         };
-        let at = i / files * 640;
-        for k in 0..10 {
-            disk.write_at(file, at + k * 64, &[7; 64])?;
-        }
-        disk.sync(file)?;
+        write_ten(&mut disk, file, i / files * 640)?;
     }
-    Ok(disk.changes())
+    Some(disk.changes())
+}
+
+/// Ten writes to a file from a place on, and a sync.
+fn write_ten(disk: &mut MemoryDisk, file: FileId, at: u64) -> Option<()> {
+    for k in 0..10u64 {
+        disk.write_at(file, at.saturating_add(k * 64), &[7; 64])
+            .ok()?;
+    }
+    disk.sync(file).ok()
 }

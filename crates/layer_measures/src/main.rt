@@ -5,18 +5,24 @@ mod catalogue;
 mod disk;
 mod segments;
 
-use anyhow::{Context, Result, bail};
+use anyhow::{Context, Result};
+use std::alloc::Global;
 use std::env;
 
 fn main(rt: HostRuntime) -> Result<()> {
     let layer = env::args(&rt)?.nth(1).context("which layer?")?;
     let much: u32 = env::args(&rt)?.nth(2).context("how much?")?.parse()?;
-    let told = match layer.as_str() {
-        "catalogue" => catalogue::entries_read(rt.alloc(), much)?,
-        "disk" => disk::changes(rt.alloc(), much)?,
-        "segments" => segments::bytes_read(rt.alloc(), much)?,
-        _ => bail!("catalogue, disk or segments?"),
-    };
+    let told = measured(rt.alloc(), layer.as_str(), much).context("catalogue, disk or segments?")?;
     println!(rt; "{told}")?;
     Ok(())
+}
+
+/// What the work of a layer gives.
+fn measured(alloc: Global, layer: &str, much: u32) -> Option<u64> {
+    match layer {
+        "catalogue" => catalogue::entries_read(alloc, much),
+        "disk" => disk::changes(alloc, much),
+        "segments" => segments::bytes_read(alloc, much),
+        _ => None,
+    }
 }

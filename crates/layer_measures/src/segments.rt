@@ -1,10 +1,9 @@
 //! Blocks of 46 frames of 1,408 bytes, in segment files on a disk in memory.
 
-use anyhow::{Result, bail};
 use disk_core::MemoryDisk;
 use frame_core::{Block, Frame, FrameKind, Geometry, Items, Publication, block_end};
 use segment_store::{Layout, read_frame, sync_segment, write_block};
-use std::alloc::Global;
+use std::alloc::{AllocError, Global};
 
 const GEOMETRY: Geometry = Geometry {
     initial_term_id: 42,
@@ -25,7 +24,8 @@ const LAYOUT: Layout = Layout {
     segment_length: 1_073_741_824,
 };
 
-fn frame(alloc: Global, term_offset: i32) -> Result<Frame> {
+fn frame(alloc: Global, term_offset: i32) -> Result<Frame, AllocError> {
+    let payload = vec![in alloc; 7; 1_376]?;
     Ok(Frame {
         kind: FrameKind::Message,
         flags: 0xc0,
@@ -35,15 +35,15 @@ fn frame(alloc: Global, term_offset: i32) -> Result<Frame> {
         stream_id: 1_001,
         term_id: 42,
         reserved: 0,
-        payload: Items::from_vec(vec![in alloc; 7; 1_376]?),
+        payload: Items::from_vec(payload),
     })
 }
 
-fn block(alloc: Global, position: u32) -> Result<Block> {
+fn block(alloc: Global, position: u32) -> Result<Block, AllocError> {
     let mut frames = Items::new(alloc);
     for index in 0..46u32 {
         let offset = position.saturating_add(index * 1_408);
-        frames.push(frame(alloc, i32::try_from(offset)?)?)?;
+        frames.push(frame(alloc, i32::try_from(offset).unwrap_or(-1))?)?;
     }
     Ok(Block {
         position: i64::from(position),
@@ -51,54 +51,50 @@ fn block(alloc: Global, position: u32) -> Result<Block> {
     })
 }
 
+/// Writes and syncs a block. Whether it was stored.
 #[tactic(auto, using(crate::proofs::Facts::layout_fits))]
-fn store(disk: &mut MemoryDisk, block: &Block) -> Result<()> {
-    if block.position < 0 {
-        bail!("no position");
-    }
-    if block_end(&GEOMETRY, &PUBLICATION, block).is_none() {
-        bail!("no block");
-    }
-    if write_block(disk, &LAYOUT, block).is_err() {
-        bail!("not written");
-    }
-    if sync_segment(disk, &LAYOUT, block.position).is_err() {
-        bail!("not synced");
-    }
-    Ok(())
+fn store(disk: &mut MemoryDisk, block: &Block) -> bool {
+    block.position >= 0
+        && block_end(&GEOMETRY, &PUBLICATION, block).is_some()
+        && write_block(disk, &LAYOUT, block).is_ok()
+        && sync_segment(disk, &LAYOUT, block.position).is_ok()
 }
 
+/// The bytes of a frame's payload.
 #[tactic(auto, using(crate::proofs::Facts::layout_fits, crate::proofs::Facts::geometry_fits))]
-fn read(alloc: Global, disk: &mut MemoryDisk, position: u32) -> Result<usize> {
+fn read(alloc: Global, disk: &mut MemoryDisk, position: u32) -> Option<usize> {
     let limit = i64::from(position).saturating_add(1_408);
     match read_frame(alloc, disk, &LAYOUT, &GEOMETRY, i64::from(position), limit) {
-        Ok(frame) => Ok(frame.payload.len()),
-        Err(_) => bail!("not read"),
+        Ok(frame) => Some(frame.payload.len()),
+        Err(_) => None,
     }
 }
 
 /// Makes 2,174 blocks; from `steps` 1 on writes and syncs each; from 2 on reads each of their frames again. Gives the bytes
 /// of the payloads that were read.
-pub(crate) fn bytes_read(alloc: Global, steps: u32) -> Result<u64> {
+pub(crate) fn bytes_read(alloc: Global, steps: u32) -> Option<u64> {
     let mut disk = MemoryDisk::new(alloc);
     for index in 0..2_174u32 {
-        let block = block(alloc, index * 64_768)?;
-        if steps > 0 {
-            store(&mut disk, &block)?;
-        }
+        make(alloc, &mut disk, index * 64_768, steps > 0)?;
     }
     if steps > 1 {
         all_read(alloc, &mut disk)
     } else {
-        Ok(0)
+        Some(0)
     }
 }
 
+/// Makes a block, and stores it where that is asked for.
+fn make(alloc: Global, disk: &mut MemoryDisk, position: u32, is_stored: bool) -> Option<()> {
+    let block = block(alloc, position).ok()?;
+    (!is_stored || store(disk, &block)).then_some(())
+}
+
 /// Reads each frame.
-fn all_read(alloc: Global, disk: &mut MemoryDisk) -> Result<u64> {
+fn all_read(alloc: Global, disk: &mut MemoryDisk) -> Option<u64> {
     let mut bytes = 0u64;
     for index in 0..100_004u32 {
         bytes = bytes.saturating_add(read(alloc, disk, index * 1_408)? as u64);
     }
-    Ok(bytes)
+    Some(bytes)
 }

@@ -41,38 +41,58 @@ impl Story {
         }
     }
 
-    fn session(&mut self, number: i64) -> Result<&mut Session, Refusal> {
-        let index = usize::try_from(number).map_err(|_| Refusal::StaleSession)?;
-        let found = self.sessions.as_mut_slice().get_mut(index);
-        found.ok_or(Refusal::StaleSession)
+    fn session(&mut self, number: i64) -> Option<&mut Session> {
+        let index = usize::try_from(number).ok()?;
+        self.sessions.as_mut_slice().get_mut(index)
     }
 
     fn write(&mut self, number: i64, block: Block) -> Result<(), Refusal> {
-        Ok(self.session(number)?.written.push(block)?)
+        match self.session(number) {
+            Some(session) => Ok(session.written.push(block)?),
+            None => Err(Refusal::StaleSession),
+        }
+    }
+
+    /// The recording of a session, and the blocks that it wrote, which it has no more.
+    fn taken(&mut self, alloc: Global, number: i64) -> Option<(i64, Items<Block>)> {
+        let session = self.session(number)?;
+        let blocks = std::mem::replace(&mut session.written, Items::new(alloc));
+        Some((session.recording, blocks))
     }
 
     fn settle(&mut self, alloc: Global, number: i64) -> Result<(), Refusal> {
-        let session = self.session(number)?;
-        let recording = session.recording;
-        let blocks = std::mem::replace(&mut session.written, Items::new(alloc));
-        if !blocks.is_empty() {
-            self.book.append(&recording, blocks)?;
+        match self.taken(alloc, number) {
+            Some((recording, blocks)) => self.append(recording, blocks),
+            None => Err(Refusal::StaleSession),
         }
-        Ok(())
     }
 
+    fn append(&mut self, recording: i64, blocks: Items<Block>) -> Result<(), Refusal> {
+        if blocks.is_empty() {
+            return Ok(());
+        }
+        self.obey(Command::Append { recording, blocks }).and(Ok(()))
+    }
+
+    /// Obeys a command.
+    fn obey(&mut self, command: Command) -> Result<Reply, Refusal> {
+        self.book.apply(&command)
+    }
+
+    /// Obeys a request, where it is a command.
     fn ask(&mut self, alloc: Global, request: Request) -> Result<(), Refusal> {
-        match request {
-            Request::Start(fields) => {
-                let recording = self.book.start(&fields)?;
-                self.begin(alloc, recording)
-            }
-            Request::Extend(fields) => {
-                let recording = fields.recording;
-                self.book.apply(&Command::Extend(fields))?;
-                self.begin(alloc, recording)
-            }
-            request => self.change(request),
+        let extended = match &request {
+            Request::Extend(fields) => fields.recording,
+            _ => -1,
+        };
+        let Some(command) = command_of(request) else {
+            return Ok(());
+        };
+        match self.obey(command) {
+            Ok(Reply::Started { recording, .. }) => self.begin(alloc, recording),
+            Ok(Reply::Extended { .. }) => self.begin(alloc, extended),
+            Ok(_) => Ok(()),
+            Err(refusal) => Err(refusal),
         }
     }
 
@@ -85,59 +105,61 @@ impl Story {
         )
     }
 
-    /// Obeys a request that begins no session.
-    fn change(&mut self, request: Request) -> Result<(), Refusal> {
-        let command = match request {
-            Request::Stop {
-                recording,
-                timestamp,
-            } => Command::Stop {
-                recording,
-                timestamp,
-            },
-            Request::Truncate {
-                recording,
-                position,
-            } => Command::Truncate {
-                recording,
-                position,
-            },
-            Request::PurgeSegments {
-                recording,
-                position,
-            } => Command::PurgeSegments {
-                recording,
-                position,
-            },
-            Request::PurgeRecording { recording } => Command::PurgeRecording { recording },
-            _ => return Ok(()),
-        };
-        self.book.apply(&command)?;
-        Ok(())
-    }
-
-    /// The frames of each recording, and behind them the recordings, as `text_of` tells them of an archive.
+    /// The recordings, and behind them the frames of each, as `text_of` tells them of an archive.
     pub(crate) fn text(&self, alloc: Global) -> Result<Vec<u8>, Refusal> {
-        let mut text = Vec::new(alloc);
+        let mut text = listed(alloc, self.book.recordings())?;
         for recording in self.book.recordings() {
-            let mut frames = polled(alloc, recording)?;
-            text.append(&mut frames)?;
+            add_frames(alloc, recording, &mut text)?;
         }
-        let mut list = listed(alloc, &self.book)?;
-        text.append(&mut list)?;
         Ok(text)
     }
 }
 
-fn listed(alloc: Global, book: &Book) -> Result<Vec<u8>, Refusal> {
+/// The command that a request is.
+fn command_of(request: Request) -> Option<Command> {
+    match request {
+        Request::Start(fields) => Some(Command::Start(fields)),
+        Request::Extend(fields) => Some(Command::Extend(fields)),
+        Request::Stop {
+            recording,
+            timestamp,
+        } => Some(Command::Stop {
+            recording,
+            timestamp,
+        }),
+        Request::Truncate {
+            recording,
+            position,
+        } => Some(Command::Truncate {
+            recording,
+            position,
+        }),
+        Request::PurgeSegments {
+            recording,
+            position,
+        } => Some(Command::PurgeSegments {
+            recording,
+            position,
+        }),
+        Request::PurgeRecording { recording } => Some(Command::PurgeRecording { recording }),
+        _ => None,
+    }
+}
+
+fn listed(alloc: Global, recordings: &[Recording]) -> Result<Vec<u8>, Refusal> {
     let mut descriptors = Items::new(alloc);
-    for recording in book.recordings() {
+    for recording in recordings {
         descriptors.push(recording.descriptor().copy(alloc)?)?;
     }
     print_reply(alloc, &Reply::Recordings(descriptors))
 }
 
-fn polled(alloc: Global, recording: &Recording) -> Result<Vec<u8>, Refusal> {
+fn add_frames(alloc: Global, recording: &Recording, text: &mut Vec<u8>) -> Result<(), Refusal> {
+    let mut frames = frames_of(alloc, recording)?;
+    Ok(text.append(&mut frames)?)
+}
+
+fn frames_of(alloc: Global, recording: &Recording) -> Result<Vec<u8>, Refusal> {
     let start = recording.descriptor().start_position;
     let frames = recording.poll(alloc, &start, &LAST_NUMBER, 4_096)?;
     let next = if recording.is_active() {
@@ -145,5 +167,6 @@ fn polled(alloc: Global, recording: &Recording) -> Result<Vec<u8>, Refusal> {
     } else {
         None
     };
-    print_reply(alloc, &Reply::Polled { frames, next })
+    let reply = Reply::Polled { frames, next };
+    print_reply(alloc, &reply)
 }

@@ -1,24 +1,20 @@
 //! What calls under a lock cost beside those of the engine alone: blocks that are each written and settled.
 
-ghost use Rattle.std.specs.Prelude.{◌≡◌, []};
-ghost use Rattle.archive_lock.specs.Held.{engine_seen, view_of};
-
 use crate::blocks::{LARGE_BLOCK, LONG_TERM, SMALL_BLOCK, fields, large_block, small_block};
-use crate::folder::disk_of;
-use crate::seat::{Seat, seats_of};
-use archive_lock::{Made, Naming, SharedArchive};
+use crate::crew::{Left, crewed, now, since};
+use crate::folder::{disk_of, made};
+use crate::text::ask;
+use crate::work::{Plan, Work};
 use archive_model::Reply;
-use call_history::Opened;
 use control_core::{Event, Request};
 use disk_core::{Disk, MemoryDisk};
 use engine_core::Engine;
 use frame_core::{Block, Refusal};
 use std::alloc::{AllocError, Global};
-use std::marker::Brand;
+use std::io::Print;
 use std::rt::Clock;
 use std::sync::Wait;
-use std::thread::{Threads, map_vec};
-use std::time::Instant;
+use std::thread::Threads;
 
 /// How many entries the history of an archive takes.
 const LIMIT: u32 = 1_000_000;
@@ -33,7 +29,7 @@ pub(crate) struct Load {
 
 /// Microseconds that so many blocks take: by the engine alone (`engine`), under a lock by one thread (`call`; `counted`
 /// where calls are counted alone), or by four threads that each write so many (`four`). The disk is `memory` or a folder.
-pub(crate) fn measured<R: Threads + Wait + Clock + Sync>(
+pub(crate) fn measured<R: Threads + Wait + Clock + Print + Sync>(
     rt: &R,
     host: HostRuntime,
     how: &str,
@@ -47,20 +43,41 @@ pub(crate) fn measured<R: Threads + Wait + Clock + Sync>(
     timed(rt, host.alloc(), how, disk_of(host, disk)?, load)
 }
 
-fn timed<D: Disk + Drop + Send, R: Threads + Wait + Clock + Sync>(
+fn timed<D: Disk + Drop + Send, R: Threads + Wait + Clock + Print + Sync>(
     rt: &R,
     alloc: Global,
     how: &str,
     disk: D,
     load: Load,
 ) -> Result<u128, Refusal> {
-    let engine = Engine::create(alloc, disk, LIMIT).map_err(|refused| refused.refusal)?;
-    match how {
-        "engine" => alone(rt, alloc, engine, load),
-        "call" => opened(rt, alloc, engine, true, 1, load),
-        "counted" => opened(rt, alloc, engine, false, 1, load),
-        _ => opened(rt, alloc, engine, true, 4, load),
+    let mut engine = made(alloc, disk, LIMIT)?;
+    let (keeps, threads) = match how {
+        "engine" => return alone(rt, alloc, &mut engine, load),
+        "call" => (true, 1),
+        "counted" => (false, 1),
+        _ => (true, 4),
+    };
+    took_of(crewed(rt, alloc, engine, keeps, threads, Plan::Speed(load)))
+}
+
+/// How long the threads worked, where each call was answered Ok.
+fn took_of<D: Drop>(left: Result<Left<D>, Refusal>) -> Result<u128, Refusal> {
+    let left = left?;
+    if are_right(left.works.as_slice()) {
+        left.took.ok_or(Refusal::DeviceFault)
+    } else {
+        Err(Refusal::BadLine)
     }
+}
+
+/// Whether the calls of each were answered Ok.
+fn are_right(works: &[Work]) -> bool {
+    for work in works {
+        if !work.is_right {
+            return false;
+        }
+    }
+    true
 }
 
 /// The block of a load that begins there.
@@ -73,7 +90,7 @@ fn block_at(alloc: Global, load: Load, index: i64) -> Result<Block, AllocError> 
 }
 
 /// The calls of a session.
-fn events_of(alloc: Global, session: i64, load: Load) -> Result<Vec<Event>, AllocError> {
+pub(crate) fn events_of(alloc: Global, session: i64, load: Load) -> Result<Vec<Event>, AllocError> {
     let mut events = Vec::new(alloc);
     for index in 0..load.blocks {
         let block = block_at(alloc, load, i64::from(index))?;
@@ -85,118 +102,43 @@ fn events_of(alloc: Global, session: i64, load: Load) -> Result<Vec<Event>, Allo
     Ok(events)
 }
 
-fn start(alloc: Global) -> Result<Event, AllocError> {
+/// Asks for a recording of long terms.
+pub(crate) fn start(alloc: Global) -> Result<Event, AllocError> {
     Ok(Event::Ask(Request::Start(fields(alloc, LONG_TERM)?)))
 }
 
-/// The session that a start was answered by.
-fn session_of(answer: Result<Reply, Refusal>) -> Result<i64, Refusal> {
-    match answer? {
-        Reply::Started { session, .. } => Ok(session),
-        _ => Err(Refusal::BadLine),
+/// The session that a start was answered by; one that is none where it was refused.
+pub(crate) fn session_of(answer: Result<Reply, Refusal>) -> i64 {
+    match answer {
+        Ok(Reply::Started { session, .. }) => session,
+        _ => -1,
     }
 }
 
-fn now<R: Clock>(rt: &R) -> Result<Instant, Refusal> {
-    Instant::now(rt).map_err(|_| Refusal::DeviceFault)
-}
-
-fn since<R: Clock>(rt: &R, begun: &Instant) -> Result<u128, Refusal> {
-    let elapsed = begun.elapsed(rt).map_err(|_| Refusal::DeviceFault)?;
-    Ok(elapsed.as_micros())
-}
-
-fn alone<D: Disk + Drop, R: Clock>(
+/// The engine alone.
+fn alone<D: Disk, R: Clock>(
     rt: &R,
     alloc: Global,
-    mut engine: Engine<D>,
+    engine: &mut Engine<D>,
     load: Load,
 ) -> Result<u128, Refusal> {
-    let session = session_of(engine.step(alloc, &start(alloc)?))?;
+    let start = start(alloc)?;
+    let session = session_of(ask(alloc, engine, &start));
     let events = events_of(alloc, session, load)?;
-    let begun = now(rt)?;
-    for event in events.as_slice() {
-        engine.step(alloc, event)?;
-    }
-    since(rt, &begun)
-}
-
-fn opened<D: Disk + Drop + Send, R: Threads + Wait + Clock + Sync>(
-    rt: &R,
-    alloc: Global,
-    engine: Engine<D>,
-    keeps: bool,
-    threads: u64,
-    load: Load,
-) -> Result<u128, Refusal> {
-    let Ok(opened) = Opened::new(alloc, keeps) else {
-        return Err(Refusal::NoMemory);
-    };
-    shared::<D, Brand, R>(rt, alloc, opened, engine, threads, load)
-}
-
-#[tactic(auto, using(crate::proofs::PassLemmas::all_new))]
-fn shared<D: Disk + Drop + Send, A: Naming + Send + Sync, R: Threads + Wait + Clock + Sync>(
-    rt: &R,
-    alloc: Global,
-    opened: Opened<Made>,
-    engine: Engine<D>,
-    threads: u64,
-    load: Load,
-) -> Result<u128, Refusal>
-    requires named { opened.table ≡ A.table }
-    requires counts { threads ≡ A.passes }
-    requires stores { opened.keeps ≡ A.keeps }
-    requires opens { engine_seen D.life (view_of engine []) ≡ A.opening }
-{
-    let Ok((archive, passes)) = SharedArchive::<D, A>::new(alloc, opened, engine, threads) else {
-        return Err(Refusal::NoMemory);
-    };
-    let jobs = jobs_of(rt, alloc, &archive, seats_of::<A>(alloc, passes)?, load)?;
-    let shared = &archive;
-    let begun = now(rt)?;
-    let done = map_vec(rt, jobs, &|job| worked(rt, alloc, shared, job))?;
-    let took = since(rt, &begun)?;
-    if done.as_slice().iter().all(|&all| all) {
-        Ok(took)
+    let begun = now(rt);
+    let is_right = are_accepted(alloc, engine, events.as_slice());
+    let took = since(rt, begun);
+    if is_right {
+        took.ok_or(Refusal::DeviceFault)
     } else {
         Err(Refusal::BadLine)
     }
 }
 
-/// A seat and the calls that it is to make.
-#[derive(Drop)]
-struct Job<A: Naming> {
-    seat: Seat<A>,
-    events: Vec<Event>,
-}
-
-/// A job for each seat, with a recording of its own.
-fn jobs_of<D: Disk, A: Naming, R: Wait>(
-    rt: &R,
-    alloc: Global,
-    archive: &SharedArchive<D, A>,
-    seats: Vec<Seat<A>>,
-    load: Load,
-) -> Result<Vec<Job<A>>, Refusal> {
-    let mut jobs = Vec::new(alloc);
-    for mut seat in seats {
-        let session = session_of(seat.call(rt, alloc, archive, &start(alloc)?))?;
-        let events = events_of(alloc, session, load)?;
-        jobs.push(Job { seat, events })?;
-    }
-    Ok(jobs)
-}
-
-/// Makes the calls of a job. Whether each was answered Ok.
-fn worked<D: Disk, A: Naming, R: Wait>(
-    rt: &R,
-    alloc: Global,
-    archive: &SharedArchive<D, A>,
-    mut job: Job<A>,
-) -> bool {
-    for event in job.events.as_slice() {
-        if job.seat.call(rt, alloc, archive, event).is_err() {
+/// Makes calls, up to the first that is not answered Ok. Whether each was.
+fn are_accepted<D: Disk>(alloc: Global, engine: &mut Engine<D>, events: &[Event]) -> bool {
+    for event in events {
+        if ask(alloc, engine, event).is_err() {
             return false;
         }
     }

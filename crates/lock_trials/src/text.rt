@@ -1,12 +1,25 @@
 //! Answers as the lines of docs/CONTROL.md, and what an archive has as such lines.
 
-use archive_model::{Descriptor, Reply};
-use control_core::{Event, Request};
+use crate::recorder::list;
+use archive_model::Reply;
+use control_core::Event;
 use control_lines::{print_refusal, print_reply};
-use disk_core::Disk;
+use disk_core::{Disk, MemoryDisk};
 use engine_core::Engine;
-use frame_core::{Items, Refusal};
+use frame_core::Refusal;
 use std::alloc::Global;
+
+/// More than a run begins recordings.
+const MOST_RECORDINGS: i64 = 400;
+
+/// What an archive answers to an event.
+pub(crate) fn ask<D: Disk>(
+    alloc: Global,
+    engine: &mut Engine<D>,
+    event: &Event,
+) -> Result<Reply, Refusal> {
+    engine.step(alloc, event)
+}
 
 /// What is told of an answer.
 pub(crate) fn told(alloc: Global, answer: &Result<Reply, Refusal>) -> Result<Vec<u8>, Refusal> {
@@ -21,56 +34,55 @@ pub(crate) fn refused(alloc: Global, refusal: &Refusal) -> Result<Vec<u8>, Refus
     Ok(Vec::from_slice(alloc, print_refusal(refusal).as_bytes())?)
 }
 
-/// The recordings of an archive, and behind them the frames of each.
-pub(crate) fn text_of<D: Disk>(alloc: Global, engine: &mut Engine<D>) -> Result<Vec<u8>, Refusal> {
-    let all = Event::Ask(Request::List {
-        from: 0,
-        count: 1_024,
-    });
-    match engine.step(alloc, &all)? {
-        Reply::Recordings(descriptors) => text_of_each(alloc, engine, descriptors),
-        _ => Err(Refusal::BadLine),
+/// Whether a text is this one.
+pub(crate) fn is_text(text: Result<Vec<u8>, Refusal>, right: &[u8]) -> bool {
+    match text {
+        Ok(text) => text.as_slice() == right,
+        Err(_) => false,
     }
 }
 
-fn text_of_each<D: Disk>(
-    alloc: Global,
-    engine: &mut Engine<D>,
-    descriptors: Items<Descriptor>,
-) -> Result<Vec<u8>, Refusal> {
-    let mut text = Vec::new(alloc);
-    for descriptor in descriptors.as_slice() {
-        let mut frames = frames_of(alloc, engine, descriptor.recording)?;
-        text.append(&mut frames)?;
+/// The recordings of an archive, and behind them the frames of each.
+pub(crate) fn text_of(alloc: Global, engine: &mut Engine<MemoryDisk>) -> Result<Vec<u8>, Refusal> {
+    let mut text = listed(alloc, engine)?;
+    for recording in 0..MOST_RECORDINGS {
+        add_frames(alloc, engine, recording, &mut text)?;
     }
-    let mut list = print_reply(alloc, &Reply::Recordings(descriptors))?;
-    text.append(&mut list)?;
     Ok(text)
 }
 
-/// The frames of a whole recording.
-fn frames_of<D: Disk>(
+fn listed(alloc: Global, engine: &mut Engine<MemoryDisk>) -> Result<Vec<u8>, Refusal> {
+    let list = list();
+    let answer = ask(alloc, engine, &list);
+    told(alloc, &answer)
+}
+
+/// Adds the frames of a recording, if there is one of the number.
+fn add_frames(
     alloc: Global,
-    engine: &mut Engine<D>,
+    engine: &mut Engine<MemoryDisk>,
+    recording: i64,
+    text: &mut Vec<u8>,
+) -> Result<(), Refusal> {
+    let mut frames = frames_of(alloc, engine, recording)?;
+    Ok(text.append(&mut frames)?)
+}
+
+/// The frames of a whole recording.
+fn frames_of(
+    alloc: Global,
+    engine: &mut Engine<MemoryDisk>,
     recording: i64,
 ) -> Result<Vec<u8>, Refusal> {
-    let event = Event::ReplayOpen {
+    let open = Event::ReplayOpen {
         recording,
         position: -1,
         length: -1,
     };
-    match engine.step(alloc, &event)? {
-        Reply::ReplayOpened { replay } => frames_in(alloc, engine, replay),
-        _ => Err(Refusal::BadLine),
-    }
-}
-
-fn frames_in<D: Disk>(
-    alloc: Global,
-    engine: &mut Engine<D>,
-    replay: i64,
-) -> Result<Vec<u8>, Refusal> {
-    let polled = engine.step(alloc, &Event::ReplayPoll { replay, max: 4_096 });
-    engine.step(alloc, &Event::ReplayClose { replay })?;
+    let Ok(Reply::ReplayOpened { replay }) = ask(alloc, engine, &open) else {
+        return Ok(Vec::new(alloc));
+    };
+    let polled = ask(alloc, engine, &Event::ReplayPoll { replay, max: 4_096 });
+    let _ = ask(alloc, engine, &Event::ReplayClose { replay });
     told(alloc, &polled)
 }

@@ -1,6 +1,6 @@
 use Rattle.std.proofs.Common.{length}
 use Rattle.call_history.specs.Passes.{AllOfTable}
-use Rattle.lock_trials.proofs.seat.seats_of.Given as goal
+use Rattle.lock_trials.proofs.crew.jobs_of.Given as goal
 
 -- the passes that are left are of the archive
 abbrev pub invariant-loop-pass : goal.invariant-loop-pass

@@ -1,6 +1,6 @@
 use Rattle.std.proofs.Common.{[]}
 use Rattle.archive_lock.specs.Held.{engine_seen, view_of}
-use Rattle.agent_trials.proofs.folder.opened.Given as goal
+use Rattle.agent_trials.proofs.crew.crewed.Given as goal
 
 -- the archive of this history
 abbrev pub ghosts-shared : goal.ghosts-shared
