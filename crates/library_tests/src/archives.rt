@@ -1,10 +1,8 @@
 //! The plain book of an archive, and the register: scenarios of docs/SCENARIOS.md at the calls of plain_book and archive_model.
 
+use crate::catalogues::register_of_bank;
 use crate::vectors::{HELLO_AT_0, HELLO_AT_64, HELLO_AT_128, HELLO_IN_NEXT_TERM, PAD_AT_TERM_END};
-use archive_model::{
-    Change, Channel, Command, Descriptor, ExtendFields, PolledFrame, Register, Registration, Reply,
-    StartFields,
-};
+use archive_model::{Channel, Command, Descriptor, PolledFrame, Register, Reply, StartFields};
 use frame_core::limits::LAST_NUMBER;
 use frame_core::{Block, Geometry, Items, Refusal, block_of};
 use plain_book::{Book, Recording};
@@ -48,82 +46,20 @@ fn append_one(alloc: Global, bytes: &[u8]) -> Result<Command, Refusal> {
     })
 }
 
-/// So many blocks of the first recording: `hello` at 0, 64 and 128.
-fn append_hellos(alloc: Global, count: usize) -> Result<Command, Refusal> {
+/// Adds the blocks of `hello` at 0, 64 and 128.
+fn add_hellos(alloc: Global, blocks: &mut Items<Block>) -> Result<(), Refusal> {
+    add_block(alloc, blocks, HELLO_AT_0)?;
+    add_block(alloc, blocks, HELLO_AT_64)?;
+    add_block(alloc, blocks, HELLO_AT_128)
+}
+
+/// These blocks of the first recording.
+fn append_hellos(alloc: Global) -> Result<Command, Refusal> {
     let mut blocks = Items::new(alloc);
-    for (index, bytes) in [HELLO_AT_0, HELLO_AT_64, HELLO_AT_128]
-        .into_iter()
-        .enumerate()
-    {
-        if index < count {
-            add_block(alloc, &mut blocks, bytes)?;
-        }
-    }
+    add_hellos(alloc, &mut blocks)?;
     Ok(Command::Append {
         recording: 0,
         blocks,
-    })
-}
-
-// A command on a book.
-#[derive(Clone, Copy)]
-enum Call {
-    // From a position.
-    Start(i64),
-    // A block of the first recording.
-    Block(&'static [u8]),
-    // So many blocks of the first recording: `hello` at 0, 64 and 128.
-    Hellos(usize),
-    // A recording and a timestamp.
-    Stop(i64, i64),
-    // A recording and a position.
-    Truncate(i64, i64),
-    PurgeSegments(i64, i64),
-    PurgeRecording(i64),
-    // The first recording with an MTU, from a position.
-    Extend(i32, i64),
-    Restart,
-}
-
-fn command(alloc: Global, call: Call) -> Result<Command, Refusal> {
-    match call {
-        Call::Start(position) => Ok(Command::Start(fields(alloc, position)?)),
-        Call::Block(bytes) => append_one(alloc, bytes),
-        Call::Hellos(count) => append_hellos(alloc, count),
-        plain => Ok(plain_command(plain)),
-    }
-}
-
-/// The same of commands that take no memory.
-fn plain_command(call: Call) -> Command {
-    match call {
-        Call::Stop(recording, timestamp) => Command::Stop {
-            recording,
-            timestamp,
-        },
-        Call::Truncate(recording, position) => Command::Truncate {
-            recording,
-            position,
-        },
-        Call::PurgeSegments(recording, position) => Command::PurgeSegments {
-            recording,
-            position,
-        },
-        Call::PurgeRecording(recording) => Command::PurgeRecording { recording },
-        Call::Extend(mtu, join_position) => extend(mtu, join_position),
-        _ => Command::Restart,
-    }
-}
-
-fn extend(mtu: i32, join_position: i64) -> Command {
-    Command::Extend(ExtendFields {
-        recording: 0,
-        stream_id: 1001,
-        session_id: 8,
-        initial_term_id: 42,
-        term_length: 65_536,
-        mtu,
-        join_position,
     })
 }
 
@@ -133,12 +69,8 @@ type Told = Result<(&'static str, i64), Refusal>;
 fn told(answer: &Result<Reply, Refusal>) -> Told {
     match answer {
         Ok(Reply::Started { recording, .. }) => Ok(("started", *recording)),
-        Ok(Reply::Extended { session }) => Ok(("extended", *session)),
         Ok(Reply::Settled { position }) => Ok(("settled", *position)),
         Ok(Reply::Stopped { position }) => Ok(("stopped", *position)),
-        Ok(Reply::Truncated { position }) => Ok(("truncated", *position)),
-        Ok(Reply::Purged { segments }) => Ok(("purged", *segments)),
-        Ok(Reply::Reopened { recordings }) => Ok(("reopened", *recordings)),
         Ok(_) => Ok(("another reply", -1)),
         Err(refusal) => Err(*refusal),
     }
@@ -149,22 +81,36 @@ fn obeyed(book: &mut Book, command: &Command) -> Told {
     told(&book.apply(command))
 }
 
-fn answer(alloc: Global, book: &mut Book, call: Call) -> Told {
-    obeyed(book, &command(alloc, call)?)
+fn started(alloc: Global, book: &mut Book, position: i64) -> Told {
+    let command = Command::Start(fields(alloc, position)?);
+    obeyed(book, &command)
 }
 
+fn appended(alloc: Global, book: &mut Book, bytes: &[u8]) -> Told {
+    let command = append_one(alloc, bytes)?;
+    obeyed(book, &command)
+}
+
+fn appended_hellos(alloc: Global, book: &mut Book) -> Told {
+    let command = append_hellos(alloc)?;
+    obeyed(book, &command)
+}
+
+/// Stops the first recording.
+const STOP: Command = Command::Stop {
+    recording: 0,
+    timestamp: 2_000,
+};
+
 /// A book with one recording of `hello` at 0, 64 and 128.
-fn three_hellos(alloc: Global) -> Result<Book, Fail> {
+fn three_hellos(alloc: Global) -> Result<Book, Refusal> {
     let mut book = Book::new(alloc, 3);
-    match fill(alloc, &mut book) {
-        Ok(()) => Ok(book),
-        Err(refusal) => Err(refusal.into()),
-    }
+    fill(alloc, &mut book).and(Ok(book))
 }
 
 fn fill(alloc: Global, book: &mut Book) -> Result<(), Refusal> {
-    answer(alloc, book, Call::Start(0))?;
-    answer(alloc, book, Call::Hellos(3))?;
+    started(alloc, book, 0)?;
+    appended_hellos(alloc, book)?;
     Ok(())
 }
 
@@ -209,13 +155,17 @@ fn is_full(book: &Book) -> bool {
     !book.has_room() && book.recordings().len() == 1 && book.next_recording() == 1
 }
 
+/// It gives that, and is stopped then.
+fn check_stopped(rt: &impl Abort, alloc: Global, book: &mut Book) -> Result<(), Fail> {
+    check_active(rt, alloc, book)?;
+    assert!(rt; obeyed(book, &STOP) == Ok(("stopped", 192)) && is_full(book));
+    Ok(())
+}
+
 #[test]
 fn first_recording_and_replay(rt: HostRuntime) -> Result<(), Fail> {
     let mut book = three_hellos(rt.alloc())?;
-    check_active(&rt, rt.alloc(), &book)?;
-    assert!(rt; answer(rt.alloc(), &mut book, Call::Stop(0, 2_000)) == Ok(("stopped", 192)));
-    assert!(rt; is_full(&book));
-    Ok(())
+    check_stopped(&rt, rt.alloc(), &mut book)
 }
 
 fn are_at(polled: &[PolledFrame], first: i64, second: i64) -> bool {
@@ -232,81 +182,27 @@ fn is_polled(alloc: Global, book: &Book) -> Result<bool, Fail> {
 #[test]
 fn pad_at_a_terms_end(rt: HostRuntime) -> Result<(), Fail> {
     let mut book = Book::new(rt.alloc(), 3);
-    for (call, wanted) in [
-        (Call::Start(65_472), ("started", 0)),
-        (Call::Block(PAD_AT_TERM_END), ("settled", 65_536)),
-        (Call::Block(HELLO_IN_NEXT_TERM), ("settled", 65_600)),
-    ] {
-        assert!(rt; answer(rt.alloc(), &mut book, call) == Ok(wanted));
-    }
+    assert!(rt; started(rt.alloc(), &mut book, 65_472) == Ok(("started", 0)));
+    assert!(rt; appended(rt.alloc(), &mut book, PAD_AT_TERM_END) == Ok(("settled", 65_536)));
+    assert!(rt; appended(rt.alloc(), &mut book, HELLO_IN_NEXT_TERM) == Ok(("settled", 65_600)));
     assert!(rt; is_polled(rt.alloc(), &book)?);
     Ok(())
 }
 
-/// Extension after a truncation, and each refusal that comes on the way, two of them due at once where they can be.
-#[test]
-fn a_recording_is_cut_and_goes_on(rt: HostRuntime) -> Result<(), Fail> {
-    let mut book = three_hellos(rt.alloc())?;
-    for (call, wanted) in [
-        (Call::Stop(7, -1), Err(Refusal::BadParameter)),
-        (Call::Stop(7, 2_000), Err(Refusal::UnknownRecording)),
-        (Call::Truncate(0, 65), Err(Refusal::ActiveRecording)),
-        (Call::PurgeRecording(0), Err(Refusal::ActiveRecording)),
-        (Call::Extend(1_376, 192), Err(Refusal::ActiveRecording)),
-        (Call::Restart, Ok(("reopened", 1))),
-        (Call::Stop(0, 2_000), Err(Refusal::NotActive)),
-        (Call::Truncate(0, 96), Err(Refusal::BadPosition)),
-        (Call::Truncate(0, 256), Err(Refusal::BadPosition)),
-        (Call::Extend(1_376, 192), Err(Refusal::BadExtension)),
-        (Call::Truncate(0, 64), Ok(("truncated", 64))),
-        (Call::Truncate(0, 64), Err(Refusal::HistoryFull)),
-        (Call::Truncate(7, 64), Err(Refusal::UnknownRecording)),
-        (Call::Extend(1_408, 64), Err(Refusal::HistoryFull)),
-        (Call::Extend(1_408, 128), Err(Refusal::BadExtension)),
-        (Call::PurgeSegments(0, 0), Err(Refusal::BadPosition)),
-    ] {
-        assert!(rt; answer(rt.alloc(), &mut book, call) == wanted);
+/// Starts a recording, again where it was refused, which has changed nothing.
+fn start_again(rt: &impl Abort, alloc: Global, book: &mut Book) -> Result<(), Refusal> {
+    if let Err(refusal) = started(alloc, book, 0) {
+        assert!(rt; refusal == Refusal::NoMemory && book.next_recording() == 0);
+        started(alloc, book, 0)?;
     }
     Ok(())
 }
 
-/// A recording that goes on where it was cut, and then is gone.
-#[test]
-fn a_recording_goes_on_where_it_was_cut(rt: HostRuntime) {
-    let mut book = Book::new(rt.alloc(), 8);
-    for (call, wanted) in [
-        (Call::Start(0), Ok(("started", 0))),
-        (Call::Hellos(2), Ok(("settled", 128))),
-        (Call::Block(HELLO_AT_0), Err(Refusal::BadBlock)),
-        (Call::Stop(0, 2_000), Ok(("stopped", 128))),
-        (Call::Truncate(0, 64), Ok(("truncated", 64))),
-        (Call::Extend(1_408, 128), Err(Refusal::BadExtension)),
-        (Call::Extend(1_408, 64), Ok(("extended", 0))),
-        (Call::Restart, Ok(("reopened", 1))),
-        (Call::Restart, Ok(("reopened", 0))),
-        (Call::PurgeRecording(0), Ok(("another reply", -1))),
-        (Call::Truncate(0, 64), Err(Refusal::UnknownRecording)),
-        (Call::Start(0), Ok(("started", 1))),
-    ] {
-        assert!(rt; answer(rt.alloc(), &mut book, call) == wanted);
-    }
-}
-
-/// A command, made anew where a request for memory is refused.
-fn made_command(alloc: Global, call: Call) -> Result<Command, Refusal> {
-    match command(alloc, call) {
-        Err(_) => command(alloc, call),
-        made => made,
-    }
-}
-
-/// Makes a call, and makes it again where it was refused, which has changed nothing.
-fn apply(rt: &impl Abort, alloc: Global, book: &mut Book, call: Call) -> Result<(), Refusal> {
-    let command = made_command(alloc, call)?;
-    let next = book.next_recording();
-    if let Err(refusal) = obeyed(book, &command) {
-        assert!(rt; refusal == Refusal::NoMemory && book.next_recording() == next);
-        obeyed(book, &command)?;
+/// Appends the three blocks, again where that was refused, which has changed nothing.
+fn append_again(rt: &impl Abort, alloc: Global, book: &mut Book) -> Result<(), Refusal> {
+    if let Err(refusal) = appended_hellos(alloc, book) {
+        assert!(rt; refusal == Refusal::NoMemory && recorded(book) == Some(0));
+        appended_hellos(alloc, book)?;
     }
     Ok(())
 }
@@ -322,17 +218,21 @@ fn recorded(book: &Book) -> Option<i64> {
     Some(book.recording(&0)?.recorded_position())
 }
 
+/// A start, three blocks and a replay, each made again where it was refused.
+fn check_again(rt: &impl Abort, alloc: Global, book: &mut Book) -> Result<(), Fail> {
+    start_again(rt, alloc, book)?;
+    append_again(rt, alloc, book)?;
+    assert!(rt; recorded(book) == Some(192));
+    assert!(rt; replayed_again(alloc, book)? == 3);
+    Ok(())
+}
+
 /// A refused request for memory is told as NoMemory and changes nothing, and the call may be made again:
 /// trials/refused_memory.py runs this test for each of its requests for memory, which it refuses.
 #[test]
 fn refused_memory_changes_nothing(rt: HostRuntime) -> Result<(), Fail> {
     let mut book = Book::new(rt.alloc(), 2);
-    for call in [Call::Start(0), Call::Hellos(3)] {
-        apply(&rt, rt.alloc(), &mut book, call)?;
-    }
-    assert!(rt; recorded(&book) == Some(192));
-    assert!(rt; replayed_again(rt.alloc(), &book)? == 3);
-    Ok(())
+    check_again(&rt, rt.alloc(), &mut book)
 }
 
 /// How many frames are polled from the last one on.
@@ -357,59 +257,7 @@ fn counted_memory_of_a_late_poll(rt: HostRuntime) -> Result<(), Fail> {
     poll_late(&rt, rt.alloc(), &book)
 }
 
-/// A register with one recording, which this change was made of.
-fn registered(rt: &impl Abort, alloc: Global, change: &Change) -> Result<Register, Fail> {
-    let mut register = Register::new(alloc);
-    let begun = Registration::begun(alloc, &register.next_recording(), &fields(alloc, 0)?)?;
-    assert!(rt; begun.descriptor.term_length > 0 && begun.descriptor.segment_length > 0);
-    register.reserve()?;
-    register.add(begun)?;
-    register.change(&0, change);
-    Ok(register)
-}
-
-/// The start position, the recorded one, the stop position and the next id of such a register.
-fn stands(register: &Register) -> Option<(i64, i64, i64, i64)> {
-    let found = register.recording(&0)?;
-    let descriptor = &found.descriptor;
-    Some((
-        descriptor.start_position,
-        found.recorded,
-        descriptor.stop_position,
-        register.next_recording(),
-    ))
-}
-
-#[test]
-fn a_register_takes_changes(rt: HostRuntime) -> Result<(), Fail> {
-    for (change, wanted) in [
-        (Change::Settle { position: 64 }, (0, 64, -1, 1)),
-        (Change::Stop { timestamp: 2_000 }, (0, 0, 0, 1)),
-        (Change::Truncate { position: 32 }, (0, 32, 32, 1)),
-        (
-            Change::PurgeSegments { position: 131_072 },
-            (131_072, 0, -1, 1),
-        ),
-        (Change::Extend { session_id: 8 }, (0, 0, -1, 1)),
-    ] {
-        let register = registered(&rt, rt.alloc(), &change)?;
-        assert!(rt; stands(&register) == Some(wanted));
-    }
-    Ok(())
-}
-
-#[test]
-fn a_register_restarts_and_forgets(rt: HostRuntime) -> Result<(), Fail> {
-    let mut register = registered(&rt, rt.alloc(), &Change::Settle { position: 64 })?;
-    assert!(rt; register.active_count() == 1);
-    register.restart();
-    assert!(rt; register.active_count() == 0 && register.may_begin() && register.may_record());
-    register.remove(&0);
-    assert!(rt; register.recordings().is_empty() && register.next_recording() == 1);
-    Ok(())
-}
-
-/// Whether a register has the one recording of `registered`, settled at 64.
+/// Whether a register has the recording of the bank, with its channel, and its next id.
 fn has_one(register: &Register) -> bool {
     let Some(found) = register.recording(&0) else {
         return false;
@@ -427,7 +275,7 @@ fn has_copy(alloc: Global, register: &Register) -> Result<bool, Refusal> {
 /// A copy has the same recordings, and gives the same next id.
 #[test]
 fn a_register_is_copied(rt: HostRuntime) -> Result<(), Fail> {
-    let register = registered(&rt, rt.alloc(), &Change::Settle { position: 64 })?;
+    let register = register_of_bank(rt.alloc())?;
     assert!(rt; has_copy(rt.alloc(), &register)?);
     Ok(())
 }

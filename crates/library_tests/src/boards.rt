@@ -1,8 +1,7 @@
-//! Boards of positions: how many slots and readers there may be, and that what was raised is seen, in another thread too.
+//! Boards of positions: what was raised is seen, in another thread too; requests for memory refused.
 
 ghost use Rattle.std.specs.Prelude.{◌≡◌, ◌<◌};
 
-use frame_core::Refusal;
 use position_board::{Board, Reader, Writer};
 use std::alloc::Global;
 use std::test::Fail;
@@ -69,26 +68,9 @@ fn a_position_is_seen_in_another_thread(rt: HostRuntime) -> Result<(), Fail> {
     Ok(())
 }
 
-/// Whether a board of these starts and so many readers is refused by `BadParameter`.
-fn is_refused(alloc: Global, starts: &[i64], readers: usize) -> bool {
-    matches!(
-        Board::new(alloc, starts, readers),
-        Err(Refusal::BadParameter)
-    )
-}
-
-/// Whether it is made.
+/// Whether a board of these starts and so many readers is made.
 fn is_made(alloc: Global, starts: &[i64], readers: usize) -> bool {
     Board::new(alloc, starts, readers).is_ok()
-}
-
-#[test]
-fn slots_and_readers_have_their_limits(rt: HostRuntime) {
-    let alloc = rt.alloc();
-    let starts = [0; 65];
-    assert!(rt; is_made(alloc, &starts[..64], 64) && is_made(alloc, &[i64::MAX], 0));
-    assert!(rt; is_refused(alloc, &[], 1) && is_refused(alloc, &starts, 1));
-    assert!(rt; is_refused(alloc, &[0], 65) && is_refused(alloc, &[0, -1], 1));
 }
 
 /// Where memory is refused once, a board may be made again: trials/refused_memory.py runs this test for each of its

@@ -5,7 +5,7 @@ ghost use Rattle.std.specs.Prelude.{◌≡◌, length, IfOk, IsTrue};
 ghost use Rattle.catalogue_entries.specs.EntryBytes.{is_short};
 
 use archive_model::{Channel, Command, Register, StartFields};
-use catalogue_log::{Entry, Log, create, open, register_from};
+use catalogue_log::{Bank, Entry, Log, create, open, register_from};
 use disk_core::{Disk, Fault, FileId, MemoryDisk};
 use frame_core::Refusal;
 use std::alloc::{AllocError, Global};
@@ -67,31 +67,40 @@ fn add(log: &mut Log, disk: &mut MemoryDisk, entry: &Entry) -> Result<(), Refusa
     log.append(disk, entry)
 }
 
-/// A catalogue with this entry and a settle.
+/// Adds this entry and a settle.
+fn add_two(log: &mut Log, disk: &mut MemoryDisk, first: &Entry) -> Result<(), Refusal>
+    requires { IsTrue (is_short first.now) }
+{
+    add(log, disk, first)?;
+    add(log, disk, &SETTLE)
+}
+
+/// A catalogue with these two.
 fn bank_from(alloc: Global, disk: &mut MemoryDisk, first: &Entry) -> Result<Log, Refusal>
     requires { IsTrue (is_short first.now) }
 {
     let mut log = create(alloc, disk, 3)?;
-    add(&mut log, disk, first)?;
-    add(&mut log, disk, &SETTLE)?;
-    Ok(log)
+    add_two(&mut log, disk, first).and(Ok(log))
 }
 
 /// The bank after its start and its settle.
-fn bank(alloc: Global, disk: &mut MemoryDisk) -> Result<Log, Refusal> {
+fn write_bank(alloc: Global, disk: &mut MemoryDisk) -> Result<Log, Refusal> {
     bank_from(alloc, disk, &start(alloc)?)
 }
 
 /// A catalogue with three entries, or with as many as the disk lets it have.
 fn story(alloc: Global, disk: &mut MemoryDisk) -> Result<(), Refusal> {
-    let mut log = bank(alloc, disk)?;
+    let mut log = write_bank(alloc, disk)?;
     add(&mut log, disk, &STOP)
 }
 
-/// What opening answers: its name, and how many entries there are or at which offset the bank is damaged.
-fn answer(alloc: Global, disk: &mut MemoryDisk) -> (&'static str, i64) {
+/// What opening answers: which bank, and how many entries it has; or why not, and at which offset it is damaged.
+pub(crate) fn answer(alloc: Global, disk: &mut MemoryDisk) -> (&'static str, i64) {
     match open(alloc, disk) {
-        Ok((_, entries)) => ("entries", i64::try_from(entries.len()).unwrap_or(-1)),
+        Ok((log, entries)) => {
+            let name = if log.bank() == Bank::A { "A" } else { "B" };
+            (name, i64::try_from(entries.len()).unwrap_or(-1))
+        }
         Err(Refusal::Damaged { position, .. }) => ("Damaged", position),
         Err(Refusal::NotCatalogue) => ("NotCatalogue", 0),
         Err(Refusal::NewerVersion) => ("NewerVersion", 0),
@@ -99,38 +108,36 @@ fn answer(alloc: Global, disk: &mut MemoryDisk) -> (&'static str, i64) {
     }
 }
 
-/// What a file holds, up to 200 bytes.
-fn bytes_of(alloc: Global, disk: &mut MemoryDisk, file: FileId) -> Result<Vec<u8>, Fail> {
-    let mut bytes = vec![in alloc; 9; 200]?;
-    let count = disk.read_at(file, 0, bytes.as_mut_slice())?;
-    bytes.truncate(count);
-    Ok(bytes)
+/// Whether a file has these bytes and no more, of up to 200.
+pub(crate) fn holds(disk: &mut MemoryDisk, file: FileId, bytes: &[u8]) -> Result<bool, Fault> {
+    let mut read = [9; 200];
+    let count = disk.read_at(file, 0, &mut read)?;
+    Ok(read.get(..count) == Some(bytes))
 }
 
 /// Whether bank A is the one of docs/STORAGE.md.
-fn is_bank(alloc: Global, disk: &mut MemoryDisk) -> Result<bool, Fail> {
-    Ok(bytes_of(alloc, disk, FileId::BankA)?.as_slice() == BANK.as_slice())
+fn is_bank(disk: &mut MemoryDisk) -> Result<bool, Fault> {
+    holds(disk, FileId::BankA, &BANK)
 }
 
-/// Whether bank B has its closed gate alone.
-fn is_spare(alloc: Global, disk: &mut MemoryDisk) -> Result<bool, Fail> {
-    Ok(bytes_of(alloc, disk, FileId::BankB)?.as_slice() == [0].as_slice())
+/// Writes the bank, which is that one; bank B has its closed gate alone.
+fn check_written(rt: &impl Abort, alloc: Global, disk: &mut MemoryDisk) -> Result<(), Fail> {
+    write_bank(alloc, disk)?;
+    assert!(rt; disk.changes() == 14 && disk.calls() == 14);
+    assert!(rt; is_bank(disk)? && holds(disk, FileId::BankB, &[0])?);
+    Ok(())
 }
 
 #[test]
 fn a_bank_is_written_byte_for_byte(rt: HostRuntime) -> Result<(), Fail> {
     let mut disk = MemoryDisk::new(rt.alloc());
-    bank(rt.alloc(), &mut disk)?;
-    assert!(rt; disk.changes() == 14 && disk.calls() == 14);
-    assert!(rt; is_bank(rt.alloc(), &mut disk)? && is_spare(rt.alloc(), &mut disk)?);
-    Ok(())
+    check_written(&rt, rt.alloc(), &mut disk)
 }
 
 /// A disk with that bank.
 fn with_bank(alloc: Global) -> Result<MemoryDisk, Fault> {
     let mut disk = MemoryDisk::new(alloc);
-    disk.write_at(FileId::BankA, 0, &BANK)?;
-    Ok(disk)
+    disk.write_at(FileId::BankA, 0, &BANK).and(Ok(disk))
 }
 
 /// The limit, the epoch and the counted entries of the catalogue that is opened, and how many entries there are.
@@ -153,13 +160,23 @@ fn start_of_command(alloc: Global) -> Result<Entry, Refusal> {
     Ok(Entry::of_command(alloc, &0, &command)?)
 }
 
+/// Whether an entry begins the bank.
+fn begins_bank(
+    rt: &impl Abort,
+    alloc: Global,
+    disk: &mut MemoryDisk,
+    entry: &Entry,
+) -> Result<bool, Fail> {
+    assert!(rt; entry.is_short());
+    bank_from(alloc, disk, entry)?;
+    Ok(is_bank(disk)?)
+}
+
 #[test]
 fn a_start_is_committed_byte_for_byte(rt: HostRuntime) -> Result<(), Fail> {
-    let mut disk = MemoryDisk::new(rt.alloc());
     let entry = start_of_command(rt.alloc())?;
-    assert!(rt; entry.is_short());
-    bank_from(rt.alloc(), &mut disk, &entry)?;
-    assert!(rt; is_bank(rt.alloc(), &mut disk)?);
+    let mut disk = MemoryDisk::new(rt.alloc());
+    assert!(rt; begins_bank(&rt, rt.alloc(), &mut disk, &entry)?);
     Ok(())
 }
 
@@ -175,25 +192,57 @@ fn add_prepared(
     add(log, disk, entry)
 }
 
-/// The bank, of prepared entries.
-fn prepared_bank(rt: &impl Abort, alloc: Global, disk: &mut MemoryDisk) -> Result<(), Refusal> {
+/// Adds this entry and a settle, prepared before.
+fn add_two_prepared(
+    rt: &impl Abort,
+    log: &mut Log,
+    disk: &mut MemoryDisk,
+    first: &Entry,
+) -> Result<(), Refusal> {
+    add_prepared(rt, log, disk, first)?;
+    add_prepared(rt, log, disk, &SETTLE)
+}
+
+/// Writes the bank by prepared entries.
+fn write_prepared(
+    rt: &impl Abort,
+    alloc: Global,
+    disk: &mut MemoryDisk,
+    first: &Entry,
+) -> Result<(), Refusal> {
     let mut log = create(alloc, disk, 3)?;
-    add_prepared(rt, &mut log, disk, &start(alloc)?)?;
-    add_prepared(rt, &mut log, disk, &SETTLE)
+    add_two_prepared(rt, &mut log, disk, first)
+}
+
+/// It is that one.
+fn check_prepared(
+    rt: &impl Abort,
+    alloc: Global,
+    disk: &mut MemoryDisk,
+    first: &Entry,
+) -> Result<(), Fail> {
+    write_prepared(rt, alloc, disk, first)?;
+    assert!(rt; is_bank(disk)?);
+    Ok(())
 }
 
 #[test]
 fn prepared_entries_are_added(rt: HostRuntime) -> Result<(), Fail> {
+    let first = start(rt.alloc())?;
     let mut disk = MemoryDisk::new(rt.alloc());
-    prepared_bank(&rt, rt.alloc(), &mut disk)?;
-    assert!(rt; is_bank(rt.alloc(), &mut disk)?);
-    Ok(())
+    check_prepared(&rt, rt.alloc(), &mut disk, &first)
 }
 
 /// The register of what is opened.
 fn register_in(alloc: Global, disk: &mut MemoryDisk) -> Result<Register, Refusal> {
     let (_, entries) = open(alloc, disk)?;
     register_from(alloc, entries.as_slice())
+}
+
+/// The register of the bank.
+pub(crate) fn register_of_bank(alloc: Global) -> Result<Register, Fail> {
+    let mut disk = with_bank(alloc)?;
+    Ok(register_in(alloc, &mut disk)?)
 }
 
 /// Whether a register has the bank's recording, settled at 64.
@@ -206,41 +255,15 @@ fn has_settled(register: &Register) -> bool {
 
 #[test]
 fn entries_make_a_register(rt: HostRuntime) -> Result<(), Fail> {
-    let mut disk = with_bank(rt.alloc())?;
-    assert!(rt; has_settled(&register_in(rt.alloc(), &mut disk)?));
+    assert!(rt; has_settled(&register_of_bank(rt.alloc())?));
     Ok(())
-}
-
-/// Fills the history of a catalogue, and tells how many of its entries count.
-fn filled(rt: &impl Abort, alloc: Global, disk: &mut MemoryDisk) -> Result<usize, Refusal> {
-    let mut log = bank(alloc, disk)?;
-    add(&mut log, disk, &STOP)?;
-    assert!(rt; add(&mut log, disk, &SETTLE) == Err(Refusal::HistoryFull));
-    add(&mut log, disk, &Entry::Restart)?;
-    Ok(log.counted())
-}
-
-#[test]
-fn a_full_history_takes_no_counted_entry(rt: HostRuntime) -> Result<(), Fail> {
-    let mut disk = MemoryDisk::new(rt.alloc());
-    assert!(rt; filled(&rt, rt.alloc(), &mut disk)? == 3);
-    assert!(rt; answer(rt.alloc(), &mut disk) == ("entries", 4));
-    Ok(())
-}
-
-#[test]
-fn a_limit_out_of_range_is_refused(rt: HostRuntime) {
-    for limit in [0u32, 16_777_217] {
-        let mut disk = MemoryDisk::new(rt.alloc());
-        assert!(rt; create(rt.alloc(), &mut disk, limit).err() == Some(Refusal::BadParameter));
-    }
 }
 
 /// What opening the bank answers where its file is cut to a length.
-fn cut_bank(alloc: Global, length: u64) -> Result<(&'static str, i64), Fail> {
+fn cut_bank(alloc: Global, length: u64) -> Result<(&'static str, i64), Fault> {
     let mut disk = with_bank(alloc)?;
-    disk.cut(FileId::BankA, length)?;
-    Ok(answer(alloc, &mut disk))
+    disk.cut(FileId::BankA, length)
+        .and(Ok(answer(alloc, &mut disk)))
 }
 
 #[test]
@@ -250,7 +273,7 @@ fn a_bank_is_cut_at_each_length(rt: HostRuntime) -> Result<(), Fail> {
         (0, 32, ("NotCatalogue", 0)),
         (32, 88, ("Damaged", 32)),
         (88, 108, ("Damaged", 87)),
-        (108, 109, ("entries", 2)),
+        (108, 109, ("A", 2)),
     ];
     for (from, to, told) in rows {
         for length in from..to {
@@ -261,10 +284,10 @@ fn a_bank_is_cut_at_each_length(rt: HostRuntime) -> Result<(), Fail> {
 }
 
 /// What opening the bank answers where a byte of it is 255.
-fn changed_bank(alloc: Global, offset: u64) -> Result<(&'static str, i64), Fail> {
+fn changed_bank(alloc: Global, offset: u64) -> Result<(&'static str, i64), Fault> {
     let mut disk = with_bank(alloc)?;
-    disk.write_at(FileId::BankA, offset, &[255])?;
-    Ok(answer(alloc, &mut disk))
+    disk.write_at(FileId::BankA, offset, &[255])
+        .and(Ok(answer(alloc, &mut disk)))
 }
 
 #[test]
@@ -274,11 +297,11 @@ fn each_byte_of_a_header_is_changed(rt: HostRuntime) -> Result<(), Fail> {
         (1, 2, ("NewerVersion", 0)),
         (2, 4, ("NotCatalogue", 0)),
         // A limit of 255, 65,283 and 16,711,683, and one that is too high; any epoch.
-        (4, 7, ("entries", 2)),
+        (4, 7, ("A", 2)),
         (7, 8, ("NotCatalogue", 0)),
-        (8, 16, ("entries", 2)),
+        (8, 16, ("A", 2)),
         (16, 32, ("NotCatalogue", 0)),
-        (32, 33, ("entries", 0)),
+        (32, 33, ("A", 0)),
     ];
     for (from, to, told) in rows {
         for offset in from..to {
@@ -293,17 +316,17 @@ fn each_byte_of_a_start_is_changed(rt: HostRuntime) -> Result<(), Fail> {
     let rows = [
         // Kind, length and recording; the timestamp, and a negative one.
         (33, 44, ("Damaged", 32)),
-        (44, 51, ("entries", 2)),
+        (44, 51, ("A", 2)),
         (51, 53, ("Damaged", 32)),
         // A start position that is a multiple of 32, from which the settle is no step; one past 2^31 terms.
         (53, 57, ("Damaged", 87)),
         (57, 60, ("Damaged", 32)),
-        (60, 64, ("entries", 2)),
+        (60, 64, ("A", 2)),
         // Lengths of segments and terms, an MTU of 65,408, the other MTUs.
         (64, 73, ("Damaged", 32)),
-        (73, 74, ("entries", 2)),
+        (73, 74, ("A", 2)),
         (74, 76, ("Damaged", 32)),
-        (76, 84, ("entries", 2)),
+        (76, 84, ("A", 2)),
         (84, 87, ("Damaged", 32)),
     ];
     for (from, to, told) in rows {
@@ -317,12 +340,12 @@ fn each_byte_of_a_start_is_changed(rt: HostRuntime) -> Result<(), Fail> {
 #[test]
 fn each_byte_of_a_settle_is_changed(rt: HostRuntime) -> Result<(), Fail> {
     let rows = [
-        (87, 88, ("entries", 1)),
+        (87, 88, ("A", 1)),
         (88, 100, ("Damaged", 87)),
         // Positions that are multiples of 32, and then such past 2^31 terms.
-        (100, 104, ("entries", 2)),
+        (100, 104, ("A", 2)),
         (104, 107, ("Damaged", 87)),
-        (107, 108, ("entries", 2)),
+        (107, 108, ("A", 2)),
     ];
     for (from, to, told) in rows {
         for offset in from..to {
@@ -346,7 +369,7 @@ fn a_stop_while_it_is_created(rt: HostRuntime) -> Result<(), Fail> {
     for stop in 0..6u64 {
         for choice in [0u8, 1, 255] {
             let told = if stop == 5 && choice == 1 {
-                ("entries", 0)
+                ("A", 0)
             } else {
                 ("NotCatalogue", 0)
             };
@@ -376,26 +399,9 @@ fn a_stop_at_each_change_of_three_appends(rt: HostRuntime) -> Result<(), Fail> {
     ];
     for (stop, found) in rows {
         for (choice, count) in [(0u8, found[0]), (1, found[1]), (255, found[2])] {
-            assert!(rt; found_after(rt.alloc(), stop, choice)? == ("entries", count));
+            assert!(rt; found_after(rt.alloc(), stop, choice)? == ("A", count));
         }
     }
-    Ok(())
-}
-
-/// A log whose disk fails at an append.
-fn check_broken(rt: &impl Abort, alloc: Global, disk: &mut MemoryDisk) -> Result<(), Refusal> {
-    let mut log = bank(alloc, disk)?;
-    disk.fail_at(4);
-    assert!(rt; add(&mut log, disk, &STOP) == Err(Refusal::DeviceFault));
-    assert!(rt; add(&mut log, disk, &STOP) == Err(Refusal::Broken));
-    Ok(())
-}
-
-#[test]
-fn a_log_is_broken_after_a_fault(rt: HostRuntime) -> Result<(), Fail> {
-    let mut disk = MemoryDisk::new(rt.alloc());
-    check_broken(&rt, rt.alloc(), &mut disk)?;
-    assert!(rt; answer(rt.alloc(), &mut disk) == ("entries", 3));
     Ok(())
 }
 
@@ -427,42 +433,63 @@ fn add_opened(
     requires { IsTrue (is_short entry.now) }
 {
     let (mut log, found) = open(alloc, disk)?;
-    if found.len() == entries {
-        add(&mut log, disk, entry)?;
-    }
-    Ok(log)
+    let done = if found.len() == entries {
+        add(&mut log, disk, entry)
+    } else {
+        Ok(())
+    };
+    done.and(Ok(log))
 }
 
-/// The log behind one entry more, where one request for memory is refused in the whole run. Where the log finds none, the
-/// disk is as it was; where the disk finds none, that is a fault of it, and the log is opened again.
+/// Adds an entry, where one request for memory is refused in the whole run: once more where the log finds none, which has
+/// left the disk as it was; where the disk finds none, that is a fault of it, and the log is opened again.
 fn append_again(
     rt: &impl Abort,
     alloc: Global,
     disk: &mut MemoryDisk,
-    mut log: Log,
+    log: &mut Log,
     entry: &Entry,
-) -> Result<Log, Refusal>
+) -> Result<(), Refusal>
     requires { IsTrue (is_short entry.now) }
 {
     let changes = disk.changes();
     let entries = log.counted();
-    match add(&mut log, disk, entry) {
-        Ok(()) => Ok(log),
-        Err(Refusal::NoMemory) => {
-            assert!(rt; disk.changes() == changes && log.counted() == entries);
-            add(&mut log, disk, entry)?;
-            Ok(log)
-        }
-        Err(_) => add_opened(alloc, disk, entry, entries),
+    let told = add(log, disk, entry);
+    if told == Err(Refusal::NoMemory) {
+        assert!(rt; disk.changes() == changes && log.counted() == entries);
+        return add(log, disk, entry);
     }
+    if told.is_err() {
+        *log = add_opened(alloc, disk, entry, entries)?;
+    }
+    Ok(())
+}
+
+/// Both entries of the bank.
+fn append_two_again(
+    rt: &impl Abort,
+    alloc: Global,
+    disk: &mut MemoryDisk,
+    log: &mut Log,
+    first: &Entry,
+) -> Result<(), Refusal>
+    requires { IsTrue (is_short first.now) }
+{
+    append_again(rt, alloc, disk, log, first)?;
+    append_again(rt, alloc, disk, log, &SETTLE)
 }
 
 /// How many entries of the bank count, each added again where memory is refused.
-fn bank_again(rt: &impl Abort, alloc: Global, disk: &mut MemoryDisk) -> Result<usize, Refusal> {
-    let first = start_again(alloc)?;
-    let log = create_again(alloc, disk)?;
-    let log = append_again(rt, alloc, disk, log, &first)?;
-    let log = append_again(rt, alloc, disk, log, &SETTLE)?;
+fn bank_again(
+    rt: &impl Abort,
+    alloc: Global,
+    disk: &mut MemoryDisk,
+    first: &Entry,
+) -> Result<usize, Refusal>
+    requires { IsTrue (is_short first.now) }
+{
+    let mut log = create_again(alloc, disk)?;
+    append_two_again(rt, alloc, disk, &mut log, first)?;
     Ok(log.counted())
 }
 
@@ -479,12 +506,25 @@ fn counts_again(alloc: Global, disk: &mut MemoryDisk) -> Result<(usize, usize), 
     }
 }
 
+/// The bank's two entries are found, and as many count as did.
+fn check_again(
+    rt: &impl Abort,
+    alloc: Global,
+    disk: &mut MemoryDisk,
+    first: &Entry,
+) -> Result<(), Fail>
+    requires { IsTrue (is_short first.now) }
+{
+    let counted = bank_again(rt, alloc, disk, first)?;
+    assert!(rt; counts_again(alloc, disk)? == (2, counted));
+    Ok(())
+}
+
 #[test]
 fn refused_memory_leaves_the_catalogue(rt: HostRuntime) -> Result<(), Fail> {
+    let first = start_again(rt.alloc())?;
     let mut disk = MemoryDisk::new(rt.alloc());
-    let counted = bank_again(&rt, rt.alloc(), &mut disk)?;
-    assert!(rt; counts_again(rt.alloc(), &mut disk)? == (2, counted));
-    Ok(())
+    check_again(&rt, rt.alloc(), &mut disk, &first)
 }
 
 /// Prepares a restart, again where memory is refused.

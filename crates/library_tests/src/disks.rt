@@ -69,13 +69,17 @@ fn reads(
     Ok(())
 }
 
-/// A disk with three synced bytes, of which the second is written over.
-fn overwritten(alloc: Global) -> Result<MemoryDisk, Fault> {
-    let mut disk = MemoryDisk::new(alloc);
+/// Writes and syncs three bytes, and then writes the second over.
+fn write_over(disk: &mut MemoryDisk) -> Result<(), Fault> {
     disk.write_at(FILE, 0, &[1, 2, 3])?;
     disk.sync(FILE)?;
-    disk.write_at(FILE, 1, &[9])?;
-    Ok(disk)
+    disk.write_at(FILE, 1, &[9])
+}
+
+/// A disk on which that is done.
+fn overwritten(alloc: Global) -> Result<MemoryDisk, Fault> {
+    let mut disk = MemoryDisk::new(alloc);
+    write_over(&mut disk).and(Ok(disk))
 }
 
 /// What a file reads as behind a crash by a choice.
@@ -112,15 +116,20 @@ fn call_absent(disk: &mut MemoryDisk) -> Result<(), Fault> {
     disk.sync(FILE)
 }
 
+/// They succeed, and the file is still absent.
+fn check_absent(rt: &impl Abort, disk: &mut MemoryDisk) -> Result<(), Fail> {
+    call_absent(disk)?;
+    assert!(rt; disk.len(FILE)? == 0);
+    reads(rt, disk, FILE, None)?;
+    assert!(rt; disk.changes() == 5 && disk.faults() == 0);
+    Ok(())
+}
+
 /// A contract cannot tell a fault from want of memory, so that these calls succeed is asked here.
 #[test]
 fn calls_on_an_absent_file_succeed(rt: HostRuntime) -> Result<(), Fail> {
     let mut disk = MemoryDisk::new(rt.alloc());
-    call_absent(&mut disk)?;
-    assert!(rt; disk.len(FILE)? == 0);
-    reads(&rt, &mut disk, FILE, None)?;
-    assert!(rt; disk.changes() == 5 && disk.faults() == 0);
-    Ok(())
+    check_absent(&rt, &mut disk)
 }
 
 /// A call fails, and the file then reads so.
@@ -145,123 +154,111 @@ fn check_next_failed(
     check_failed(rt, disk, step, bytes)
 }
 
+/// A write, a cut and a remove that fail, and a write on a disk that stopped.
+fn check_failures(rt: &impl Abort, disk: &mut MemoryDisk) -> Result<(), Fail> {
+    disk.fail_at(2);
+    disk.write_at(FILE, 0, &[1])?;
+    check_failed(rt, disk, Step::Write(FILE, 1, &[2]), Some(&[1, 2]))?;
+    check_next_failed(rt, disk, Step::Cut(FILE, 1), Some(&[1]))?;
+    check_next_failed(rt, disk, Step::Remove(FILE), None)?;
+    disk.stop_after(0);
+    assert!(rt; make(disk, Step::Write(FILE, 0, &[9])).is_err());
+    left_reads(rt, disk, &[1], None)
+}
+
 #[test]
 fn failing_calls_take_effect_and_stopped_ones_do_not(rt: HostRuntime) -> Result<(), Fail> {
     let mut disk = MemoryDisk::new(rt.alloc());
-    disk.fail_at(2);
-    disk.write_at(FILE, 0, &[1])?;
-    check_failed(&rt, &mut disk, Step::Write(FILE, 1, &[2]), Some(&[1, 2]))?;
-    check_next_failed(&rt, &mut disk, Step::Cut(FILE, 1), Some(&[1]))?;
-    check_next_failed(&rt, &mut disk, Step::Remove(FILE), None)?;
-    disk.stop_after(0);
-    assert!(rt; make(&mut disk, Step::Write(FILE, 0, &[9])).is_err());
-    left_reads(&rt, &disk, &[1], None)
+    check_failures(&rt, &mut disk)
 }
 
-// What a crash leaves of a file by the bytes 0, 1 and 9.
-type Left<'a> = [Option<&'a [u8]>; 3];
+// What the banks A and B hold, if they are there.
+type Found = (Option<&'static [u8]>, Option<&'static [u8]>);
 
-// Calls, and what a crash after each leaves of bank A and of bank B.
-const SCRIPT: [(Step<'_>, Left<'_>, Left<'_>); 7] = [
-    (
-        Step::Write(FileId::BankA, 2, &[1, 2]),
-        [None, Some(&[0, 0, 1, 2]), Some(&[9, 9, 9, 9])],
-        [None; 3],
-    ),
-    (
-        Step::Sync(FileId::BankA),
-        [Some(&[0, 0, 1, 2]); 3],
-        [None; 3],
-    ),
-    (
-        Step::Write(FileId::BankB, 0, &[5]),
-        [Some(&[0, 0, 1, 2]); 3],
-        [None, Some(&[5]), Some(&[9])],
-    ),
-    (
-        Step::Write(FileId::BankA, 3, &[7, 8]),
-        [
-            Some(&[0, 0, 1, 2]),
-            Some(&[0, 0, 1, 7, 8]),
-            Some(&[0, 0, 1, 9, 9]),
-        ],
-        [None, Some(&[5]), Some(&[9])],
-    ),
-    (
-        Step::Cut(FileId::BankA, 1),
-        [Some(&[0, 0, 1, 2]), Some(&[0]), Some(&[0])],
-        [None, Some(&[5]), Some(&[9])],
-    ),
-    (
-        Step::Sync(FileId::BankB),
-        [Some(&[0, 0, 1, 2]), Some(&[0]), Some(&[0])],
-        [Some(&[5]); 3],
-    ),
-    (
-        Step::Remove(FileId::BankA),
-        [Some(&[0, 0, 1, 2]), None, Some(&[9, 9, 9, 9])],
-        [Some(&[5]); 3],
-    ),
+// What a crash leaves of both by the bytes 0, 1 and 9.
+type Left = [Found; 3];
+
+const A: &[u8] = &[0, 0, 1, 2];
+
+const B: Option<&[u8]> = Some(&[5]);
+
+const ABSENT: Left = [(None, None); 3];
+
+const A_WRITTEN: Left = [(None, None), (Some(A), None), (Some(&[9, 9, 9, 9]), None)];
+
+const A_SYNCED: Left = [(Some(A), None); 3];
+
+const B_WRITTEN: Left = [(Some(A), None), (Some(A), B), (Some(A), Some(&[9]))];
+
+const A_OVERWRITTEN: Left = [
+    (Some(A), None),
+    (Some(&[0, 0, 1, 7, 8]), B),
+    (Some(&[0, 0, 1, 9, 9]), Some(&[9])),
 ];
 
+const A_CUT: Left = [(Some(A), None), (Some(&[0]), B), (Some(&[0]), Some(&[9]))];
+
+const B_SYNCED: Left = [(Some(A), B), (Some(&[0]), B), (Some(&[0]), B)];
+
+const A_REMOVED: Left = [(Some(A), B), (None, B), (Some(&[9, 9, 9, 9]), B)];
+
 /// What the two banks read as.
-fn both_read(
-    rt: &impl Abort,
-    disk: &mut MemoryDisk,
-    a: Option<&[u8]>,
-    b: Option<&[u8]>,
-) -> Result<(), Fail> {
-    reads(rt, disk, FileId::BankA, a)?;
-    reads(rt, disk, FileId::BankB, b)
+fn both_read(rt: &impl Abort, disk: &mut MemoryDisk, found: Found) -> Result<(), Fail> {
+    reads(rt, disk, FileId::BankA, found.0)?;
+    reads(rt, disk, FileId::BankB, found.1)
 }
 
 /// What they read as behind a crash by a byte.
-fn both_left(
-    rt: &impl Abort,
-    disk: &MemoryDisk,
-    byte: u8,
-    a: Option<&[u8]>,
-    b: Option<&[u8]>,
-) -> Result<(), Fail> {
+fn both_left(rt: &impl Abort, disk: &MemoryDisk, byte: u8, found: Found) -> Result<(), Fail> {
     let mut left = crashed(rt, disk, &[byte])?;
-    both_read(rt, &mut left, a, b)
+    both_read(rt, &mut left, found)
 }
 
 /// The disk reads as a crash by 1 leaves it, and crashes leave these banks.
-fn leaves(rt: &impl Abort, disk: &mut MemoryDisk, a: Left<'_>, b: Left<'_>) -> Result<(), Fail> {
-    both_read(rt, disk, a[1], b[1])?;
-    for (i, byte) in [0, 1, 9].into_iter().enumerate() {
-        both_left(rt, disk, byte, a[i], b[i])?;
-    }
-    Ok(())
+fn leaves(rt: &impl Abort, disk: &mut MemoryDisk, left: &Left) -> Result<(), Fail> {
+    both_read(rt, disk, left[1])?;
+    both_left(rt, disk, 0, left[0])?;
+    both_left(rt, disk, 1, left[1])?;
+    both_left(rt, disk, 9, left[2])
 }
 
-/// Makes a call, and makes it again where it failed, which has changed nothing of the banks.
+/// Makes a call, and makes it again where it failed, which has changed nothing of the banks; and what is left then.
 fn make_again(
     rt: &impl Abort,
     disk: &mut MemoryDisk,
     step: Step<'_>,
-    a: Left<'_>,
-    b: Left<'_>,
+    before: &Left,
+    after: &Left,
 ) -> Result<(), Fail> {
     if make(disk, step).is_err() {
-        leaves(rt, disk, a, b)?;
+        leaves(rt, disk, before)?;
         make(disk, step)?;
     }
-    Ok(())
+    leaves(rt, disk, after)
 }
 
-/// Makes the calls of the script, each again where it failed.
-fn run_script(rt: &impl Abort, disk: &mut MemoryDisk) -> Result<(), Fail> {
-    let mut a = [None; 3];
-    let mut b = [None; 3];
-    for (step, next_a, next_b) in SCRIPT {
-        make_again(rt, disk, step, a, b)?;
-        leaves(rt, disk, next_a, next_b)?;
-        a = next_a;
-        b = next_b;
-    }
-    Ok(())
+/// Calls on bank A, and on bank B.
+fn run_first(rt: &impl Abort, disk: &mut MemoryDisk) -> Result<(), Fail> {
+    let write = Step::Write(FileId::BankA, 2, &[1, 2]);
+    make_again(rt, disk, write, &ABSENT, &A_WRITTEN)?;
+    make_again(rt, disk, Step::Sync(FileId::BankA), &A_WRITTEN, &A_SYNCED)?;
+    let write = Step::Write(FileId::BankB, 0, &[5]);
+    make_again(rt, disk, write, &A_SYNCED, &B_WRITTEN)
+}
+
+/// Calls behind these.
+fn run_second(rt: &impl Abort, disk: &mut MemoryDisk) -> Result<(), Fail> {
+    let write = Step::Write(FileId::BankA, 3, &[7, 8]);
+    make_again(rt, disk, write, &B_WRITTEN, &A_OVERWRITTEN)?;
+    make_again(
+        rt,
+        disk,
+        Step::Cut(FileId::BankA, 1),
+        &A_OVERWRITTEN,
+        &A_CUT,
+    )?;
+    make_again(rt, disk, Step::Sync(FileId::BankB), &A_CUT, &B_SYNCED)?;
+    make_again(rt, disk, Step::Remove(FileId::BankA), &B_SYNCED, &A_REMOVED)
 }
 
 /// Want of memory in a call is a fault, and nothing has changed then. A second try succeeds here:
@@ -269,7 +266,8 @@ fn run_script(rt: &impl Abort, disk: &mut MemoryDisk) -> Result<(), Fail> {
 #[test]
 fn refused_memory_changes_nothing(rt: HostRuntime) -> Result<(), Fail> {
     let mut disk = MemoryDisk::new(rt.alloc());
-    run_script(&rt, &mut disk)
+    run_first(&rt, &mut disk)?;
+    run_second(&rt, &mut disk)
 }
 
 #[test]

@@ -1,7 +1,8 @@
 //! Images whose stock is bounded: the scenarios of docs/SCENARIOS.md, and each request for memory refused.
 
+use crate::images::{datagram, message};
 use crate::vectors::{HEARTBEAT_AT_256, HELLO_AT_0, HELLO_AT_128, SETUP};
-use frame_core::{Frame, FrameKind, Items, Refusal, Setup};
+use frame_core::{Refusal, Setup};
 use image_core::Inserted;
 use image_feed::Feed;
 use std::alloc::{AllocError, Global};
@@ -16,26 +17,15 @@ fn feed(alloc: Global) -> Result<Feed, Refusal> {
 const FRAMES: u32 = 64;
 
 /// The datagram of a frame of 1,024 bytes, by its number in the stream.
-fn datagram(alloc: Global, number: u32) -> Result<Vec<u8>, AllocError> {
-    let frame = Frame {
-        kind: FrameKind::Message,
-        flags: 0xC0,
-        length: 1_024,
-        term_offset: (number % FRAMES * 1_024) as i32,
-        session_id: 7,
-        stream_id: 1_001,
-        term_id: 42 + (number / FRAMES % 1_000) as i32,
-        reserved: 0,
-        payload: Items::new(alloc),
-    };
-    let mut bytes = frame.header().to_vec(alloc)?;
-    bytes.extend_from_slice(&[0; 992])?;
-    Ok(bytes)
+fn frame_of(alloc: Global, number: u32) -> Result<Vec<u8>, AllocError> {
+    let term_id = 42 + (number / FRAMES % 1_000) as i32;
+    let frame = message(alloc, term_id, (number % FRAMES * 1_024) as i32, &[0; 992])?;
+    datagram(alloc, &frame)
 }
 
 /// Whether a datagram of one frame is held, if it isn't lost.
 fn is_held(alloc: Global, feed: &mut Feed, number: u32) -> Result<Option<bool>, Fail> {
-    let bytes = datagram(alloc, number)?;
+    let bytes = frame_of(alloc, number)?;
     let inserted = feed.offer(alloc, &bytes)?;
     Ok(inserted.map(|inserted: Inserted| inserted.held == 1))
 }
@@ -132,14 +122,19 @@ fn take_again(rt: &impl Abort, feed: &mut Feed) -> Result<(), Refusal> {
     Ok(())
 }
 
+/// Offers a frame and takes it, each again where memory is refused.
+fn check_again(rt: &impl Abort, alloc: Global, feed: &mut Feed) -> Result<(), Refusal> {
+    offer_again(rt, alloc, feed)?;
+    assert!(rt; feed.rebuilt() == 64);
+    take_again(rt, feed)?;
+    assert!(rt; feed.taken() == 64);
+    Ok(())
+}
+
 /// Where memory is refused once, nothing has changed, and the call may be made again: trials/refused_memory.py runs
 /// this test for each of its requests for memory, which it refuses.
 #[test]
 fn refused_memory_changes_nothing(rt: HostRuntime) -> Result<(), Fail> {
     let mut feed = feed(rt.alloc())?;
-    offer_again(&rt, rt.alloc(), &mut feed)?;
-    assert!(rt; feed.rebuilt() == 64);
-    take_again(&rt, &mut feed)?;
-    assert!(rt; feed.taken() == 64);
-    Ok(())
+    Ok(check_again(&rt, rt.alloc(), &mut feed)?)
 }

@@ -15,14 +15,24 @@ const SEGMENT: FileId = FileId::Segment {
     base: 131_072,
 };
 
+/// Makes a folder, in place of what is there.
+fn make_empty(rt: HostRuntime, path: &str) -> Result<(), Fail> {
+    if fs::exists(&rt, path)? {
+        fs::remove_dir_all(&rt, path)?;
+    }
+    Ok(fs::create_dir(&rt, path)?)
+}
+
 /// The path of an empty folder for this test.
 fn scratch(rt: HostRuntime, test: &str) -> Result<String, Fail> {
     let path = format!(in rt.alloc(); "{}/recorder-{test}", env::temp_dir(&rt)?.display())?;
-    if fs::exists(&rt, path.as_str())? {
-        fs::remove_dir_all(&rt, path.as_str())?;
-    }
-    fs::create_dir(&rt, path.as_str())?;
+    make_empty(rt, path.as_str())?;
     Ok(path)
+}
+
+/// Removes the folder of a test.
+fn remove(rt: HostRuntime, path: &str) -> Result<(), Fail> {
+    Ok(fs::remove_dir_all(&rt, path)?)
 }
 
 fn within(rt: HostRuntime, folder: &str, name: &str) -> Result<String, Fail> {
@@ -103,6 +113,21 @@ fn play_in(abort: &impl Abort, rt: HostRuntime, path: &str, rows: &[Row]) {
     play(abort, &mut disk, rows);
 }
 
+/// Some calls before a folder is removed, and others then.
+fn play_both(
+    abort: &impl Abort,
+    rt: HostRuntime,
+    disk: &mut HostDisk,
+    folder: &str,
+    before: &[Row],
+    after: &[Row],
+) -> Result<(), Fail> {
+    play(abort, disk, before);
+    fs::remove_dir(&rt, folder)?;
+    play(abort, disk, after);
+    Ok(())
+}
+
 /// Some calls while a folder has the segment's name, and others on the same disk once it is gone.
 fn play_around(
     abort: &impl Abort,
@@ -111,13 +136,10 @@ fn play_around(
     before: &[Row],
     after: &[Row],
 ) -> Result<(), Fail> {
+    make_folder(rt, path, "3-131072.rec")?;
     let in_the_way = within(rt, path, "3-131072.rec")?;
-    fs::create_dir(&rt, in_the_way.as_str())?;
     let mut disk = opened(abort, rt, path);
-    play(abort, &mut disk, before);
-    fs::remove_dir(&rt, in_the_way.as_str())?;
-    play(abort, &mut disk, after);
-    Ok(())
+    play_both(abort, rt, &mut disk, in_the_way.as_str(), before, after)
 }
 
 /// How many bytes of the segment are read at an offset, and what stands in the buffer then, which had sevens.
@@ -157,8 +179,7 @@ fn what_is_written_is_read_when_opened_again(rt: HostRuntime) -> Result<(), Fail
     let path = scratch(rt, "written")?;
     check_written(&rt, rt, path.as_str());
     check_again(&rt, rt, path.as_str());
-    fs::remove_dir_all(&rt, path.as_str())?;
-    Ok(())
+    remove(rt, path.as_str())
 }
 
 /// Whether a folder has something of a name.
@@ -194,8 +215,7 @@ fn check_cuts(abort: &impl Abort, rt: HostRuntime, path: &str) -> Result<(), Fai
 fn cuts_and_removes(rt: HostRuntime) -> Result<(), Fail> {
     let path = scratch(rt, "cut")?;
     check_cuts(&rt, rt, path.as_str())?;
-    fs::remove_dir_all(&rt, path.as_str())?;
-    Ok(())
+    remove(rt, path.as_str())
 }
 
 /// Writes a file of one byte.
@@ -221,9 +241,8 @@ fn check_listed(abort: &impl Abort, rt: HostRuntime, path: &str) -> Result<(), F
     Ok(())
 }
 
-#[test]
-fn files_are_listed_in_order_and_other_names_ignored(rt: HostRuntime) -> Result<(), Fail> {
-    let path = scratch(rt, "listed")?;
+/// Writes files of names that are no file's.
+fn put_others(rt: HostRuntime, path: &str) -> Result<(), Fail> {
     for name in [
         "note.txt",
         "03-0.rec",
@@ -238,11 +257,17 @@ fn files_are_listed_in_order_and_other_names_ignored(rt: HostRuntime) -> Result<
         "3-0.rec~",
         "catalogue-c.bank",
     ] {
-        put(rt, path.as_str(), name)?;
+        put(rt, path, name)?;
     }
-    check_listed(&rt, rt, path.as_str())?;
-    fs::remove_dir_all(&rt, path.as_str())?;
     Ok(())
+}
+
+#[test]
+fn files_are_listed_in_order_and_other_names_ignored(rt: HostRuntime) -> Result<(), Fail> {
+    let path = scratch(rt, "listed")?;
+    put_others(rt, path.as_str())?;
+    check_listed(&rt, rt, path.as_str())?;
+    remove(rt, path.as_str())
 }
 
 /// Why a folder is not opened.
@@ -260,7 +285,7 @@ fn a_folder_is_opened_once(rt: HostRuntime) -> Result<(), Fail> {
     let path = scratch(rt, "opened")?;
     check_busy(&rt, rt, path.as_str());
     drop(opened(&rt, rt, path.as_str()));
-    fs::remove_dir_all(&rt, path.as_str())?;
+    remove(rt, path.as_str())?;
     assert!(rt; why_not(rt, path.as_str()) == Some(OpenFault::Missing));
     Ok(())
 }
@@ -305,8 +330,7 @@ fn check_links(abort: &impl Abort, rt: HostRuntime, path: &str) -> Result<(), Fa
 fn links_and_folders_are_refused(rt: HostRuntime) -> Result<(), Fail> {
     let path = scratch(rt, "links")?;
     check_links(&rt, rt, path.as_str())?;
-    fs::remove_dir_all(&rt, path.as_str())?;
-    Ok(())
+    remove(rt, path.as_str())
 }
 
 const LOST: [Row; 6] = [
@@ -327,8 +351,7 @@ fn a_file_whose_sync_failed_is_asked_no_more(rt: HostRuntime) -> Result<(), Fail
     let path = scratch(rt, "lost")?;
     play_around(&rt, rt, path.as_str(), &UNSYNCED, &LOST)?;
     play_in(&rt, rt, path.as_str(), &AGAIN);
-    fs::remove_dir_all(&rt, path.as_str())?;
-    Ok(())
+    remove(rt, path.as_str())
 }
 
 const FAILED: [Row; 3] = [
@@ -349,8 +372,7 @@ const BEHIND: [Row; 5] = [
 fn reading_goes_on_after_a_failed_write(rt: HostRuntime) -> Result<(), Fail> {
     let path = scratch(rt, "failed")?;
     play_around(&rt, rt, path.as_str(), &FAILED, &BEHIND)?;
-    fs::remove_dir_all(&rt, path.as_str())?;
-    Ok(())
+    remove(rt, path.as_str())
 }
 
 /// Whether the last fault of a disk is told so.
@@ -376,8 +398,7 @@ fn check_last_fault(abort: &impl Abort, rt: HostRuntime, path: &str) -> Result<(
 fn the_last_fault_is_kept(rt: HostRuntime) -> Result<(), Fail> {
     let path = scratch(rt, "fault")?;
     check_last_fault(&rt, rt, path.as_str())?;
-    fs::remove_dir_all(&rt, path.as_str())?;
-    Ok(())
+    remove(rt, path.as_str())
 }
 
 const fn segment(recording: i64) -> FileId {
@@ -406,6 +427,5 @@ fn check_room(abort: &impl Abort, rt: HostRuntime, path: &str) {
 fn no_unsynced_file_is_closed_to_make_room(rt: HostRuntime) -> Result<(), Fail> {
     let path = scratch(rt, "room")?;
     check_room(&rt, rt, path.as_str());
-    fs::remove_dir_all(&rt, path.as_str())?;
-    Ok(())
+    remove(rt, path.as_str())
 }

@@ -6,8 +6,8 @@ use crate::vectors::{
     NAK_AT_64, NAK_AT_192, PAD_AT_TERM_END, PAD_OF_NEXT_TERM, PAD_OF_TERM, SETUP, WORLD_AT_64,
 };
 use frame_core::{
-    Block, Frame, FrameKind, Geometry, Items, Nak, Publication, Refusal, Setup, block_end,
-    block_of, decode_front, encode_into, frames_of_datagram, position, term_of,
+    FrameKind, Geometry, Items, Nak, Publication, Refusal, Setup, block_end, block_of,
+    decode_front, encode_into, frames_of_datagram, position, term_of,
 };
 use std::alloc::{AllocError, Global};
 use std::process::Abort;
@@ -126,10 +126,15 @@ fn datagram(alloc: Global, first: &[u8], second: &[u8]) -> Result<Vec<u8>, Alloc
     Ok(bytes)
 }
 
+/// How many frames a datagram has.
+fn count_in(alloc: Global, bytes: &[u8]) -> Result<usize, Refusal> {
+    Ok(frames_of_datagram(alloc, bytes)?.len())
+}
+
 /// How many frames such a datagram has.
 fn count_of(alloc: Global, first: &[u8], second: &[u8]) -> Result<usize, Refusal> {
     let bytes = datagram(alloc, first, second)?;
-    Ok(frames_of_datagram(alloc, &bytes)?.len())
+    count_in(alloc, &bytes)
 }
 
 #[test]
@@ -202,42 +207,6 @@ fn setup_frames_and_naks(rt: HostRuntime) {
 }
 
 #[test]
-fn refusals_have_their_numbers(rt: HostRuntime) {
-    for (refusal, number) in [
-        (Refusal::UnknownRecording, 1),
-        (Refusal::ActiveRecording, 2),
-        (Refusal::NotActive, 3),
-        (Refusal::ActiveReplay, 4),
-        (Refusal::BadPosition, 5),
-        (Refusal::BadExtension, 6),
-        (Refusal::MaxRecordings, 7),
-        (Refusal::MaxReplays, 8),
-        (Refusal::UnknownReplay, 9),
-        (Refusal::BadParameter, 10),
-        (Refusal::HistoryFull, 11),
-        (Refusal::StaleSession, 12),
-        (Refusal::BadBlock, 13),
-        (Refusal::NeedSettle, 14),
-        (
-            Refusal::Damaged {
-                recording: 1,
-                position: 2,
-            },
-            15,
-        ),
-        (Refusal::Broken, 16),
-        (Refusal::DeviceFault, 17),
-        (Refusal::NoMemory, 18),
-        (Refusal::NotCatalogue, 19),
-        (Refusal::NewerVersion, 20),
-        (Refusal::BadFrame { offset: 3 }, 21),
-        (Refusal::BadLine, 22),
-    ] {
-        assert!(rt; refusal.number() == number, "{number}");
-    }
-}
-
-#[test]
 fn items_keep_their_order(rt: HostRuntime) -> Result<(), Fail> {
     let alloc = rt.alloc();
     let mut items = Items::new(alloc);
@@ -247,36 +216,37 @@ fn items_keep_their_order(rt: HostRuntime) -> Result<(), Fail> {
     Ok(())
 }
 
-/// Each of these asks again where its first request for memory was refused.
-fn frame_of(alloc: Global, bytes: &[u8]) -> Result<Frame, Refusal> {
+/// How long the copy of a vector's frame is.
+fn copied_length(alloc: Global, bytes: &[u8]) -> Result<i32, Refusal> {
     let (lent, _) = decode_front(bytes)?;
-    match lent.to_frame(alloc) {
-        Err(Refusal::NoMemory) => lent.to_frame(alloc),
-        frame => frame,
+    Ok(lent.to_frame(alloc)?.length)
+}
+
+/// How many frames its block has.
+fn count_of_block(alloc: Global, bytes: &[u8]) -> Result<usize, Refusal> {
+    Ok(block_of(alloc, &GEOMETRY, bytes)?.frames.len())
+}
+
+/// Each of these asks again where its first request for memory was refused.
+fn frame_length(alloc: Global, bytes: &[u8]) -> Result<i32, Refusal> {
+    match copied_length(alloc, bytes) {
+        Err(Refusal::NoMemory) => copied_length(alloc, bytes),
+        length => length,
     }
 }
 
 fn frame_count(alloc: Global, bytes: &[u8]) -> Result<usize, Refusal> {
-    let frames = match frames_of_datagram(alloc, bytes) {
-        Err(Refusal::NoMemory) => frames_of_datagram(alloc, bytes)?,
-        frames => frames?,
-    };
-    Ok(frames.len())
-}
-
-fn block_at(alloc: Global, bytes: &[u8]) -> Result<Block, Refusal> {
-    match block_of(alloc, &GEOMETRY, bytes) {
-        Err(Refusal::NoMemory) => block_of(alloc, &GEOMETRY, bytes),
-        block => block,
+    match count_in(alloc, bytes) {
+        Err(Refusal::NoMemory) => count_in(alloc, bytes),
+        count => count,
     }
 }
 
 fn block_count(alloc: Global, bytes: &[u8]) -> Result<usize, Refusal> {
-    Ok(block_at(alloc, bytes)?.frames.len())
-}
-
-fn frame_length(alloc: Global, bytes: &[u8]) -> Result<i32, Refusal> {
-    Ok(frame_of(alloc, bytes)?.length)
+    match count_of_block(alloc, bytes) {
+        Err(Refusal::NoMemory) => count_of_block(alloc, bytes),
+        count => count,
+    }
 }
 
 fn item_count(alloc: Global) -> Result<usize, AllocError> {

@@ -12,7 +12,7 @@ use std::process::Abort;
 use std::test::Fail;
 
 /// What is stored of a call, which is a number.
-#[derive(Clone, Copy, Debug, PartialEq, Eq)]
+#[derive(Clone, Copy, PartialEq, Eq)]
 struct Call {
     pass: u64,
     asked: u64,

@@ -3,14 +3,19 @@
 use crate::vectors::{
     HEARTBEAT_AT_256, HELLO_AT_0, HELLO_AT_64, HELLO_AT_128, NAK_AT_64, NAK_AT_192, SETUP,
 };
-use frame_core::{Frame, FrameKind, Items, Nak, Refusal, Setup, are_encodable};
+use frame_core::{Block, Frame, FrameKind, Items, Nak, Refusal, Setup, are_encodable};
 use image_core::{Image, repair};
 use std::alloc::{AllocError, Global};
 use std::process::Abort;
 use std::test::Fail;
 
 /// A message of the vectors' session and stream.
-fn message(alloc: Global, term_id: i32, offset: i32, body: &[u8]) -> Result<Frame, AllocError> {
+pub(crate) fn message(
+    alloc: Global,
+    term_id: i32,
+    offset: i32,
+    body: &[u8],
+) -> Result<Frame, AllocError> {
     Ok(Frame {
         kind: FrameKind::Message,
         flags: 0xC0,
@@ -25,7 +30,7 @@ fn message(alloc: Global, term_id: i32, offset: i32, body: &[u8]) -> Result<Fram
 }
 
 /// A datagram of one frame.
-fn datagram(alloc: Global, frame: &Frame) -> Result<Vec<u8>, AllocError> {
+pub(crate) fn datagram(alloc: Global, frame: &Frame) -> Result<Vec<u8>, AllocError> {
     let mut bytes = frame.header().to_vec(alloc)?;
     bytes.extend_from_slice(frame.payload.as_slice())?;
     Ok(bytes)
@@ -54,19 +59,24 @@ fn insert(image: &mut Image, bytes: &[u8]) -> Result<usize, Refusal> {
     Ok(image.insert(bytes)?.held)
 }
 
-#[test]
-fn frames_and_heartbeats_move_the_gap(rt: HostRuntime) -> Result<(), Fail> {
-    let mut image = image(rt.alloc())?;
+/// What a receiver sees behind each of four datagrams.
+fn check_gaps(rt: &impl Abort, image: &mut Image) -> Result<(), Refusal> {
     for (bytes, rebuilt, high, gap) in [
         (HELLO_AT_0, 64, 64, None),
         (HELLO_AT_128, 64, 192, Some(NAK_AT_64)),
         (HELLO_AT_64, 192, 192, None),
         (HEARTBEAT_AT_256, 192, 256, Some(NAK_AT_192)),
     ] {
-        insert(&mut image, bytes)?;
-        assert!(rt; stands(&image, rebuilt, high, gap), "at {high}");
+        insert(image, bytes)?;
+        assert!(rt; stands(image, rebuilt, high, gap), "at {high}");
     }
     Ok(())
+}
+
+#[test]
+fn frames_and_heartbeats_move_the_gap(rt: HostRuntime) -> Result<(), Fail> {
+    let mut image = image(rt.alloc())?;
+    Ok(check_gaps(&rt, &mut image)?)
 }
 
 /// How many frames join, of a datagram of a frame of 64 bytes at an offset.
@@ -78,33 +88,33 @@ fn held_at(alloc: Global, image: &mut Image, offset: i32) -> Result<usize, Fail>
 #[test]
 fn frames_past_the_window_are_dropped(rt: HostRuntime) -> Result<(), Fail> {
     let mut image = image(rt.alloc())?;
-    for (offset, held) in [(32_736, 0), (32_704, 1)] {
-        assert!(rt;
-            held_at(rt.alloc(), &mut image, offset)? == held,
-            "at {offset}"
-        );
-    }
+    assert!(rt; held_at(rt.alloc(), &mut image, 32_736)? == 0);
+    assert!(rt; held_at(rt.alloc(), &mut image, 32_704)? == 1);
     Ok(())
 }
 
-/// `hello` at 0, 64 and 128.
-fn three_hellos(alloc: Global) -> Result<Vec<Frame>, AllocError> {
-    let mut frames = Vec::new(alloc);
-    for offset in [0, 64, 128] {
-        frames.push(message(alloc, 42, offset, b"hello")?)?;
-    }
-    Ok(frames)
+/// Adds `hello` at an offset.
+fn add_hello(alloc: Global, frames: &mut Vec<Frame>, offset: i32) -> Result<(), AllocError> {
+    Ok(frames.push(message(alloc, 42, offset, b"hello")?)?)
+}
+
+/// Adds `hello` at 0, 64 and 128.
+fn add_hellos(alloc: Global, frames: &mut Vec<Frame>) -> Result<(), AllocError> {
+    add_hello(alloc, frames, 0)?;
+    add_hello(alloc, frames, 64)?;
+    add_hello(alloc, frames, 128)
 }
 
 /// What is sent of them for the request at 64.
-fn repaired_at_64(alloc: Global) -> Result<Items<Items<u8>>, Fail> {
-    let frames = three_hellos(alloc)?;
-    repaired(alloc, &frames, &Nak::decode(&NAK_AT_64)?)
+fn repaired_at_64(alloc: Global, nak: &Nak) -> Result<Items<Items<u8>>, Fail> {
+    let mut frames = Vec::new(alloc);
+    add_hellos(alloc, &mut frames)?;
+    repaired(alloc, &frames, nak)
 }
 
 #[test]
 fn a_request_is_answered_by_its_frames(rt: HostRuntime) -> Result<(), Fail> {
-    let sent = repaired_at_64(rt.alloc())?;
+    let sent = repaired_at_64(rt.alloc(), &Nak::decode(&NAK_AT_64)?)?;
     assert!(rt; sent.len() == 1);
     for bytes in sent.as_slice() {
         assert!(rt; bytes.as_slice() == HELLO_AT_64);
@@ -112,26 +122,42 @@ fn a_request_is_answered_by_its_frames(rt: HostRuntime) -> Result<(), Fail> {
     Ok(())
 }
 
-/// A datagram of three frames, from offset 0 on.
-fn three_frames(alloc: Global) -> Result<Vec<u8>, AllocError> {
-    let mut bytes = Vec::new(alloc);
-    for frame in [HELLO_AT_0, HELLO_AT_64, HELLO_AT_128] {
-        bytes.extend_from_slice(frame)?;
-        bytes.extend_from_slice(&[0; 27])?;
-    }
-    Ok(bytes)
+/// Adds a frame, and the zeros that fill it up.
+fn add_filled_up(bytes: &mut Vec<u8>, frame: &[u8]) -> Result<(), AllocError> {
+    bytes.extend_from_slice(frame)?;
+    bytes.extend_from_slice(&[0; 27])
 }
 
-/// Takes a block, once more where memory is refused, and counts its frames.
-fn frames_taken(rt: &impl Abort, image: &mut Image) -> Result<usize, Fail> {
-    let first = image.take_block();
-    if first.is_err() {
-        assert!(rt; stands(image, 192, 192, None));
+/// Adds three frames, from offset 0 on.
+fn add_three(bytes: &mut Vec<u8>) -> Result<(), AllocError> {
+    add_filled_up(bytes, HELLO_AT_0)?;
+    add_filled_up(bytes, HELLO_AT_64)?;
+    add_filled_up(bytes, HELLO_AT_128)
+}
+
+/// A datagram of these.
+fn three_frames(alloc: Global) -> Result<Vec<u8>, AllocError> {
+    let mut bytes = Vec::new(alloc);
+    add_three(&mut bytes).and(Ok(bytes))
+}
+
+/// How many frames the next block has, if there is one.
+fn frames_taken(image: &mut Image) -> Result<Option<usize>, Refusal> {
+    match image.take_block()? {
+        Some(block) => Ok(Some(block.frames.len())),
+        None => Ok(None),
     }
-    let Some(block) = first.or_else(|_| image.take_block())? else {
-        return Ok(0);
-    };
-    Ok(block.frames.len())
+}
+
+/// The same, once more where memory is refused, which has changed nothing.
+fn taken_again(rt: &impl Abort, image: &mut Image) -> Result<Option<usize>, Refusal> {
+    match frames_taken(image) {
+        Ok(count) => Ok(count),
+        Err(_) => {
+            assert!(rt; stands(image, 192, 192, None));
+            frames_taken(image)
+        }
+    }
 }
 
 /// Inserts a datagram, again where memory is refused, which has changed nothing.
@@ -160,8 +186,8 @@ fn refused_memory_changes_nothing(rt: HostRuntime) -> Result<(), Fail> {
     let mut image = image(rt.alloc())?;
     insert_three(&rt, rt.alloc(), &mut image)?;
     assert!(rt; stands(&image, 192, 192, None));
-    assert!(rt; frames_taken(&rt, &mut image)? == 3);
-    assert!(rt; matches!(image.take_block(), Ok(None)));
+    assert!(rt; taken_again(&rt, &mut image) == Ok(Some(3)));
+    assert!(rt; frames_taken(&mut image) == Ok(None));
     Ok(())
 }
 
@@ -187,13 +213,27 @@ fn heartbeat(alloc: Global, number: u32) -> Result<Frame, AllocError> {
     })
 }
 
+/// Adds the frame of a number.
+fn add_numbered(alloc: Global, frames: &mut Vec<Frame>, number: u32) -> Result<(), AllocError> {
+    Ok(frames.push(numbered(alloc, number)?)?)
+}
+
 /// The frames of some numbers, from the first on.
 fn frames_from(alloc: Global, first: u32) -> Result<Vec<Frame>, AllocError> {
     let mut frames = Vec::new(alloc);
     for i in 0..TOGETHER {
-        frames.push(numbered(alloc, first.wrapping_add(i))?)?;
+        add_numbered(alloc, &mut frames, first.wrapping_add(i))?;
     }
     Ok(frames)
+}
+
+/// Sends a frame so many times.
+fn send_times(alloc: Global, image: &mut Image, frame: &Frame, times: u32) -> Result<(), Fail> {
+    let bytes = datagram(alloc, frame)?;
+    for _ in 0..times {
+        insert(image, &bytes)?;
+    }
+    Ok(())
 }
 
 /// Sends the frames in an order that a number gives. One in eight is lost, and one in eight comes twice.
@@ -202,10 +242,7 @@ fn send(alloc: Global, image: &mut Image, frames: &[Frame], mut seed: u32) -> Re
         let index = (i * 77 + seed % TOGETHER) % TOGETHER;
         let frame = frames.get(index as usize).ok_or("no such frame")?;
         seed = seed.wrapping_mul(1_664_525).wrapping_add(1_013_904_223);
-        let bytes = datagram(alloc, frame)?;
-        for _ in 0..times(seed) {
-            insert(image, &bytes)?;
-        }
+        send_times(alloc, image, frame, times(seed))?;
     }
     Ok(seed)
 }
@@ -238,17 +275,23 @@ fn fill_all(alloc: Global, image: &mut Image, frames: &[Frame]) -> Result<(), Fa
     Err("a gap stays".into())
 }
 
+/// The frames of a block begin with that of a number: the number behind the last one.
+fn behind(rt: &impl Abort, block: &Block, mut number: u32) -> u32 {
+    assert!(rt; block.position == i64::from(number) * 64);
+    for frame in block.frames.as_slice() {
+        assert!(rt; frame.payload.as_slice() == number.to_le_bytes().as_slice());
+        number = number.wrapping_add(1);
+    }
+    number
+}
+
 /// Takes all blocks, whose frames begin with that of a number, and answers the number behind the last one.
 fn take_all(rt: &impl Abort, image: &mut Image, mut number: u32) -> Result<u32, Fail> {
     for _ in 0..=TOGETHER {
         let Some(block) = image.take_block()? else {
             return Ok(number);
         };
-        assert!(rt; block.position == i64::from(number) * 64);
-        for frame in block.frames.as_slice() {
-            assert!(rt; frame.payload.as_slice() == number.to_le_bytes().as_slice());
-            number = number.wrapping_add(1);
-        }
+        number = behind(rt, &block, number);
     }
     Err("no end of blocks".into())
 }
@@ -290,15 +333,20 @@ fn image_from_the_largest(alloc: Global) -> Result<Image, Fail> {
     Ok(Image::from_setup(alloc, &setup)?)
 }
 
-#[test]
-fn a_stream_comes_whole_over_a_bad_line(rt: HostRuntime) -> Result<(), Fail> {
-    let mut image = image_from_the_largest(rt.alloc())?;
+/// Sends all frames over the bad line, and counts those that are taken.
+fn taken_over(rt: &impl Abort, alloc: Global, image: &mut Image) -> Result<u32, Fail> {
     let mut seed = 1;
     let mut taken = 0;
     for group in 0..FRAMES / TOGETHER {
-        seed = send_all(rt.alloc(), &mut image, group * TOGETHER, seed)?;
-        taken = take_all(&rt, &mut image, taken)?;
+        seed = send_all(alloc, image, group * TOGETHER, seed)?;
+        taken = take_all(rt, image, taken)?;
     }
-    assert!(rt; taken == FRAMES);
+    Ok(taken)
+}
+
+#[test]
+fn a_stream_comes_whole_over_a_bad_line(rt: HostRuntime) -> Result<(), Fail> {
+    let mut image = image_from_the_largest(rt.alloc())?;
+    assert!(rt; taken_over(&rt, rt.alloc(), &mut image)? == FRAMES);
     Ok(())
 }

@@ -1,7 +1,6 @@
-//! Merges: the scenario of docs/SCENARIOS.md, and each request for memory refused.
+//! Merges: each request for memory refused.
 
-use crate::vectors::{HELLO_AT_0, HELLO_AT_64};
-use frame_core::{Frame, FrameKind, Geometry, Items, Refusal, decode_front};
+use frame_core::{Frame, FrameKind, Geometry, Items, Refusal};
 use merge_core::{Merge, Offered};
 use std::alloc::Global;
 use std::process::Abort;
@@ -12,45 +11,6 @@ const GEOMETRY: Geometry = Geometry {
     term_length: 65_536,
     mtu: 1_408,
 };
-
-fn frame(alloc: Global, vector: &[u8]) -> Result<Frame, Fail> {
-    Ok(decode_front(vector)?.0.to_frame(alloc)?)
-}
-
-/// What becomes of a vector's frame that is replayed.
-fn replayed(alloc: Global, merge: &mut Merge, vector: &[u8]) -> Result<Offered, Fail> {
-    Ok(merge.replay_frame(frame(alloc, vector)?)?)
-}
-
-/// What becomes of it where it comes live.
-fn lived(alloc: Global, merge: &mut Merge, vector: &[u8]) -> Result<Offered, Fail> {
-    Ok(merge.live_frame(frame(alloc, vector)?)?)
-}
-
-/// A frame is taken at a term offset.
-fn takes(merge: &mut Merge, term_offset: i32) -> bool {
-    merge
-        .take()
-        .is_some_and(|frame| frame.term_offset == term_offset)
-}
-
-/// `hello` at 0 is replayed; that at 64 comes live, and then is replayed too.
-fn check_offers(rt: &impl Abort, alloc: Global, merge: &mut Merge) -> Result<(), Fail> {
-    assert!(rt; replayed(alloc, merge, HELLO_AT_0)? == Offered::Held);
-    assert!(rt; lived(alloc, merge, HELLO_AT_64)? == Offered::Held);
-    assert!(rt; takes(merge, 0));
-    assert!(rt; replayed(alloc, merge, HELLO_AT_64)? == Offered::Ignored);
-    assert!(rt; takes(merge, 64) && merge.take().is_none());
-    Ok(())
-}
-
-#[test]
-fn merge_into_the_live_stream(rt: HostRuntime) -> Result<(), Fail> {
-    let mut merge = Merge::new(rt.alloc(), GEOMETRY, 0);
-    check_offers(&rt, rt.alloc(), &mut merge)?;
-    assert!(rt; merge.is_merged() && merge.cursor() == 128);
-    Ok(())
-}
 
 /// A message of 64 bytes with no payload at hand, of term 42, offset 64.
 fn empty_frame(alloc: Global) -> Frame {
@@ -88,6 +48,6 @@ fn refused_memory_changes_nothing(rt: HostRuntime) -> Result<(), Fail> {
     let alloc = rt.alloc();
     let mut merge = Merge::new(alloc, GEOMETRY, 0);
     offered_again(&rt, alloc, &mut merge)?;
-    assert!(rt; offered(alloc, &mut merge)? == Offered::Ignored);
+    assert!(rt; offered(alloc, &mut merge) == Ok(Offered::Ignored));
     Ok(())
 }

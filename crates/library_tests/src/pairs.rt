@@ -34,47 +34,6 @@ fn the_least_session_that_stands_there_is_fed(rt: HostRuntime) -> Result<(), Fai
     Ok(())
 }
 
-/// A publication has one image, and 64 come at most. Sessions from 64 on are not fed.
-#[test]
-fn images_and_sessions_have_their_limits(rt: HostRuntime) -> Result<(), Fail> {
-    let mut pairs = Pairs::new(rt.alloc())?;
-    pairs.opened(64, 0, point(0, 0));
-    for session_id in 0..64 {
-        assert!(rt; pairs.joined(point(session_id, 0)).is_some());
-        assert!(rt; pairs.joined(point(session_id, 64)).is_none());
-    }
-    assert!(rt; pairs.joined(point(64, 0)).is_none() && pairs.image_count() == 64);
-    assert!(rt; pairs.image_of(&point(63, 0).publication) == Some(63));
-    assert!(rt; pairs.session_of_image(0).is_none());
-    Ok(())
-}
-
-/// A session is settled up to where the image of its publication joins. It is stopped and then refused, and another
-/// session of the recording doesn't get the image.
-#[test]
-fn a_refused_session_loses_its_image(rt: HostRuntime) -> Result<(), Fail> {
-    let mut pairs = Pairs::new(rt.alloc())?;
-    pairs.opened(0, 0, point(7, 0));
-    pairs.settled(0, 192);
-    assert!(rt; pairs.joined(point(7, 192)) == Some(0) && pairs.session_of_image(0) == Some(0));
-    pairs.stopped(0);
-    assert!(rt; pairs.session_of_image(0) == Some(0));
-    pairs.refused(0);
-    pairs.opened(1, 0, point(7, 192));
-    assert!(rt; pairs.session_of_image(0).is_none() && pairs.image_of_session(1).is_none());
-    Ok(())
-}
-
-/// A session that was stopped takes no image.
-#[test]
-fn a_stopped_session_takes_no_image(rt: HostRuntime) -> Result<(), Fail> {
-    let mut pairs = Pairs::new(rt.alloc())?;
-    pairs.opened(0, 0, point(7, 0));
-    pairs.stopped(0);
-    assert!(rt; pairs.joined(point(7, 0)) == Some(0) && pairs.session_of_image(0).is_none());
-    Ok(())
-}
-
 /// Where memory is refused once, pairs may be made again: trials/refused_memory.py runs this test for each of its
 /// requests for memory, which it refuses.
 #[test]

@@ -28,13 +28,17 @@ fn polled(
     replay.poll(alloc, &mut store, recorded, most)
 }
 
-/// Three frames of 64 bytes, stored.
+/// Stores three frames of 64 bytes.
+fn store_three(rt: &impl Abort, alloc: Global, disk: &mut MemoryDisk) -> Result<(), Refusal> {
+    store(rt, alloc, disk, HELLO_AT_0)?;
+    store(rt, alloc, disk, HELLO_AT_64)?;
+    store(rt, alloc, disk, HELLO_AT_128)
+}
+
+/// A disk with these.
 fn three_hellos(rt: &impl Abort, alloc: Global) -> Result<MemoryDisk, Refusal> {
     let mut disk = MemoryDisk::new(alloc);
-    for bytes in [HELLO_AT_0, HELLO_AT_64, HELLO_AT_128] {
-        store(rt, alloc, &mut disk, bytes)?;
-    }
-    Ok(disk)
+    store_three(rt, alloc, &mut disk).and(Ok(disk))
 }
 
 /// The same, asked for again where a request for memory was refused.

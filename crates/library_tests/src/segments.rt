@@ -1,14 +1,17 @@
 //! Segment files: the scenarios of docs/SCENARIOS.md that speak of them, what a crash leaves of a torn block, and device
 //! calls counted.
 
+ghost use Rattle.std.specs.Prelude.{◌≡◌, pos};
+ghost use Rattle.segment_store.specs.Layout.{IsLayout};
+
 use crate::vectors::{HELLO_AT_0, HELLO_AT_64, HELLO_IN_NEXT_TERM, PAD_AT_TERM_END};
-use disk_core::{Disk, FileId, MemoryDisk};
+use disk_core::{Disk, Fault, FileId, MemoryDisk};
 use frame_core::{Frame, FrameKind, Geometry, Publication, Refusal, block_end, block_of};
 use segment_store::{
     Keep, Layout, base_of, is_boundary, read_frame, stale_files, sweep_one, sync_segment,
     write_block,
 };
-use std::alloc::{AllocError, Global};
+use std::alloc::Global;
 use std::process::Abort;
 use std::test::Fail;
 
@@ -44,6 +47,23 @@ const PUBLICATION: Publication = Publication {
     stream_id: 1_001,
 };
 
+/// Writes a block of a recording of this layout, whose terms have 65,536 bytes.
+fn store_in(
+    rt: &impl Abort,
+    alloc: Global,
+    disk: &mut MemoryDisk,
+    layout: &Layout,
+    bytes: &[u8],
+) -> Result<(), Refusal>
+    requires layout { IsLayout layout.now }
+    requires term { layout.now.term_length ≡ pos 65536 }
+{
+    let block = block_of(alloc, &GEOMETRY, bytes)?;
+    assert!(rt; block.position >= layout.start_position);
+    assert!(rt; block_end(&GEOMETRY, &PUBLICATION, &block).is_some());
+    write_block(disk, layout, &block)
+}
+
 /// Writes a block of the recording.
 #[tactic(auto, using(crate::proofs::SegmentFacts::layout_of_the_tests))]
 pub(crate) fn store(
@@ -52,10 +72,7 @@ pub(crate) fn store(
     disk: &mut MemoryDisk,
     bytes: &[u8],
 ) -> Result<(), Refusal> {
-    let block = block_of(alloc, &GEOMETRY, bytes)?;
-    assert!(rt; block.position >= 0);
-    assert!(rt; block_end(&GEOMETRY, &PUBLICATION, &block).is_some());
-    write_block(disk, &LAYOUT, &block)
+    store_in(rt, alloc, disk, &LAYOUT, bytes)
 }
 
 /// Syncs the recording's first segment.
@@ -81,35 +98,17 @@ fn told(disk: &mut MemoryDisk, recorded: i64, position: i64) -> Result<bool, Ref
     is_boundary(disk, &LAYOUT, &GEOMETRY, recorded, position)
 }
 
-/// The bytes of the first segment file from an offset on.
-fn bytes_at(
-    alloc: Global,
-    disk: &mut MemoryDisk,
-    offset: u64,
-    size: usize,
-) -> Result<Vec<u8>, Fail> {
-    let mut bytes = vec![in alloc; 9; size]?;
-    let count = disk.read_at(FIRST, offset, bytes.as_mut_slice())?;
-    bytes.truncate(count);
-    Ok(bytes)
-}
-
-/// Some bytes, and zeros behind them.
-fn filled_up(alloc: Global, bytes: &[u8], size: usize) -> Result<Vec<u8>, AllocError> {
-    let mut whole = bytes.to_vec(alloc)?;
-    whole.resize(size, 0)?;
-    Ok(whole)
-}
-
-/// Whether a frame that is filled up to 64 bytes is all that is read of the first segment file at an offset, by a size.
+/// Whether a frame that is filled up to 64 bytes with zeros stands in a file at an offset.
 fn stands_at(
-    alloc: Global,
     disk: &mut MemoryDisk,
+    file: FileId,
     offset: u64,
-    size: usize,
     frame: &[u8],
-) -> Result<bool, Fail> {
-    Ok(bytes_at(alloc, disk, offset, size)? == filled_up(alloc, frame, 64)?)
+) -> Result<bool, Fault> {
+    let mut read = [9; 64];
+    let count = disk.read_at(file, offset, &mut read)?;
+    let is_filled_up = read.iter().skip(frame.len()).all(|byte| *byte == 0);
+    Ok(count == 64 && read.starts_with(frame) && is_filled_up)
 }
 
 /// Writes the blocks of a pad at a term's end and of the frame behind it.
@@ -118,22 +117,27 @@ fn store_both(rt: &impl Abort, alloc: Global, disk: &mut MemoryDisk) -> Result<(
     store(rt, alloc, disk, HELLO_IN_NEXT_TERM)
 }
 
-/// Whether both stand in the file.
-fn both_stand(alloc: Global, disk: &mut MemoryDisk) -> Result<bool, Fail> {
+/// Whether both stand in the file, and nothing behind them.
+fn both_stand(disk: &mut MemoryDisk) -> Result<bool, Fault> {
     Ok(
-        stands_at(alloc, disk, 65_472, 64, PAD_AT_TERM_END)?
-            && stands_at(alloc, disk, 65_536, 100, HELLO_IN_NEXT_TERM)?,
+        stands_at(disk, FIRST, 65_472, PAD_AT_TERM_END)?
+            && stands_at(disk, FIRST, 65_536, HELLO_IN_NEXT_TERM)?
+            && disk.len(FIRST)? == 65_600,
     )
+}
+
+/// Each block is written by one call.
+fn check_both(rt: &impl Abort, alloc: Global, disk: &mut MemoryDisk) -> Result<(), Fail> {
+    store_both(rt, alloc, disk)?;
+    assert!(rt; disk.calls() == 2);
+    assert!(rt; both_stand(disk)?);
+    Ok(())
 }
 
 #[test]
 fn a_pad_at_a_terms_end_and_its_file(rt: HostRuntime) -> Result<(), Fail> {
-    let alloc = rt.alloc();
-    let mut disk = MemoryDisk::new(alloc);
-    store_both(&rt, alloc, &mut disk)?;
-    assert!(rt; disk.calls() == 2);
-    assert!(rt; both_stand(alloc, &mut disk)?);
-    Ok(())
+    let mut disk = MemoryDisk::new(rt.alloc());
+    check_both(&rt, rt.alloc(), &mut disk)
 }
 
 /// Whether the pad at the term's end is read.
@@ -142,11 +146,17 @@ fn is_pad_read(alloc: Global, disk: &mut MemoryDisk) -> Result<bool, Refusal> {
     Ok(frame.kind == FrameKind::Pad && frame.length == 64)
 }
 
+/// Writes the pad, and reads it by one call.
+fn check_pad(rt: &impl Abort, alloc: Global, disk: &mut MemoryDisk) -> Result<(), Refusal> {
+    store(rt, alloc, disk, PAD_AT_TERM_END)?;
+    assert!(rt; is_pad_read(alloc, disk)? && disk.calls() == 2);
+    Ok(())
+}
+
 #[test]
 fn a_frame_costs_one_call(rt: HostRuntime) -> Result<(), Fail> {
     let mut disk = MemoryDisk::new(rt.alloc());
-    store(&rt, rt.alloc(), &mut disk, PAD_AT_TERM_END)?;
-    assert!(rt; is_pad_read(rt.alloc(), &mut disk)? && disk.calls() == 2);
+    check_pad(&rt, rt.alloc(), &mut disk)?;
     let damaged = Refusal::Damaged {
         recording: 0,
         position: 0,
@@ -155,46 +165,53 @@ fn a_frame_costs_one_call(rt: HostRuntime) -> Result<(), Fail> {
     Ok(())
 }
 
-/// A disk with a synced block.
-fn with_first(rt: &impl Abort, alloc: Global) -> Result<MemoryDisk, Refusal> {
-    let mut disk = MemoryDisk::new(alloc);
-    store(rt, alloc, &mut disk, HELLO_AT_0)?;
-    synced(&mut disk)?;
-    Ok(disk)
-}
-
-/// What a crash by a choice leaves, where the second of two blocks and its sync stop after so many changes.
-fn left_torn(rt: &impl Abort, alloc: Global, stop: u64, choice: u8) -> Result<MemoryDisk, Refusal> {
-    let mut disk = with_first(rt, alloc)?;
+/// Writes and syncs a block; a second one and its sync stop after so many changes.
+fn tear(rt: &impl Abort, alloc: Global, disk: &mut MemoryDisk, stop: u64) -> Result<(), Refusal> {
+    store(rt, alloc, disk, HELLO_AT_0)?;
+    synced(disk)?;
     disk.stop_after(stop);
-    let _ = store(rt, alloc, &mut disk, HELLO_AT_64);
-    let _ = synced(&mut disk);
-    disk.crash(&[choice])
-}
-
-/// Whether the first of them is read, and 64 is a boundary.
-fn has_first(alloc: Global, disk: &mut MemoryDisk) -> Result<bool, Refusal> {
-    let first = frame_at(alloc, disk, 0, 64)?;
-    Ok(first.payload.as_slice() == b"hello".as_slice() && told(disk, 64, 64)?)
-}
-
-/// What is found then: the first block, and the second where it was synced or the choice kept it.
-fn torn(rt: &impl Abort, alloc: Global, stop: u64, choice: u8) -> Result<(), Fail> {
-    let mut left = left_torn(rt, alloc, stop, choice)?;
-    assert!(rt; has_first(alloc, &mut left)?);
-    let is_second = frame_at(alloc, &mut left, 64, 128).is_ok();
-    assert!(rt;
-        is_second == (stop == 2 || (stop == 1 && choice == 1)),
-        "{stop} {choice}"
-    );
+    let _ = store(rt, alloc, disk, HELLO_AT_64);
+    let _ = synced(disk);
     Ok(())
 }
 
+/// What a crash by a choice leaves then.
+fn left_torn(rt: &impl Abort, alloc: Global, stop: u64, choice: u8) -> Result<MemoryDisk, Refusal> {
+    let mut disk = MemoryDisk::new(alloc);
+    tear(rt, alloc, &mut disk, stop)?;
+    disk.crash(&[choice])
+}
+
+/// Whether the frame at 0 is read.
+fn is_hello_read(alloc: Global, disk: &mut MemoryDisk) -> Result<bool, Refusal> {
+    let first = frame_at(alloc, disk, 0, 64)?;
+    Ok(first.payload.as_slice() == b"hello".as_slice())
+}
+
+/// Whether it is, and 64 is a boundary; and whether the second block is found.
+fn found(alloc: Global, disk: &mut MemoryDisk) -> Result<(bool, bool), Refusal> {
+    let is_first = is_hello_read(alloc, disk)? && told(disk, 64, 64)?;
+    Ok((is_first, frame_at(alloc, disk, 64, 128).is_ok()))
+}
+
+/// What is found of the two blocks then.
+fn found_torn(
+    rt: &impl Abort,
+    alloc: Global,
+    stop: u64,
+    choice: u8,
+) -> Result<(bool, bool), Refusal> {
+    let mut left = left_torn(rt, alloc, stop, choice)?;
+    found(alloc, &mut left)
+}
+
+/// The first block stands, and the second where it was synced or the choice kept it.
 #[test]
 fn synced_frames_stand_beside_a_torn_block(rt: HostRuntime) -> Result<(), Fail> {
     for stop in 0..3u64 {
         for choice in [0u8, 1, 255] {
-            torn(&rt, rt.alloc(), stop, choice)?;
+            let is_second = stop == 2 || (stop == 1 && choice == 1);
+            assert!(rt; found_torn(&rt, rt.alloc(), stop, choice)? == (true, is_second));
         }
     }
     Ok(())
@@ -216,12 +233,17 @@ fn sweeps(disk: &mut MemoryDisk) -> Result<(bool, bool), Refusal> {
     ))
 }
 
+/// Writes a block, whose file a sweep removes.
+fn check_sweep(rt: &impl Abort, alloc: Global, disk: &mut MemoryDisk) -> Result<(), Fail> {
+    store(rt, alloc, disk, HELLO_AT_0)?;
+    assert!(rt; sweeps(disk)? == (false, true) && disk.len(FIRST)? == 0);
+    Ok(())
+}
+
 #[test]
 fn a_sweep_removes_the_first_stale_file(rt: HostRuntime) -> Result<(), Fail> {
     let mut disk = MemoryDisk::new(rt.alloc());
-    store(&rt, rt.alloc(), &mut disk, HELLO_AT_0)?;
-    assert!(rt; sweeps(&mut disk)? == (false, true) && disk.len(FIRST)? == 0);
-    Ok(())
+    check_sweep(&rt, rt.alloc(), &mut disk)
 }
 
 /// `hello`, term 43, offset 96: at the start of the recording that starts mid-stream, 65,632.
@@ -244,45 +266,47 @@ fn store_mid_stream(
     disk: &mut MemoryDisk,
     bytes: &[u8],
 ) -> Result<(), Refusal> {
-    let block = block_of(alloc, &GEOMETRY, bytes)?;
-    assert!(rt; block.position >= 65_632);
-    assert!(rt; block_end(&GEOMETRY, &PUBLICATION, &block).is_some());
-    write_block(disk, &MID_STREAM, &block)
+    store_in(rt, alloc, disk, &MID_STREAM, bytes)
 }
 
-/// Whether these bytes stand in a file of the recording that starts mid-stream, at an offset.
-fn holds(
-    alloc: Global,
+/// Whether a frame stands in a file of that recording.
+fn stands_mid_stream(
     disk: &mut MemoryDisk,
     base: i64,
     offset: u64,
     frame: &[u8],
-) -> Result<bool, Fail> {
-    let file = FileId::Segment { recording: 0, base };
-    let mut bytes = vec![in alloc; 9; 64]?;
-    let count = disk.read_at(file, offset, bytes.as_mut_slice())?;
-    Ok(count == 64 && bytes == filled_up(alloc, frame, 64)?)
+) -> Result<bool, Fault> {
+    stands_at(disk, FileId::Segment { recording: 0, base }, offset, frame)
 }
 
 /// Whether its three frames stand in two files.
-fn holds_all(alloc: Global, disk: &mut MemoryDisk) -> Result<bool, Fail> {
+fn holds_all(disk: &mut MemoryDisk) -> Result<bool, Fail> {
     Ok(
-        holds(alloc, disk, 65_536, 96, AT_THE_START)?
-            && holds(alloc, disk, 65_536, 131_008, IN_THE_FIRST)?
-            && holds(alloc, disk, 196_608, 0, IN_THE_SECOND)?,
+        stands_mid_stream(disk, 65_536, 96, AT_THE_START)?
+            && stands_mid_stream(disk, 65_536, 131_008, IN_THE_FIRST)?
+            && stands_mid_stream(disk, 196_608, 0, IN_THE_SECOND)?
+            && disk.list()?.len() == 2,
     )
+}
+
+/// Writes the three frames.
+fn store_three(rt: &impl Abort, alloc: Global, disk: &mut MemoryDisk) -> Result<(), Refusal> {
+    store_mid_stream(rt, alloc, disk, AT_THE_START)?;
+    store_mid_stream(rt, alloc, disk, IN_THE_FIRST)?;
+    store_mid_stream(rt, alloc, disk, IN_THE_SECOND)
+}
+
+/// Writes them, and finds them.
+fn check_three(rt: &impl Abort, alloc: Global, disk: &mut MemoryDisk) -> Result<(), Fail> {
+    store_three(rt, alloc, disk)?;
+    assert!(rt; holds_all(disk)?);
+    Ok(())
 }
 
 #[test]
 fn segments_of_a_recording_that_starts_mid_stream(rt: HostRuntime) -> Result<(), Fail> {
-    let alloc = rt.alloc();
-    let mut disk = MemoryDisk::new(alloc);
-    for bytes in [AT_THE_START, IN_THE_FIRST, IN_THE_SECOND] {
-        store_mid_stream(&rt, alloc, &mut disk, bytes)?;
-    }
-    assert!(rt; disk.list()?.len() == 2);
-    assert!(rt; holds_all(alloc, &mut disk)?);
-    Ok(())
+    let mut disk = MemoryDisk::new(rt.alloc());
+    check_three(&rt, rt.alloc(), &mut disk)
 }
 
 #[test]
