@@ -1,8 +1,8 @@
 #!/usr/bin/env python3
-"""Agents in threads: the scenario of agents_tests in which they wait for each other, and followed positions behind a kill.
+"""Agents in threads: the scenario of live_tests in which they wait for each other, and followed positions behind a kill.
 
 Usage: trials/agents.py [--seed S] [--runs N] [--kills N] [program]. First: cd crates/agent_trials && rt run -- look 1, and
-cd crates/agents_tests && rt test
+cd crates/live_tests && rt test
 
 Two recorders and two replayers, the first of each waiting for the other, run again and again: agents on one thread would end a
 wait by its limit. Then two recorders with their receivers record into a folder, and a follower writes each position down that
@@ -18,7 +18,7 @@ from pathlib import Path
 from tool import ROOT, Fault, Stream, conclude, expect, file_system, go_round, needs, program, replayed, room, run, trial_words
 
 AGENTS = ROOT / "crates/agent_trials/out/agent_trials"
-TESTS = ROOT / "crates/agents_tests/out/agents_tests_tests"
+TESTS = ROOT / "crates/live_tests/out/live_tests_tests"
 SCENARIO = "agents::two_recorders_and_two_replayers"
 STREAM = Stream(term_length=65_536, segment_length=65_536)
 HISTORY = 16_777_216

@@ -1,6 +1,6 @@
 use Rattle.std.proofs.Common.{[]}
 use Rattle.archive_lock.specs.Held.{engine_seen, view_of}
-use Rattle.agents_tests.proofs.agents.opened.Given as goal
+use Rattle.live_tests.proofs.archives.opened.Given as goal
 
 -- the archive of this history
 abbrev pub ghosts-shared : goal.ghosts-shared

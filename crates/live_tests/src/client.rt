@@ -116,9 +116,4 @@ impl Client {
             Err(_) => false,
         }
     }
-
-    /// Whether `quit` is answered by `bye`.
-    pub(crate) fn quits(&mut self, alloc: Global) -> bool {
-        self.asks(alloc, "quit", "bye")
-    }
 }

@@ -1,38 +1,12 @@
 //! Blocks from datagrams: the scenario of docs/SCENARIOS.md.
 
+use crate::vectors::{HELLO_AT_0, HELLO_AT_64, HELLO_AT_128, HELLO_CUT_OFF, NAK_AT_64, SETUP};
 use agents_core::{BlockSource, DatagramEnd, ImageSource};
 use frame_core::{Block, Refusal, Setup};
 use image_core::Image;
 use std::alloc::Global;
 use std::sync::Wait;
 use std::test::Fail;
-
-/// `hello`, term 42, offset 0.
-const HELLO_AT_0: &[u8] =
-    b"\x25\0\0\0\0\xc0\x01\0\0\0\0\0\x07\0\0\0\xe9\x03\0\0\x2a\0\0\0\0\0\0\0\0\0\0\0hello";
-
-/// The first 20 bytes of it, which are no frame.
-const CUT_OFF: &[u8] = b"\x25\0\0\0\0\xc0\x01\0\0\0\0\0\x07\0\0\0\xe9\x03\0\0";
-
-/// `hello`, term 42, offset 64.
-const HELLO_AT_64: &[u8] =
-    b"\x25\0\0\0\0\xc0\x01\0\x40\0\0\0\x07\0\0\0\xe9\x03\0\0\x2a\0\0\0\0\0\0\0\0\0\0\0hello";
-
-/// `hello`, term 42, offset 128.
-const HELLO_AT_128: &[u8] =
-    b"\x25\0\0\0\0\xc0\x01\0\x80\0\0\0\x07\0\0\0\xe9\x03\0\0\x2a\0\0\0\0\0\0\0\0\0\0\0hello";
-
-/// The setup frame of terms of 65,536 bytes from term 42 on, joined at its beginning.
-const SETUP: [u8; 40] = [
-    0x28, 0, 0, 0, 0, 0, 5, 0, 0, 0, 0, 0, 7, 0, 0, 0, 0xe9, 3, 0, 0, 0x2a, 0, 0, 0, 0x2a, 0, 0, 0,
-    0, 0, 1, 0, 0x80, 5, 0, 0, 0, 0, 0, 0,
-];
-
-/// A request for 64 bytes at offset 64 of term 42.
-const NAK_AT_64: [u8; 28] = [
-    0x1c, 0, 0, 0, 0, 0, 2, 0, 7, 0, 0, 0, 0xe9, 3, 0, 0, 0x2a, 0, 0, 0, 0x40, 0, 0, 0, 0x40, 0, 0,
-    0,
-];
 
 /// Datagrams that come in their order, and how many came; how many requests were sent, and the last of them.
 #[derive(Drop)]
@@ -90,7 +64,7 @@ fn given<R: Wait + Drop + Send>(
     alloc: Global,
     datagrams: &'static [&'static [u8]],
 ) -> Result<([Option<(i64, usize, i32)>; 3], ListedEnd), Refusal> {
-    let image = Image::from_setup(alloc, &Setup::decode(&SETUP)?)?;
+    let image = Image::from_setup(alloc, &Setup::decode(SETUP)?)?;
     let end = ListedEnd {
         datagrams,
         given: 0,
@@ -103,12 +77,12 @@ fn given<R: Wait + Drop + Send>(
     Ok((given, end))
 }
 
-const DATAGRAMS: &[&[u8]] = &[HELLO_AT_0, CUT_OFF, HELLO_AT_128, HELLO_AT_64];
+const DATAGRAMS: &[&[u8]] = &[HELLO_AT_0, HELLO_CUT_OFF, HELLO_AT_128, HELLO_AT_64];
 
 #[test]
 fn blocks_come_in_order_behind_a_loss(rt: HostRuntime) -> Result<(), Fail> {
     let (given, end) = given(&rt, rt.alloc(), DATAGRAMS)?;
     assert!(rt; given == [Some((0, 1, 0)), Some((64, 2, 128)), None]);
-    assert!(rt; end.requests == 1 && end.last == NAK_AT_64);
+    assert!(rt; end.requests == 1 && end.last.as_slice() == NAK_AT_64);
     Ok(())
 }

@@ -1,24 +1,21 @@
 //! Agents, each in a thread of its own: "Two recorders and two replayers", docs/SCENARIOS.md.
 
-ghost use Rattle.std.specs.Prelude.{◌≡◌, ◌<◌, [], IfOk, IfSome};
-ghost use Rattle.call_history.specs.Passes.{AllOfTable, new_passes};
-ghost use Rattle.archive_lock.specs.Held.{engine_seen, view_of};
+ghost use Rattle.std.specs.Prelude.{◌≡◌, IfOk, IfSome};
 ghost use Rattle.agents_core.specs.Runs.{AreReading, AreSeated};
 
+use crate::archives::{Scenario, Seats, closed, played};
+use crate::seat::Seat;
 use agents_core::{
     Agents, BlockSource, FrameSink, Gate, Receiver, Recorder, RecorderSeat, Replayer, run_agents,
 };
-use archive_lock::{Call, Made, Naming, SharedArchive};
+use archive_lock::{Made, Naming, SharedArchive};
 use archive_model::PolledFrame;
-use call_history::{Opened, Pass, Stored};
-use control_core::Event;
-use control_lines::{Line, parse_line};
-use disk_core::{Disk, MemoryDisk};
-use engine_core::Engine;
-use frame_core::{Block, Frame, FrameKind, Items, Refusal};
+use call_history::Pass;
+use disk_core::Disk;
+use frame_core::{Block, Frame, FrameKind, Items};
 use position_board::{Board, Reader};
 use std::alloc::{AllocError, Global};
-use std::marker::Brand;
+use std::process::Abort;
 use std::sync::Wait;
 use std::sync::atomic::{AtomicBool, AtomicU32, Ordering};
 use std::test::Fail;
@@ -107,82 +104,52 @@ impl Gate for Turns {
     }
 }
 
-/// What the agents did.
+/// What the agents did, and how many calls were stored, if they were kept.
 #[derive(Drop)]
 struct Told {
+    has_run: bool,
     refused: usize,
     rising: usize,
     frames: usize,
-    calls: usize,
-    polls: usize,
+    polls: u64,
+    calls: Option<(u64, bool)>,
 }
 
 #[test]
 fn two_recorders_and_two_replayers(rt: HostRuntime) -> Result<(), Fail> {
-    let engine = begun(rt.alloc())?;
-    let told = opened(&rt, rt.alloc(), engine).ok_or("a run")?;
-    assert!(rt; told.refused == 0 && told.rising == 2);
+    played(&rt, rt.alloc(), true, Scenario::Agents)
+}
+
+/// Two recordings, and a replay of each.
+const BEGUN: &str = "\
+start 1001 7 42 65536 1408 65536 0 1000 c: started 0 0
+start 1001 7 42 65536 1408 65536 0 1000 c: started 1 1
+replay 0 0 192: replay 0
+replay 1 0 192: replay 1
+";
+
+/// Two receivers with their recorders, and two replayers. The first seat makes four calls before they run.
+pub(crate) fn two_pairs<
+    D: Disk + Drop + Send,
+    A: Naming + Send + Sync,
+    R: Threads + Wait + Abort + Sync,
+>(rt: &R, alloc: Global, archive: SharedArchive<D, A>, mut seats: Seats<A>) -> Result<(), Fail> {
+    seats.first.plays(rt, alloc, &archive, BEGUN)?;
+    let told = met(rt, alloc, archive, seats).ok_or("a run")?;
+    assert!(rt; told.has_run && told.refused == 0 && told.rising == 2);
     // One sink ends at the first frame, or the poll that has it; the other has all three.
     assert!(rt; told.frames >= 4 && told.frames <= 6);
-    assert!(rt; told.calls == told.polls.saturating_add(12));
+    assert!(rt; told.calls == Some((told.polls.saturating_add(16), true)));
     Ok(())
 }
 
-/// An archive with two recordings, and a replay of each.
-fn begun(alloc: Global) -> Result<Engine<MemoryDisk>, Refusal> {
-    let made = Engine::create(alloc, MemoryDisk::new(alloc), 64);
-    let mut engine = made.map_err(|refused| refused.refusal)?;
-    begin(alloc, &mut engine)?;
-    Ok(engine)
-}
-
-/// Asks for two recordings, and a replay of each.
-fn begin(alloc: Global, engine: &mut Engine<MemoryDisk>) -> Result<(), Refusal> {
-    step(alloc, engine, "start 1001 7 42 65536 1408 65536 0 1000 c")?;
-    step(alloc, engine, "start 1001 7 42 65536 1408 65536 0 1000 c")?;
-    step(alloc, engine, "replay 0 0 192")?;
-    step(alloc, engine, "replay 1 0 192")
-}
-
-fn step(alloc: Global, engine: &mut Engine<MemoryDisk>, line: &str) -> Result<(), Refusal> {
-    let event = event_of(alloc, line)?;
-    match engine.step(alloc, &event) {
-        Ok(_) => Ok(()),
-        Err(refusal) => Err(refusal),
-    }
-}
-
-/// The event of a line.
-fn event_of(alloc: Global, line: &str) -> Result<Event, Refusal> {
-    match parse_line(alloc, line.as_bytes())? {
-        Line::Event(event) => Ok(event),
-        _ => Err(Refusal::BadLine),
-    }
-}
-
-fn opened<D: Disk + Drop + Send, R: Threads + Wait + Sync>(
+/// The same, where the first source and the first sink meet.
+fn met<D: Disk + Drop + Send, A: Naming + Send + Sync, R: Threads + Wait + Sync>(
     rt: &R,
     alloc: Global,
-    engine: Engine<D>,
+    archive: SharedArchive<D, A>,
+    seats: Seats<A>,
 ) -> Option<Told> {
-    let opened = Opened::new(alloc, true).ok()?;
-    shared::<D, Brand, R>(rt, alloc, opened, engine)
-}
-
-fn shared<D: Disk + Drop + Send, A: Naming + Send + Sync, R: Threads + Wait + Sync>(
-    rt: &R,
-    alloc: Global,
-    opened: Opened<Made>,
-    engine: Engine<D>,
-) -> Option<Told>
-    requires named { opened.table ≡ A.table }
-    requires counts { A.passes ≡ 4 }
-    requires stores { opened.keeps ≡ A.keeps }
-    requires opens { engine_seen D.life (view_of engine []) ≡ A.opening }
-{
-    let Ok((archive, passes)) = SharedArchive::<D, A>::new(alloc, opened, engine, 4) else {
-        return None;
-    };
     let begun = [AtomicBool::new(false), AtomicBool::new(false)];
     let source = Meeting {
         mine: &begun[0],
@@ -192,40 +159,37 @@ fn shared<D: Disk + Drop + Send, A: Naming + Send + Sync, R: Threads + Wait + Sy
         mine: &begun[1],
         other: &begun[0],
     };
-    let (board, agents) = seated::<A>(alloc, passes, source, sink)?;
-    run(rt, alloc, archive, &board, agents)
+    match seated(alloc, seats, source, sink) {
+        Some((board, agents)) => Some(run(rt, alloc, archive, &board, agents)),
+        None => None,
+    }
 }
 
-/// A board, and the agents of four passes.
+/// A board, and the agents of four seats.
 fn seated<'a, A: Naming>(
     alloc: Global,
-    mut passes: Vec<Pass<Made>>,
+    seats: Seats<A>,
     source: Meeting<'a>,
     sink: Meeting<'a>,
 ) -> Option<(Board, Agents<Listed<'a>, Counting<'a>>)>
-    requires { passes.items ≡ new_passes A.table 4 }
     ensures seated { IfSome result (λ made. AreSeated A.table made.0 made.1.recorders.items) }
     ensures reading { IfSome result (λ made. AreReading A.table made.0 made.1.replayers.items) }
 {
     let Ok((board, mut writers, mut readers)) = Board::new(alloc, &[0, 0], 2) else {
         return None;
     };
-    let (Some(late), Some(follower)) = (passes.pop(), passes.pop()) else {
+    let (Some(second), Some(first), Some(late), Some(early)) = (
+        writers.pop(),
+        writers.pop(),
+        readers.pop(),
+        readers.pop(),
+    ) else {
         return None;
     };
-    let (Some(second), Some(first)) = (passes.pop(), passes.pop()) else {
-        return None;
-    };
-    let (Some(late_reader), Some(reader)) = (readers.pop(), readers.pop()) else {
-        return None;
-    };
-    let (Some(second_writer), Some(writer)) = (writers.pop(), writers.pop()) else {
-        return None;
-    };
-    let late = replayer(alloc, late, 1, late_reader, None);
-    let follower = replayer(alloc, follower, 0, reader, Some(sink));
-    let second = RecorderSeat::new(1, second, second_writer);
-    let first = RecorderSeat::new(0, first, writer);
+    let first = RecorderSeat::new(0, seats.first.into_pass(), first);
+    let second = RecorderSeat::new(1, seats.second.into_pass(), second);
+    let follower = replayer(alloc, seats.third.into_pass(), 0, early, Some(sink));
+    let late = replayer(alloc, seats.fourth.into_pass(), 1, late, None);
     let agents = agents_of::<A>(alloc, &board, source, first, second, follower, late)?;
     Some((board, agents))
 }
@@ -246,9 +210,13 @@ fn agents_of<'a, A: Naming>(
     ensures seated { IfSome result (λ agents. AreSeated A.table board.now agents.recorders.items) }
     ensures reading { IfSome result (λ agents. AreReading A.table board.now agents.replayers.items) }
 {
-    let receivers = receivers(alloc, meeting).ok()?;
-    let recorders = recorders::<A>(alloc, board, first, second).ok()?;
-    let replayers = replayers::<A>(alloc, board, follower, late).ok()?;
+    let (Ok(receivers), Ok(recorders), Ok(replayers)) = (
+        receivers(alloc, meeting),
+        recorders::<A>(alloc, board, first, second),
+        replayers::<A>(alloc, board, follower, late),
+    ) else {
+        return None;
+    };
     Some(Agents {
         receivers,
         recorders,
@@ -263,7 +231,7 @@ fn run<D: Disk + Drop + Send, A: Naming + Send + Sync, R: Threads + Wait + Sync>
     archive: SharedArchive<D, A>,
     board: &Board,
     agents: Agents<Listed<'_>, Counting<'_>>,
-) -> Option<Told>
+) -> Told
     requires recorders { AreSeated A.table board.now agents.recorders.items }
     requires replayers { AreReading A.table board.now agents.replayers.items }
 {
@@ -271,47 +239,73 @@ fn run<D: Disk + Drop + Send, A: Naming + Send + Sync, R: Threads + Wait + Sync>
         made: AtomicU32::new(0),
     };
     let (agents, outcome) = run_agents(rt, alloc, &archive, board, agents, &gate);
-    outcome.ok()?;
-    let told = told_by(&agents);
-    let calls = closed(alloc, archive, board, agents)?;
-    Some(Told { calls, ..told })
+    let mut told = told_by(&agents);
+    told.has_run = outcome.is_ok();
+    if let Some(seats) = seats_left::<A>(board, agents) {
+        told.calls = closed(alloc, archive, seats);
+    }
+    told
 }
 
-/// How many calls were stored of an archive that is closed with the agents' passes.
-fn closed<D: Disk + Drop, A: Naming>(
-    alloc: Global,
-    archive: SharedArchive<D, A>,
+/// The seats of all agents.
+fn seats_left<A: Naming>(
     board: &Board,
     agents: Agents<Listed<'_>, Counting<'_>>,
-) -> Option<usize>
+) -> Option<Seats<A>>
     requires recorders { AreSeated A.table board.now agents.recorders.items }
     requires replayers { AreReading A.table board.now agents.replayers.items }
 {
     let Agents {
         receivers: _,
-        recorders,
-        replayers,
+        mut recorders,
+        mut replayers,
     } = agents;
-    let passes = passes_of::<A>(alloc, board, recorders, replayers)?;
-    let closed = archive.close(passes).ok()?;
-    Some(calls_in(&closed.history))
+    let (Some(second), Some(first), Some(fourth), Some(third)) = (
+        recorder_seat::<A>(board, &mut recorders),
+        recorder_seat::<A>(board, &mut recorders),
+        replayer_seat::<A>(board, &mut replayers),
+        replayer_seat::<A>(board, &mut replayers),
+    ) else {
+        return None;
+    };
+    Some(Seats {
+        first,
+        second,
+        third,
+        fourth,
+    })
 }
 
-/// How many calls were stored.
-fn calls_in(history: &Stored<Call>) -> usize {
-    match history {
-        Stored::Kept(records) => records.len(),
-        Stored::Counted(_) => 0,
-    }
+fn recorder_seat<A: Naming>(board: &Board, recorders: &mut Vec<Recorder>) -> Option<Seat<A>>
+    requires { AreSeated A.table board.now recorders.old.items }
+    ensures { AreSeated A.table board.now recorders.new.items }
+{
+    let _ = board;
+    let Recorder { seat, refused: _ } = recorders.pop()?;
+    let (pass, _) = seat.into_parts();
+    Some(Seat::new(pass))
+}
+
+fn replayer_seat<A: Naming>(
+    board: &Board,
+    replayers: &mut Vec<Replayer<Counting<'_>>>,
+) -> Option<Seat<A>>
+    requires { AreReading A.table board.now replayers.old.items }
+    ensures { AreReading A.table board.now replayers.new.items }
+{
+    let _ = board;
+    let replayer = replayers.pop()?;
+    Some(Seat::new(replayer.pass))
 }
 
 fn told_by(agents: &Agents<Listed<'_>, Counting<'_>>) -> Told {
     let mut told = Told {
+        has_run: false,
         refused: refused_of(agents.recorders.as_slice()),
         rising: 0,
         frames: 0,
-        calls: 0,
         polls: 0,
+        calls: None,
     };
     for replayer in agents.replayers.as_slice() {
         note(&mut told, replayer);
@@ -339,75 +333,7 @@ fn note(told: &mut Told, replayer: &Replayer<Counting<'_>>) {
         told.rising = told.rising.saturating_add(1);
     }
     told.frames = told.frames.saturating_add(replayer.sink.frames);
-    told.polls = told.polls.saturating_add(replayer.looked.len());
-}
-
-/// The passes of all agents.
-fn passes_of<A: Naming>(
-    alloc: Global,
-    board: &Board,
-    recorders: Vec<Recorder>,
-    replayers: Vec<Replayer<Counting<'_>>>,
-) -> Option<Vec<Pass<Made>>>
-    requires recorders { AreSeated A.table board.now recorders.items }
-    requires replayers { AreReading A.table board.now replayers.items }
-    ensures { IfSome result (λ passes. AllOfTable A.table passes.items) }
-{
-    let (first, second) = recorder_passes::<A>(board, recorders)?;
-    let (third, fourth) = replayer_passes::<A>(board, replayers)?;
-    vec![in alloc; first, second, third, fourth].ok()
-}
-
-/// The passes of two recorders.
-fn recorder_passes<A: Naming>(
-    board: &Board,
-    mut recorders: Vec<Recorder>,
-) -> Option<(Pass<Made>, Pass<Made>)>
-    requires { AreSeated A.table board.now recorders.items }
-    ensures first { IfSome result (λ passes. passes.0.table ≡ A.table) }
-    ensures second { IfSome result (λ passes. passes.1.table ≡ A.table) }
-{
-    let first = recorder_pass::<A>(board, &mut recorders)?;
-    let second = recorder_pass::<A>(board, &mut recorders)?;
-    Some((first, second))
-}
-
-/// The passes of two replayers.
-fn replayer_passes<A: Naming>(
-    board: &Board,
-    mut replayers: Vec<Replayer<Counting<'_>>>,
-) -> Option<(Pass<Made>, Pass<Made>)>
-    requires { AreReading A.table board.now replayers.items }
-    ensures first { IfSome result (λ passes. passes.0.table ≡ A.table) }
-    ensures second { IfSome result (λ passes. passes.1.table ≡ A.table) }
-{
-    let first = replayer_pass::<A>(board, &mut replayers)?;
-    let second = replayer_pass::<A>(board, &mut replayers)?;
-    Some((first, second))
-}
-
-fn recorder_pass<A: Naming>(board: &Board, recorders: &mut Vec<Recorder>) -> Option<Pass<Made>>
-    requires { AreSeated A.table board.now recorders.old.items }
-    ensures pass { IfSome result (λ pass. pass.table ≡ A.table) }
-    ensures rest { AreSeated A.table board.now recorders.new.items }
-{
-    let _ = board;
-    let Recorder { seat, refused: _ } = recorders.pop()?;
-    let (pass, _) = seat.into_parts();
-    Some(pass)
-}
-
-fn replayer_pass<A: Naming>(
-    board: &Board,
-    replayers: &mut Vec<Replayer<Counting<'_>>>,
-) -> Option<Pass<Made>>
-    requires { AreReading A.table board.now replayers.old.items }
-    ensures pass { IfSome result (λ pass. pass.table ≡ A.table) }
-    ensures rest { AreReading A.table board.now replayers.new.items }
-{
-    let _ = board;
-    let replayer = replayers.pop()?;
-    Some(replayer.pass)
+    told.polls = told.polls.saturating_add(replayer.looked.len() as u64);
 }
 
 /// Two receivers of three blocks each, the first one behind a meeting.
@@ -415,18 +341,19 @@ fn receivers<'a>(
     alloc: Global,
     meeting: Meeting<'a>,
 ) -> Result<Vec<Receiver<Listed<'a>>>, AllocError> {
-    let mut receivers = Vec::new(alloc);
-    let first = Listed {
-        blocks: blocks(alloc)?,
-        meeting: Some(meeting),
-    };
-    receivers.push(Receiver { source: first })?;
-    let second = Listed {
-        blocks: blocks(alloc)?,
-        meeting: None,
-    };
-    receivers.push(Receiver { source: second })?;
-    Ok(receivers)
+    let first = receiver(alloc, Some(meeting))?;
+    let second = receiver(alloc, None)?;
+    Ok(vec![in alloc; first, second]?)
+}
+
+fn receiver<'a>(
+    alloc: Global,
+    meeting: Option<Meeting<'a>>,
+) -> Result<Receiver<Listed<'a>>, AllocError> {
+    let blocks = blocks(alloc)?;
+    Ok(Receiver {
+        source: Listed { blocks, meeting },
+    })
 }
 
 /// Three blocks of a frame each, from the last to the first.
@@ -440,8 +367,7 @@ fn blocks(alloc: Global) -> Result<Vec<Block>, AllocError> {
 
 /// The block of one frame at an offset of the first term.
 fn block_at(alloc: Global, offset: i32) -> Result<Block, AllocError> {
-    let mut frames = Items::new(alloc);
-    frames.push(Frame {
+    let frame = Frame {
         kind: FrameKind::Message,
         flags: 0xC0,
         length: 37,
@@ -451,10 +377,10 @@ fn block_at(alloc: Global, offset: i32) -> Result<Block, AllocError> {
         term_id: 42,
         reserved: 0,
         payload: Items::from_vec(b"hello".to_vec(alloc)?),
-    })?;
+    };
     Ok(Block {
         position: offset as i64,
-        frames,
+        frames: Items::from_vec(vec![in alloc; frame]?),
     })
 }
 
@@ -469,16 +395,15 @@ fn recorders<A: Naming>(
     ensures { IfOk result (λ recorders. AreSeated A.table board.now recorders.items) }
 {
     let _ = board;
-    let mut recorders = Vec::new(alloc);
-    recorders.push(Recorder {
+    let first = Recorder {
         seat: first,
         refused: None,
-    })?;
-    recorders.push(Recorder {
+    };
+    let second = Recorder {
         seat: second,
         refused: None,
-    })?;
-    Ok(recorders)
+    };
+    Ok(vec![in alloc; first, second]?)
 }
 
 /// A replayer that follows the slot of its replay's number. Behind a meeting it wants one frame, else as many as there are.
@@ -519,8 +444,5 @@ fn replayers<'a, A: Naming>(
     ensures { IfOk result (λ replayers. AreReading A.table board.now replayers.items) }
 {
     let _ = board;
-    let mut replayers = Vec::new(alloc);
-    replayers.push(first)?;
-    replayers.push(second)?;
-    Ok(replayers)
+    Ok(vec![in alloc; first, second]?)
 }

@@ -41,6 +41,17 @@ impl<A: Naming> Seat<A> {
         self.pass
     }
 
+    /// What the archive answers to an event.
+    fn call<D: Disk, R: Wait>(
+        &mut self,
+        rt: &R,
+        alloc: Global,
+        archive: &SharedArchive<D, A>,
+        event: &Event,
+    ) -> Result<Reply, Refusal> {
+        archive.call(rt, alloc, &mut self.pass, event)
+    }
+
     /// What the archive answers to a line. Bytes of a block are read by the terms of their session first.
     pub fn answer<D: Disk, R: Wait>(
         &mut self,
@@ -50,13 +61,12 @@ impl<A: Naming> Seat<A> {
         line: &str,
     ) -> Result<Reply, Refusal> {
         match parse_line(alloc, line.as_bytes())? {
-            Line::Event(event) => archive.call(rt, alloc, &mut self.pass, &event),
+            Line::Event(event) => self.call(rt, alloc, archive, &event),
             Line::Write { session, bytes } => {
                 self.write(rt, alloc, archive, session, bytes.as_slice())
             }
             Line::Block { session, bytes } => {
-                self.write(rt, alloc, archive, session, bytes.as_slice())?;
-                archive.call(rt, alloc, &mut self.pass, &Event::Settle { session })
+                self.record(rt, alloc, archive, session, bytes.as_slice())
             }
             _ => Err(Refusal::BadLine),
         }
@@ -71,7 +81,21 @@ impl<A: Naming> Seat<A> {
         bytes: &[u8],
     ) -> Result<Reply, Refusal> {
         let block = block_of(alloc, &archive.terms(rt, &session)?, bytes)?;
-        archive.call(rt, alloc, &mut self.pass, &Event::Write { session, block })
+        self.call(rt, alloc, archive, &Event::Write { session, block })
+    }
+
+    fn record<D: Disk, R: Wait>(
+        &mut self,
+        rt: &R,
+        alloc: Global,
+        archive: &SharedArchive<D, A>,
+        session: i64,
+        bytes: &[u8],
+    ) -> Result<Reply, Refusal> {
+        match self.write(rt, alloc, archive, session, bytes) {
+            Ok(_) => self.call(rt, alloc, archive, &Event::Settle { session }),
+            Err(refusal) => Err(refusal),
+        }
     }
 
     /// Adds a line to a transcript, and behind a colon what is answered.

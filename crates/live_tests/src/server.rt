@@ -1,6 +1,7 @@
 //! A server and who talks to it, in one process.
 
 use crate::client::{Client, Ports};
+use crate::conversations::holds;
 use disk_core::Disk;
 use serve_core::{Happening, ServeOptions, Teller, serve_with};
 use std::alloc::Global;
@@ -11,20 +12,16 @@ use std::sync::atomic::{AtomicU32, Ordering};
 use std::thread::{self, Threads};
 use std::time::Duration;
 
-/// What is told of a server, counted.
+/// How many images were lost by a server, as far as it was told.
 #[derive(Drop)]
 pub(crate) struct Told {
-    pub joined: AtomicU32,
-    pub paired: AtomicU32,
-    pub lost: AtomicU32,
+    lost: AtomicU32,
 }
 
 impl Told {
     /// Nothing was told.
     pub(crate) fn new() -> Told {
         Told {
-            joined: AtomicU32::new(0),
-            paired: AtomicU32::new(0),
             lost: AtomicU32::new(0),
         }
     }
@@ -41,40 +38,23 @@ impl Told {
     }
 }
 
-/// Counts what is told.
+/// Counts lost images.
 #[derive(Clone, Copy, Drop)]
 struct Counting<'a>(&'a Told);
 
 impl Teller for Counting<'_> {
     fn tell(&self, happening: &Happening<'_>) {
-        let count = match happening {
-            Happening::Joined { .. } => &self.0.joined,
-            Happening::Paired { .. } => &self.0.paired,
-            Happening::Lost { .. } => &self.0.lost,
-            _ => return,
-        };
-        count.fetch_add(1, Ordering::SeqCst);
+        if let Happening::Lost { .. } = happening {
+            self.0.lost.fetch_add(1, Ordering::SeqCst);
+        }
     }
-}
-
-/// What is said to a server, but `quit`.
-pub(crate) trait Conversation {
-    /// Talks to the server. Whether all was answered as it has to be.
-    fn hold<R: Clock + Net<Listener = TcpListener, Stream = TcpStream>>(
-        &self,
-        rt: &R,
-        alloc: Global,
-        ports: Ports,
-        told: &Told,
-    ) -> bool;
 }
 
 /// Serves a disk while a conversation is held, and then quits. The disk, where all was answered as it has to be.
 pub(crate) fn served<
     R: Threads + Wait + Clock + Net<Listener = TcpListener, Stream = TcpStream> + Sync,
     D: Disk + Drop + Send,
-    C: Conversation + Drop + Send + Sync,
->(rt: &R, alloc: Global, disk: D, idle_seconds: u64, conversation: &C) -> Option<D> {
+>(rt: &R, alloc: Global, disk: D, idle_seconds: u64, conversation: &str) -> Option<D> {
     let (listener, socket, ports) = bound(rt)?;
     let told = Told::new();
     let told = &told;
@@ -83,7 +63,7 @@ pub(crate) fn served<
         rt,
         move || { serve_with(rt, alloc, listener, socket, disk, &options, Counting(told)).ok() },
         move || {
-            let is_right = conversation.hold(rt, alloc, ports, told);
+            let is_right = holds(rt, alloc, ports, told, conversation);
             quits(rt, alloc, ports) && is_right
         },
     );

@@ -1,0 +1,179 @@
+//! An archive in memory that threads share, with four seats, and what is played on it.
+
+ghost use Rattle.std.specs.Prelude.{◌≡◌, [], IfOk};
+ghost use Rattle.archive_lock.specs.Held.{engine_seen, view_of};
+ghost use Rattle.call_history.specs.Passes.{AllOfTable, new_passes};
+
+use crate::agents::two_pairs;
+use crate::scenarios::{bounded_part, breaks, missing_pass};
+use crate::seat::Seat;
+use archive_lock::{Call, Made, Naming, SharedArchive};
+use call_history::{Opened, Pass, Stored};
+use disk_core::{Disk, MemoryDisk};
+use engine_core::Engine;
+use frame_core::Refusal;
+use std::alloc::{AllocError, Global};
+use std::marker::Brand;
+use std::process::Abort;
+use std::sync::Wait;
+use std::test::Fail;
+use std::thread::Threads;
+
+/// What is played on an archive.
+#[derive(Clone, Copy)]
+pub(crate) enum Scenario {
+    MissingPass,
+    BoundedPart,
+    Break,
+    Agents,
+}
+
+/// All seats of an archive.
+#[derive(Drop)]
+pub(crate) struct Seats<A: Naming> {
+    pub first: Seat<A>,
+    pub second: Seat<A>,
+    pub third: Seat<A>,
+    pub fourth: Seat<A>,
+}
+
+/// Plays a scenario on a new archive, where records are kept, or where calls are counted alone.
+pub(crate) fn played<R: Threads + Wait + Abort + Sync>(
+    rt: &R,
+    alloc: Global,
+    keeps: bool,
+    scenario: Scenario,
+) -> Result<(), Fail> {
+    let engine = made(alloc, scenario)?;
+    opened(rt, alloc, keeps, engine, scenario)
+}
+
+/// A new archive in memory; the disk of the one that breaks fails at the first call of the second settling.
+fn made(alloc: Global, scenario: Scenario) -> Result<Engine<MemoryDisk>, Refusal> {
+    let mut disk = MemoryDisk::new(alloc);
+    if matches!(scenario, Scenario::Break) {
+        disk.fail_at(19);
+    }
+    match Engine::create(alloc, disk, 64) {
+        Ok(engine) => Ok(engine),
+        Err(refused) => Err(refused.refusal),
+    }
+}
+
+fn opened<D: Disk + Drop + Send, R: Threads + Wait + Abort + Sync>(
+    rt: &R,
+    alloc: Global,
+    keeps: bool,
+    engine: Engine<D>,
+    scenario: Scenario,
+) -> Result<(), Fail> {
+    let Ok(opened) = Opened::new(alloc, keeps) else {
+        return Err(Fail::from("opened"));
+    };
+    shared::<D, Brand, R>(rt, alloc, opened, keeps, engine, scenario)
+}
+
+fn shared<D: Disk + Drop + Send, A: Naming + Send + Sync, R: Threads + Wait + Abort + Sync>(
+    rt: &R,
+    alloc: Global,
+    opened: Opened<Made>,
+    keeps: bool,
+    engine: Engine<D>,
+    scenario: Scenario,
+) -> Result<(), Fail>
+    requires named { opened.table ≡ A.table }
+    requires counts { A.passes ≡ 4 }
+    requires stores { opened.keeps ≡ A.keeps }
+    requires opens { engine_seen D.life (view_of engine []) ≡ A.opening }
+{
+    let Ok((archive, passes)) = SharedArchive::<D, A>::new(alloc, opened, engine, 4) else {
+        return Err(Fail::from("shared"));
+    };
+    match seats_of::<A>(passes) {
+        Some(seats) => play(rt, alloc, archive, seats, keeps, scenario),
+        None => Err(Fail::from("four passes")),
+    }
+}
+
+/// The seats of new passes.
+fn seats_of<A: Naming>(mut passes: Vec<Pass<Made>>) -> Option<Seats<A>>
+    requires { passes.items ≡ new_passes A.table 4 }
+{
+    let (Some(fourth), Some(third), Some(second), Some(first)) = (
+        passes.pop(),
+        passes.pop(),
+        passes.pop(),
+        passes.pop(),
+    ) else {
+        return None;
+    };
+    Some(Seats {
+        first: Seat::new(first),
+        second: Seat::new(second),
+        third: Seat::new(third),
+        fourth: Seat::new(fourth),
+    })
+}
+
+fn play<D: Disk + Drop + Send, A: Naming + Send + Sync, R: Threads + Wait + Abort + Sync>(
+    rt: &R,
+    alloc: Global,
+    archive: SharedArchive<D, A>,
+    seats: Seats<A>,
+    keeps: bool,
+    scenario: Scenario,
+) -> Result<(), Fail> {
+    match scenario {
+        Scenario::MissingPass => missing_pass(rt, alloc, archive, seats, keeps),
+        Scenario::BoundedPart => bounded_part(rt, alloc, archive, seats, keeps),
+        Scenario::Break => breaks(rt, alloc, archive, seats, keeps),
+        Scenario::Agents => two_pairs(rt, alloc, archive, seats),
+    }
+}
+
+/// How many calls were stored, and whether their records were kept, of an archive that is closed with all seats.
+pub(crate) fn closed<D: Disk + Drop, A: Naming>(
+    alloc: Global,
+    archive: SharedArchive<D, A>,
+    seats: Seats<A>,
+) -> Option<(u64, bool)> {
+    match passes_of(alloc, seats) {
+        Ok(passes) => stored_by(archive, passes),
+        Err(_) => None,
+    }
+}
+
+/// The same of one that is closed with these passes.
+pub(crate) fn stored_by<D: Disk + Drop, A: Naming>(
+    archive: SharedArchive<D, A>,
+    passes: Vec<Pass<Made>>,
+) -> Option<(u64, bool)>
+    requires { AllOfTable A.table passes.items }
+{
+    match archive.close(passes) {
+        Ok(closed) => Some(stored(&closed.history)),
+        Err(_) => None,
+    }
+}
+
+fn stored(history: &Stored<Call>) -> (u64, bool) {
+    match history {
+        Stored::Kept(records) => (records.len() as u64, true),
+        Stored::Counted(number) => (*number, false),
+    }
+}
+
+/// The passes of all seats.
+fn passes_of<A: Naming>(alloc: Global, seats: Seats<A>) -> Result<Vec<Pass<Made>>, AllocError>
+    ensures { IfOk result (λ passes. AllOfTable A.table passes.items) }
+{
+    let Seats {
+        first,
+        second,
+        third,
+        fourth,
+    } = seats;
+    let (first, second) = (first.into_pass(), second.into_pass());
+    let (third, fourth) = (third.into_pass(), fourth.into_pass());
+    Ok(vec![in alloc; first, second, third, fourth]?)
+}

@@ -1,0 +1,22 @@
+//! Tests of the archive that threads share, of agents, and of the server, both ends in one process: what no clause says. They
+//! stand in one crate, since all of them need what archive_lock stands on.
+#![tactic(auto)]
+
+#[cfg(test)]
+mod agents;
+#[cfg(test)]
+mod archives;
+#[cfg(test)]
+mod client;
+#[cfg(test)]
+mod conversations;
+#[cfg(test)]
+mod scenarios;
+#[cfg(test)]
+mod seat;
+#[cfg(test)]
+mod server;
+#[cfg(test)]
+mod sources;
+#[cfg(test)]
+mod vectors;
