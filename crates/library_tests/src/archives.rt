@@ -1,8 +1,8 @@
 //! The plain book of an archive, and the register: scenarios of docs/SCENARIOS.md at the calls of plain_book and archive_model.
 
 use crate::catalogues::register_of_bank;
-use crate::vectors::{HELLO_AT_0, HELLO_AT_64, HELLO_AT_128, HELLO_IN_NEXT_TERM, PAD_AT_TERM_END};
-use archive_model::{Channel, Command, Descriptor, PolledFrame, Register, Reply, StartFields};
+use crate::vectors::{HELLO_AT_0, HELLO_AT_64, HELLO_AT_128};
+use archive_model::{Channel, Command, Descriptor, Register, Reply, StartFields};
 use frame_core::limits::LAST_NUMBER;
 use frame_core::{Block, Geometry, Items, Refusal, block_of};
 use plain_book::{Book, Recording};
@@ -34,16 +34,6 @@ fn fields(alloc: Global, start_position: i64) -> Result<StartFields, Refusal> {
 /// Adds the block of a vector's frame.
 fn add_block(alloc: Global, blocks: &mut Items<Block>, bytes: &[u8]) -> Result<(), Refusal> {
     Ok(blocks.push(block_of(alloc, &TERMS, bytes)?)?)
-}
-
-/// A block of the first recording.
-fn append_one(alloc: Global, bytes: &[u8]) -> Result<Command, Refusal> {
-    let mut blocks = Items::new(alloc);
-    add_block(alloc, &mut blocks, bytes)?;
-    Ok(Command::Append {
-        recording: 0,
-        blocks,
-    })
 }
 
 /// Adds the blocks of `hello` at 0, 64 and 128.
@@ -83,11 +73,6 @@ fn obeyed(book: &mut Book, command: &Command) -> Told {
 
 fn started(alloc: Global, book: &mut Book, position: i64) -> Told {
     let command = Command::Start(fields(alloc, position)?);
-    obeyed(book, &command)
-}
-
-fn appended(alloc: Global, book: &mut Book, bytes: &[u8]) -> Told {
-    let command = append_one(alloc, bytes)?;
     obeyed(book, &command)
 }
 
@@ -166,27 +151,6 @@ fn check_stopped(rt: &impl Abort, alloc: Global, book: &mut Book) -> Result<(), 
 fn first_recording_and_replay(rt: HostRuntime) -> Result<(), Fail> {
     let mut book = three_hellos(rt.alloc())?;
     check_stopped(&rt, rt.alloc(), &mut book)
-}
-
-fn are_at(polled: &[PolledFrame], first: i64, second: i64) -> bool {
-    matches!(polled, [one, two] if one.position == first && two.position == second)
-}
-
-/// Two frames are polled, the last of a term and the first of the next.
-fn is_polled(alloc: Global, book: &Book) -> Result<bool, Fail> {
-    let recording = book.recording(&0).ok_or("no recording")?;
-    let polled = recording.poll(alloc, &65_472, &LAST_NUMBER, 10)?;
-    Ok(are_at(polled.as_slice(), 65_472, 65_536))
-}
-
-#[test]
-fn pad_at_a_terms_end(rt: HostRuntime) -> Result<(), Fail> {
-    let mut book = Book::new(rt.alloc(), 3);
-    assert!(rt; started(rt.alloc(), &mut book, 65_472) == Ok(("started", 0)));
-    assert!(rt; appended(rt.alloc(), &mut book, PAD_AT_TERM_END) == Ok(("settled", 65_536)));
-    assert!(rt; appended(rt.alloc(), &mut book, HELLO_IN_NEXT_TERM) == Ok(("settled", 65_600)));
-    assert!(rt; is_polled(rt.alloc(), &book)?);
-    Ok(())
 }
 
 /// Starts a recording, again where it was refused, which has changed nothing.

@@ -180,59 +180,6 @@ fn a_start_is_committed_byte_for_byte(rt: HostRuntime) -> Result<(), Fail> {
     Ok(())
 }
 
-/// Adds an entry that is prepared before.
-fn add_prepared(
-    rt: &impl Abort,
-    log: &mut Log,
-    disk: &mut MemoryDisk,
-    entry: &Entry,
-) -> Result<(), Refusal> {
-    assert!(rt; entry.is_short());
-    log.prepare(entry)?;
-    add(log, disk, entry)
-}
-
-/// Adds this entry and a settle, prepared before.
-fn add_two_prepared(
-    rt: &impl Abort,
-    log: &mut Log,
-    disk: &mut MemoryDisk,
-    first: &Entry,
-) -> Result<(), Refusal> {
-    add_prepared(rt, log, disk, first)?;
-    add_prepared(rt, log, disk, &SETTLE)
-}
-
-/// Writes the bank by prepared entries.
-fn write_prepared(
-    rt: &impl Abort,
-    alloc: Global,
-    disk: &mut MemoryDisk,
-    first: &Entry,
-) -> Result<(), Refusal> {
-    let mut log = create(alloc, disk, 3)?;
-    add_two_prepared(rt, &mut log, disk, first)
-}
-
-/// It is that one.
-fn check_prepared(
-    rt: &impl Abort,
-    alloc: Global,
-    disk: &mut MemoryDisk,
-    first: &Entry,
-) -> Result<(), Fail> {
-    write_prepared(rt, alloc, disk, first)?;
-    assert!(rt; is_bank(disk)?);
-    Ok(())
-}
-
-#[test]
-fn prepared_entries_are_added(rt: HostRuntime) -> Result<(), Fail> {
-    let first = start(rt.alloc())?;
-    let mut disk = MemoryDisk::new(rt.alloc());
-    check_prepared(&rt, rt.alloc(), &mut disk, &first)
-}
-
 /// The register of what is opened.
 fn register_in(alloc: Global, disk: &mut MemoryDisk) -> Result<Register, Refusal> {
     let (_, entries) = open(alloc, disk)?;

@@ -1,8 +1,8 @@
 //! Replays over segment files, and recorder sessions: docs/CONTROL.md, "Replays" and "Recorder sessions", by example.
 
-use crate::segments::{FIRST, GEOMETRY, LAYOUT, store};
+use crate::segments::{GEOMETRY, LAYOUT, store};
 use crate::vectors::{HELLO_AT_0, HELLO_AT_64, HELLO_AT_128};
-use disk_core::{Disk, MemoryDisk};
+use disk_core::MemoryDisk;
 use frame_core::{Frame, Refusal};
 use replay_core::{Replay, Store};
 use std::alloc::Global;
@@ -68,22 +68,6 @@ fn polls_up_to_the_recorded_position(rt: HostRuntime) -> Result<(), Fail> {
         assert!(rt; replay.next_position() == next);
     }
     assert!(rt; !replay.is_done(128, true) && replay.is_done(128, false));
-    Ok(())
-}
-
-#[test]
-fn damaged_frame(rt: HostRuntime) -> Result<(), Fail> {
-    let mut disk = three_hellos(&rt, rt.alloc())?;
-    disk.write_at(FIRST, 0, &[0])?;
-    let mut replay = Replay::new(0, 0, -1);
-    let damaged = Refusal::Damaged {
-        recording: 0,
-        position: 0,
-    };
-    for _ in 0..2 {
-        let frames = polled(&rt, rt.alloc(), &mut disk, &mut replay, 192, 1);
-        assert!(rt; frames.err() == Some(damaged) && replay.next == 0);
-    }
     Ok(())
 }
 

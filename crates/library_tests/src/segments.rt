@@ -37,7 +37,7 @@ const MID_STREAM: Layout = Layout {
     segment_length: 131_072,
 };
 
-pub(crate) const FIRST: FileId = FileId::Segment {
+const FIRST: FileId = FileId::Segment {
     recording: 0,
     base: 0,
 };
