@@ -138,7 +138,7 @@ def make_no_catalogue(trial: Trial, folder: Path) -> None:
 
 MADE: dict[str, Callable[[Trial, Path], None]] = {
     "recorded(rt.alloc(), MemoryDisk::new(rt.alloc()))?": make_recorded,
-    "damaged(recorded(rt.alloc(), MemoryDisk::new(rt.alloc()))?)?": make_damaged,
+    "damaged(recorded(rt.alloc(), MemoryDisk::new(rt.alloc()))?, 0)?": make_damaged,
     "with_short_history(rt.alloc())?": make_short_history,
     "without_catalogue(rt.alloc())?": make_no_catalogue,
     "without_spare(rt.alloc())?": make_without_spare,

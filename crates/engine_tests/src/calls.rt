@@ -3,8 +3,8 @@
 use archive_model::{Channel, ExtendFields, Reply, StartFields};
 use control_core::{Event, Request};
 use control_lines::{print_refusal, print_reply};
-use disk_core::MemoryDisk;
-use engine_core::Engine;
+use disk_core::{Disk, MemoryDisk};
+use engine_core::{Engine, OpenRefusal};
 use frame_core::{Block, Frame, FrameKind, Items, Refusal};
 use std::alloc::{AllocError, Global};
 use std::process::Abort;
@@ -262,16 +262,32 @@ pub fn transcript(
     Ok(text)
 }
 
-/// A new archive on a disk.
-pub fn made(alloc: Global, disk: MemoryDisk, limit: u32) -> Result<Engine<MemoryDisk>, Refusal> {
-    Engine::create(alloc, disk, limit).map_err(|refused| refused.refusal)
+/// A new archive on a disk, or why it was not made, and the disk.
+pub fn created<D: Disk>(alloc: Global, disk: D, limit: u32) -> Result<Engine<D>, OpenRefusal<D>> {
+    Engine::create(alloc, disk, limit)
 }
 
-/// The archive of a disk that a crash left.
-pub fn opened(alloc: Global, disk: MemoryDisk) -> Result<Engine<MemoryDisk>, Refusal> {
-    match Engine::open(alloc, disk) {
-        Ok((engine, _)) => Ok(engine),
+/// A new archive on a disk.
+pub fn made(alloc: Global, disk: MemoryDisk, limit: u32) -> Result<Engine<MemoryDisk>, Refusal> {
+    match created(alloc, disk, limit) {
+        Ok(engine) => Ok(engine),
         Err(refused) => Err(refused.refusal),
+    }
+}
+
+/// The archive of a disk that a crash left, and how many recordings its opening stopped.
+pub fn open(alloc: Global, disk: MemoryDisk) -> Result<(Engine<MemoryDisk>, i64), Refusal> {
+    match Engine::open(alloc, disk) {
+        Ok(opened) => Ok(opened),
+        Err(refused) => Err(refused.refusal),
+    }
+}
+
+/// The archive alone.
+pub fn opened(alloc: Global, disk: MemoryDisk) -> Result<Engine<MemoryDisk>, Refusal> {
+    match open(alloc, disk) {
+        Ok((engine, _)) => Ok(engine),
+        Err(refusal) => Err(refusal),
     }
 }
 

@@ -1,6 +1,6 @@
 //! Stops at each device call, and what a crash leaves: docs/SCENARIOS.md.
 
-use crate::calls::{answered, answers, disk_behind, goes_on, made, opened, run};
+use crate::calls::{answered, answers, created, disk_behind, goes_on, made, open, opened, run};
 use disk_core::MemoryDisk;
 use engine_core::Engine;
 use frame_core::Refusal;
@@ -186,7 +186,7 @@ fn a_read_that_fails_breaks_nothing(rt: HostRuntime) -> Result<(), Fail> {
 
 /// How many calls a disk was asked for an archive that was refused, where it was.
 fn calls_of_refusal(alloc: Global, limit: u32) -> Option<u64> {
-    match Engine::create(alloc, MemoryDisk::new(alloc), limit) {
+    match created(alloc, MemoryDisk::new(alloc), limit) {
         Ok(_) => None,
         Err(refused) => Some(refused.disk.calls()),
     }
@@ -204,13 +204,8 @@ fn a_limit_out_of_range_asks_no_disk(rt: HostRuntime) -> Result<(), Fail> {
 fn changes_of_opening(alloc: Global, script: &str) -> Result<(u64, i64), Refusal> {
     let disk = disk_behind(alloc, script, 100)?;
     let before = disk.changes();
-    match Engine::open(alloc, disk) {
-        Ok((engine, stopped)) => {
-            let changes = engine.into_disk().changes().wrapping_sub(before);
-            Ok((changes, stopped))
-        }
-        Err(refused) => Err(refused.refusal),
-    }
+    let (engine, stopped) = open(alloc, disk)?;
+    Ok((engine.into_disk().changes().wrapping_sub(before), stopped))
 }
 
 /// Two banks and a segment file are synced; a restart is committed only where a recording was active.

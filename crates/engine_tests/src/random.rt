@@ -185,7 +185,12 @@ fn closed(alloc: Global, run: Run) -> Result<(MemoryDisk, Story), Refusal> {
     }
 }
 
-/// The same of one that stops after so many changes.
+/// Compacts the archive of a disk.
+fn compacts(alloc: Global, disk: &mut MemoryDisk) -> Result<(), Refusal> {
+    compact(alloc, disk)
+}
+
+/// Whether a compaction that stops after so many changes, and a crash then, leave this text.
 fn compaction_leaves(
     alloc: Global,
     disk: &MemoryDisk,
@@ -194,11 +199,11 @@ fn compaction_leaves(
 ) -> Result<bool, Refusal> {
     let mut tried = disk.crash(&[0])?;
     tried.stop_after(changes);
-    let _ = compact(alloc, &mut tried);
+    let _ = compacts(alloc, &mut tried);
     leaves(alloc, &tried, text, text)
 }
 
-/// Whether a compaction that stops after any of its changes, and a crash then, leave this text.
+/// The same of a stop after any of its changes.
 fn compactions_leave(alloc: Global, disk: &MemoryDisk, text: &[u8]) -> Result<bool, Refusal> {
     for stop in 0..11u64 {
         if !compaction_leaves(alloc, disk, stop, text)? {
@@ -211,8 +216,10 @@ fn compactions_leave(alloc: Global, disk: &MemoryDisk, text: &[u8]) -> Result<bo
 /// The archive of a disk, compacted.
 fn compacted(alloc: Global, disk: MemoryDisk) -> Result<Engine<MemoryDisk>, Refusal> {
     let mut disk = disk;
-    compact(alloc, &mut disk)?;
-    opened(alloc, disk)
+    match compacts(alloc, &mut disk) {
+        Ok(()) => opened(alloc, disk),
+        Err(refusal) => Err(refusal),
+    }
 }
 
 /// A run that goes on over an archive that was closed and compacted.
@@ -247,16 +254,23 @@ fn compaction_survived(alloc: Global, run: Run) -> Result<Option<Run>, Refusal> 
     }
 }
 
+/// The same of a run that makes calls before.
+fn round_survived(alloc: Global, mut run: Run, dice: &mut Dice) -> Result<Option<Run>, Refusal> {
+    match make_calls(alloc, &mut run, dice) {
+        Ok(()) => compaction_survived(alloc, run),
+        Err(refusal) => Err(refusal),
+    }
+}
+
 /// Whether each crash of five compactions with calls between them leaves what the book makes of the calls.
 fn compactions_survived(alloc: Global) -> Result<bool, Refusal> {
     let mut run = Run::new(alloc, 1_000_000)?;
     let mut dice = Dice { thrown: 7 };
     for _ in 0..5 {
-        make_calls(alloc, &mut run, &mut dice)?;
-        let Some(next) = compaction_survived(alloc, run)? else {
-            return Ok(false);
-        };
-        run = next;
+        match round_survived(alloc, run, &mut dice)? {
+            Some(next) => run = next,
+            None => return Ok(false),
+        }
     }
     Ok(true)
 }

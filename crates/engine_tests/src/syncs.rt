@@ -1,6 +1,6 @@
 //! How often an archive syncs its disk: docs/SCENARIOS.md.
 
-use crate::calls::event_of;
+use crate::calls::{created, event_of};
 use control_core::Event;
 use disk_core::{Disk, Fault, FileId, ListFault, MemoryDisk};
 use engine_core::Engine;
@@ -83,16 +83,27 @@ fn events(alloc: Global, blocks: i64, together: bool) -> Result<Vec<Event>, Refu
     add_blocks(alloc, &mut events, blocks, together).and(Ok(events))
 }
 
-/// How many changes these make of the disk of a new archive, and how many of them are syncs.
+/// How many changes were made of the disk of an archive behind these, and how many of them are syncs.
+fn counted_by(
+    alloc: Global,
+    mut engine: Engine<Synced<MemoryDisk>>,
+    events: &[Event],
+) -> Result<(u64, u64), Refusal> {
+    let driven = engine.drive(alloc, events);
+    let Synced { disk, syncs } = engine.into_disk();
+    driven.and(Ok((disk.changes(), syncs)))
+}
+
+/// The same of a new archive.
 fn counted(alloc: Global, events: &[Event]) -> Result<(u64, u64), Refusal> {
     let disk = Synced {
         disk: MemoryDisk::new(alloc),
         syncs: 0,
     };
-    let mut engine = Engine::create(alloc, disk, 32).map_err(|refused| refused.refusal)?;
-    engine.drive(alloc, events)?;
-    let Synced { disk, syncs } = engine.into_disk();
-    Ok((disk.changes(), syncs))
+    match created(alloc, disk, 32) {
+        Ok(engine) => counted_by(alloc, engine, events),
+        Err(refused) => Err(refused.refusal),
+    }
 }
 
 /// The same of a recording and so many blocks of it.

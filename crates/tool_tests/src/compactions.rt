@@ -2,12 +2,13 @@
 
 use super::disks::{recorded, with_short_history};
 use super::frames::FullWriter;
-use super::scenarios::{check, check_on, expect, replies};
+use super::scenarios::{behind, check, check_on, expect, replies};
 use disk_core::{Disk, FileId, MemoryDisk};
 use std::alloc::Global;
+use std::io::Write;
 use std::test::*;
 use tool_core::{
-    CommandFault, EarlyEnd, HistoryUse, Observer, Stopped, Unobserved, compact_archive, run_script,
+    CommandFault, EarlyEnd, HistoryUse, Observer, Stopped, Unobserved, compact_archive,
 };
 
 // Bank B behind a full history that was compacted, and a truncation: the header of epoch 2, the next id 1, the recording
@@ -177,10 +178,18 @@ fn a_compaction_that_stops(rt: HostRuntime) -> Result<(), Fail> {
     Ok(())
 }
 
+/// The disk behind the command, or why that ended early.
+fn compact<W: Write>(alloc: Global, disk: MemoryDisk, out: &mut W) -> Result<MemoryDisk, Stopped> {
+    match compact_archive(alloc, disk, out, &mut Unobserved) {
+        Ok(disk) => Ok(disk),
+        Err(CommandFault { why, disk: _ }) => Err(why),
+    }
+}
+
 /// What the command writes, and the disk then.
 fn compacted(alloc: Global, disk: MemoryDisk) -> Result<(Vec<u8>, MemoryDisk), Fail> {
     let mut out = Vec::new(alloc);
-    match compact_archive(alloc, disk, &mut out, &mut Unobserved) {
+    match compact(alloc, disk, &mut out) {
         Ok(disk) => Ok((out, disk)),
         Err(_) => Err(Fail::new("it was not compacted")),
     }
@@ -208,10 +217,7 @@ fn the_command_compacts(rt: HostRuntime) -> Result<(), Fail> {
 
 /// Why the command ended early over a disk and a writer that takes nothing.
 fn ended(alloc: Global, disk: MemoryDisk) -> Option<Stopped> {
-    match compact_archive(alloc, disk, &mut FullWriter { room: 0 }, &mut Unobserved) {
-        Ok(_) => None,
-        Err(CommandFault { why, disk: _ }) => Some(why),
-    }
+    compact(alloc, disk, &mut FullWriter { room: 0 }).err()
 }
 
 #[test]
@@ -242,7 +248,7 @@ fn told_of_history(alloc: Global, counting: &mut Counting) -> Result<(), Fail> {
     let lines = b"start 1001 7 42 65536 1408 131072 0 1000 c\nstop 0 1\nlist 0 1\n".as_slice();
     let disk = with_short_history(alloc)?;
     let mut out = Vec::new(alloc);
-    match run_script(alloc, lines, &mut out, disk, counting) {
+    match behind(alloc, lines, &mut out, disk, counting) {
         Ok(_) => Ok(()),
         Err(_) => Err(Fail::new("the script ended early")),
     }

@@ -1,5 +1,6 @@
 //! Scripts over disks that are not empty, that fail, or whose archive is refused: docs/SCENARIOS.md.
 
+use super::reports::damaged;
 use super::scenarios::{check, check_on};
 use disk_core::{Disk, FileId, MemoryDisk};
 use engine_core::Engine;
@@ -42,23 +43,11 @@ fn reopened_twice(rt: HostRuntime) -> Result<(), Fail> {
     )
 }
 
-/// The first byte of the first recording's first file is 0, and synced.
-fn damaged(disk: MemoryDisk) -> Result<MemoryDisk, Fail> {
-    let mut disk = disk;
-    let file = FileId::Segment {
-        recording: 0,
-        base: 0,
-    };
-    disk.write_at(file, 0, &[0])?;
-    disk.sync(file)?;
-    Ok(disk)
-}
-
 #[test]
 fn damaged_frame(rt: HostRuntime) -> Result<(), Fail> {
     check_on(
         rt.alloc(),
-        damaged(recorded(rt.alloc(), MemoryDisk::new(rt.alloc()))?)?,
+        damaged(recorded(rt.alloc(), MemoryDisk::new(rt.alloc()))?, 0)?,
         "verify 0; replay 0 0 -1; poll 0 1; poll 0 1",
         "error 15 Damaged 0 0; replay 0; error 15 Damaged 0 0; error 15 Damaged 0 0",
     )?;

@@ -1,30 +1,12 @@
 //! Readers and writers that fail.
 
+use super::frames::failing;
+use super::scenarios::behind;
 use disk_core::MemoryDisk;
 use std::alloc::Global;
 use std::io::{Error, ErrorKind, Read, Write};
 use std::test::*;
-use tool_core::{EarlyEnd, ScriptFault, Unobserved, run_script};
-
-/// Gives its bytes a few at a time, and then fails.
-#[derive(Drop)]
-struct FailingReader<'a> {
-    bytes: &'a [u8],
-    at_once: usize,
-}
-
-impl Read for FailingReader<'_> {
-    fn read(&mut self, buf: &mut [u8]) -> std::io::Result<usize> {
-        if self.bytes.is_empty() {
-            return Err(Error::from(ErrorKind::Other));
-        }
-        let count = self.bytes.len().min(buf.len()).min(self.at_once);
-        let (now, later) = self.bytes.split_at(count);
-        buf[..count].copy_from_slice(now);
-        self.bytes = later;
-        Ok(count)
-    }
-}
+use tool_core::{EarlyEnd, Unobserved};
 
 /// Takes a few bytes, and then fails; hands on what it took, unless it is to hold it.
 #[derive(Drop)]
@@ -55,26 +37,13 @@ impl Write for FailingWriter {
 
 /// Why a script over an empty disk ended early, where it did.
 fn end_of<R: Read + Drop, W: Write>(alloc: Global, reader: R, writer: &mut W) -> Option<EarlyEnd> {
-    match run_script(
-        alloc,
-        reader,
-        writer,
-        MemoryDisk::new(alloc),
-        &mut Unobserved,
-    ) {
-        Ok(_) => None,
-        Err(ScriptFault::Read(_)) => Some(EarlyEnd::Read),
-        Err(ScriptFault::Write(_)) => Some(EarlyEnd::Write),
-        Err(ScriptFault::Memory(_)) => Some(EarlyEnd::Memory),
-    }
+    let disk = MemoryDisk::new(alloc);
+    behind(alloc, reader, writer, disk, &mut Unobserved).err()
 }
 
 /// Why a script ended whose reader gives so many bytes at once, and whether what was answered before was written.
 fn end_of_reader(alloc: Global, at_once: usize) -> (Option<EarlyEnd>, bool) {
-    let reader = FailingReader {
-        bytes: b"list 0 0\nlist 0 x\nlist 0",
-        at_once,
-    };
+    let reader = failing(b"list 0 0\nlist 0 x\nlist 0", at_once);
     let mut out = Vec::new(alloc);
     let end = end_of(alloc, reader, &mut out);
     (
@@ -116,11 +85,7 @@ fn end_of_holder(alloc: Global, bytes: &[u8]) -> Option<EarlyEnd> {
         taken: 0,
         holds: true,
     };
-    let reader = FailingReader {
-        bytes,
-        at_once: 100,
-    };
-    end_of(alloc, reader, &mut writer)
+    end_of(alloc, failing(bytes, 100), &mut writer)
 }
 
 /// A reply is handed on before the next read, also where half of the next line is at hand, and at the end; what could not

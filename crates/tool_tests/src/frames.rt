@@ -115,7 +115,7 @@ fn file_of(alloc: Global, parts: &str) -> Result<Vec<u8>, Fail> {
 
 /// Gives its bytes a few at a time, each time behind a read that a signal interrupts; then ends, or fails.
 #[derive(Drop)]
-struct SlowReader<'a> {
+pub struct SlowReader<'a> {
     bytes: &'a [u8],
     at_once: usize,
     is_ready: bool,
@@ -139,10 +139,19 @@ impl Read for SlowReader<'_> {
     }
 }
 
-/// How the listing of what a reader gives ended, and what was written.
+/// How the listing of what a reader gives ended.
+fn list<R: Read + Drop, W: Write>(
+    alloc: Global,
+    reader: R,
+    writer: &mut W,
+) -> Result<Listing, EarlyEnd> {
+    list_frames(alloc, reader, writer)
+}
+
+/// The same, and what was written.
 fn listed<R: Read + Drop>(alloc: Global, reader: R) -> Result<(Listing, Vec<u8>), Fail> {
     let mut out = Vec::new(alloc);
-    match list_frames(alloc, reader, &mut out) {
+    match list(alloc, reader, &mut out) {
         Ok(listing) => Ok((listing, out)),
         Err(end) => Err(Fail::from(end)),
     }
@@ -155,6 +164,16 @@ fn slow(bytes: &[u8], at_once: usize) -> SlowReader<'_> {
         at_once,
         is_ready: false,
         fails: false,
+    }
+}
+
+/// The same of one that fails then.
+pub fn failing(bytes: &[u8], at_once: usize) -> SlowReader<'_> {
+    SlowReader {
+        bytes,
+        at_once,
+        is_ready: false,
+        fails: true,
     }
 }
 
@@ -262,14 +281,8 @@ fn many_frames(rt: HostRuntime) -> Result<(), Fail> {
 
 /// Whether a listing ends early by its reader's fault, and whether so much was written by then.
 fn told_before_a_fault(alloc: Global, file: &[u8], told: &[u8]) -> Result<(bool, bool), Fail> {
-    let reader = SlowReader {
-        bytes: file,
-        at_once: 50,
-        is_ready: false,
-        fails: true,
-    };
     let mut out = b"before\n".to_vec(alloc)?;
-    let is_fault = list_frames(alloc, reader, &mut out) == Err(EarlyEnd::Read);
+    let is_fault = list(alloc, failing(file, 50), &mut out) == Err(EarlyEnd::Read);
     Ok((is_fault, out.as_slice() == told))
 }
 
@@ -305,7 +318,7 @@ fn a_failing_writer_ends_the_listing(rt: HostRuntime) -> Result<(), Fail> {
     let file = file_of(rt.alloc(), "hello one")?;
     for room in [0, 18, 19, 39] {
         let mut writer = FullWriter { room };
-        let listing = list_frames(rt.alloc(), file.as_slice(), &mut writer);
+        let listing = list(rt.alloc(), file.as_slice(), &mut writer);
         assert!(rt; listing == Err(EarlyEnd::Write), "room for {room} bytes");
     }
     Ok(())

@@ -1,8 +1,10 @@
 //! Tests of what the program's commands do, without its command line: the worked scenarios, listings of files, and what
-//! failing readers, writers and disks lead to. They stand apart from the crate that they test, so that it is not proved a
-//! second time for its tests.
+//! failing readers, writers and disks lead to; and of archives that are only looked at. They stand apart from the crates that
+//! they test, so that these are not proved a second time for their tests.
 #![tactic(auto)]
 
+#[cfg(test)]
+mod captures;
 #[cfg(test)]
 mod compactions;
 #[cfg(test)]
@@ -14,8 +16,12 @@ mod frames;
 #[cfg(test)]
 mod lines;
 #[cfg(test)]
+mod pages;
+#[cfg(test)]
 mod progress;
 #[cfg(test)]
 mod reports;
 #[cfg(test)]
 mod scenarios;
+#[cfg(test)]
+mod views;

@@ -5,6 +5,15 @@ use std::io::{BufRead, BufReader, Error, ErrorKind, Read};
 use std::test::*;
 use tool_core::{EarlyEnd, LineBuffer, MAX_READS, read_line};
 
+/// Whether there is a further line.
+fn next_line<R: BufRead>(
+    reader: &mut R,
+    reads: &mut u64,
+    line: &mut LineBuffer,
+) -> Result<bool, EarlyEnd> {
+    read_line(reader, reads, line)
+}
+
 /// Adds a line's bytes as text, or `-` where it is too long, followed by `|`.
 fn add_line(out: &mut String, line: &LineBuffer) -> Result<(), Fail> {
     match line.bytes() {
@@ -23,7 +32,7 @@ fn add_lines<R: BufRead>(
 ) -> Result<(), Fail> {
     let mut reads = 0;
     for _ in 0..=most {
-        if !read_line(reader, &mut reads, line)? {
+        if !next_line(reader, &mut reads, line)? {
             return Ok(());
         }
         add_line(out, line)?;
@@ -140,10 +149,10 @@ fn make_flaky(text: &[u8], fails_at: usize) -> Flaky<'_> {
 /// Whether a reader that fails at such a byte gives the first line in 18 reads, if it gives that, and then its fault.
 fn fails_in_turn<R: BufRead>(reader: &mut R, fails_at: usize, line: &mut LineBuffer) -> bool {
     let mut reads = 0;
-    if fails_at > 8 && (read_line(reader, &mut reads, line) != Ok(true) || reads != 18) {
+    if fails_at > 8 && (next_line(reader, &mut reads, line) != Ok(true) || reads != 18) {
         return false;
     }
-    read_line(reader, &mut reads, line) == Err(EarlyEnd::Read)
+    next_line(reader, &mut reads, line) == Err(EarlyEnd::Read)
 }
 
 /// The same of an input of two lines.
@@ -167,7 +176,7 @@ fn an_input_that_was_looked_at_too_often(rt: HostRuntime) {
     let mut line = LineBuffer::new(rt.alloc());
     let mut input = b"quit\nquit\n".as_slice();
     let mut reads = MAX_READS - 1;
-    assert!(rt; read_line(&mut input, &mut reads, &mut line) == Ok(true));
-    assert!(rt; read_line(&mut input, &mut reads, &mut line) == Err(EarlyEnd::Read));
+    assert!(rt; next_line(&mut input, &mut reads, &mut line) == Ok(true));
+    assert!(rt; next_line(&mut input, &mut reads, &mut line) == Err(EarlyEnd::Read));
     assert!(rt; reads == MAX_READS);
 }

@@ -19,7 +19,7 @@ pub fn two_recordings(alloc: Global) -> Result<MemoryDisk, Fail> {
 }
 
 /// The first byte of a recording's first file is 0, and synced.
-fn damaged(disk: MemoryDisk, recording: i64) -> Result<MemoryDisk, Fail> {
+pub fn damaged(disk: MemoryDisk, recording: i64) -> Result<MemoryDisk, Fail> {
     let mut disk = disk;
     let file = FileId::Segment { recording, base: 0 };
     disk.write_at(file, 0, &[0])?;

@@ -2,8 +2,9 @@
 
 use disk_core::MemoryDisk;
 use std::alloc::Global;
+use std::io::{Read, Write};
 use std::test::*;
-use tool_core::{Unobserved, run_script};
+use tool_core::{EarlyEnd, Observer, Unobserved, run_script};
 
 // The vectors that scripts name, in hex.
 const VECTORS: [(&str, &str); 13] = [
@@ -99,6 +100,20 @@ pub fn expect(written: &[u8], told: &str) -> Result<(), Fail> {
     Err(Fail::new(std::str::from_utf8(written)?))
 }
 
+/// The disk behind a script that is read, answered and observed, or why it ended early.
+pub fn behind<R: Read + Drop, W: Write, O: Observer>(
+    alloc: Global,
+    reader: R,
+    writer: &mut W,
+    disk: MemoryDisk,
+    observer: &mut O,
+) -> Result<MemoryDisk, EarlyEnd> {
+    match run_script(alloc, reader, writer, disk, observer) {
+        Ok(disk) => Ok(disk),
+        Err(fault) => Err(fault.end()),
+    }
+}
+
 /// What a script answers over the archive of a disk, and the disk then.
 pub fn replies(
     alloc: Global,
@@ -106,7 +121,7 @@ pub fn replies(
     script: &str,
 ) -> Result<(Vec<u8>, MemoryDisk), Fail> {
     let mut out = Vec::new(alloc);
-    match run_script(alloc, script.as_bytes(), &mut out, disk, &mut Unobserved) {
+    match behind(alloc, script.as_bytes(), &mut out, disk, &mut Unobserved) {
         Ok(disk) => Ok((out, disk)),
         Err(_) => Err(Fail::new("the script ended early")),
     }

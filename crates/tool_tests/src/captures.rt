@@ -5,11 +5,11 @@ use super::views::after;
 use archive_export::Span;
 use archive_report::export_view;
 use capture_file::Destination;
-use disk_core::{Disk, FileId};
+use disk_core::{Disk, FileId, MemoryDisk};
 use std::alloc::Global;
 use std::net::Ipv4Addr;
 use std::test::*;
-use tool_core::{Stopped, Unobserved};
+use tool_core::{CommandFault, Stopped, Unobserved};
 
 /// `hello` at 0, `world` at 64, and a pad of 65,408 bytes at 128, up to the term's end.
 const SCRIPT: &str =
@@ -38,19 +38,20 @@ const PAD: &[u8] = b"\0\0\0\0\0\0\0\0\x3c\0\0\0\x3c\0\0\0\
     \x45\0\0\x3c\0\0\0\0\x40\x11\x1a\xaf\x7f\0\0\x01\xe0\0\x01\x01\x9e\x08\x9e\x08\0\x28\0\0\
     \x80\xff\0\0\0\0\0\0\x80\0\0\0\x07\0\0\0\xe9\x03\0\0\x2a\0\0\0\0\0\0\0\0\0\0\0";
 
+/// What is written of a part of a recording of a disk, or why it ended early.
+fn export(alloc: Global, disk: MemoryDisk, recording: i64, span: Span) -> Result<Vec<u8>, Stopped> {
+    let mut out = Vec::new(alloc);
+    match export_view(alloc, disk, &recording, &span, &mut out, &mut Unobserved) {
+        Ok(_) => Ok(out),
+        Err(CommandFault { why, disk: _ }) => Err(why),
+    }
+}
+
 /// What is written of a part of the recording 0 behind the script.
 fn exported(alloc: Global, from: Option<i64>, to: Option<i64>) -> Result<Vec<u8>, Fail> {
-    let mut out = Vec::new(alloc);
     let disk = after(alloc, SCRIPT)?;
-    match export_view(
-        alloc,
-        disk,
-        &0,
-        &Span { from, to },
-        &mut out,
-        &mut Unobserved,
-    ) {
-        Ok(_) => Ok(out),
+    match export(alloc, disk, 0, Span { from, to }) {
+        Ok(out) => Ok(out),
         Err(_) => Err(Fail::new("the export ended early")),
     }
 }
@@ -78,13 +79,10 @@ fn refusal(alloc: Global, recording: i64, span: Span, changed: u64) -> Result<u8
         changed,
         &[1],
     )?;
-    let mut out = Vec::new(alloc);
-    match export_view(alloc, disk, &recording, &span, &mut out, &mut Unobserved) {
-        Err(fault) => match fault.why {
-            Stopped::Refused(refusal) => Ok(refusal.number()),
-            Stopped::Cut(_) => Err(Fail::new("the export was cut")),
-        },
+    match export(alloc, disk, recording, span) {
         Ok(_) => Ok(0),
+        Err(Stopped::Refused(refusal)) => Ok(refusal.number()),
+        Err(Stopped::Cut(_)) => Err(Fail::new("the export was cut")),
     }
 }
 
@@ -124,6 +122,12 @@ fn what_is_refused(rt: HostRuntime) -> Result<(), Fail> {
     Ok(())
 }
 
+/// Whether the frames of a channel go to this address and port.
+fn goes_to(channel: &str, address: [u8; 4], port: u16) -> bool {
+    let address = Ipv4Addr::from_octets(address);
+    Destination::of(channel) == Destination { address, port }
+}
+
 #[test]
 fn destinations(rt: HostRuntime) -> Result<(), Fail> {
     for (channel, address, port) in [
@@ -154,11 +158,7 @@ fn destinations(rt: HostRuntime) -> Result<(), Fail> {
         ("endpoint=10.0.0.7:1", [127, 0, 0, 1], 40_123),
         ("aeron:ipc", [127, 0, 0, 1], 40_123),
     ] {
-        let expected = Destination {
-            address: Ipv4Addr::from_octets(address),
-            port,
-        };
-        assert!(rt; Destination::of(channel) == expected, "{channel}");
+        assert!(rt; goes_to(channel, address, port), "{channel}");
     }
     Ok(())
 }

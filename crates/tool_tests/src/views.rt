@@ -1,11 +1,13 @@
 //! What `list --read-only` and `verify --read-only` tell of the archives of disks: docs/CONTROL.md, "Looking without a change".
 
+use super::reports::damaged;
+use super::scenarios::replies;
 use archive_report::{list_view, verify_view};
 use archive_view::{ArchiveView, ReadOnly};
 use disk_core::{Disk, FileId, MemoryDisk};
 use std::alloc::Global;
 use std::test::*;
-use tool_core::{Unobserved, Verdict, run_script};
+use tool_core::{Unobserved, Verdict};
 
 /// A frame in a recording that was stopped, and one in another that is active.
 pub const SCRIPT: &str = "start 1001 7 42 65536 1408 131072 0 1000 c\n\
@@ -16,18 +18,7 @@ pub const SCRIPT: &str = "start 1001 7 42 65536 1408 131072 0 1000 c\n\
 
 /// The disk behind these lines of a script.
 pub fn after(alloc: Global, lines: &str) -> Result<MemoryDisk, Fail> {
-    let mut out = Vec::new(alloc);
-    let disk = MemoryDisk::new(alloc);
-    match run_script(alloc, lines.as_bytes(), &mut out, disk, &mut Unobserved) {
-        Ok(disk) => Ok(disk),
-        Err(_) => Err(Fail::new("the script ended early")),
-    }
-}
-
-/// The disk, of which a file is read as this many bytes of 0 from an offset on.
-fn zeroed(disk: MemoryDisk, file: FileId, at: u64, bytes: &[u8]) -> Result<MemoryDisk, Fail> {
-    let mut disk = disk;
-    disk.write_at(file, at, bytes)?;
+    let (_, disk) = replies(alloc, MemoryDisk::new(alloc), lines)?;
     Ok(disk)
 }
 
@@ -85,11 +76,7 @@ fn each_recording_is_verified(rt: HostRuntime) -> Result<(), Fail> {
 
 #[test]
 fn damage_is_told(rt: HostRuntime) -> Result<(), Fail> {
-    let file = FileId::Segment {
-        recording: 0,
-        base: 0,
-    };
-    let disk = zeroed(after(rt.alloc(), SCRIPT)?, file, 0, &[0])?;
+    let disk = damaged(after(rt.alloc(), SCRIPT)?, 0)?;
     let told = "error 15 Damaged 0 0\nverified 1\n";
     check_verified(rt.alloc(), disk, told, Verdict::Refused)
 }
