@@ -1,2 +1,4 @@
--- What a reader has to believe: the program's statuses.
+-- What a reader has to believe: the program's statuses, and what its commands do over a folder.
 pub mod Status
+pub mod Folders
+pub mod Looking

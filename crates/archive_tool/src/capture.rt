@@ -51,7 +51,7 @@ pub(crate) fn export<W: Write>(
 ) -> Result<(), Ended> {
     let screen = Screen::new(&rt);
     let extent = Extent::unknown();
-    let disk = folder_of(rt, folder)?;
+    let disk = folder_of(rt, Path::new(folder))?;
     keep_apart(rt, folder, pcap)?;
     let disk = Watched::new(
         disk,
@@ -162,7 +162,7 @@ fn written(
                 disk: _,
             },
         ) => return Err(unwritten(fault.get())),
-        Err(CommandFault { why, disk }) => return Err(stopped(why, disk)),
+        Err(fault) => return Err(stopped(fault)),
     }
     match out.flush() {
         Ok(()) => Ok(()),

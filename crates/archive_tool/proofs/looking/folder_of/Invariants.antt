@@ -1,6 +1,4 @@
-use Rattle.std.proofs.Common.{[]}
 use Rattle.archive_tool.proofs.looking.folder_of.Given as goal
 
--- no clause here rests on what the folder holds
 abbrev pub ghost-open : goal.ghost-open
-ghost-open a = record { held = []; left = [] }
+ghost-open g a = g.given

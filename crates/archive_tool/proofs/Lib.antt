@@ -1,0 +1,6 @@
+mod WatchedLemmas
+mod FolderLemmas
+mod ScriptLemmas
+mod RunLemmas
+mod ViewLemmas
+mod LookingLemmas
