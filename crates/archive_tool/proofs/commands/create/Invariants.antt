@@ -1,4 +1,0 @@
-use Rattle.archive_tool.proofs.commands.create.Given as goal
-
-abbrev pub ghost-disk_of : goal.ghost-disk_of
-ghost-disk_of g a = g.given

@@ -1,4 +1,0 @@
-use Rattle.archive_tool.proofs.commands.disk_of.Given as goal
-
-abbrev pub ghost-open : goal.ghost-open
-ghost-open g a = g.given

@@ -1,4 +1,0 @@
-use Rattle.archive_tool.proofs.looking.verify_read_only.Given as goal
-
-abbrev pub ghost-folder_of : goal.ghost-folder_of
-ghost-folder_of g a = g.given

@@ -1,4 +1,0 @@
--- What a reader has to believe: the program's statuses, and what its commands do over a folder.
-pub mod Status
-pub mod Folders
-pub mod Looking

@@ -1,0 +1,8 @@
+//! Tests of the program's commands, beside their clauses: the words that ask for them, and what they do over real folders. They
+//! stand apart from the crates that they test, so that these are not proved a second time for their tests.
+#![tactic(auto)]
+
+#[cfg(test)]
+mod folders;
+#[cfg(test)]
+mod words;

@@ -1,0 +1,31 @@
+-- What the words of a command line lead to, and how the program ends: docs/CONTROL.md, "The program".
+use Rattle.std.specs.Prelude.{◌≡◌, ◌⊎◌, ℕ, List, Option}
+use Rattle.clap.specs.declared.error.ErrorKind.{ErrorKind}
+use Rattle.clap.specs.declared.error.ErrorKind.TheVariants.{OutOfMemory}
+use Rattle.clap.specs.Words.{Text, fault_of}
+use Rattle.host_disk.specs.Events.{Given}
+use Rattle.command_line.specs.declared.command.ToolCommand.{ToolCommand}
+use Rattle.command_line.specs.CommandLine.{IsHeld, IsWordsFault, tool_app}
+use Rattle.folder_commands.specs.declared.status.Ending.{Ending}
+use Rattle.folder_commands.specs.declared.status.Ending.TheVariants.{NoCommand, Failed}
+use Rattle.folder_commands.specs.Obeying.{HasObeyed}
+
+-- an error of this kind was told; or there was no memory for its text, or its stream failed
+abbrev pub TellsKind : ErrorKind → Ending → Type 0
+TellsKind kind (NoCommand told) = (told ≡ kind) ⊎ (told ≡ OutOfMemory)
+TellsKind kind (Failed fault) = Unit {0}
+TellsKind kind ending = ⊥
+
+module _ (given : Given) (words : List Text) (input contents written : Option (List ℕ)) where
+  -- the words hold a command, which was obeyed
+  abbrev pub HoldsObeyed : Ending → Type 0
+  HoldsObeyed ending = (command : ToolCommand) × IsHeld words command × HasObeyed given input contents written command ending
+
+  -- they hold none, and what clap says of them was told; want of memory is told of any words
+  abbrev pub HoldsNone : Ending → Type 0
+  HoldsNone ending = (kind : ErrorKind) × IsWordsFault (fault_of tool_app words) kind
+      × ((command : ToolCommand) → IsHeld words command → kind ≡ OutOfMemory)
+      × TellsKind kind ending × (written ≡ contents)
+
+  abbrev pub AnswersWords : Ending → Type 0
+  AnswersWords ending = HoldsObeyed ending ⊎ HoldsNone ending

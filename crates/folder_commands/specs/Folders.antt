@@ -1,0 +1,147 @@
+-- What a command does over a folder, whatever files that holds, and a writer, and how it ends: docs/CONTROL.md, "The program".
+use Rattle.std.specs.Prelude.{◌≡◌, ◌⊎◌, ℕ, true, [], List, Option, None, Result, Ok, Err, IsTrue, codes}
+use Rattle.std.specs.Io.KnownBytes.{Appends}
+use Rattle.frame_core.specs.declared.refusal.Refusal.TheVariants.{DeviceFault}
+use Rattle.disk_core.specs.DiskImage.{begun}
+use Rattle.disk_core.specs.Life.{IsQuiet, Life}
+use Rattle.disk_core.specs.MemoryDisk.{life_of}
+use Rattle.catalogue_log.specs.LogState.{Banks}
+use Rattle.host_disk.specs.declared.folder_disk.FolderDisk.{FolderDisk}
+use Rattle.host_disk.specs.declared.host_folder.HostFolder.{HostFolder}
+use Rattle.host_disk.specs.contracts.host_folder.HostFolderFolder.TheImpl as folders
+use Rattle.host_disk.specs.declared.open_fault.OpenFault.{OpenFault}
+use Rattle.host_disk.specs.Events.{Given}
+use Rattle.host_disk.specs.HostDisk.{host_life}
+use Rattle.host_disk.specs.Replay.{image_of}
+use Rattle.tool_core.specs.declared.commands.Stopped.{Stopped}
+use Rattle.tool_core.specs.declared.commands.Stopped.TheVariants as stops
+use Rattle.tool_core.specs.declared.fault.EarlyEnd.{EarlyEnd}
+use Rattle.tool_core.specs.declared.frames.Listing.TheVariants as listings
+use Rattle.tool_core.specs.declared.reports.Verdict.{Verdict}
+use Rattle.tool_core.specs.declared.reports.Verdict.TheVariants as verdicts
+use Rattle.tool_core.specs.Answering.{EndsEarly}
+use Rattle.tool_core.specs.Archives.{HasCompacted, IsScript, IsScriptOfFirst, IsUnopened}
+use Rattle.tool_core.specs.Commands.{FailsToCompact, FailsToCreate, FailsToList, FailsToVerify, HasListed, HasVerified, IsCreated}
+use Rattle.tool_core.specs.FrameLines.{IsListing, Lists, ListsSome}
+use Rattle.tool_core.specs.Script.{Begins, IsTranscript, IsTranscriptOfFirst}
+use Rattle.tool_core.specs.ScriptLines.{Standing}
+use Rattle.tool_core.specs.Transcript.{WritesText}
+use Rattle.folder_commands.specs.declared.outcome.Ended.{Ended}
+use Rattle.folder_commands.specs.declared.status.Ending.{Ending}
+use Rattle.folder_commands.specs.declared.status.Ending.TheVariants.{Done, Cut, Refused, Unopened, FoundDamage}
+
+-- the disk of a folder
+abbrev pub FolderAsDisk : Type 0
+FolderAsDisk = FolderDisk HostFolder folders.ghosts
+
+-- the life of a disk that begins with the files that a folder holds, all of them durable
+abbrev pub life_from : Given → Life
+life_from given = record { obeys = true; past = []; now = begun (image_of given.held); faults = 0 }
+
+-- ---- endings
+
+-- how a command ended that answers so
+abbrev pub ending_in : Result (Unit {0}) Ended → Ending
+ending_in (Ok done) = Done
+ending_in (Err ended) = ended.ending
+
+-- how a command ends that came to a verdict
+abbrev pub ending_by : Verdict → Ending
+ending_by verdicts.Whole = Done
+ending_by verdicts.Refused = FoundDamage
+
+-- it ended because its folder was not opened
+abbrev pub IsUnopenedFolder : Ending → Type 0
+IsUnopenedFolder ending = (fault : OpenFault) × (ending ≡ Unopened fault)
+
+-- How a command over a folder ends: done; by damage that it found and told; stopped; or by a folder that was not opened, and
+-- then nothing is written.
+module _ (IsDone HasFound : Type 0) (IsStopped : Stopped → Type 0) (contents written : Option (List ℕ)) where
+  abbrev pub EndsAs : Ending → Type 0
+  EndsAs Done = IsDone
+  EndsAs FoundDamage = HasFound
+  EndsAs (Refused refusal) = IsStopped (stops.Refused refusal)
+  EndsAs (Cut end) = IsStopped (stops.Cut end)
+  EndsAs (Unopened fault) = written ≡ contents
+  EndsAs ending = ⊥
+
+module _ (given : Given) where
+  -- ---- an archive in a folder
+
+  -- `list`: the archive of these files was opened, and its recordings are written
+  abbrev pub ListsFolder : Option (List ℕ) → Option (List ℕ) → Ending → Type 0
+  ListsFolder contents written = EndsAs
+      ((new : Life) × HasListed host_life (life_from given) new contents written)
+      ⊥
+      (λ why. (disk : FolderAsDisk) × FailsToList host_life (life_from given) disk why contents written)
+      contents written
+
+  -- `verify`: behind at most a listing of its files each of its recordings was verified, and the answers are written; damage is
+  -- found where one is no reply
+  abbrev pub VerifiesFolder : Option (List ℕ) → Option (List ℕ) → Ending → Type 0
+  VerifiesFolder contents written = EndsAs
+      ((old : Life) × (new : Life) × IsQuiet (life_from given) old × HasVerified host_life old new contents written verdicts.Whole)
+      ((old : Life) × (new : Life) × IsQuiet (life_from given) old × HasVerified host_life old new contents written verdicts.Refused)
+      (λ why. (old : Life) × (disk : FolderAsDisk) × IsQuiet (life_from given) old × FailsToVerify host_life old disk why contents written)
+      contents written
+
+  -- `create`: an archive without recordings was made, with this limit of its history; or the folder itself was not
+  abbrev pub MakesArchive : ℕ → Option (List ℕ) → Option (List ℕ) → Ending → Type 0
+  MakesArchive limit contents written = EndsAs
+      ((new : Life) × IsCreated host_life limit (life_from given) new × Appends contents written (codes "created\n"))
+      ⊥
+      (λ why. ((disk : FolderAsDisk) × FailsToCreate host_life limit (life_from given) disk why contents written)
+      ⊎ ((why ≡ stops.Refused DeviceFault) × (written ≡ contents)))
+      contents written
+
+  -- `compact`: the archive was opened, closed, and its catalogue written anew
+  abbrev pub CompactsFolder : Option (List ℕ) → Option (List ℕ) → Ending → Type 0
+  CompactsFolder contents written = EndsAs
+      ((new : Life) × HasCompacted host_life (life_from given) new × Appends contents written (codes "compacted\n"))
+      ⊥
+      (λ why. (disk : FolderAsDisk) × FailsToCompact host_life (life_from given) disk why contents written)
+      contents written
+
+-- ---- scripts
+
+module _ {D : Type 0} (life : D → Life) (old : Life) (input contents written : Option (List ℕ)) where
+  -- the lines of the input were answered over the disk, whatever it did, and exactly where it obeys the crash model
+  pub record HasRun (new : Life) : Type 0 where
+    pub whole : WritesText input contents written (IsScript life old new)
+    pub kept : (first : Standing) (banks : Banks) → Begins old first banks → IsTrue new.obeys → WritesText input contents written (IsTranscript first banks old new)
+
+  -- the first of them were, or the archive was not opened
+  pub record HasRunFirst (new : Life) (end : EarlyEnd) : Type 0 where
+    pub early : EndsEarly end (IsScriptOfFirst life old new) input contents written ⊎ IsUnopened old new contents written end
+    pub kept : (first : Standing) (banks : Banks) → Begins old first banks → IsTrue new.obeys →
+        EndsEarly end (IsTranscriptOfFirst first banks old new) input contents written ⊎ IsUnopened old new contents written end
+
+  -- how a script over a disk ends: with the input's lines, or early
+  abbrev pub RunsOver : Ending → Type 0
+  RunsOver Done = (new : Life) × HasRun new
+  RunsOver (Cut end) = (new : Life) × HasRunFirst new end
+  RunsOver ending = ⊥
+
+-- `run` over the archive of a folder with these files
+abbrev pub RunsFolder : Given → Option (List ℕ) → Option (List ℕ) → Option (List ℕ) → Ending → Type 0
+RunsFolder given input contents written (Unopened fault) = written ≡ contents
+RunsFolder given input contents written ending = RunsOver host_life (life_from given) input contents written ending
+
+-- `run` over an archive in memory, where no file was
+abbrev pub RunsInMemory : Option (List ℕ) → Option (List ℕ) → Option (List ℕ) → Ending → Type 0
+RunsInMemory input contents written ending =
+    (old : Life) × (old.now ≡ begun (λ file. None)) × (old.past ≡ []) × RunsOver life_of old input contents written ending
+
+-- ---- files
+
+-- the frames of a file with these bytes are listed
+abbrev pub ListsFrames : Option (List ℕ) → Option (List ℕ) → Option (List ℕ) → Ending → Type 0
+ListsFrames file contents written Done = Lists file contents written (IsListing listings.Whole)
+ListsFrames file contents written FoundDamage = Lists file contents written (IsListing listings.Damaged)
+ListsFrames file contents written (Cut end) = ListsSome end file contents written
+ListsFrames file contents written ending = ⊥
+
+-- `frames`: those of a file are, whose bytes nobody knows; or it was not opened, and nothing is written
+abbrev pub ListsFile : Option (List ℕ) → Option (List ℕ) → Ending → Type 0
+ListsFile contents written (Refused DeviceFault) = written ≡ contents
+ListsFile contents written ending = ListsFrames None contents written ending

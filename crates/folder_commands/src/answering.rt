@@ -1,0 +1,51 @@
+//! What the words of a command line lead to. docs/CONTROL.md, "The program".
+
+ghost use Rattle.std.specs.Prelude.{◌≡◌, map, string_bytes};
+ghost use Rattle.clap.specs.Words.{kind_of};
+ghost use Rattle.host_disk.specs.Events.{Given};
+ghost use Rattle.folder_commands.specs.Answering.{AnswersWords, TellsKind};
+
+use crate::commands::obeyed;
+use crate::outcome::Ended;
+use crate::status::Ending;
+use crate::telling::told;
+use clap::Error;
+use clap::error::ErrorKind;
+use command_line::command_of;
+use std::io::{Eprint, Read, Write};
+use std::net::{Net, TcpListener, TcpStream};
+use std::rt::Clock;
+use std::sync::Wait;
+use std::thread::Threads;
+
+/// Does what the words of a command line ask for, the program's name first, and answers how that ended; of words that ask for no
+/// command it tells on standard error what is wrong with them, or on standard output the help that they ask for. What a command
+/// writes goes to a writer, and is handed on; the control lines of `run` come from an input.
+pub fn answered<
+    R: Threads + Wait + Clock + Eprint + Net<Listener = TcpListener, Stream = TcpStream> + Sync,
+    I: Read + Drop,
+    W: Write,
+>(net: &R, rt: HostRuntime, words: &[String], input: I, writer: &mut W) -> Ended
+    ghost given: { Given }
+    ensures { AnswersWords given (map string_bytes words.now) (I.remaining input) (W.contents writer.old) (W.contents writer.new) result.ending }
+{
+    match command_of(rt.alloc(), words) {
+        Ok(command) => obeyed(net, rt, &command, input, writer),
+        Err(error) => no_command(rt, &error),
+    }
+}
+
+/// Tells why a command line asks for no command, or gives the help that it asks for.
+pub fn no_command(rt: HostRuntime, error: &Error) -> Ended
+    ensures { TellsKind (kind_of error.now) result.ending }
+{
+    match error.to_string(rt.alloc()) {
+        Ok(text) => told(
+            error.kind(),
+            text.as_str(),
+            &mut rt.stdout(),
+            &mut rt.stderr(),
+        ),
+        Err(_) => Ended::told(Ending::NoCommand(ErrorKind::OutOfMemory)),
+    }
+}

@@ -1,0 +1,398 @@
+//! What the program's commands do. docs/CONTROL.md, "The program".
+
+ghost use Rattle.std.specs.Prelude.{◌≡◌, IfErr, IfOk};
+ghost use Rattle.disk_core.specs.Life.{IsQuiet};
+ghost use Rattle.host_disk.specs.Events.{Given};
+ghost use Rattle.host_disk.specs.HostDisk.{BeginsWithGiven};
+ghost use Rattle.folder_commands.specs.Folders.{CompactsFolder, IsUnopenedFolder, ListsFile, ListsFolder, ListsFrames, MakesArchive, RunsFolder, RunsInMemory, RunsOver, VerifiesFolder, ending_by, ending_in};
+ghost use Rattle.folder_commands.specs.Obeying.{HasObeyed, Obeys};
+ghost use Rattle.folder_commands.specs.Status.{ending_of};
+
+use crate::outcome::Ended;
+use crate::reason::Reason;
+use crate::serving::{bound, serve};
+use crate::status::Ending;
+use crate::teller::{FaultTeller, OpeningTeller, ScriptTeller, VerifyTeller};
+use crate::{capture, looking};
+use archive_export::Span;
+use command_line::ToolCommand;
+use disk_core::{Disk, MemoryDisk};
+use frame_core::Refusal;
+use frame_core::limits::MAX_HISTORY;
+use host_disk::HostDisk;
+use std::alloc::Global;
+use std::fs::{self, File};
+use std::io::{self, Eprint, IsTerminal, Read, Write};
+use std::net::{Net, TcpListener, TcpStream};
+use std::path::Path;
+use std::rt::Clock;
+use std::sync::Wait;
+use std::thread::Threads;
+use tool_core::{
+    CommandFault, ListedFiles, Listing, Observer, OpeningProgress, Progress, Screen, Stage,
+    Stopped, Unobserved, Verdict, Watched, compact_archive, create_archive, list_archive,
+    list_frames, run_script, verify_archive,
+};
+
+/// Does what a command asks for, hands on what it writes, and answers how that ended. The control lines of `run` come from an
+/// input. Threads and sockets of `serve` are made by the handle, folders and files opened by the runtime.
+pub fn obeyed<
+    R: Threads + Wait + Clock + Eprint + Net<Listener = TcpListener, Stream = TcpStream> + Sync,
+    I: Read + Drop,
+    W: Write,
+>(net: &R, rt: HostRuntime, command: &ToolCommand<'_>, input: I, writer: &mut W) -> Ended
+    ghost given: { Given }
+    ensures { HasObeyed given (I.remaining input) (W.contents writer.old) (W.contents writer.new) command.now result.ending }
+{
+    let ended = Ended::of(obey(net, rt, command, input, writer));
+    ended.handed_on(writer.flush().is_ok())
+}
+
+/// Does what a command asks for. The control lines of `run` come from an input.
+fn obey<
+    R: Threads + Wait + Clock + Eprint + Net<Listener = TcpListener, Stream = TcpStream> + Sync,
+    I: Read + Drop,
+    W: Write,
+>(
+    net: &R,
+    rt: HostRuntime,
+    command: &ToolCommand<'_>,
+    input: I,
+    writer: &mut W,
+) -> Result<(), Ended>
+    ghost given: { Given }
+    ensures { Obeys given (I.remaining input) (W.contents writer.old) (W.contents writer.new) command.now (ending_in result) }
+{
+    match command {
+        ToolCommand::Serve {
+            folder,
+            control,
+            receive,
+            receive_on,
+            idle,
+            is_quiet,
+        } => {
+            let ports = match bound(net, *control, receive_on, *receive) {
+                Ok(ports) => ports,
+                Err(ended) => return Err(ended),
+            };
+            serve(
+                net,
+                rt,
+                ports,
+                disk_of(rt, Path::new(folder))?,
+                *idle,
+                *is_quiet,
+            )
+        }
+        ToolCommand::Create { folder, history } => create(rt, Path::new(folder), *history, writer),
+        ToolCommand::Compact { folder } => compact(rt, Path::new(folder), writer),
+        ToolCommand::Run { folder: None } => run_in_memory(rt, input, writer),
+        ToolCommand::Run {
+            folder: Some(folder),
+        } => run(rt, Path::new(folder), input, writer),
+        ToolCommand::List {
+            folder,
+            read_only: false,
+        } => list(rt, Path::new(folder), writer),
+        ToolCommand::List {
+            folder,
+            read_only: true,
+        } => looking::list_read_only(rt, Path::new(folder), writer),
+        ToolCommand::Verify {
+            folder,
+            read_only: false,
+        } => verify(rt, Path::new(folder), writer),
+        ToolCommand::Verify {
+            folder,
+            read_only: true,
+        } => looking::verify_read_only(rt, Path::new(folder), writer),
+        ToolCommand::Describe { folder, json } => looking::describe(
+            rt,
+            Path::new(folder),
+            *json,
+            writer,
+        ),
+        ToolCommand::Export {
+            folder,
+            recording,
+            from,
+            to,
+            pcap,
+        } => {
+            let span = Span {
+                from: *from,
+                to: *to,
+            };
+            capture::export(
+                rt,
+                Path::new(folder),
+                recording,
+                &span,
+                Path::new(pcap),
+                writer,
+            )
+        }
+        ToolCommand::Frames { file } => frames(rt, file, writer),
+    }
+}
+
+/// Makes an empty archive in a folder without one. The folder is made where it is not there.
+fn create<W: Write>(
+    rt: HostRuntime,
+    folder: Path<'_>,
+    history: u32,
+    writer: &mut W,
+) -> Result<(), Ended>
+    ghost given: { Given }
+    ensures { MakesArchive given history (W.contents writer.old) (W.contents writer.new) (ending_in result) }
+{
+    if let Err(error) = make_folder(rt, folder.as_str()) {
+        return Err(Ended {
+            ending: Ending::Refused(Refusal::DeviceFault),
+            reason: Reason::NewFolder(error),
+        });
+    }
+    match create_archive(rt.alloc(), disk_of(rt, folder)?, history, writer) {
+        Ok(_) => Ok(()),
+        Err(fault) => Err(unmade(&fault, history)),
+    }
+}
+
+/// Why no archive was made on a disk, with this limit of its history, or was not told to be.
+fn unmade(fault: &CommandFault<HostDisk>, history: u32) -> Ended
+    ensures { result.ending ≡ ending_of fault.now.why }
+{
+    if fault.why != Stopped::Refused(Refusal::BadParameter) {
+        return Ended::stopped(fault.why, fault.disk.last_fault());
+    }
+    Ended {
+        ending: Ending::Refused(Refusal::BadParameter),
+        reason: if history == 0 || history > MAX_HISTORY {
+            Reason::History(history)
+        } else {
+            Reason::HasFiles
+        },
+    }
+}
+
+/// Makes a folder that is not there, and syncs its name; that of one that is there too, since who made it may have been
+/// stopped before that.
+fn make_folder(rt: HostRuntime, folder: &str) -> io::Result<()> {
+    let is_there = match fs::create_dir(&rt, folder) {
+        Ok(()) => false,
+        Err(error) if error.kind() == io::ErrorKind::AlreadyExists => true,
+        Err(error) => return Err(error),
+    };
+    match sync_name(rt, folder) {
+        // Who may not read the folder above did not make this one so.
+        Err(error) if is_there && error.kind() == io::ErrorKind::PermissionDenied => Ok(()),
+        synced => synced,
+    }
+}
+
+/// Syncs the name of a folder.
+pub(crate) fn sync_name(rt: HostRuntime, folder: &str) -> io::Result<()> {
+    match fs::canonicalize(&rt, folder)?.parent() {
+        Some(above) => File::open(&rt, above)?.sync_all(),
+        None => Ok(()),
+    }
+}
+
+/// Answers the control lines of an input, over an archive in memory.
+fn run_in_memory<I: Read + Drop, W: Write>(
+    rt: HostRuntime,
+    input: I,
+    writer: &mut W,
+) -> Result<(), Ended>
+    ensures { RunsInMemory (I.remaining input) (W.contents writer.old) (W.contents writer.new) (ending_in result) }
+{
+    let disk = MemoryDisk::new(rt.alloc());
+    run_over(rt.alloc(), input, writer, disk, &mut Unobserved)
+}
+
+/// Answers the control lines of an input, over the archive of a folder.
+fn run<I: Read + Drop, W: Write>(
+    rt: HostRuntime,
+    folder: Path<'_>,
+    input: I,
+    writer: &mut W,
+) -> Result<(), Ended>
+    ghost given: { Given }
+    ensures { RunsFolder given (I.remaining input) (W.contents writer.old) (W.contents writer.new) (ending_in result) }
+{
+    let screen = Screen::new(&rt);
+    let faults = FaultTeller::new(rt.alloc(), &screen, Stage::Opening);
+    let viewer = (faults, opening_of(&rt, &screen));
+    let disk = Watched::new(disk_of(rt, folder)?, viewer);
+    run_over(
+        rt.alloc(),
+        input,
+        writer,
+        disk,
+        &mut ScriptTeller::new(&screen),
+    )
+}
+
+/// Answers the control lines of an input, over the archive of a disk.
+fn run_over<I: Read + Drop, W: Write, D: Disk + Drop, O: Observer>(
+    alloc: Global,
+    input: I,
+    writer: &mut W,
+    disk: D,
+    observer: &mut O,
+) -> Result<(), Ended>
+    ensures { RunsOver D.life (D.life disk) (I.remaining input) (W.contents writer.old) (W.contents writer.new) (ending_in result) }
+{
+    match run_script(alloc, input, writer, disk, observer) {
+        Ok(_) => Ok(()),
+        Err(fault) => Err(Ended::cut(fault.end(), Reason::Input)),
+    }
+}
+
+/// Writes the catalogue of the archive in a folder anew.
+fn compact<W: Write>(rt: HostRuntime, folder: Path<'_>, writer: &mut W) -> Result<(), Ended>
+    ghost given: { Given }
+    ensures { CompactsFolder given (W.contents writer.old) (W.contents writer.new) (ending_in result) }
+{
+    let screen = Screen::new(&rt);
+    let disk = Watched::new(disk_of(rt, folder)?, opening_of(&rt, &screen));
+    match compact_archive(rt.alloc(), disk, writer, &mut OpeningTeller::new(&screen)) {
+        Ok(_) => Ok(()),
+        Err(fault) => Err(uncompacted(fault)),
+    }
+}
+
+/// Why the archive of a watched disk was not compacted, or was not told to be.
+fn uncompacted<V: Drop>(fault: CommandFault<Watched<HostDisk, V>>) -> Ended
+    ensures { result.ending ≡ ending_of fault.why }
+{
+    if fault.why != Stopped::Refused(Refusal::NotCatalogue) {
+        return stopped(fault);
+    }
+    Ended {
+        ending: Ending::Refused(Refusal::NotCatalogue),
+        reason: Reason::NoSpare,
+    }
+}
+
+/// Writes the recordings of the archive in a folder.
+fn list<W: Write>(rt: HostRuntime, folder: Path<'_>, writer: &mut W) -> Result<(), Ended>
+    ghost given: { Given }
+    ensures { ListsFolder given (W.contents writer.old) (W.contents writer.new) (ending_in result) }
+{
+    let screen = Screen::new(&rt);
+    let disk = Watched::new(disk_of(rt, folder)?, opening_of(&rt, &screen));
+    match list_archive(rt.alloc(), disk, writer, &mut OpeningTeller::new(&screen)) {
+        Ok(_) => Ok(()),
+        Err(fault) => Err(stopped(fault)),
+    }
+}
+
+/// Reads each recorded frame of the archive in a folder, and writes what was found of each recording. How far it has come
+/// is shown on standard error, where that is a terminal, and what it found in all is told there.
+fn verify<W: Write>(rt: HostRuntime, folder: Path<'_>, writer: &mut W) -> Result<(), Ended>
+    ghost given: { Given }
+    ensures { VerifiesFolder given (W.contents writer.old) (W.contents writer.new) (ending_in result) }
+{
+    let screen = Screen::new(&rt);
+    let mut disk = disk_of(rt, folder)?;
+    let progress = progress_of(&rt, &screen, &mut disk);
+    let faults = FaultTeller::new(rt.alloc(), &screen, Stage::Working);
+    let disk = Watched::new(disk, (faults, (opening_of(&rt, &screen), progress)));
+    let mut teller = VerifyTeller::new(&screen);
+    match verify_archive(rt.alloc(), disk, writer, &mut teller) {
+        Ok(found) => {
+            teller.finish();
+            judged(found.1)
+        }
+        Err(fault) => {
+            screen.clear();
+            Err(stopped(fault))
+        }
+    }
+}
+
+/// How a command ends that came to a verdict.
+fn judged(verdict: Verdict) -> Result<(), Ended>
+    ensures { ending_in result ≡ ending_by verdict }
+{
+    match verdict {
+        Verdict::Whole => Ok(()),
+        Verdict::Refused => Err(Ended::told(Ending::FoundDamage)),
+    }
+}
+
+/// Writes the frames of a segment file.
+fn frames<W: Write>(rt: HostRuntime, file: &str, writer: &mut W) -> Result<(), Ended>
+    ensures { ListsFile (W.contents writer.old) (W.contents writer.new) (ending_in result) }
+{
+    match File::open(&rt, file) {
+        Ok(reader) => frames_of(rt.alloc(), reader, writer),
+        Err(error) => Err(Ended {
+            ending: Ending::Refused(Refusal::DeviceFault),
+            reason: Reason::File(error),
+        }),
+    }
+}
+
+/// Writes the frames that a reader of a segment file gives.
+fn frames_of<F: Read + Drop, W: Write>(
+    alloc: Global,
+    reader: F,
+    writer: &mut W,
+) -> Result<(), Ended>
+    ensures { ListsFrames (F.remaining reader) (W.contents writer.old) (W.contents writer.new) (ending_in result) }
+{
+    match list_frames(alloc, reader, writer) {
+        Ok(Listing::Whole) => Ok(()),
+        Ok(Listing::Damaged) => Err(Ended::told(Ending::FoundDamage)),
+        Err(end) => Err(Ended::cut(end, Reason::FileRead)),
+    }
+}
+
+/// The disk of a folder, which no other process has. It begins with the files that the folder holds.
+fn disk_of(rt: HostRuntime, folder: Path<'_>) -> Result<HostDisk, Ended>
+    ghost given: { Given }
+    ensures begun { IfOk result (BeginsWithGiven given) }
+    ensures unopened { IfErr result (λ ended. IsUnopenedFolder ended.ending) }
+{
+    Ok(HostDisk::open(rt, rt.alloc(), folder)?)
+}
+
+/// What shows an opening that lasts, where standard error is a terminal.
+pub(crate) fn opening_of<'a>(
+    rt: &'a HostRuntime,
+    screen: &'a Screen<'a, HostRuntime>,
+) -> Option<OpeningProgress<'a, HostRuntime>> {
+    if rt.stderr().is_terminal() {
+        Some(OpeningProgress::new(rt, screen))
+    } else {
+        None
+    }
+}
+
+/// What shows how far a verification of a disk has come, where standard error is a terminal.
+pub(crate) fn progress_of<'a, D: Disk>(
+    rt: &'a HostRuntime,
+    screen: &'a Screen<'a, HostRuntime>,
+    disk: &mut D,
+) -> Option<Progress<'a, HostRuntime, ListedFiles>>
+    ensures { IsQuiet (D.life disk.old) (D.life disk.new) }
+{
+    if rt.stderr().is_terminal() {
+        let files = ListedFiles::of(rt.alloc(), disk)?;
+        Some(Progress::new(rt, screen, files))
+    } else {
+        None
+    }
+}
+
+/// Why a command over a watched disk ended before it was done.
+fn stopped<V: Drop>(fault: CommandFault<Watched<HostDisk, V>>) -> Ended
+    ensures { result.ending ≡ ending_of fault.why }
+{
+    let CommandFault { why, disk } = fault;
+    let (disk, _) = disk.into_parts();
+    Ended::stopped(why, disk.last_fault())
+}

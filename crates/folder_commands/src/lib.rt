@@ -1,0 +1,22 @@
+//! The program's commands over folders, and how they end: docs/CONTROL.md, "The program".
+#![tactic(auto)]
+
+mod answering;
+mod capture;
+mod commands;
+mod looking;
+mod outcome;
+mod outlet;
+mod reason;
+mod serving;
+mod status;
+mod teller;
+mod telling;
+
+pub use answering::{answered, no_command};
+pub use commands::obeyed;
+pub use outcome::Ended;
+pub use outlet::Outlet;
+pub use reason::Reason;
+pub use status::Ending;
+pub use telling::{concluded, told};

@@ -1,0 +1,119 @@
+//! How a command ended, and why.
+
+ghost use Rattle.std.specs.Prelude.{◌≡◌};
+ghost use Rattle.folder_commands.specs.declared.status.Ending.TheVariants.{Cut, Unopened};
+ghost use Rattle.folder_commands.specs.Folders.{ending_in};
+ghost use Rattle.folder_commands.specs.Status.{ending_of, handed_on};
+
+use crate::reason::Reason;
+use crate::status::Ending;
+use frame_core::Refusal;
+use host_disk::{LastFault, OpenFault};
+use std::io;
+use tool_core::{EarlyEnd, Stopped};
+
+/// How a command ended, and why it did not do what it was asked for.
+#[derive(Clone, Copy)]
+pub struct Ended {
+    pub ending: Ending,
+    pub reason: Reason,
+}
+
+impl Ended {
+    /// It ended so, and nothing is told of it but a refusal's line.
+    pub fn told(ending: Ending) -> Ended
+        ensures { result.ending ≡ ending }
+    {
+        Ended {
+            ending,
+            reason: Reason::Told,
+        }
+    }
+
+    /// It was done, or ended so.
+    pub(crate) fn of(outcome: Result<(), Ended>) -> Ended
+        ensures { result.ending ≡ ending_in outcome }
+    {
+        match outcome {
+            Ok(()) => Ended::told(Ending::Done),
+            Err(ended) => ended,
+        }
+    }
+
+    /// Its file, or standard input or output, failed, or it found no memory.
+    pub(crate) fn cut(end: EarlyEnd, read: Reason) -> Ended
+        ensures { result.ending ≡ Cut end }
+    {
+        Ended {
+            ending: Ending::Cut(end),
+            reason: match end {
+                EarlyEnd::Read => read,
+                EarlyEnd::Write => Reason::Output(None),
+                EarlyEnd::Memory => Reason::Told,
+            },
+        }
+    }
+
+    /// It was stopped so, over a disk whose last fault was this one.
+    pub(crate) fn stopped(why: Stopped, fault: Option<LastFault>) -> Ended
+        ensures { result.ending ≡ ending_of why }
+    {
+        let refusal = match why {
+            Stopped::Cut(end) => return Ended::from(end),
+            Stopped::Refused(refusal) => refusal,
+        };
+        Ended {
+            ending: Ending::Refused(refusal),
+            reason: match (refusal, fault) {
+                (Refusal::DeviceFault, Some(fault)) => Reason::Call(fault),
+                _ => Reason::Told,
+            },
+        }
+    }
+
+    /// It ended so, and what it wrote was handed on, or could not be.
+    pub(crate) fn handed_on(self, is_flushed: bool) -> Ended
+        ensures { result.ending ≡ handed_on self.ending is_flushed }
+    {
+        match self.ending {
+            Ending::Done | Ending::FoundDamage if !is_flushed => Ended {
+                ending: Ending::Cut(EarlyEnd::Write),
+                reason: Reason::Output(None),
+            },
+            _ => self,
+        }
+    }
+
+    /// The same, where that is what the system told of standard output.
+    pub fn with_output_fault(self, fault: Option<io::Error>) -> Ended
+        ensures { result.ending ≡ self.ending }
+    {
+        let reason = match self.reason {
+            Reason::Output(None) => Reason::Output(fault),
+            reason => reason,
+        };
+        Ended {
+            ending: self.ending,
+            reason,
+        }
+    }
+}
+
+impl From<EarlyEnd> for Ended {
+    ghost from_gives = { λ end ended. ended.ending ≡ Cut end };
+
+    fn from(end: EarlyEnd) -> Self {
+        Ended::cut(end, Reason::Input)
+    }
+}
+
+impl From<OpenFault> for Ended {
+    ghost from_gives = { λ fault ended. ended.ending ≡ Unopened fault };
+
+    fn from(fault: OpenFault) -> Self {
+        Ended {
+            ending: Ending::Unopened(fault),
+            reason: Reason::Folder(fault),
+        }
+    }
+}

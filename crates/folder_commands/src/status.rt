@@ -1,0 +1,88 @@
+//! How the program ends, and the status that says so: docs/CONTROL.md, "The program".
+
+ghost use Rattle.std.specs.Prelude.{◌≡◌};
+ghost use Rattle.folder_commands.specs.Status.{refusal_of, status_of, status_of_refusal, untold_status};
+
+use clap::error::ErrorKind;
+use frame_core::Refusal;
+use host_disk::OpenFault;
+use std::io;
+use told_words::words_status;
+use tool_core::EarlyEnd;
+
+/// Done.
+const DONE: u8 = 0;
+/// Refused.
+const REFUSED: u8 = 1;
+/// A device fault or damage, or standard input or output failed.
+const DEVICE: u8 = 3;
+
+/// How the program ended.
+#[derive(Clone, Copy, Debug)]
+pub enum Ending {
+    /// The command did what it was asked for; a script was read to its end.
+    Done,
+    /// The command ended early.
+    Cut(EarlyEnd),
+    /// The command was refused.
+    Refused(Refusal),
+    /// Its folder was not opened.
+    Unopened(OpenFault),
+    /// It found damage, and its output says what.
+    FoundDamage,
+    /// The words of the command line asked for no command; what is wrong with them, or the help, was told.
+    NoCommand(ErrorKind),
+    /// The words could not be read, or nothing could be told of them.
+    Failed(io::ErrorKind),
+}
+
+impl Ending {
+    /// The program's status: that of the refusal which is told, where one is.
+    pub fn status(self) -> u8
+        ensures { result ≡ status_of self }
+    {
+        match self.refusal() {
+            Some(refusal) => status_of_refusal(refusal),
+            None => self.untold_status(),
+        }
+    }
+
+    /// The status of an ending that tells no refusal.
+    fn untold_status(self) -> u8
+        ensures { result ≡ untold_status self }
+    {
+        match self {
+            Ending::FoundDamage => DEVICE,
+            Ending::NoCommand(kind) => words_status(kind),
+            _ => DONE,
+        }
+    }
+
+    /// The refusal whose line is told on standard error.
+    pub fn refusal(self) -> Option<Refusal>
+        ensures { result ≡ refusal_of self }
+    {
+        match self {
+            Ending::Done | Ending::FoundDamage => None,
+            Ending::Cut(EarlyEnd::Memory) => Some(Refusal::NoMemory),
+            Ending::Cut(EarlyEnd::Read | EarlyEnd::Write) => Some(Refusal::DeviceFault),
+            Ending::Refused(refusal) => Some(refusal),
+            Ending::Unopened(OpenFault::NoMemory) => Some(Refusal::NoMemory),
+            Ending::Unopened(_) => Some(Refusal::DeviceFault),
+            Ending::NoCommand(ErrorKind::OutOfMemory) => Some(Refusal::NoMemory),
+            Ending::NoCommand(_) => None,
+            Ending::Failed(io::ErrorKind::OutOfMemory) => Some(Refusal::NoMemory),
+            Ending::Failed(_) => Some(Refusal::DeviceFault),
+        }
+    }
+}
+
+/// The status of a refused command.
+fn status_of_refusal(refusal: Refusal) -> u8
+    ensures { result ≡ status_of_refusal refusal }
+{
+    match refusal {
+        Refusal::Damaged { .. } | Refusal::Broken | Refusal::DeviceFault => DEVICE,
+        _ => REFUSED,
+    }
+}
