@@ -35,7 +35,7 @@ from tool import (
 )
 
 STREAM = Stream(term_length=65_536, segment_length=65_536)
-TERMS = 800  # of 2,048 frames each, which take seconds to read
+TERMS = 1_600  # of 2,048 frames each, which take more than a second to read on a fast machine that is idle
 LOOKS = [("list", "--read-only"), ("verify", "--read-only"), ("describe",), ("describe", "--json")]
 
 

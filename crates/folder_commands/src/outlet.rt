@@ -1,5 +1,7 @@
 //! A writer, and what the system told where it failed.
 
+ghost use Rattle.std.specs.Prelude.{◌≡◌, MatchResult, None, Some};
+
 use std::io::{self, Write};
 
 /// A writer that keeps the last error of another.
@@ -11,13 +13,29 @@ pub struct Outlet<W> {
 
 impl<W: Write> Outlet<W> {
     /// Writes to this writer, which has not failed yet.
-    pub fn new(to: W) -> Outlet<W> {
+    pub fn new(to: W) -> Outlet<W>
+        ensures { result ≡ record { to = to; fault = None } }
+    {
         Outlet { to, fault: None }
     }
 
     /// The last error of the writer, if it failed.
-    pub fn fault(&self) -> Option<io::Error> {
+    pub fn fault(&self) -> Option<io::Error>
+        ensures { result ≡ self.now.fault }
+    {
         self.fault
+    }
+
+    /// Keeps the error of an answer, if it is one.
+    fn note<T>(&mut self, answer: &io::Result<T>)
+        ensures to { self.new.to ≡ self.old.to }
+        ensures fault { MatchResult answer.now
+            (λ _. self.new.fault ≡ self.old.fault)
+            (λ error. self.new.fault ≡ Some error) }
+    {
+        if let Err(error) = answer {
+            self.fault = Some(*error);
+        }
     }
 }
 
@@ -26,17 +44,13 @@ impl<W: Write> Write for Outlet<W> {
 
     fn write(&mut self, buf: &[u8]) -> io::Result<usize> {
         let answer = self.to.write(buf);
-        if let Err(error) = &answer {
-            self.fault = Some(*error);
-        }
+        self.note(&answer);
         answer
     }
 
     fn flush(&mut self) -> io::Result<()> {
         let answer = self.to.flush();
-        if let Err(error) = &answer {
-            self.fault = Some(*error);
-        }
+        self.note(&answer);
         answer
     }
 }
