@@ -15,7 +15,7 @@ use Rattle.archive_report.specs.Exported.{FailsToExportFrom, HasExportedFrom, Ha
 use Rattle.folder_commands.specs.declared.status.Ending.{Ending}
 use Rattle.folder_commands.specs.declared.status.Ending.TheVariants.{Done, Cut, Refused, Unopened, FoundDamage, NoCommand, Failed}
 use Rattle.folder_commands.specs.Folders.{life_from}
-use Rattle.folder_commands.specs.Looking.{ExportsFolder, FailsToCapture, HasCaptured, IsUncaptured, folder_life, uncaptured_ending}
+use Rattle.folder_commands.specs.Looking.{ExportsFolder, FailsToCapture, HasCaptured, folder_life, uncaptured_ending}
 use Rattle.folder_commands.proofs.ViewLemmas.{unwatched_view}
 use Rattle.folder_commands.proofs.WatchedLemmas.{inside}
 
@@ -66,17 +66,7 @@ module _ (V : Type 0) (old : Life) (recording : ℤ) (span : Span) where
   fails_to_capture disk (stops.Cut ends.Read) h = absurd h
   fails_to_capture disk (stops.Cut ends.Memory) h = absurd h
 
--- a file that is not written
-pub uncaptured : (old : Life) (recording : ℤ) (span : Span) (ending : Ending) → IsUncaptured ending → FailsToCapture old recording span ending
-uncaptured old recording span (Refused refusal) h = inr h
-uncaptured old recording span Done h = h
-uncaptured old recording span (Cut end) h = h
-uncaptured old recording span (Unopened fault) h = h
-uncaptured old recording span FoundDamage h = h
-uncaptured old recording span (NoCommand kind) h = h
-uncaptured old recording span (Failed fault) h = h
-
--- and an export that ends so, whose answer is not written
+-- an export whose frames were not captured ends by that, and nothing is told
 pub export_fails : (given : Given) (recording : ℤ) (span : Span) (contents : Option (List ℕ)) (old : Life) (ending : Ending) → old ≡ life_from given → FailsToCapture old recording span ending → ExportsFolder given recording span contents contents ending
 export_fails given recording span contents old (Refused refusal) begins h = (subst (λ l. FailsToCapture l recording span (Refused refusal)) begins h, refl)
 export_fails given recording span contents old (Cut ends.Memory) begins h = (h, refl)

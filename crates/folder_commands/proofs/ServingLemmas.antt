@@ -1,10 +1,10 @@
 -- How `serve` ends, by its ports, its folder and its server.
-use Rattle.std.proofs.Common.{◌≡◌, ℕ, List, subst, sym}
+use Rattle.std.proofs.Common.{◌≡◌, ℕ, List, subst}
 use Rattle.disk_core.specs.Life.{Life}
 use Rattle.host_disk.specs.Events.{Given}
 use Rattle.folder_commands.specs.declared.status.Ending.{Ending}
 use Rattle.folder_commands.specs.declared.status.Ending.TheVariants.{Done, Cut, Refused, Unopened, FoundDamage, NoCommand, Failed}
-use Rattle.folder_commands.specs.Folders.{IsUnopenedFolder, life_from}
+use Rattle.folder_commands.specs.Folders.{life_from}
 use Rattle.folder_commands.specs.Serving.{IsUnbound, ServesFolder, ServesOver}
 
 module _ (given : Given) (control receive : ℕ) (address : List ℕ) where
@@ -16,9 +16,6 @@ module _ (given : Given) (control receive : ℕ) (address : List ℕ) where
   unbound_serves (Refused refusal) h = absurd h
   unbound_serves (Unopened fault) h = tt
   unbound_serves FoundDamage h = absurd h
-
-  pub unopened_serves : (ending : Ending) → IsUnopenedFolder ending → ServesFolder given control receive address ending
-  unopened_serves ending h = subst (ServesFolder given control receive address) (sym h.1) tt
 
   over_folder : (ending : Ending) → ServesOver (life_from given) ending → ServesFolder given control receive address ending
   over_folder Done h = h

@@ -61,9 +61,7 @@ pub(crate) fn export<W: Write>(
     let mut teller = ExportTeller::new(&screen, span, &extent);
     let captured = captured(rt, disk, recording, span, pcap.as_str(), &mut teller);
     screen.clear();
-    if let Err(ended) = captured {
-        return Err(ended);
-    }
+    captured?;
     match writer.write_all(b"exported\n") {
         Ok(()) => Ok(()),
         Err(_) => Err(Ended::from(EarlyEnd::Write)),

@@ -72,10 +72,7 @@ fn obey<
             idle,
             is_quiet,
         } => {
-            let ports = match bound(net, *control, receive_on, *receive) {
-                Ok(ports) => ports,
-                Err(ended) => return Err(ended),
-            };
+            let ports = bound(net, *control, receive_on, *receive)?;
             serve(
                 net,
                 rt,
