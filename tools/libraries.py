@@ -44,13 +44,21 @@ def copied(copy: Path, crates: list[str]) -> Path:
     return copy
 
 
+def link_file(own: str, other: str) -> None:
+    """Links a file, or copies it to another file system."""
+    try:
+        os.link(own, other)
+    except OSError:
+        shutil.copy2(own, other)
+
+
 def link(crate: str, top: Path, to: Path) -> None:
     """What is proved of a library below one folder stands below another, unless the same does there."""
     own, other = (it / "crates" / crate / "out/rlib" for it in (top, to))
     if not (own / "stamp").is_file() or ((other / "stamp").is_file() and (own / "stamp").read_bytes() == (other / "stamp").read_bytes()):
         return
     shutil.rmtree(other, ignore_errors=True)
-    shutil.copytree(own, other, copy_function=os.link)
+    shutil.copytree(own, other, copy_function=link_file)
 
 
 def prove(crate: str, copy: Path, proved: dict[str, Path]) -> tuple[str, int, str]:
