@@ -1,0 +1,122 @@
+#!/usr/bin/env python3
+"""Counts long sentences and words to avoid in documents.
+
+Usage: tools/prose.py [--long] [FILE ..]   without a name README.md, CONTRIBUTING.md and the pages of docs/ named below
+Prints a line for each file: sentences, those of more than 25 and of more than 40 words, the counted words, and the file's words
+as `wc -w` has them. With --long it also prints each sentence that is too long or has a counted word, with its line.
+A sentence ends at `.`, `!` or `?`, and at the end of a paragraph, of a list's point and of a table's cell; never at `;` or `:`.
+A link's target is no word, and a piece of code within a line is one. Code blocks are left out. Headings, and cells of code or
+numbers alone, are no sentences. Status 1 if a file has a counted word, a sentence of more than 40 words, or more than 5 % of
+its sentences have more than 25.
+"""
+import re
+import sys
+from collections.abc import Iterator
+from pathlib import Path
+from typing import NamedTuple
+
+from repository import ROOT
+
+PAGES = ["README.md", *(f"docs/{it}.md" for it in ("SERVING", "CONTROL", "STORAGE", "ARCHITECTURE")), "CONTRIBUTING.md", "docs/GLOSSARY.md"]
+LONG, LONGEST, SHARE = 25, 40, 0.05
+POINT = re.compile(r"\s*([-*+]|\d+\.)\s+")
+CODE = re.compile(r"(`+)(?!`).+?(?<!`)\1(?!`)", re.S)
+TARGET = re.compile(r"\]\([^)\s]*\)")
+CELL = re.compile(r"(?<!\\)\|")
+END = re.compile(r"(?<!\.)(?<!\be\.g)(?<!\bi\.e)[.!?][\"'”)\]*_]*(?=\s|$)")
+# "behind" of a place is what stands behind a lock, a gate or a socket; elsewhere it counts as time or order.
+COUNTED = re.compile(
+    r"\b(told|who(?:m|so)?ever|let(?:s|ting)?\s+go|bec[oa]mes?\s+of|(?:is|are|was|were)\s+none|where\s+none|befall\w*|befell"
+    r"|behind(?!\s+(?:an?\s+|the\s+|one\s+|its\s+)?(?:locks?|gates?|sockets?|firewalls?)\b))\b",
+    re.I,
+)
+
+
+class Piece(NamedTuple):
+    """A paragraph, a heading, a list's point or a table's cell: its first line's number, and its text without code."""
+
+    line: int
+    text: str
+    is_heading: bool
+
+
+class Sentence(NamedTuple):
+    line: int
+    text: str
+    words: int
+
+
+def without_code(text: str) -> str:
+    """A text with one word for each piece of code, and without targets of links. Line ends stay."""
+    text = CODE.sub(lambda it: "`CODE`" + "\n" * it[0].count("\n"), text)
+    return TARGET.sub("]", text)
+
+
+def pieces(text: str) -> Iterator[Piece]:
+    """The pieces of a document, without its code blocks."""
+    begin, held, fence = 0, [], ""
+    for number, line in enumerate([*text.splitlines(), ""], 1):
+        bare = line.strip()
+        is_fence = bare.startswith(fence or ("```", "~~~"))
+        ends = fence or is_fence or not bare or bare.startswith(("|", "#")) or POINT.match(line)
+        if ends and held:
+            yield Piece(begin, without_code("\n".join(held)), False)
+            held = []
+        if is_fence:
+            fence = "" if fence else bare[:3]
+        elif fence or not bare:
+            continue
+        elif bare.startswith("|"):
+            yield from (Piece(number, it, False) for it in CELL.split(without_code(bare)))
+        elif bare.startswith("#"):
+            yield Piece(number, without_code(bare), True)
+        else:
+            begin = begin if held else number
+            held.append(POINT.sub("", line, count=1) if not held else line)
+
+
+def sentences(piece: Piece) -> Iterator[Sentence]:
+    """The sentences of a piece."""
+    begin = 0
+    for end in [*(it.end() for it in END.finditer(piece.text)), len(piece.text)]:
+        text = piece.text[begin:end]
+        words = [it for it in text.split() if re.search(r"\w", it)]
+        if any(re.search(r"[^\W\d]", it) and "`CODE`" not in it for it in words):
+            skipped = len(text) - len(text.lstrip())
+            yield Sentence(piece.line + piece.text.count("\n", 0, begin + skipped), " ".join(text.split()), len(words))
+        begin = end
+
+
+def report(path: Path, name: str, is_long: bool) -> bool:
+    """Prints a file's counts, and whether they are as they should be."""
+    text = path.read_text()
+    found = list(pieces(text))
+    all_of = [it for piece in found if not piece.is_heading for it in sentences(piece)]
+    long = [it for it in all_of if it.words > LONG]
+    longest = [it for it in long if it.words > LONGEST]
+    counted = [(piece, it) for piece in found for it in COUNTED.finditer(piece.text)]
+    share = len(long) / max(1, len(all_of))
+    print(
+        f"{name:24} sentences {len(all_of):4}, over {LONG} words {len(long):3} ({share:.1%}), over {LONGEST} {len(longest):3}, "
+        f"counted words {len(counted):3}, words {len(text.split()):5}"
+    )
+    if is_long:
+        rows = [(it.line, f"{it.words} words: {it.text}") for it in long]
+        for piece, it in counted:
+            around = piece.text[max(0, it.start() - 40) : it.end() + 40]
+            rows.append((piece.line + piece.text.count("\n", 0, it.start()), f"'{it[0]}': {' '.join(around.split())}"))
+        for line, said in sorted(rows):
+            print(f"  {name}:{line}: {said}")
+    return not longest and not counted and share <= SHARE
+
+
+def main() -> int:
+    words = [it for it in sys.argv[1:] if it != "--long"]
+    if any(it.startswith("-") for it in words):
+        sys.exit(__doc__)
+    named = [(Path(it), it) for it in words] or [(ROOT / it, it) for it in PAGES]
+    return 0 if all([report(path, name, "--long" in sys.argv) for path, name in named]) else 1
+
+
+if __name__ == "__main__":
+    sys.exit(main())
