@@ -2,7 +2,7 @@
 """A small sender of an Aeron stream over UDP: each line of standard input is a message. docs/SERVING.md, "Who can send".
 
 Usage: examples/sender.py --to HOST:PORT [--session N] [--stream N] [--term N] [--term-length N] [--mtu N] [--rate N]
-                          [--linger SECONDS] < messages
+                          [--position N] [--linger SECONDS] < messages
 
 It begins with a setup frame, paces its frames, sends heartbeats behind the last of them, and sends again what NAK frames ask
 for. Nobody tells it what was received, so behind its last message it lingers. It keeps all that it sent.
@@ -27,12 +27,14 @@ def aligned(length: int) -> int:
 
 
 class Publication:
-    """A stream from its initial term on, and all frames of it that were made."""
+    """A stream from a position on, and all frames of it that were made."""
 
-    def __init__(self, session_id: int, stream_id: int, initial_term_id: int, term_length: int, mtu: int) -> None:
+    def __init__(
+        self, session_id: int, stream_id: int, initial_term_id: int, term_length: int, mtu: int, position: int = 0
+    ) -> None:
         self.session_id, self.stream_id, self.initial_term_id = session_id, stream_id, initial_term_id
         self.term_length, self.mtu = term_length, mtu
-        self.position = 0
+        self.position = position
         self.frames: dict[int, tuple[bytes, int]] = {}  # by position: the encoding, and how many bytes of the stream it covers
 
     def place(self, position: int) -> tuple[int, int]:
@@ -136,11 +138,12 @@ def main() -> int:
     words.add_argument("--term", type=int, default=42, help="the initial term id")
     words.add_argument("--term-length", type=int, default=65_536)
     words.add_argument("--mtu", type=int, default=1_408)
+    words.add_argument("--position", type=int, default=0, help="where the stream begins, or goes on after a restart of the server")
     words.add_argument("--rate", type=float, default=10_000, help="frames a second")
     words.add_argument("--linger", type=float, default=1, help="seconds of heartbeats behind the last message")
     asked = words.parse_args()
     host, _, port = asked.to.rpartition(":")
-    publication = Publication(asked.session, asked.stream, asked.term, asked.term_length, asked.mtu)
+    publication = Publication(asked.session, asked.stream, asked.term, asked.term_length, asked.mtu, asked.position)
     sender = Sender(publication, (host, int(port)))
     sender.run((line.rstrip(b"\n") for line in sys.stdin.buffer), asked.rate, asked.linger)
     print(f"{sender.sent} frames, {publication.position} bytes of the stream, {sender.naks} NAKs, {sender.repeated} repeats")
