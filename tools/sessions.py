@@ -1,16 +1,20 @@
 #!/usr/bin/env python3
-"""Asks that README.md and docs/ show what the program prints, that README.md names a toolchain which the one here may stand for,
-and that links lead to what is there.
+"""Checks that README.md and docs/ show what the program prints, that README.md names a toolchain which the one here may stand
+for, and that links lead to what is there.
 
 Usage: tools/sessions.py [program]            without a program the one in crates/archive_tool/out
 Each block of `console` is a session, which begins at the top of the repository: lines that begin with `$ ` are commands for
-bash, and under each stands all that it prints on either stream, `...` for what proofs tell. `rt run --` and `archive_tool` are
-the program. What lies in /var/tmp lies in a folder that is the page's own and goes at its end.
-What proves (`rt try`, `rt ci`, `tools/libraries.py`) is not run again. Status 1 where anything differs.
+bash. Under each stands all that it prints on either stream; a line `...` leaves lines out. `rt run --`, `rt try --` and
+`archive_tool` are the program. /var/tmp is a folder of the page's own, which is removed at its end.
+A command that README.md, SERVING.md or CONTROL.md shows elsewhere is run too: one of a folder or a file in a piece of code, or
+one of /usr/local/bin/archive_tool. It is run over a recorded archive, with a value for each <word>, once with all that stands
+in brackets and once without, and has to end with status 0.
+What proves (`rt ci`, `tools/libraries.py`) is not run again. Status 1 if anything differs.
 """
 import os
 import re
 import shlex
+import socket
 import subprocess
 import sys
 import tempfile
@@ -23,8 +27,18 @@ PAGES = [ROOT / "README.md", ROOT / "CONTRIBUTING.md", *sorted((ROOT / "docs").g
 BLOCK = re.compile(r"^```console\n(.*?)^```$", re.M | re.S)
 LINK = re.compile(r"\[[^\]]*\]\(([^)\s]+)\)")
 TOOLCHAIN = re.compile(r"rattle-kit-(\d+)([a-z]*)( or later|)`?,?(?: of|) logic `?(\w+)")
-PROVES = re.compile(r"^rt (ci|check|test)\b|\brt try\b")
-PROGRAM = re.compile(r"\brt run (--jobs \d+ )?-- |(?<![\w/])(out/)?archive_tool ")
+PROVES = re.compile(r"^rt (ci|check|test)\b")
+PROGRAM = re.compile(r"\brt run (--jobs \d+ )?-- |\brt try -- |(?<![\w/])(out/)?archive_tool ")
+# Lines of `rt try` itself.
+TRIED = re.compile(r"^(checked: |races: |run=).*\n", re.M)
+
+SHOWING = [ROOT / "README.md", ROOT / "docs/SERVING.md", ROOT / "docs/CONTROL.md"]
+WORD = r"(?:create|run|serve|compact|list|describe|verify|export|frames)"
+SHOWN = re.compile(
+    rf"`(?:archive_tool )?({WORD} [^`\n]*[<\[](?:folder|copy|file)[>\]][^`\n]*|(?:<command> )?--(?:help|version))`"
+    rf"|/usr/local/bin/archive_tool ({WORD} .*)$",
+    re.M,
+)
 
 
 def sessions(text: str) -> Iterator[list[tuple[str, str]]]:
@@ -42,15 +56,77 @@ def differences(page: Path, program: Path, room: str) -> Iterator[str]:
                 continue
             given = PROGRAM.sub(f"{shlex.quote(str(program))} ", command.replace("python3 tools/libraries.py && ", ""))
             words = ["bash", "-c", given.replace("/var/tmp", room) + f"\npwd > {room}/.folder"]
-            ran = subprocess.run(words, cwd=folder, stdout=subprocess.PIPE, stderr=subprocess.STDOUT, text=True)
+            # `rt try` prints standard error after standard output.
+            errors = subprocess.PIPE if "rt try" in command else subprocess.STDOUT
+            ran = subprocess.run(words, cwd=folder, stdout=subprocess.PIPE, stderr=errors, text=True)
             folder = Path(room, ".folder").read_text().strip()
-            if steady(ran.stdout.replace(room, "/var/tmp")) != steady(told.rpartition("...\n")[2]):
-                yield f"{page.relative_to(ROOT)}: $ {command}\n  told:  {ran.stdout!r}\n  right: {told!r}"
+            printed = ran.stdout + (ran.stderr or "")
+            if not agrees(steady(printed.replace(room, "/var/tmp")), steady(TRIED.sub("", told))):
+                yield f"{page.relative_to(ROOT)}: $ {command}\n  printed: {printed!r}\n  shown:   {told!r}"
+
+
+def agrees(printed: str, shown: str) -> bool:
+    """Whether a page shows what was printed; a line `...` leaves lines out."""
+    front, left_out, rest = shown.partition("...\n")
+    return printed.startswith(front) and printed.endswith(rest) if left_out else printed == shown
 
 
 def steady(told: str) -> str:
-    """What was told, without a sender's port and how many datagrams came, which are others each time."""
+    """A text without a sender's port and how many datagrams came, which differ each time."""
     return re.sub(r"(?<=joined from 127\.0\.0\.1:)\d+|(?<=, datagrams )\d+(?=, images)", "", told)
+
+
+def shown_commands(page: Path) -> list[str]:
+    """The commands that a page shows outside its sessions, each once without and once with what stands in brackets."""
+    found = []
+    for one, other in SHOWN.findall(BLOCK.sub("", page.read_text())):
+        command = one or other
+        found += [re.sub(r" ?\[[^\]]*\]", "", command), re.sub(r"[\[\]]", "", command.replace("[folder]", "<folder>"))]
+    return list(dict.fromkeys(found))
+
+
+def free_port(kind: int) -> int:
+    """A port of this machine that nobody has."""
+    with socket.socket(socket.AF_INET, kind) as found:
+        found.bind(("127.0.0.1", 0))
+        return found.getsockname()[1]
+
+
+def filled(command: str, folder: Path, control: int) -> list[str]:
+    """The words of a command, with values in the place of what it names."""
+    receive = free_port(socket.SOCK_DGRAM)
+    values = [
+        (r"(?<=^create )\S+", str(folder / "new")), (r"<folder>|<copy>|/var/lib/recorder", str(folder / "archive")),
+        (r"(?<=--pcap )<file>", str(folder / "frames.pcap")), (r"<file>", str(folder / "archive/0-0.rec")),
+        (r"(?<=--control )\S+", str(control)), (r"(?<=--receive )\S+", str(receive)), (r"<IPv4 address>", "127.0.0.1"),
+        (r"(?<=--to )<position>", "128"), (r"<recording>|<position>", "0"), (r"<seconds>|<entries>", "60"), (r"<command>", "export"),
+    ]
+    for pattern, value in values:
+        command = re.sub(pattern, value, command)
+    return shlex.split(command)
+
+
+def refused(page: Path, program: Path) -> Iterator[str]:
+    """The commands that a page shows outside its sessions and that don't end with status 0."""
+    for command in shown_commands(page):
+        with tempfile.TemporaryDirectory() as room, tempfile.TemporaryFile("w+") as printed:
+            archive, control = Path(room, "archive"), free_port(socket.SOCK_STREAM)
+            archive.mkdir()
+            with open(ROOT / "examples/record.lines") as lines:
+                subprocess.run([program, "run", archive], stdin=lines, capture_output=True, check=True)
+            words = [program, *filled(command, Path(room), control)]
+            ran = subprocess.Popen(words, stdin=subprocess.DEVNULL, stdout=printed, stderr=subprocess.STDOUT)
+            if command.startswith("serve "):
+                client = [sys.executable, ROOT / "examples/client.py", f"127.0.0.1:{control}"]
+                subprocess.run(client, input="quit\n", capture_output=True, text=True)
+            try:
+                status = ran.wait(60)
+            except subprocess.TimeoutExpired:
+                ran.kill()
+                status = ran.wait()
+            printed.seek(0)
+            if status:
+                yield f"{page.relative_to(ROOT)}: {command}\n  status {status}: {printed.read()!r}"
 
 
 def anchor(head: str) -> str:
@@ -98,6 +174,9 @@ def main() -> int:
         count += sum(not PROVES.search(command) for session in sessions(page.read_text()) for command, _ in session)
         with tempfile.TemporaryDirectory() as room:
             found += differences(page, program, room)
+    for page in SHOWING:
+        count += len(shown_commands(page))
+        found += refused(page, program)
     print("".join(f"{it}\n" for it in found), end="")
     print(f"{count} commands were run, {len(found)} findings")
     return 1 if found else 0
