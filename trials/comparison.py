@@ -1,0 +1,151 @@
+"""Compares the program with the readers of the documents, over many folders in parallel."""
+import resource
+import shutil
+import subprocess
+from collections import Counter
+from collections.abc import Callable, Iterable
+from concurrent.futures import ProcessPoolExecutor
+from dataclasses import dataclass, field
+from pathlib import Path
+from random import Random
+
+from readers.archive import Archive, looked_at
+from readers.catalogue import Refused, read_banks
+from tool import Fault, expect, is_calm
+
+MOST_POLLS = 6  # of a replay
+HANGS = 300  # seconds after which a command counts as hung
+RESTART = b"\x01\x08\x00\x00\x00"  # its open gate, kind and length, and the next gate
+
+Files = dict[str, bytes]
+
+
+@dataclass
+class Script:
+    """Lines for an archive, each with the reply that the documents ask for."""
+
+    archive: Archive
+    asked: list[tuple[str, list[str]]] = field(default_factory=list)
+
+    def ask(self, line: str) -> list[str]:
+        """Adds a line. Returns its reply."""
+        told = self.archive.answer(line)
+        self.asked.append((line, told))
+        return told
+
+    def replay(self, number: int, position: int, length: int, most: int) -> None:
+        """Adds a replay from a position: its opening, some polls and its closing."""
+        told = self.ask(f"replay {number} {position} {length}")[0]
+        if not told.startswith("replay "):
+            return
+        opened = told.split()[1]
+        for _ in range(MOST_POLLS):
+            if not self.ask(f"poll {opened} {most}")[-1].startswith("more"):
+                break
+        self.ask(f"close {opened}")
+
+    def look(self, positions: Iterable[int], number: int, chance: Random) -> None:
+        """Adds all lines that read a recording. Replays begin at its start and at some positions."""
+        self.ask(f"positions {number}")
+        self.ask(f"verify {number}")
+        self.replay(number, -1, -1, 4_096)
+        self.replay(number, -1, -1, 1)
+        for position in positions:
+            self.replay(number, position, chance.choice((-1, 64, 65_536)), chance.choice((1, 3, 4_096)))
+
+    def try_on(self, tool: Path, folder: Path, what: str) -> None:
+        """Runs the lines by the program, and compares the replies."""
+        told = told_by(tool, folder, [line for line, _ in self.asked])
+        at = 0
+        for line, right in self.asked:
+            expect(f"{what}: {line[:100]}", told[at : at + len(right)], right)
+            at += len(right)
+        expect(f"{what}: after the last line", told[at:], [])
+
+
+def ended(tool: Path, *words: str | Path, given: bytes = b"") -> subprocess.CompletedProcess[bytes]:
+    """Runs a command. Raises Fault if it crashes or hangs."""
+    try:
+        done = subprocess.run([tool, *words], input=given, capture_output=True, timeout=HANGS)
+    except subprocess.TimeoutExpired as hung:
+        raise Fault(f"{' '.join(map(str, words))} didn't end") from hung
+    if done.returncode not in (0, 1, 3):
+        raise Fault(f"{' '.join(map(str, words))} ended with status {done.returncode}: {done.stderr[-1_000:].decode(errors='replace')}")
+    return done
+
+
+def told_by(tool: Path, folder: Path, lines: Iterable[str]) -> list[str]:
+    """The replies of `run` to some lines. Raises Fault if it reports a failure."""
+    done = ended(tool, "run", folder, given="".join(f"{line}\n" for line in lines).encode())
+    expect("run: its status, and whether standard error is calm", (done.returncode, is_calm(done.stderr.decode())), (0, True))
+    return done.stdout.decode().splitlines()
+
+
+def verification(archive: Archive) -> tuple[int, str, str]:
+    """Exit status, standard output and standard error of `verify`: docs/CONTROL.md, "The program" and "Standard error"."""
+    out, error = "", ""
+    frames = size = damaged = 0
+    for known in archive.register.listed():
+        told = archive.reader().verify(known)
+        out += f"{told}\n"
+        if told.startswith("verified"):
+            frames, size = frames + int(told.split()[1]), size + known.recorded - known.start
+        else:
+            name, offset = known.file(int(told.split()[-1]))
+            error += f"{name}: damaged at offset {offset}\n"
+            damaged += 1
+    error += f"recordings {len(archive.register.recordings)}, frames {frames}, bytes {size}, damaged {damaged}, not read 0\n"
+    return (3 if damaged else 0), out, error
+
+
+def look_only(tool: Path, folder: Path, files: Files, what: str) -> None:
+    """Compares `list --read-only` and `verify --read-only` of a folder."""
+    told = [ended(tool, word, folder, "--read-only") for word in ("list", "verify")]
+    told = [(done.returncode, done.stdout.decode(), done.stderr.decode()) for done in told]
+    try:
+        archive = looked_at(files)
+        right = [(0, "".join(f"{line}\n" for line in archive.answer("list 0 1024")), ""), verification(archive)]
+    except Refused as refused:
+        right = [(3 if " 15 " in str(refused) else 1, "", f"{refused}\n")] * 2
+    expect(f"{what}: list --read-only", told[0], right[0])
+    expect(f"{what}: verify --read-only", told[1], right[1])
+
+
+def after_an_opening(files: Files) -> Files:
+    """The files of an archive after an opening: a Restart is added if a recording was active, and nothing else changes."""
+    try:
+        known = read_banks(files.get)
+    except Refused:
+        return files
+    if not known.register.active():
+        return files
+    text = files[known.bank]
+    return {**files, known.bank: text[: known.end] + RESTART + text[known.end + len(RESTART) :]}
+
+
+def write(folder: Path, files: Files) -> None:
+    """Makes a folder with these files."""
+    shutil.rmtree(folder, ignore_errors=True)
+    folder.mkdir()
+    for name, text in files.items():
+        (folder / name).write_bytes(text)
+
+
+def limit(memory: int) -> None:
+    """Limits the address space of this process and of its children, in megabytes. 0 sets no limit."""
+    if memory:
+        resource.setrlimit(resource.RLIMIT_AS, (memory << 20, memory << 20))
+
+
+def in_parts(work: Callable[..., Counter[str]], parts: Iterable[tuple[object, ...]], jobs: int, memory: int) -> Counter[str]:
+    """Runs the parts of some work in parallel, and adds up their counts. The first fault ends it."""
+    counted: Counter[str] = Counter()
+    with ProcessPoolExecutor(jobs, initializer=limit, initargs=(memory,)) as pool:
+        runs = [pool.submit(work, *part) for part in parts]
+        try:
+            for one in runs:
+                counted += one.result()
+        except BaseException:
+            pool.shutdown(cancel_futures=True)
+            raise
+    return counted

@@ -1,0 +1,66 @@
+#!/usr/bin/env python3
+"""Opens copies of the archives in `version_1/`, whose catalogues have version 1, and compares what the program prints with what is kept.
+
+A folder has the files of an archive in `archive/` and the lines that made it in `made.lines`. It keeps the output of `list --read-only`
+in `looked.txt`, of `list` in `list.txt`, of `verify` in `verify.txt`, and of a replay of each recording in `replay.txt`. The program has
+to print the same, and `readers/` has to read the same. A look changes no byte. An opening adds one Restart to the bank in use, and
+changes no other byte.
+
+Usage: trials/version_1.py [program].
+"""
+from pathlib import Path
+
+from comparison import Files, after_an_opening, ended, write
+from readers.archive import Archive, files_of, looked_at, opened
+from readers.catalogue import BANKS, read_banks
+from tool import conclude, expect, program, room, trial_words
+
+DATA = Path(__file__).resolve().parent / "version_1"
+IN_USE = {"bank_a": BANKS[0], "bank_b": BANKS[1]}
+
+
+def replays(archive: Archive) -> list[str]:
+    """Lines that replay each recording."""
+    lines = []
+    for number, known in enumerate(archive.register.listed()):
+        lines += [f"replay {known.number} -1 -1", f"poll {number} 4096"]
+    return lines
+
+
+def try_told(tool: Path, folder: Path, kept: Path, words: list[str], lines: list[str], read: list[str]) -> None:
+    """Compares the output of a command, the text that is kept and the answer of the reader."""
+    done = ended(tool, words[0], folder, *words[2:], given="".join(f"{line}\n" for line in lines).encode())
+    right = (kept / words[1]).read_text()
+    expect(f"{words[0]} of {kept.name}", (done.returncode, done.stdout.decode()), (0, right))
+    expect(f"the reader's answer on {kept.name}, against {words[1]}", read, right.splitlines())
+
+
+def try_archive(tool: Path, folder: Path, kept: Path, bank: str) -> None:
+    """Tries one of the archives."""
+    files: Files = files_of(kept / "archive")
+    known = read_banks(files.get)
+    expect(f"the bank in use of {kept.name}, and its version", (known.bank, known.version), (bank, 1))
+    write(folder, files)
+    archive, now = looked_at(files), opened(files)
+    verified = [told for each in archive.register.listed() for told in archive.answer(f"verify {each.number}")]
+    try_told(tool, folder, kept, ["list", "looked.txt", "--read-only"], [], archive.answer("list 0 1024"))
+    try_told(tool, folder, kept, ["verify", "verify.txt", "--read-only"], [], verified)
+    expect(f"{kept.name} after looks", files_of(folder), files)
+    try_told(tool, folder, kept, ["list", "list.txt"], [], now.answer("list 0 1024"))
+    try_told(tool, folder, kept, ["verify", "verify.txt"], [], verified)
+    try_told(tool, folder, kept, ["run", "replay.txt"], replays(now), now.answers(replays(now)))
+    expect(f"{kept.name} after openings", files_of(folder), after_an_opening(files))
+    print(f"{kept.name}: {len(known.entries)} entries, {len(known.register.recordings)} recordings, as they are kept")
+
+
+def main() -> int:
+    asked = trial_words(__doc__).parse_args()
+    tool = program(asked.program)
+    with room() as work:
+        for name, bank in IN_USE.items():
+            try_archive(tool, work / name, DATA / name, bank)
+    return 0
+
+
+if __name__ == "__main__":
+    conclude(main)
