@@ -29,7 +29,7 @@ MARK = "• "
 SHARED = frozenset(
     """
     AreWell Compacts Ends Fits IsChain IsLookedOn IsWell OfArchive OfMerge Records Stays ThenSettles WritesBytes active_count
-    after append_tests base_of changed counts encoded epoch_of extend_tests geometry_of has_publication has_room header_of id_of
+    after append_tests base_of changed counts encoded epoch_of events_of extend_tests geometry_of has_publication has_room header_of id_of
     image_with inner is_active is_among life_at life_of may_join name_of publication_of purge_segments_tests purge_tests
     refusal_of restarted segments_before start_tests stop_tests takes_memory truncate_tests
     """.split()

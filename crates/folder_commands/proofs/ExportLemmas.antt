@@ -3,7 +3,9 @@ use Rattle.std.proofs.Common.{◌≡◌, ℕ, ℤ, List, Option, None, inl, inr,
 use Rattle.frame_core.specs.declared.refusal.Refusal.{Refusal}
 use Rattle.disk_core.specs.Life.{Life}
 use Rattle.host_disk.specs.Events.{Given}
-use Rattle.folder_view.specs.declared.read_folder.ReadFolder.{ReadFolder}
+use Rattle.host_disk.specs.declared.read_folder.ReadFolder.{ReadFolder}
+use Rattle.host_disk.specs.ReadFolder.{folder_life}
+use Rattle.host_disk.specs.Replay.{life_from}
 use Rattle.tool_core.specs.declared.commands.Stopped.{Stopped}
 use Rattle.tool_core.specs.declared.commands.Stopped.TheVariants as stops
 use Rattle.tool_core.specs.declared.fault.EarlyEnd.TheVariants as ends
@@ -14,8 +16,7 @@ use Rattle.archive_export.specs.Exporting.{IsLookedOn}
 use Rattle.archive_report.specs.Exported.{FailsToExportFrom, HasExportedFrom, HasRefusedFrom}
 use Rattle.folder_commands.specs.declared.status.Ending.{Ending}
 use Rattle.folder_commands.specs.declared.status.Ending.TheVariants.{Done, Cut, Refused, Unopened, FoundDamage, NoCommand, Failed}
-use Rattle.folder_commands.specs.Folders.{life_from}
-use Rattle.folder_commands.specs.Looking.{ExportsFolder, FailsToCapture, HasCaptured, folder_life, uncaptured_ending}
+use Rattle.folder_commands.specs.Looking.{ExportsFolder, FailsToCapture, HasCaptured, uncaptured_ending}
 use Rattle.folder_commands.proofs.ViewLemmas.{unwatched_view}
 use Rattle.folder_commands.proofs.WatchedLemmas.{inside}
 

@@ -4,7 +4,8 @@ use Rattle.std.specs.Prelude.{codes}
 use Rattle.std.specs.Io.KnownBytes.{Appends}
 use Rattle.disk_core.specs.Life.{IsQuiet, Life}
 use Rattle.host_disk.specs.Events.{Given}
-use Rattle.host_disk.specs.HostDisk.{BeginsWithGiven, host_life}
+use Rattle.host_disk.specs.HostDisk.{host_life}
+use Rattle.host_disk.specs.Replay.{life_from}
 use Rattle.tool_core.specs.declared.commands.Stopped.{Stopped}
 use Rattle.tool_core.specs.declared.commands.Stopped.TheVariants as stops
 use Rattle.tool_core.specs.declared.reports.Verdict.{Verdict}
@@ -13,16 +14,16 @@ use Rattle.tool_core.specs.declared.watched.Watched.{Watched}
 use Rattle.tool_core.specs.Archives.{HasCompacted}
 use Rattle.tool_core.specs.Commands.{FailsToCompact, FailsToCreate, FailsToList, FailsToVerify, HasListed, HasVerified, IsCreated}
 use Rattle.folder_commands.specs.declared.status.Ending.TheVariants.{Done}
-use Rattle.folder_commands.specs.Folders.{CompactsFolder, FolderAsDisk, ListsFolder, MakesArchive, VerifiesFolder, ending_by, life_from}
+use Rattle.folder_commands.specs.Folders.{CompactsFolder, FolderAsDisk, ListsFolder, MakesArchive, VerifiesFolder, ending_by}
 use Rattle.folder_commands.specs.Status.{ending_of}
 use Rattle.folder_commands.proofs.WatchedLemmas.{compacted, inside, listed, uncompacted, unlisted, unverified, verified}
 
 -- a watched disk of a folder begins with its files
-pub begins_watched : {V : Type 0} (given : Given) (disk : FolderAsDisk) (watched : Watched FolderAsDisk V) → BeginsWithGiven given disk → watched.disk ≡ disk → host_life watched.disk ≡ life_from given
+pub begins_watched : {V : Type 0} (given : Given) (disk : FolderAsDisk) (watched : Watched FolderAsDisk V) → host_life disk ≡ life_from given → watched.disk ≡ disk → host_life watched.disk ≡ life_from given
 begins_watched given disk watched begins is = ap host_life is ∙ begins
 
 -- behind a listing of its files it has no others
-pub begins_quiet : {V : Type 0} (given : Given) (disk mid : FolderAsDisk) (watched : Watched FolderAsDisk V) → BeginsWithGiven given disk → IsQuiet (host_life disk) (host_life mid) → watched.disk ≡ mid → IsQuiet (life_from given) (host_life watched.disk)
+pub begins_quiet : {V : Type 0} (given : Given) (disk mid : FolderAsDisk) (watched : Watched FolderAsDisk V) → host_life disk ≡ life_from given → IsQuiet (host_life disk) (host_life mid) → watched.disk ≡ mid → IsQuiet (life_from given) (host_life watched.disk)
 begins_quiet given disk mid watched begins quiet is =
     subst (λ l. IsQuiet l (host_life watched.disk)) begins (subst (λ d. IsQuiet (host_life disk) (host_life d)) (sym is) quiet)
 

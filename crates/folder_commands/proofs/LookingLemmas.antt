@@ -2,8 +2,9 @@
 use Rattle.std.proofs.Common.{◌≡◌, ℕ, List, Option, ap, subst, sym, ◌∙◌}
 use Rattle.disk_core.specs.Life.{IsQuiet, Life}
 use Rattle.host_disk.specs.Events.{Given}
-use Rattle.folder_view.specs.declared.read_folder.ReadFolder.{ReadFolder}
-use Rattle.folder_view.specs.Begun.{BeginsWithGiven}
+use Rattle.host_disk.specs.declared.read_folder.ReadFolder.{ReadFolder}
+use Rattle.host_disk.specs.ReadFolder.{folder_life}
+use Rattle.host_disk.specs.Replay.{life_from}
 use Rattle.tool_core.specs.declared.commands.Stopped.{Stopped}
 use Rattle.tool_core.specs.declared.commands.Stopped.TheVariants as stops
 use Rattle.tool_core.specs.declared.reports.Verdict.{Verdict}
@@ -13,18 +14,18 @@ use Rattle.archive_view.specs.ReadOnly.{IsOnlyRead}
 use Rattle.archive_report.specs.Verifying.{FailsToVerify, HasVerified}
 use Rattle.archive_report.specs.Viewing.{FailsToList, HasListed}
 use Rattle.folder_commands.specs.declared.status.Ending.TheVariants.{Done}
-use Rattle.folder_commands.specs.Folders.{ending_by, life_from}
-use Rattle.folder_commands.specs.Looking.{DescribesFolder, ListsAsItStands, VerifiesAsItStands, folder_life}
+use Rattle.folder_commands.specs.Folders.{ending_by}
+use Rattle.folder_commands.specs.Looking.{DescribesFolder, ListsAsItStands, VerifiesAsItStands}
 use Rattle.folder_commands.specs.Status.{ending_of}
 use Rattle.folder_commands.proofs.WatchedLemmas.{inside}
 use Rattle.folder_commands.proofs.ViewLemmas.{view_unlisted, view_unverified, view_verified}
 
 -- a watched folder begins with its files
-pub looks_watched : {V : Type 0} (given : Given) (disk : ReadFolder) (watched : Watched ReadFolder V) → BeginsWithGiven given disk → watched.disk ≡ disk → folder_life watched.disk ≡ life_from given
+pub looks_watched : {V : Type 0} (given : Given) (disk : ReadFolder) (watched : Watched ReadFolder V) → folder_life disk ≡ life_from given → watched.disk ≡ disk → folder_life watched.disk ≡ life_from given
 looks_watched given disk watched begins is = ap folder_life is ∙ begins
 
 -- behind a listing of its files it has no others
-pub looks_quiet : {V : Type 0} (given : Given) (disk mid : ReadFolder) (watched : Watched ReadFolder V) → BeginsWithGiven given disk → IsQuiet (folder_life disk) (folder_life mid) → watched.disk ≡ mid → IsQuiet (life_from given) (folder_life watched.disk)
+pub looks_quiet : {V : Type 0} (given : Given) (disk mid : ReadFolder) (watched : Watched ReadFolder V) → folder_life disk ≡ life_from given → IsQuiet (folder_life disk) (folder_life mid) → watched.disk ≡ mid → IsQuiet (life_from given) (folder_life watched.disk)
 looks_quiet given disk mid watched begins quiet is =
     subst (λ l. IsQuiet l (folder_life watched.disk)) begins (subst (λ d. IsQuiet (folder_life disk) (folder_life d)) (sym is) quiet)
 

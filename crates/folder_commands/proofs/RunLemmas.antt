@@ -3,9 +3,10 @@ use Rattle.std.proofs.Common.{◌≡◌, ℕ, List, Option, subst}
 use Rattle.disk_core.specs.Life.{Life}
 use Rattle.host_disk.specs.Events.{Given}
 use Rattle.host_disk.specs.HostDisk.{host_life}
+use Rattle.host_disk.specs.Replay.{life_from}
 use Rattle.folder_commands.specs.declared.status.Ending.{Ending}
 use Rattle.folder_commands.specs.declared.status.Ending.TheVariants.{Unopened}
-use Rattle.folder_commands.specs.Folders.{FolderAsDisk, RunsFolder, RunsOver, life_from}
+use Rattle.folder_commands.specs.Folders.{FolderAsDisk, RunsFolder, RunsOver}
 use Rattle.folder_commands.proofs.ScriptLemmas.{run_inside}
 use Rattle.folder_commands.proofs.WatchedLemmas.{inside}
 

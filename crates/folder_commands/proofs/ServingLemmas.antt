@@ -2,9 +2,9 @@
 use Rattle.std.proofs.Common.{◌≡◌, ℕ, List, subst}
 use Rattle.disk_core.specs.Life.{Life}
 use Rattle.host_disk.specs.Events.{Given}
+use Rattle.host_disk.specs.Replay.{life_from}
 use Rattle.folder_commands.specs.declared.status.Ending.{Ending}
 use Rattle.folder_commands.specs.declared.status.Ending.TheVariants.{Done, Cut, Refused, Unopened, FoundDamage, NoCommand, Failed}
-use Rattle.folder_commands.specs.Folders.{life_from}
 use Rattle.folder_commands.specs.Serving.{IsUnbound, ServesFolder, ServesOver}
 
 module _ (given : Given) (control receive : ℕ) (address : List ℕ) where

@@ -1,5 +1,5 @@
 -- What a command does over a folder, whatever files that holds, and a writer, and how it ends: docs/CONTROL.md, "The program".
-use Rattle.std.specs.Prelude.{◌≡◌, ◌⊎◌, ℕ, true, [], List, Option, None, Result, Ok, Err, IsTrue, codes}
+use Rattle.std.specs.Prelude.{◌≡◌, ◌⊎◌, ℕ, [], List, Option, None, Result, Ok, Err, IsTrue, codes}
 use Rattle.std.specs.Io.KnownBytes.{Appends}
 use Rattle.frame_core.specs.declared.refusal.Refusal.TheVariants.{DeviceFault}
 use Rattle.disk_core.specs.DiskImage.{begun}
@@ -12,7 +12,7 @@ use Rattle.host_disk.specs.contracts.host_folder.HostFolderFolder.TheImpl as fol
 use Rattle.host_disk.specs.declared.open_fault.OpenFault.{OpenFault}
 use Rattle.host_disk.specs.Events.{Given}
 use Rattle.host_disk.specs.HostDisk.{host_life}
-use Rattle.host_disk.specs.Replay.{image_of}
+use Rattle.host_disk.specs.Replay.{life_from}
 use Rattle.tool_core.specs.declared.commands.Stopped.{Stopped}
 use Rattle.tool_core.specs.declared.commands.Stopped.TheVariants as stops
 use Rattle.tool_core.specs.declared.fault.EarlyEnd.{EarlyEnd}
@@ -33,10 +33,6 @@ use Rattle.folder_commands.specs.declared.status.Ending.TheVariants.{Done, Cut, 
 -- the disk of a folder
 abbrev pub FolderAsDisk : Type 0
 FolderAsDisk = FolderDisk HostFolder folders.ghosts
-
--- the life of a disk that begins with the files that a folder holds, all of them durable
-abbrev pub life_from : Given → Life
-life_from given = record { obeys = true; past = []; now = begun (image_of given.held); faults = 0 }
 
 -- ---- endings
 

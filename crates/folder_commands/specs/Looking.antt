@@ -4,9 +4,9 @@ use Rattle.std.specs.Io.KnownBytes.{Appends}
 use Rattle.frame_core.specs.declared.refusal.Refusal.TheVariants.{BadParameter, DeviceFault}
 use Rattle.disk_core.specs.Life.{IsQuiet, Life}
 use Rattle.host_disk.specs.Events.{Given}
-use Rattle.host_disk.specs.Replay.{life_at}
-use Rattle.folder_view.specs.declared.read_folder.ReadFolder.{ReadFolder}
-use Rattle.folder_view.specs.Looked.{events_of}
+use Rattle.host_disk.specs.declared.read_folder.ReadFolder.{ReadFolder}
+use Rattle.host_disk.specs.ReadFolder.{folder_life}
+use Rattle.host_disk.specs.Replay.{life_from}
 use Rattle.tool_core.specs.declared.commands.Stopped.{Stopped}
 use Rattle.tool_core.specs.declared.commands.Stopped.TheVariants as stops
 use Rattle.tool_core.specs.declared.fault.EarlyEnd.TheVariants as ends
@@ -18,12 +18,8 @@ use Rattle.archive_report.specs.Verifying.{FailsToVerify, HasVerified}
 use Rattle.archive_report.specs.Viewing.{FailsToList, HasListed}
 use Rattle.folder_commands.specs.declared.status.Ending.{Ending}
 use Rattle.folder_commands.specs.declared.status.Ending.TheVariants.{Done, Cut, Refused, Unopened}
-use Rattle.folder_commands.specs.Folders.{EndsAs, life_from}
+use Rattle.folder_commands.specs.Folders.{EndsAs}
 use Rattle.folder_commands.specs.Status.{ending_of}
-
--- the life of a folder that is only read
-abbrev pub folder_life : ReadFolder → Life
-folder_life folder = life_at (events_of folder.folder) folder.faults
 
 module _ (given : Given) where
   -- `list --read-only`: the archive of these files was seen, and its recordings are written

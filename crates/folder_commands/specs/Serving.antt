@@ -6,10 +6,10 @@ use Rattle.clap.specs.declared.error.ErrorKind.TheVariants.{ValueValidation}
 use Rattle.disk_core.specs.Life.{Life}
 use Rattle.host_disk.specs.Events.{Given}
 use Rattle.host_disk.specs.HostDisk.{host_life}
+use Rattle.host_disk.specs.Replay.{life_from}
 use Rattle.serve_core.specs.Serving.{IsServed, IsServedUpTo}
 use Rattle.folder_commands.specs.declared.status.Ending.{Ending}
 use Rattle.folder_commands.specs.declared.status.Ending.TheVariants.{Done, Cut, Unopened, NoCommand, Failed}
-use Rattle.folder_commands.specs.Folders.{life_from}
 
 -- the text is no IPv4 address
 abbrev pub IsNoAddress : List ℕ → Type 0

@@ -4,10 +4,11 @@
 ghost use Rattle.std.specs.Prelude.{◌≡◌, IfErr, IfOk};
 ghost use Rattle.frame_core.specs.declared.refusal.Refusal.TheVariants.{DeviceFault};
 ghost use Rattle.host_disk.specs.Events.{Given};
+ghost use Rattle.host_disk.specs.ReadFolder.{folder_life};
 ghost use Rattle.tool_core.specs.declared.fault.EarlyEnd.TheVariants.{Memory};
 ghost use Rattle.folder_commands.specs.declared.status.Ending.TheVariants.{Cut, Refused};
 ghost use Rattle.folder_commands.specs.Folders.{ending_in};
-ghost use Rattle.folder_commands.specs.Looking.{ExportsFolder, FailsToCapture, HasCaptured, IsUncaptured, folder_life, uncaptured_ending};
+ghost use Rattle.folder_commands.specs.Looking.{ExportsFolder, FailsToCapture, HasCaptured, IsUncaptured, uncaptured_ending};
 
 use crate::commands::{opening_of, sync_name};
 use crate::looking::{folder_of, stopped};
@@ -17,8 +18,8 @@ use crate::reason::Reason;
 use crate::status::Ending;
 use archive_export::Span;
 use archive_report::{ExportTeller, Extent, export_view};
-use folder_view::ReadFolder;
 use frame_core::Refusal;
+use host_disk::ReadFolder;
 use std::fs::{self, File};
 use std::io::{self, BufWriter, ErrorKind, IsTerminal, Write};
 use std::path::Path;

@@ -3,7 +3,8 @@
 ghost use Rattle.std.specs.Prelude.{◌≡◌, IfErr, IfOk};
 ghost use Rattle.disk_core.specs.Life.{IsQuiet};
 ghost use Rattle.host_disk.specs.Events.{Given};
-ghost use Rattle.host_disk.specs.HostDisk.{BeginsWithGiven};
+ghost use Rattle.host_disk.specs.HostDisk.{host_life};
+ghost use Rattle.host_disk.specs.Replay.{life_from};
 ghost use Rattle.folder_commands.specs.Folders.{CompactsFolder, IsUnopenedFolder, ListsFile, ListsFolder, ListsFrames, MakesArchive, RunsFolder, RunsInMemory, RunsOver, VerifiesFolder, ending_by, ending_in};
 ghost use Rattle.folder_commands.specs.Obeying.{HasObeyed, Obeys};
 ghost use Rattle.folder_commands.specs.Status.{ending_of};
@@ -351,7 +352,7 @@ fn frames_of<F: Read + Drop, W: Write>(
 /// The disk of a folder, which no other process has. It begins with the files that the folder holds.
 fn disk_of(rt: HostRuntime, folder: Path<'_>) -> Result<HostDisk, Ended>
     ghost given: { Given }
-    ensures begun { IfOk result (BeginsWithGiven given) }
+    ensures begun { IfOk result (λ disk. host_life disk ≡ life_from given) }
     ensures unopened { IfErr result (λ ended. IsUnopenedFolder ended.ending) }
 {
     Ok(HostDisk::open(rt, rt.alloc(), folder)?)

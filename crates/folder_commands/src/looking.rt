@@ -2,7 +2,8 @@
 
 ghost use Rattle.std.specs.Prelude.{◌≡◌, IfErr, IfOk};
 ghost use Rattle.host_disk.specs.Events.{Given};
-ghost use Rattle.folder_view.specs.Begun.{BeginsWithGiven};
+ghost use Rattle.host_disk.specs.ReadFolder.{folder_life};
+ghost use Rattle.host_disk.specs.Replay.{life_from};
 ghost use Rattle.folder_commands.specs.Folders.{IsUnopenedFolder, ending_by, ending_in};
 ghost use Rattle.folder_commands.specs.Looking.{DescribesFolder, ListsAsItStands, VerifiesAsItStands};
 ghost use Rattle.folder_commands.specs.Status.{ending_of};
@@ -13,7 +14,7 @@ use crate::reason::Reason;
 use crate::status::Ending;
 use crate::teller::{FaultTeller, OpeningTeller, VerifyTeller};
 use archive_report::{Finding, Form, describe_archive, list_view, verify_view};
-use folder_view::ReadFolder;
+use host_disk::ReadFolder;
 use std::io::Write;
 use std::path::Path;
 use tool_core::{CommandFault, Screen, Stage, Verdict, Watched};
@@ -104,7 +105,7 @@ pub(crate) fn describe<W: Write>(
 /// A folder that is only read. As a disk it begins with the files that the folder holds.
 pub(crate) fn folder_of(rt: HostRuntime, folder: Path<'_>) -> Result<ReadFolder, Ended>
     ghost given: { Given }
-    ensures begun { IfOk result (BeginsWithGiven given) }
+    ensures begun { IfOk result (λ disk. folder_life disk ≡ life_from given) }
     ensures unopened { IfErr result (λ ended. IsUnopenedFolder ended.ending) }
 {
     Ok(ReadFolder::open(rt, rt.alloc(), folder)?)

@@ -3,9 +3,8 @@
 use crate::reason::{FaultLine, file_of, word_of};
 use archive_model::{Registration, Reply};
 use disk_core::FileId;
-use folder_view::ReadFolder;
 use frame_core::{Refusal, segment_base};
-use host_disk::{HostDisk, LastFault};
+use host_disk::{HostDisk, LastFault, ReadFolder};
 use std::alloc::Global;
 use std::io::Eprint;
 use tool_core::{Beginning, HistoryUse, Observer, Screen, Stage, Viewer};

@@ -5,3 +5,5 @@ pub mod RecordWalks
 pub mod NameLemmas
 pub mod MarkLemmas
 pub mod FaultLemmas
+pub mod RefusedLemmas
+pub mod CloseLemmas

@@ -7,6 +7,8 @@ pub mod ArchiveFiles
 pub mod OpenFaults
 pub mod FolderDisk
 pub mod HostDisk
+pub mod ReadFolder
+pub mod ClosedDisk
 -- what only private functions say, representation, and the proof of a law
 pub mod Noted
 pub mod EventCodes
@@ -17,4 +19,5 @@ pub mod Unsynced
 pub mod Paths
 pub mod OpenFiles
 pub mod HostFolder
+pub mod Looked
 pub mod WellFormed

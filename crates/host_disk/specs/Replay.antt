@@ -8,7 +8,7 @@ use Rattle.disk_core.specs.FileNames.{file_cmp}
 use Rattle.disk_core.specs.DiskImage.{DiskImage, FileState, Files, begun, bytes_of}
 use Rattle.disk_core.specs.Calls.{overwritten, write_to, cut_to, removed, synced}
 use Rattle.disk_core.specs.Life.{Life}
-use Rattle.host_disk.specs.Events.{Held, Event, opened, locked, measured, measure_failed, asked, gave, read_failed, touched, wrote, write_failed, cut, cut_failed, gone, remove_failed, flushed, flush_failed, listed, list_failed, refused}
+use Rattle.host_disk.specs.Events.{Held, Given, Event, opened, locked, measured, measure_failed, asked, gave, read_failed, touched, wrote, write_failed, cut, cut_failed, gone, remove_failed, flushed, flush_failed, listed, list_failed, refused}
 
 -- what the calls so far make of the files of a folder
 pub record Replayed : Type 0 where
@@ -135,3 +135,7 @@ life_at events faults = record {
   now = (replay events).now;
   faults = faults;
 }
+
+-- the life of a disk that begins with the files that are given, all of them durable
+abbrev pub life_from : Given → Life
+life_from given = record { obeys = true; past = []; now = begun (image_of given.held); faults = 0 }

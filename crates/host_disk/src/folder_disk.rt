@@ -74,6 +74,15 @@ impl<F: Folder> FolderDisk<F> {
         &self.folder
     }
 
+    /// Its folder, and how many calls have failed.
+    pub(crate) fn into_parts(self) -> (F, u64)
+        ensures folder { result.0 ≡ folder_of self }
+        ensures faults { result.1 ≡ faults_of self }
+    {
+        let FolderDisk { folder, faults, .. } = self;
+        (folder, faults)
+    }
+
     /// No file was asked for anything once a sync of it had failed.
     pub fn asks_no_lost_file(&self)
         ensures { is_careful (F.Folder.events (folder_of self.now)) ≡ true }

@@ -8,12 +8,12 @@ ghost use Rattle.host_disk.specs.NotesOf.{noted};
 ghost use Rattle.host_disk.specs.OpenFiles.{IsFull, held, HoldsUnsynced};
 ghost use Rattle.host_disk.specs.Paths.{path_in};
 
+use crate::file_path::write_path;
 use crate::open_files::OpenFiles;
-use crate::system::{Absent, Found, Names, Notes, OpenFile, list_files, open_file};
+use crate::system::{Absent, Found, Names, Notes, OpenFile, Record, list_files};
 use crate::{FailedCall, Folder, LastFault, OpenFault};
 use disk_core::{Fault, FileId, ListFault};
 use std::alloc::Global;
-use std::fmt::Write;
 use std::io;
 use std::path::Path;
 
@@ -55,7 +55,7 @@ impl HostFolder {
         let (names, notes) = Names::lock(&rt, alloc, path)?;
         // With this room no call but a listing allocates.
         let mut path = String::new(alloc);
-        path.reserve(names.path().len().saturating_add(NAME_LENGTH))
+        path.reserve(names.path().as_str().len().saturating_add(NAME_LENGTH))
             .map_err(|_| OpenFault::NoMemory)?;
         let open_files = OpenFiles::new(alloc).map_err(|_| OpenFault::NoMemory)?;
         Ok(HostFolder {
@@ -75,16 +75,20 @@ impl HostFolder {
         self.notes.last()
     }
 
+    /// Closes the folder, and leaves what was noted of it.
+    pub(crate) fn close(self) -> Record
+        ensures { result.events ≡ notes_of self }
+    {
+        let HostFolder { notes, .. } = self;
+        notes.into_record()
+    }
+
     /// Lets `path` name a file.
     fn name(&mut self, file: FileId) -> io::Result<()>
         ensures same { notes_of self.new ≡ notes_of self.old }
         ensures named { OnOk result (IsPathOf self.new file) }
     {
-        self.path.clear();
-        if write!(self.path, "{}{file}", self.names.path()).is_err() {
-            return Err(io::ErrorKind::OutOfMemory.into());
-        }
-        Ok(())
+        write_path(&mut self.path, self.names.path(), file)
     }
 
     /// Where a file is, which is opened if it is there.
@@ -96,7 +100,7 @@ impl HostFolder {
             return Ok(Lookup::At(index));
         }
         self.name(file)?;
-        match open_file(&self.rt, &self.names, file, self.path.as_str())? {
+        match self.names.open(&self.rt, file, self.path.as_str())? {
             Found::There(opened) => Ok(Lookup::At(self.hold(opened)?)),
             Found::Missing(absent) => Ok(Lookup::Nowhere(absent)),
         }
@@ -219,7 +223,7 @@ impl Folder for HostFolder {
     }
 
     fn list(&mut self) -> Result<Vec<FileId>, ListFault> {
-        list_files(&self.rt, &self.names, self.alloc, &mut self.notes)
+        list_files(&self.rt, self.names.path(), self.alloc, &mut self.notes)
     }
 
     fn refuse(&mut self, file: FileId, at: u64, done: usize) {

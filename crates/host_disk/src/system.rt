@@ -8,7 +8,7 @@
 ghost use Rattle.std.specs.Prelude.{◌≡◌, ◌≤◌, ◌++◌, [], ◌∷◌, List, length, string_bytes, IfOk, MatchResult, IsTrue};
 ghost use Rattle.std.specs.List.Sorted.{IsStrictlySortedBy};
 ghost use Rattle.disk_core.specs.FileNames.{file_cmp, name_of};
-ghost use Rattle.host_disk.specs.Names.{path_of};
+ghost use Rattle.host_disk.specs.Names.{path_of, path_text};
 ghost use Rattle.host_disk.specs.NotesOf.{noted};
 ghost use Rattle.host_disk.specs.Lookups.{IsFoundOf};
 ghost use Rattle.host_disk.specs.Events.{Given, opened, locked, measured, measure_failed, asked, gave, read_failed, touched, wrote, write_failed, cut, cut_failed, gone, remove_failed, flushed, flush_failed, listed};
@@ -22,6 +22,7 @@ use crate::{FailedCall, OpenFault};
 use disk_core::{Fault, FileId, ListFault};
 pub(crate) use notes::Notes;
 use record::Note;
+pub(crate) use record::Record;
 use std::alloc::Global;
 use std::collections::BTreeSet;
 use std::fs::{self, DirEntry, File, Metadata, OpenOptions};
@@ -52,20 +53,74 @@ pub(crate) enum Found {
     Missing(Absent),
 }
 
+/// The path of a folder, with a slash behind it.
+#[derive(Drop)]
+pub(crate) struct FolderPath {
+    text: String,
+}
+
 /// The folder itself, locked against a second opening, its path, and what is known of the names in it.
 #[derive(Drop)]
 pub(crate) struct Names {
     folder: File,
-    // The folder's path, with a slash behind it.
-    path: String,
+    path: FolderPath,
     // A name came or went since the folder was last synced.
     are_new: bool,
     // A sync of the folder has failed.
     are_lost: bool,
 }
 
+impl FolderPath {
+    ghost use Rattle.host_disk.specs.Names.{path_text};
+
+    /// The path of a folder that is there, whatever is given with it, and the record of its calls, which begins. Nothing is
+    /// opened: a pipe would wait.
+    pub(crate) fn of(
+        rt: &HostRuntime,
+        alloc: Global,
+        path: Path<'_>,
+    ) -> Result<(FolderPath, Notes), OpenFault>
+        ghost given: { Given }
+        ensures { IfOk result (λ begun. noted begun.1 ≡ opened given ∷ []) }
+    {
+        let real = fs::canonicalize(rt, path).map_err(OpenFault::of)?;
+        let found = fs::metadata(rt, real.as_path()).map_err(OpenFault::of)?;
+        if !found.is_dir() {
+            return Err(OpenFault::NoFolder);
+        }
+        let text = format!(in alloc; "{}/", real.display()).map_err(|_| OpenFault::NoMemory)?;
+        Ok((FolderPath { text }, Notes::begin()))
+    }
+
+    /// Its text.
+    pub(crate) fn as_str(&self) -> &str
+        ensures { result.now ≡ path_text self.now }
+    {
+        self.text.as_str()
+    }
+
+    /// Opens a file for reading alone, if it is there. The path is the folder's with the file's name behind it.
+    pub(crate) fn open_to_read(
+        &self,
+        rt: &HostRuntime,
+        file: FileId,
+        path: &str,
+    ) -> io::Result<Found>
+        requires { path.now ≡ path_text self.now ++ name_of file }
+        ensures { IfOk result (IsFoundOf file) }
+    {
+        match open_file(rt, file, path, false) {
+            // It went in between: nobody has locked the folder.
+            Err(error) if error.kind() == io::ErrorKind::NotFound => {
+                Ok(Found::Missing(Absent { file }))
+            }
+            found => found,
+        }
+    }
+}
+
 impl Names {
-    ghost use Rattle.host_disk.specs.Names.{path_of};
+    ghost use Rattle.host_disk.specs.Names.{path_of, path_text};
 
     /// Locks a folder, whatever is given with it, and begins the record of its calls. `Busy` where another
     /// opening of it has the lock.
@@ -78,11 +133,9 @@ impl Names {
         ensures { IfOk result (λ begun.
             noted begun.1 ≡ locked (path_of begun.0) ∷ opened given ∷ []) }
     {
-        let real = fs::canonicalize(rt, path).map_err(OpenFault::of)?;
-        let path = format!(in alloc; "{}/", real.display()).map_err(|_| OpenFault::NoMemory)?;
-        let folder = locked_folder(rt, real.as_path())?;
-        let mut notes = Notes::begin();
-        notes.add(&Note::Locked(path.as_bytes()));
+        let (path, mut notes) = FolderPath::of(rt, alloc, path)?;
+        let folder = locked_folder(rt, path.as_str())?;
+        notes.add(&Note::Locked(path.as_str().as_bytes()));
         let names = Names {
             folder,
             path,
@@ -92,11 +145,11 @@ impl Names {
         Ok((names, notes))
     }
 
-    /// The folder's path, with a slash behind it.
-    pub(crate) fn path(&self) -> &str
-        ensures { result.now ≡ path_of self.now }
+    /// The folder's path.
+    pub(crate) fn path(&self) -> &FolderPath
+        ensures { path_text result.now ≡ path_of self.now }
     {
-        self.path.as_str()
+        &self.path
     }
 
     /// Syncs the folder where a name came or went. Once that has failed it fails for good.
@@ -113,6 +166,14 @@ impl Names {
             self.are_new = false;
         }
         Ok(())
+    }
+
+    /// Opens a file for reading and writing, if it is there. The path is the folder's with the file's name behind it.
+    pub(crate) fn open(&self, rt: &HostRuntime, file: FileId, path: &str) -> io::Result<Found>
+        requires { path.now ≡ path_of self.now ++ name_of file }
+        ensures { IfOk result (IsFoundOf file) }
+    {
+        open_file(rt, file, path, true)
     }
 
     /// Makes a file that was absent, and opens it. The path is the folder's with the file's name behind it.
@@ -158,11 +219,8 @@ impl Names {
     }
 }
 
-/// Opens a folder and locks it. What is none is not opened: a pipe would wait.
-fn locked_folder(rt: &HostRuntime, path: Path<'_>) -> Result<File, OpenFault> {
-    if !fs::metadata(rt, path).map_err(OpenFault::of)?.is_dir() {
-        return Err(OpenFault::NoFolder);
-    }
+/// Opens a folder and locks it.
+fn locked_folder(rt: &HostRuntime, path: &str) -> Result<File, OpenFault> {
     let folder = File::open(rt, path).map_err(OpenFault::of)?;
     match folder.try_lock() {
         Ok(()) => Ok(folder),
@@ -189,21 +247,18 @@ fn kind_of(rt: &HostRuntime, path: &str) -> io::Result<Option<Metadata>> {
     }
 }
 
-/// Opens a file, if it is there. The path is the folder's with the file's name behind it. Whatever else
-/// has that name is refused, and a link is not followed.
-pub(crate) fn open_file(
-    rt: &HostRuntime,
-    names: &Names,
-    file: FileId,
-    path: &str,
-) -> io::Result<Found>
-    requires { path.now ≡ path_of names.now ++ name_of file }
+/// Opens a file, if it is there, for reading, and for writing too where that is asked for. Whatever else has that name is
+/// refused, and a link is not followed.
+fn open_file(rt: &HostRuntime, file: FileId, path: &str, may_write: bool) -> io::Result<Found>
     ensures { IfOk result (IsFoundOf file) }
 {
     let Some(named) = kind_of(rt, path)? else {
         return Ok(Found::Missing(Absent { file }));
     };
-    let handle = OpenOptions::new().read(true).write(true).open(rt, path)?;
+    let handle = OpenOptions::new()
+        .read(true)
+        .write(may_write)
+        .open(rt, path)?;
     // The name might have come to be a link's in between.
     let found = handle.metadata()?;
     if found.dev() != named.dev() || found.ino() != named.ino() {
@@ -351,7 +406,7 @@ impl Absent {
 /// The files of a folder, in order. Another name is passed over; what has a file's name must be a file.
 pub(crate) fn list_files(
     rt: &HostRuntime,
-    names: &Names,
+    folder: &FolderPath,
     alloc: Global,
     notes: &mut Notes,
 ) -> Result<Vec<FileId>, ListFault>
@@ -360,7 +415,7 @@ pub(crate) fn list_files(
         (λ files. noted notes.new ≡ listed files.items ∷ noted notes.old)
         (λ fault. noted notes.new ≡ after_list_fault fault (noted notes.old)) }
 {
-    match files_in(rt, alloc, names.path()) {
+    match files_in(rt, alloc, folder.as_str()) {
         Ok(files) => {
             notes.add(&Note::Listed(&files));
             Ok(files)
@@ -375,7 +430,7 @@ pub(crate) fn list_files(
 
 /// The files of an archive that a folder holds, in order. Another name is passed over; what has a file's name and is no file is
 /// refused by `Unsupported`, and want of memory by `OutOfMemory`. docs/STORAGE.md, "Files".
-pub fn files_in(rt: &HostRuntime, alloc: Global, folder: &str) -> io::Result<Vec<FileId>>
+fn files_in(rt: &HostRuntime, alloc: Global, folder: &str) -> io::Result<Vec<FileId>>
     ensures { IfOk result (λ files. IsStrictlySortedBy file_cmp files.items) }
 {
     let mut found = BTreeSet::new(alloc);

@@ -1,6 +1,7 @@
 -- What was written of the watched folder, or was not.
 use Rattle.std.proofs.Common.{subst, sym}
-use Rattle.folder_commands.specs.Looking.{FailsToCapture, folder_life}
+use Rattle.host_disk.specs.ReadFolder.{folder_life}
+use Rattle.folder_commands.specs.Looking.{FailsToCapture}
 use Rattle.folder_commands.proofs.ExportLemmas.{fails_to_capture, has_captured}
 use Rattle.folder_commands.proofs.capture.written.Goals as goal
 

@@ -1,6 +1,7 @@
 -- What was done to the watched folder.
 use Rattle.std.proofs.Common.{subst, sym}
-use Rattle.folder_commands.specs.Looking.{DescribesFolder, folder_life}
+use Rattle.host_disk.specs.ReadFolder.{folder_life}
+use Rattle.folder_commands.specs.Looking.{DescribesFolder}
 use Rattle.folder_commands.proofs.LookingLemmas.{describe_done, describe_stopped, looks_watched}
 use Rattle.folder_commands.proofs.looking.describe.Goals as goal
 

@@ -1,4 +1,4 @@
 use Rattle.host_disk.proofs.system.Names.lock.Given as goal
 
-abbrev pub ghost-begin : goal.ghost-begin
-ghost-begin g a = g.given
+abbrev pub ghost-of : goal.ghost-of
+ghost-of g a = g.given

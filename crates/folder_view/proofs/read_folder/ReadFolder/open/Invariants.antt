@@ -1,4 +1,0 @@
-use Rattle.folder_view.proofs.read_folder.ReadFolder.open.Given as goal
-
-abbrev pub ghost-open : goal.ghost-open
-ghost-open g a = g.given

@@ -1,8 +1,0 @@
-use Rattle.std.proofs.Common.{inl, refl}
-use Rattle.disk_core.specs.Calls.{IsSynced}
-use Rattle.folder_view.specs.Looked.{events_of}
-use Rattle.folder_view.proofs.RefusedLemmas.{refused_steps}
-use Rattle.folder_view.proofs.read_folder.ReadFolderDisk.sync.Goals as goal
-
-pub returns-clause-step : goal.returns-clause-step
-returns-clause-step c = refused_steps c.args.file (IsSynced) (events_of c.args.self.now.folder) (events_of c.refuse.new.self.folder) c.args.self.now.faults c.refuse.new.self.faults _ (λ state. inl refl) c.refuse.ensures.noted c.refuse.ensures.more

@@ -1,8 +1,0 @@
--- What was asked of a folder that is only read.
-use Rattle.std.specs.Prelude.{List}
-use Rattle.host_disk.specs.Events.{Event}
-use Rattle.folder_view.specs.declared.looked.Looked.{Looked}
-
--- each call so far with its answer, the newest first
-abbrev pub events_of : Looked → List Event
-events_of folder = folder.record.events
