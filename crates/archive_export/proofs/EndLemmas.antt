@@ -17,7 +17,7 @@ use Rattle.engine_core.specs.Recovery.{layout_of}
 use Rattle.archive_view.specs.declared.view.ArchiveView.{ArchiveView}
 use Rattle.archive_view.specs.ShownFrames.{BoundaryAnswers, HasBounded}
 use Rattle.archive_view.specs.Viewed.{desk_of, read_of}
-use Rattle.capture_file.specs.CaptureFile.{file_header, packet_record_of}
+use Rattle.archive_export.specs.CaptureFile.{file_header, packet_record_of}
 use Rattle.archive_export.specs.declared.frames.ExportFault.{ExportFault}
 use Rattle.archive_export.specs.declared.frames.ExportFault.TheVariants as faults
 use Rattle.archive_export.specs.declared.span.Span.{Span}

@@ -25,9 +25,9 @@ use Rattle.archive_view.specs.declared.view.ArchiveView.{ArchiveView}
 use Rattle.archive_view.specs.ReadOnly.{IsOnlyRead, Looks}
 use Rattle.archive_view.specs.ShownFrames.{FrameAnswers, HasShown, RefusesShown}
 use Rattle.archive_view.specs.Viewed.{desk_of, read_of}
-use Rattle.capture_file.specs.declared.destination.Destination.{Destination}
-use Rattle.capture_file.specs.CaptureFile.{packet_record_of}
-use Rattle.capture_file.specs.Packet.{FitsDatagram}
+use Rattle.archive_export.specs.declared.capture.destination.Destination.{Destination}
+use Rattle.archive_export.specs.CaptureFile.{packet_record_of}
+use Rattle.archive_export.specs.Packet.{FitsDatagram}
 use Rattle.archive_export.specs.declared.frames.ExportFault.{ExportFault}
 use Rattle.archive_export.specs.declared.frames.ExportFault.TheVariants as faults
 use Rattle.archive_export.specs.declared.span.Target.{Target}

@@ -16,10 +16,10 @@ use Rattle.engine_core.specs.Recovery.{layout_of}
 use Rattle.archive_view.specs.declared.view.ArchiveView.{ArchiveView}
 use Rattle.archive_view.specs.ReadOnly.{life_of}
 use Rattle.archive_view.specs.Viewed.{desk_of, read_of}
-use Rattle.capture_file.specs.declared.destination.Destination.{Destination}
-use Rattle.capture_file.specs.CaptureFile.{packet_record_of}
-use Rattle.capture_file.specs.Destination.{IsDestination}
-use Rattle.capture_file.specs.Packet.{FitsDatagram}
+use Rattle.archive_export.specs.declared.capture.destination.Destination.{Destination}
+use Rattle.archive_export.specs.CaptureFile.{packet_record_of}
+use Rattle.archive_export.specs.Destination.{IsDestination}
+use Rattle.archive_export.specs.Packet.{FitsDatagram}
 use Rattle.archive_export.specs.declared.span.Span.{Span}
 use Rattle.archive_export.specs.declared.span.Target.{Target}
 use Rattle.archive_export.specs.declared.frames.ExportFault.{ExportFault}

@@ -7,11 +7,11 @@ ghost use Rattle.archive_model.specs.declared.registration.Registration.{Registr
 ghost use Rattle.archive_view.specs.Viewed.{desk_of};
 ghost use Rattle.archive_export.specs.Exporting.{FailsToExport, HasExported};
 ghost use Rattle.archive_export.specs.Steps.{FailsToWrite, FailsToWriteAll, HasTaken, HasWrittenFrame, HasWrittenAll, IsAt, IsRefusedAtOnce, IsTargetOf, RefusesFrameAt};
-ghost use Rattle.capture_file.specs.Packet.{FitsDatagram};
+ghost use Rattle.archive_export.specs.Packet.{FitsDatagram};
 
+use crate::capture::{Destination, file_header, fits_datagram, record};
 use crate::span::{Span, Target};
 use archive_view::ArchiveView;
-use capture_file::{Destination, file_header, fits_datagram, record};
 use disk_core::Disk;
 use frame_core::{Frame, Refusal};
 use std::alloc::{AllocError, Global};

@@ -1,6 +1,7 @@
 //! Recorded frames as a capture file, of an archive that is only looked at.
 #![tactic(auto)]
 
+pub mod capture;
 mod frames;
 mod span;
 

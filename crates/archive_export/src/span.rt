@@ -3,8 +3,8 @@
 ghost use Rattle.std.specs.Prelude.{◌≡◌, IsTrue, IsFalse};
 ghost use Rattle.archive_export.specs.Exporting.{LiesWithin, span_begin, span_end};
 
+use crate::capture::Destination;
 use archive_model::Registration;
-use capture_file::Destination;
 
 /// From one position of a recording to another, in bytes of its stream.
 #[derive(Clone, Copy, Debug, PartialEq, Eq)]

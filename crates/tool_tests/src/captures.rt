@@ -3,8 +3,8 @@
 
 use super::views::after;
 use archive_export::Span;
+use archive_export::capture::Destination;
 use archive_report::export_view;
-use capture_file::Destination;
 use disk_core::{Disk, FileId, MemoryDisk};
 use std::alloc::Global;
 use std::net::Ipv4Addr;

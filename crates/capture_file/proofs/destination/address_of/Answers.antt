@@ -1,5 +1,0 @@
-use Rattle.std.proofs.Common.{refl, inr}
-use Rattle.capture_file.proofs.destination.address_of.Goals as goal
-
-pub returns-in-Err : goal.returns-in-Err
-returns-in-Err c = inr (λ other dotted. c.in-Err.ensures (record { octets = other }) dotted, refl)
