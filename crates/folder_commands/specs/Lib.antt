@@ -1,4 +1,6 @@
--- What a reader has to believe: the program's statuses, and what its commands do over a folder.
+-- What a reader has to believe: what is told where the words ask for no command, the program's statuses, and what its commands
+-- do over a folder.
+pub mod Telling
 pub mod Status
 pub mod Folders
 pub mod Looking

@@ -7,12 +7,12 @@ use Rattle.clap.specs.declared.error.ErrorKind.TheVariants as kinds
 use Rattle.frame_core.specs.declared.refusal.Refusal.{Refusal}
 use Rattle.frame_core.specs.declared.refusal.Refusal.TheVariants.{Broken, Damaged, DeviceFault, NoMemory}
 use Rattle.host_disk.specs.declared.open_fault.OpenFault.TheVariants as folders
-use Rattle.told_words.specs.Telling.{FailsToTell, IsToldBy, words_status}
 use Rattle.tool_core.specs.declared.commands.Stopped.{Stopped}
 use Rattle.tool_core.specs.declared.commands.Stopped.TheVariants as stops
 use Rattle.tool_core.specs.declared.fault.EarlyEnd.TheVariants as faults
 use Rattle.folder_commands.specs.declared.status.Ending.{Ending}
 use Rattle.folder_commands.specs.declared.status.Ending.TheVariants.{Done, Cut, Refused, Unopened, FoundDamage, NoCommand, Failed}
+use Rattle.folder_commands.specs.Telling.{FailsToTell, IsToldBy, words_status}
 
 -- the status of a refused command: 1, or 3 for a device fault or damage
 abbrev pub status_of_refusal : Refusal → ℕ

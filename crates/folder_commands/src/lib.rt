@@ -12,6 +12,7 @@ mod serving;
 mod status;
 mod teller;
 mod telling;
+mod told_words;
 
 pub use answering::{answered, no_command};
 pub use commands::obeyed;

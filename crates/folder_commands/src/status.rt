@@ -3,11 +3,11 @@
 ghost use Rattle.std.specs.Prelude.{◌≡◌};
 ghost use Rattle.folder_commands.specs.Status.{refusal_of, status_of, status_of_refusal, untold_status};
 
+use crate::told_words::words_status;
 use clap::error::ErrorKind;
 use frame_core::Refusal;
 use host_disk::OpenFault;
 use std::io;
-use told_words::words_status;
 use tool_core::EarlyEnd;
 
 /// Done.

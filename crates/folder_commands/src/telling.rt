@@ -6,11 +6,11 @@ ghost use Rattle.folder_commands.specs.Status.{IsTold, status_of};
 use crate::outcome::Ended;
 use crate::reason::Reason;
 use crate::status::Ending;
+use crate::told_words::tell_words;
 use clap::error::ErrorKind;
 use control_lines::print_refusal;
 use frame_core::Refusal;
 use std::io::{Eprint, Write};
-use told_words::tell_words;
 
 /// Tells on standard error why the program ended early, if it did, and answers its status.
 pub fn concluded<R: Eprint>(rt: &R, ended: Ended) -> u8

@@ -1,9 +1,8 @@
 //! What is told where the words of a command line ask for no command, and the status that says so: docs/CONTROL.md, "The
 //! program".
-#![tactic(auto)]
 
 ghost use Rattle.std.specs.Prelude.{◌≡◌, MatchResult};
-ghost use Rattle.told_words.specs.Telling.{FailsToTell, IsToldBy, words_status};
+ghost use Rattle.folder_commands.specs.Telling.{FailsToTell, IsToldBy, words_status};
 
 use clap::error::ErrorKind;
 use std::io::{self, Write};
@@ -16,7 +15,7 @@ const USAGE: u8 = 2;
 /// Tells the text of an error of this kind: help and the version on the first stream, standard output, and what is wrong with
 /// the words on the second, standard error. Want of memory is told on neither. An error is that of the stream, of which
 /// nothing is said then; the other one stays as it was.
-pub fn tell_words<W: Write, E: Write>(
+pub(crate) fn tell_words<W: Write, E: Write>(
     kind: ErrorKind,
     text: &str,
     output: &mut W,
@@ -37,7 +36,7 @@ pub fn tell_words<W: Write, E: Write>(
 
 /// The status with which the program ends where its words ask for no command, and this is told of them: 0 of help and the
 /// version, else 2. Want of memory is refused by `NoMemory`, whose status that of the program is.
-pub fn words_status(kind: ErrorKind) -> u8
+pub(crate) fn words_status(kind: ErrorKind) -> u8
     ensures { result ≡ words_status kind }
 {
     match kind {
