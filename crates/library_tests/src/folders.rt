@@ -2,7 +2,7 @@
 //! folder for temporary files.
 
 use disk_core::{Disk, Fault, FileId, ListFault};
-use host_disk::{HostDisk, OpenFault};
+use host_disk::{HostDisk, OpenFault, ReadFolder};
 use std::alloc::Global;
 use std::os::unix::fs::symlink;
 use std::path::Path;
@@ -275,9 +275,21 @@ fn why_not(rt: HostRuntime, path: &str) -> Option<OpenFault> {
     disk_at(rt, path).err()
 }
 
+/// A folder that is only read, which takes no lock, is opened and closed.
+fn is_looked_at(rt: HostRuntime, path: &str) -> bool {
+    match ReadFolder::open(rt, rt.alloc(), Path::new(path)) {
+        Ok(disk) => {
+            drop(disk.close());
+            true
+        }
+        Err(_) => false,
+    }
+}
+
 fn check_busy(abort: &impl Abort, rt: HostRuntime, path: &str) {
-    let _disk = opened(abort, rt, path);
-    assert!(abort; why_not(rt, path) == Some(OpenFault::Busy));
+    let disk = opened(abort, rt, path);
+    assert!(abort; why_not(rt, path) == Some(OpenFault::Busy) && is_looked_at(rt, path));
+    drop(disk.close());
 }
 
 #[test]
