@@ -67,8 +67,10 @@ def served(tool: Path, sender: Path, folder: Path, frames: int) -> dict[str, flo
     stops = [int(line.split()[5]) for line in run([tool, "list", folder])[:-1]]
     expect("what is recorded", stops, [position])
     past = [line for line in server.errors().splitlines() if line.startswith("ended:")]
+    expect("lines that say how the server ended", len(past), 1)
+    datagrams = int(past[0].split("datagrams ", 1)[1].split(",")[0])
     return {"rate": frames / microseconds * 1e6, "naks": naks, "repeats": repeats, "dropped": lost,
-            "processor": (spent - began) / frames * 1e6, "told": past[0] if past else ""}
+            "processor": (spent - began) / datagrams * 1e6, "told": past[0]}
 
 
 def library(folder: Path, frames: int) -> float:
@@ -92,17 +94,19 @@ def main() -> int:
         alone = subprocess.run([sender, "alone", str(asked.frames), str(FRAME)], capture_output=True, text=True, check=True)
         print(f"the sender alone: {asked.frames / int(alone.stdout.split()[0]) * 1e6:,.0f} frames a second", flush=True)
         print(f"over {file_system(work)}, {asked.frames} frames of {FRAME} bytes", flush=True)
-        ours, theirs = [], []
+        ours, theirs, costs = [], [], []
         for index in range(asked.runs):
             found = served(tool, sender, work / f"served-{index}", asked.frames)
             ours.append(found["rate"])
             theirs.append(library(work / f"library-{index}", asked.frames))
-            print(f"served {found['rate']:,.0f} a second ({found['processor']:.1f} microseconds of a processor for each), "
+            costs.append(found["processor"])
+            print(f"served {found['rate']:,.0f} a second, {found['processor']:.2f} microseconds of a processor for each datagram, "
                   f"by the library {theirs[-1]:,.0f}; dropped by the system {found['dropped']}, NAKs {found['naks']}, "
                   f"sent again {found['repeats']}; {found['told']}", flush=True)
         ratio = statistics.median(ours) / statistics.median(theirs)
         print(f"medians: {statistics.median(ours):,.0f} and {statistics.median(theirs):,.0f} frames a second, "
-              f"{ratio:.2f} (goal {GOAL}, at least {LEAST})")
+              f"{ratio:.2f} (goal {GOAL}, at least {LEAST}); {statistics.median(costs):.2f} microseconds of a processor for each "
+              "datagram", flush=True)
         return 0 if ratio >= LEAST else 1
 
 

@@ -9,5 +9,6 @@ mod KeptLemmas
 mod LawLemmas
 mod RangeLemmas
 mod SetupLemmas
+mod StockLemmas
 mod TakeLemmas
 mod UndoLemmas

@@ -10,7 +10,7 @@ ghost use Rattle.frame_core.specs.declared.refusal.Refusal.TheVariants.{NoMemory
 ghost use Rattle.frame_core.specs.Setup.{IsUsable};
 ghost use Rattle.image_core.specs.Take.{GivesBlock, IsGap};
 ghost use Rattle.image_core.specs.Received.{StandsFor};
-ghost use Rattle.image_core.specs.Insert.{Inserts, IsForeign, IsInsertRefusal, tally, uncounted};
+ghost use Rattle.image_core.specs.Insert.{Inserts, IsForeign, IsInsertRefusal, TakesIn, tally, uncounted};
 ghost use Rattle.image_core.specs.Kept.{HasTerms, IsComing, IsJoining, IsKeptImage, undone};
 ghost use Rattle.image_core.specs.Received.{IsBegun, Received, after_frame, begun, fate, frame_fate, gap_end, heartbeat_fate, is_of, is_open, joining_position, rebuilt, received, received_all};
 
@@ -186,7 +186,36 @@ impl Image {
             return Ok(Inserted::uncounted(true));
         }
         let frames = frames_of_datagram(self.alloc, datagram)?;
-        let inserted = self.insert_all(frames.as_slice())?;
+        let inserted = self.insert_frames(frames.as_slice())?;
+        Ok(inserted)
+    }
+
+    /// What becomes of the frames of a datagram, in order. NoMemory where one that joins can't be kept; then none of them
+    /// is. Costs for each frame the logarithm of how many are held, and that once more for each frame by which the rebuild
+    /// position moves on; a frame is copied only if it joins.
+    pub fn insert_frames(&mut self, frames: &[FrameRef<'_>]) -> Result<Inserted, Refusal>
+        requires { AreEncodable (map frame_of frames.now) }
+        ensures inserted { IfOk result
+            (λ i. TakesIn self.old (map frame_of frames.now) i self.new) }
+        // Memory lacks only where some frame would join.
+        ensures joins { OnErr result
+            (0 < (tally (uncounted false) self.old (map frame_of frames.now)).held) }
+        ensures memory { IfErr result (λ refusal. refusal ≡ NoMemory) }
+        ensures same { OnErr result (self.new ≡ self.old) }
+    {
+        let rebuilt = self.rebuilt;
+        let high = self.high;
+        let mut noted = Vec::new(self.alloc);
+        let mut inserted = Inserted::uncounted(false);
+        for frame in frames {
+            match self.take_in(frame, &mut noted) {
+                Ok(fate) => inserted = inserted.counted(fate),
+                Err(refusal) => {
+                    self.leave(noted, rebuilt, high);
+                    return Err(refusal);
+                }
+            }
+        }
         Ok(inserted)
     }
 
@@ -221,31 +250,6 @@ impl Image {
             position,
             frames: Items::from_vec(frames),
         }))
-    }
-
-    /// Takes in all frames of a datagram, or none of them.
-    fn insert_all(&mut self, frames: &[FrameRef<'_>]) -> Result<Inserted, Refusal>
-        requires { AreEncodable (map frame_of frames.now) }
-        ensures counts { IfOk result
-            (λ i. i ≡ tally (uncounted false) self.old (map frame_of frames.now)) }
-        ensures after { OnOk result (self.new ≡ received_all self.old (map frame_of frames.now)) }
-        ensures memory { IfErr result (λ refusal. refusal ≡ NoMemory) }
-        ensures same { OnErr result (self.new ≡ self.old) }
-    {
-        let rebuilt = self.rebuilt;
-        let high = self.high;
-        let mut noted = Vec::new(self.alloc);
-        let mut inserted = Inserted::uncounted(false);
-        for frame in frames {
-            match self.take_in(frame, &mut noted) {
-                Ok(fate) => inserted = inserted.counted(fate),
-                Err(refusal) => {
-                    self.leave(noted, rebuilt, high);
-                    return Err(refusal);
-                }
-            }
-        }
-        Ok(inserted)
     }
 
     /// Takes in a frame, and notes its position if it joins.

@@ -9,13 +9,13 @@ mod banks;
 #[cfg(test)]
 mod boards;
 #[cfg(test)]
+mod bounded_images;
+#[cfg(test)]
 mod catalogues;
 #[cfg(test)]
 mod compactions;
 #[cfg(test)]
 mod disks;
-#[cfg(test)]
-mod feeds;
 #[cfg(test)]
 mod folders;
 #[cfg(test)]

@@ -1,12 +1,21 @@
--- Blocks of images.
-use Rattle.std.proofs.Common.{◌≡◌, ◌≢◌, ◌<◌, ℕ, zero, suc, List, [], ◌∷◌, Option, Some, None, Result, Ok, Err, false, refl, sym, ap, subst, arith, length}
+-- Bytes without a frame in front, and blocks of images.
+use Rattle.std.proofs.Common.{◌≡◌, ◌≢◌, ◌<◌, ℕ, zero, suc, List, [], ◌∷◌, Option, Some, None, Result, Ok, Err, false, refl, sym, ap, subst, arith, length, ⊎_elim}
 use Rattle.std.specs.Prelude.{IfOk, OnErr, MatchOption, IsSomeAnd, slice_get, slice_index_or, slice_set}
 use Rattle.std.proofs.lemmas.Bool.Decides.{nat_tests}
+use Rattle.frame_core.specs.Datagram.{HasNoFront, IsBadAt, IsDatagramRefusal}
 use Rattle.frame_core.specs.declared.block.Block.{Block}
 use Rattle.frame_core.specs.declared.refusal.Refusal.{Refusal}
+use Rattle.frame_core.specs.declared.refusal.Refusal.TheVariants.{BadFrame}
 use Rattle.image_core.specs.Received.{Received, rebuilt}
 use Rattle.image_core.specs.Take.{GivesBlock}
 use Rattle.serve_core.specs.Datagrams.{LacksBlock, TakesNext, has_block_of}
+
+-- what is bad at its start has no frame in front
+no_front : (bytes : List ℕ) → IsBadAt bytes 0 → HasNoFront bytes
+no_front bytes bad = ⊎_elim (λ none. none) (λ later. absurd (omega (arith, later.0))) bad.bad
+
+pub refused_at_start : (bytes : List ℕ) (refusal : Refusal) (offset : ℕ) → refusal ≡ BadFrame offset → offset ≡ 0 → IsDatagramRefusal bytes refusal → HasNoFront bytes
+refused_at_start bytes refusal offset is start refused = no_front bytes (rw (is, start) at refused)
 
 -- an image that is put where it stood
 set_same : {A : Type 0} (xs : List A) (i : ℕ) (x : A) → slice_get xs i ≡ Some x → slice_set xs i x ≡ xs

@@ -1,24 +1,22 @@
 -- What becomes of a datagram, and what is asked for then: docs/PROTOCOL.md, "Stock"; docs/SERVING.md, "Who can send".
-use Rattle.std.specs.Prelude.{◌≡◌, ◌≢◌, ◌⊎◌, ◌&&◌, ◌-ℤ◌, ℕ, pos, int_lt, Bool, true, false, List, [], ◌∷◌, ◌++◌, length, nat_lt, not, slice_get, slice_set, Option, Some, None, is_none, is_some, IsSomeAnd, Result, Ok, Err}
+use Rattle.std.specs.Prelude.{◌≡◌, ◌≢◌, ◌<◌, ◌⊎◌, ◌&&◌, ◌-ℤ◌, ℕ, pos, int_lt, Bool, true, false, List, [], ◌∷◌, ◌++◌, length, nat_lt, not, slice_get, slice_set, Option, Some, None, is_none, is_some, IsSomeAnd, Result, Ok, Err}
 use Rattle.std.specs.List.{position}
 use Rattle.std.specs.Ordering.{int_eq}
 use Rattle.frame_core.specs.declared.block.Block.{Block}
 use Rattle.frame_core.specs.declared.block.Publication.{Publication}
 use Rattle.frame_core.specs.declared.frame.Frame.{Frame}
 use Rattle.frame_core.specs.declared.refusal.Refusal.{Refusal}
-use Rattle.frame_core.specs.declared.refusal.Refusal.TheVariants.{NoMemory}
+use Rattle.frame_core.specs.declared.refusal.Refusal.TheVariants.{BadFrame, NoMemory}
 use Rattle.frame_core.specs.declared.setup.Setup.{Setup}
 use Rattle.frame_core.specs.Block.{publication_of}
-use Rattle.frame_core.specs.Datagram.{HasNoFront, IsDatagramRefusal}
-use Rattle.frame_core.specs.Front.{IsFront}
+use Rattle.frame_core.specs.Datagram.{HasNoFront, IsBadAt, IsDatagram}
 use Rattle.frame_core.specs.Setup.{HasNoSetup, IsSetup}
 use Rattle.frame_core.specs.declared.nak.Nak.{Nak}
 use Rattle.frame_core.specs.Nak.{encoded_nak}
 use Rattle.image_core.specs.declared.inserted.Inserted.{Inserted}
-use Rattle.image_core.specs.Insert.{IsInsertRefusal}
 use Rattle.image_core.specs.Received.{IsBegun, Received, rebuilt}
 use Rattle.image_core.specs.Take.{GivesBlock}
-use Rattle.image_feed.specs.Stock.{Asks, AsksNothing, Offers}
+use Rattle.image_core.specs.Stock.{Asks, AsksNothing, Offers}
 use Rattle.stream_pairs.specs.declared.points.StreamPoint.{StreamPoint}
 use Rattle.serve_core.specs.declared.images.Came.{Came}
 use Rattle.serve_core.specs.declared.images.Came.TheVariants.{Frames, Joined, Nothing, Refused}
@@ -34,6 +32,11 @@ has_publication publication image =
 -- the image of a publication, by its index
 abbrev pub image_with : Publication → List Received → Option ℕ
 image_with publication images = position (has_publication publication) images
+
+-- the image of the publication of the first of some frames
+abbrev pub image_of : List Frame → List Received → Option ℕ
+image_of [] images = None
+image_of (f ∷ fs) images = image_with (publication_of f) images
 
 -- an image may come of a publication that has none, where there are fewer than 64
 abbrev pub may_join : Publication → List Received → Bool
@@ -92,6 +95,12 @@ Joins datagram olds news came =
 
 -- ---- frames
 
+-- the first bad frame is not the first one, or there was no memory for the list of the frames
+abbrev pub IsRefusedLater : List ℕ → Refusal → Type 0
+IsRefusedLater datagram NoMemory = Unit {0}
+IsRefusedLater datagram (BadFrame offset) = (0 < offset) × IsBadAt datagram offset
+IsRefusedLater datagram refusal = ⊥
+
 -- what becomes of frames of an image is told beside its index
 abbrev pub came_of : ℕ → Result Offering Refusal → Came
 came_of image (Ok outcome) = Frames image outcome
@@ -104,32 +113,32 @@ module _ {E : Type 0} (sends : E → List ℕ → E → Type 0) where
   SendsRequest image old new true = (nak : Nak) × Asks image nak × sends old (encoded_nak nak) new
   SendsRequest image old new false = AsksNothing image × (new ≡ old)
 
-  -- A datagram was offered to an image, which took it, or lost it past its stock; then what is missing was asked for. Or it
-  -- was refused, as its image refuses it: nothing changed, and nothing was sent.
-  abbrev pub HandlesFrames : Received → List ℕ → E → Received → E → Result Offering Refusal → Type 0
-  HandlesFrames old datagram end after later (Ok o) =
-      (inserted : Option Inserted) × Offers old datagram inserted after × (o.is_lost ≡ is_none inserted) × SendsRequest after end later o.has_asked
-  HandlesFrames old datagram end after later (Err refusal) =
-      (IsDatagramRefusal datagram refusal ⊎ IsInsertRefusal datagram refusal) × (after ≡ old) × (later ≡ end)
+  -- Frames were offered to an image, which took them, or lost them past its stock; then what is missing was asked for. Or there
+  -- was no memory: nothing changed, and nothing was sent.
+  abbrev pub HandlesFrames : Received → List Frame → E → Received → E → Result Offering Refusal → Type 0
+  HandlesFrames old fs end after later (Ok o) =
+      (inserted : Option Inserted) × Offers old fs inserted after × (o.is_lost ≡ is_none inserted) × SendsRequest after end later o.has_asked
+  HandlesFrames old fs end after later (Err refusal) = (refusal ≡ NoMemory) × (after ≡ old) × (later ≡ end)
 
-  -- the image of an index handles it, and the others stay
-  pub record HandledAt (i : ℕ) (olds : List Received) (datagram : List ℕ) (end : E) (news : List Received) (later : E) (told : Came) : Type 0 where
+  -- the image of an index handles them, and the others stay
+  pub record HandledAt (i : ℕ) (olds : List Received) (fs : List Frame) (end : E) (news : List Received) (later : E) (told : Came) : Type 0 where
     pub image : Received
     pub there : slice_get olds i ≡ Some image
     pub after : Received
     pub outcome : Result Offering Refusal
-    pub handles : HandlesFrames image datagram end after later outcome
+    pub handles : HandlesFrames image fs end after later outcome
     pub others : news ≡ slice_set olds i after
     pub came : told ≡ came_of i outcome
 
   -- frames of a publication are its image's; without one nothing comes of them
-  abbrev pub TakesFrames : Option ℕ → List Received → List ℕ → E → List Received → E → Came → Type 0
-  TakesFrames (Some i) olds datagram end news later came = HandledAt i olds datagram end news later came
-  TakesFrames None olds datagram end news later came = (came ≡ Nothing) × (news ≡ olds) × (later ≡ end)
+  abbrev pub TakesFrames : Option ℕ → List Received → List Frame → E → List Received → E → Came → Type 0
+  TakesFrames (Some i) olds fs end news later came = HandledAt i olds fs end news later came
+  TakesFrames None olds fs end news later came = (came ≡ Nothing) × (news ≡ olds) × (later ≡ end)
 
-  -- What becomes of a datagram: frames are for the image of the publication of the first one; else a setup frame may make one,
-  -- and nothing is sent.
+  -- What becomes of a datagram: frames are for the image of the publication of the first one; bytes without a frame in front may
+  -- be a setup frame, which makes an image, and nothing is sent; and of what else is no datagram nothing comes.
   abbrev pub Takes : List Received → List ℕ → E → List Received → E → Came → Type 0
   Takes olds datagram end news later came =
-      ((frame : Frame) × (used : ℕ) × IsFront datagram frame used × TakesFrames (image_with (publication_of frame) olds) olds datagram end news later came)
-      ⊎ (HasNoFront datagram × Joins datagram olds news came × (later ≡ end))
+      ((fs : List Frame) × IsDatagram datagram fs × TakesFrames (image_of fs olds) olds fs end news later came)
+      ⊎ ((HasNoFront datagram × Joins datagram olds news came × (later ≡ end))
+      ⊎ ((refusal : Refusal) × IsRefusedLater datagram refusal × (came ≡ Refused refusal) × (news ≡ olds) × (later ≡ end)))

@@ -1,16 +1,16 @@
 //! Images by the order in which they came, and what becomes of a datagram. docs/ARCHITECTURE.md, "Serving".
 
-ghost use Rattle.std.specs.Prelude.{◌≡◌, ◌<◌, [], IfErr, IfOk, OnErr, length, slice_get};
+ghost use Rattle.std.specs.Prelude.{◌≡◌, ◌<◌, [], IfErr, IfOk, OnErr, length, map, slice_get};
 ghost use Rattle.frame_core.specs.FrameEncoding.{frame_of};
-ghost use Rattle.frame_core.specs.Block.{publication_of};
+ghost use Rattle.frame_core.specs.Block.{AreEncodable, publication_of};
 ghost use Rattle.frame_core.specs.Setup.{IsUsable};
 ghost use Rattle.frame_core.specs.declared.refusal.Refusal.TheVariants.{NoMemory};
-ghost use Rattle.serve_core.specs.Datagrams.{BeginsImage, HandledAt, HandlesFrames, Joins, JoinsBy, LacksBlock, SendsRequest, Takes, TakesNext, TakesFrames, has_block_of, has_publication, image_with, is_full_image, is_full_of, join_point, may_join, publication_told};
+ghost use Rattle.serve_core.specs.Datagrams.{BeginsImage, HandledAt, HandlesFrames, Joins, JoinsBy, LacksBlock, SendsRequest, Takes, TakesNext, TakesFrames, has_block_of, has_publication, image_of, image_with, is_full_image, is_full_of, join_point, may_join, publication_told};
 
 use agents_core::DatagramEnd;
 use frame_core::limits::MAX_BLOCK_LENGTH;
-use frame_core::{Block, FrameRef, Publication, Refusal, Setup, decode_front};
-use image_feed::Feed;
+use frame_core::{Block, FrameRef, Publication, Refusal, Setup, frames_of_datagram};
+use image_core::BoundedImage;
 use std::alloc::Global;
 use std::marker::Model;
 use stream_pairs::{MAX_IMAGES, StreamPoint};
@@ -19,7 +19,7 @@ use stream_pairs::{MAX_IMAGES, StreamPoint};
 #[derive(Drop)]
 pub(crate) struct Images {
     alloc: Global,
-    feeds: Vec<Feed>,
+    images: Vec<BoundedImage>,
 }
 
 impl Model for Images {
@@ -28,7 +28,7 @@ impl Model for Images {
 
     ghost Value = { List Received };
 
-    ghost view = { λ i. i.feeds.items };
+    ghost view = { λ i. i.images.items };
 }
 
 /// What a datagram was.
@@ -45,7 +45,7 @@ pub(crate) enum Came {
         /// What became of them.
         outcome: Offering,
     },
-    /// Frames that their image refused, or the setup frame of an image for which there was no memory.
+    /// No datagram of frames, or frames or the setup frame of an image for which there was no memory.
     Refused(Refusal),
 }
 
@@ -65,7 +65,7 @@ impl Images {
     {
         Images {
             alloc,
-            feeds: Vec::new(alloc),
+            images: Vec::new(alloc),
         }
     }
 
@@ -73,59 +73,70 @@ impl Images {
     pub fn len(&self) -> usize
         ensures { result ≡ length self.now }
     {
-        self.feeds.len()
+        self.images.len()
     }
 
     /// The index of the image of a publication.
     fn index_of(&self, publication: &Publication) -> Option<usize>
         ensures { result ≡ image_with publication.now self.now }
     {
-        self.feeds.iter().position(|feed| is_of(feed, publication))
+        self.images
+            .iter()
+            .position(|image| is_of(image, publication))
     }
 
     /// Whether an image of a publication may come: it has none, and there are fewer than 64.
     fn may_join(&self, publication: &Publication) -> bool
         ensures { result ≡ may_join publication.now self.now }
     {
-        self.feeds.len() < MAX_IMAGES && self.index_of(publication).is_none()
+        self.images.len() < MAX_IMAGES && self.index_of(publication).is_none()
     }
 
-    /// Takes a datagram. Frames are offered to the image of the first one's publication, and then it is asked for what is
-    /// missing; the setup frame of a publication that has no image makes one, where there are fewer than 64 and there is
-    /// memory. For everything else, and for a datagram that its image refuses, nothing changes and nothing is sent.
+    /// Takes a datagram, which is decoded here once. Its frames are offered to the image of the first one's publication, and
+    /// then it is asked for what is missing; the setup frame of a publication that has no image makes one, where there are
+    /// fewer than 64 and there is memory. For everything else, and for a datagram that is refused, nothing changes and
+    /// nothing is sent.
     pub fn take_datagram<E: DatagramEnd>(&mut self, end: &mut E, datagram: &[u8]) -> Came
         ensures { Takes E.sends self.old datagram.now end.old self.new end.new result }
     {
-        match decode_front(datagram) {
-            Ok((frame, _)) => {
-                let publication = publication_of(&frame);
-                self.take_frames(end, &publication, datagram)
-            }
-            Err(_) => self.take_setup(datagram),
+        match frames_of_datagram(self.alloc, datagram) {
+            Ok(frames) => self.take_frames(end, frames.as_slice()),
+            Err(Refusal::BadFrame { offset: 0 }) => self.take_setup(datagram),
+            Err(refusal) => Came::Refused(refusal),
         }
     }
 
-    fn take_frames<E: DatagramEnd>(
-        &mut self,
-        end: &mut E,
-        publication: &Publication,
-        datagram: &[u8],
-    ) -> Came
-        ensures { TakesFrames E.sends (image_with publication.now self.old) self.old datagram.now end.old self.new end.new result }
+    fn take_frames<E: DatagramEnd>(&mut self, end: &mut E, frames: &[FrameRef<'_>]) -> Came
+        requires { AreEncodable (map frame_of frames.now) }
+        ensures { let fs = map frame_of frames.now in
+            TakesFrames E.sends (image_of fs self.old) self.old fs end.old self.new end.new result }
     {
-        match self.index_of(publication) {
-            Some(image) => self.offer_to(end, image, datagram),
+        match self.image_of(frames) {
+            Some(image) => self.offer_to(end, image, frames),
             None => Came::Nothing,
         }
     }
 
-    /// Offers a datagram to the image of an index.
-    fn offer_to<E: DatagramEnd>(&mut self, end: &mut E, image: usize, datagram: &[u8]) -> Came
-        requires { image < length self.old }
-        ensures { HandledAt E.sends image self.old datagram.now end.old self.new end.new result }
+    /// The index of the image of the first frame's publication.
+    fn image_of(&self, frames: &[FrameRef<'_>]) -> Option<usize>
+        ensures { result ≡ image_of (map frame_of frames.now) self.now }
     {
-        let alloc = self.alloc;
-        match offer(alloc, end, &mut self.feeds[image], datagram) {
+        self.index_of(&publication_of(frames.first()?))
+    }
+
+    /// Offers frames to the image of an index.
+    fn offer_to<E: DatagramEnd>(
+        &mut self,
+        end: &mut E,
+        image: usize,
+        frames: &[FrameRef<'_>],
+    ) -> Came
+        requires there { image < length self.old }
+        requires encodable { AreEncodable (map frame_of frames.now) }
+        ensures { let fs = map frame_of frames.now in
+            HandledAt E.sends image self.old fs end.old self.new end.new result }
+    {
+        match offer(end, &mut self.images[image], frames) {
             Ok(outcome) => Came::Frames { image, outcome },
             Err(refusal) => Came::Refused(refusal),
         }
@@ -161,11 +172,11 @@ impl Images {
         ensures refusal { IfErr result (λ refusal. refusal ≡ NoMemory) }
         ensures same { OnErr result (self.new ≡ self.old) }
     {
-        let Ok(feed) = Feed::from_setup(self.alloc, setup) else {
+        let Ok(image) = BoundedImage::from_setup(self.alloc, setup) else {
             unreachable!();
         };
-        let point = join_point(&feed);
-        if self.feeds.push(feed).is_err() {
+        let point = join_point(&image);
+        if self.images.push(image).is_err() {
             return Err(Refusal::NoMemory);
         }
         Ok(point)
@@ -175,8 +186,8 @@ impl Images {
     pub fn has_block(&self, image: usize) -> bool
         ensures { result ≡ has_block_of (slice_get self.now image) }
     {
-        match self.feeds.as_slice().get(image) {
-            Some(feed) => feed.has_block(),
+        match self.images.as_slice().get(image) {
+            Some(image) => image.has_block(),
             None => false,
         }
     }
@@ -185,8 +196,8 @@ impl Images {
     pub fn is_full(&self, image: usize) -> bool
         ensures { result ≡ is_full_of (slice_get self.now image) }
     {
-        match self.feeds.as_slice().get(image) {
-            Some(feed) => is_full(feed),
+        match self.images.as_slice().get(image) {
+            Some(image) => is_full(image),
             None => false,
         }
     }
@@ -197,10 +208,10 @@ impl Images {
         ensures lacks { OnErr result (LacksBlock image self.old self.new) }
         ensures memory { IfErr result (λ refusal. refusal ≡ NoMemory) }
     {
-        if image >= self.feeds.len() {
+        if image >= self.images.len() {
             return Ok(None);
         }
-        self.feeds[image].take_block()
+        self.images[image].take_block()
     }
 }
 
@@ -225,56 +236,57 @@ fn publication_told(setup: &Setup) -> Publication
 }
 
 /// Whether an image is of a publication.
-fn is_of(feed: &Feed, publication: &Publication) -> bool
-    ensures { result ≡ has_publication publication.now feed.now }
+fn is_of(image: &BoundedImage, publication: &Publication) -> bool
+    ensures { result ≡ has_publication publication.now image.now }
 {
-    let own = feed.publication();
+    let own = image.publication();
     own.session_id == publication.session_id && own.stream_id == publication.stream_id
 }
 
 /// Whether so much was rebuilt of an image, and not taken, that a datagram's length more may pass a block's.
-fn is_full(feed: &Feed) -> bool
-    ensures { result ≡ is_full_image feed.now }
+fn is_full(image: &BoundedImage) -> bool
+    ensures { result ≡ is_full_image image.now }
 {
-    let most = MAX_BLOCK_LENGTH as i64 - i64::from(feed.geometry().mtu);
-    feed.rebuilt() - feed.taken() > most
+    let most = MAX_BLOCK_LENGTH as i64 - i64::from(image.geometry().mtu);
+    image.rebuilt() - image.taken() > most
 }
 
 /// Where a new image joined.
-fn join_point(feed: &Feed) -> StreamPoint
-    ensures { result ≡ join_point feed.now }
+fn join_point(image: &BoundedImage) -> StreamPoint
+    ensures { result ≡ join_point image.now }
 {
     StreamPoint {
-        publication: *feed.publication(),
-        geometry: *feed.geometry(),
-        position: feed.taken(),
+        publication: *image.publication(),
+        geometry: *image.geometry(),
+        position: image.taken(),
     }
 }
 
-/// Offers a datagram to an image. Where it is refused nothing changes and nothing is sent; else what is missing is asked for,
-/// as far as the window and the stock have room for it.
+/// Offers frames to an image. Where there is no memory for them nothing changes and nothing is sent; else what is missing is
+/// asked for, as far as the window and the stock have room for it.
 fn offer<E: DatagramEnd>(
-    alloc: Global,
     end: &mut E,
-    feed: &mut Feed,
-    datagram: &[u8],
+    image: &mut BoundedImage,
+    frames: &[FrameRef<'_>],
 ) -> Result<Offering, Refusal>
-    ensures { HandlesFrames E.sends feed.old datagram.now end.old feed.new end.new result }
+    requires { AreEncodable (map frame_of frames.now) }
+    ensures { let fs = map frame_of frames.now in
+        HandlesFrames E.sends image.old fs end.old image.new end.new result }
 {
-    match feed.offer(alloc, datagram) {
+    match image.offer(frames) {
         Ok(inserted) => Ok(Offering {
             is_lost: inserted.is_none(),
-            has_asked: request(end, feed),
+            has_asked: request(end, image),
         }),
         Err(refusal) => Err(refusal),
     }
 }
 
 /// Asks once for what is missing first of an image, if something is. Whether it did.
-fn request<E: DatagramEnd>(end: &mut E, feed: &Feed) -> bool
-    ensures { SendsRequest E.sends feed.now end.old end.new result }
+fn request<E: DatagramEnd>(end: &mut E, image: &BoundedImage) -> bool
+    ensures { SendsRequest E.sends image.now end.old end.new result }
 {
-    match feed.request() {
+    match image.request() {
         Some(nak) => {
             end.send(&nak.encode());
             true

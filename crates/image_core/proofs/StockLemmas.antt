@@ -1,5 +1,5 @@
 -- What is held stays within the stock.
-use Rattle.std.proofs.Common.{◌≡◌, refl, ◌+◌, ◌<◌, ◌≤◌, ℕ, pos, List, [], ◌∷◌, ◌++◌, true, false, Some, None, Bool, cond, ⊎_elim, arith}
+use Rattle.std.proofs.Common.{◌≡◌, refl, ◌+◌, ◌<◌, ◌≤◌, ℕ, pos, List, [], ◌∷◌, ◌++◌, true, false, Some, None, Bool, cond, arith}
 use Rattle.std.specs.Prelude.{◌&&◌, ◌-◌, IfOk, MatchOption, OnErr, Option, Result, Ok, Err, min, unsigned_abs}
 use Rattle.std.proofs.lemmas.Int.{ints}
 use Rattle.frame_core.specs.declared.nak.Nak.{Nak}
@@ -15,16 +15,15 @@ use Rattle.frame_core.specs.declared.block.Block.{Block}
 use Rattle.frame_core.specs.declared.block.Publication.{Publication}
 use Rattle.frame_core.specs.declared.geometry.Geometry.{Geometry}
 use Rattle.frame_core.specs.declared.setup.Setup.{Setup}
-use Rattle.frame_core.specs.Datagram.{IsDatagram}
 use Rattle.frame_core.specs.FrameEncoding.{aligned_length}
 use Rattle.frame_core.specs.Position.{frame_position}
 use Rattle.image_core.specs.declared.fate.Fate.TheVariants.{Drops, Joins}
 use Rattle.image_core.specs.declared.inserted.Inserted.{Inserted}
-use Rattle.image_core.specs.Insert.{Inserts}
+use Rattle.image_core.specs.Insert.{TakesIn}
 use Rattle.image_core.specs.Rebuild.{end_of}
 use Rattle.image_core.specs.Received.{IsBegun, IsChain, Received, after_frame, fate_of, frame_fate, gap_end, heartbeat_fate, is_open, joining_position, rebuilt, received, received_all}
 use Rattle.image_core.specs.Take.{GivesBlock, IsGap}
-use Rattle.image_feed.specs.Stock.{Asks, HoldsItsStock, are_near, ends_within, is_near, is_near_of, is_stocked, reach, stock_end}
+use Rattle.image_core.specs.Stock.{Asks, HoldsItsStock, are_near, ends_within, is_near, is_near_of, is_stocked, reach, stock_end}
 
 -- nothing is held of what has just begun
 pub begun_stock : (s : Setup) (r : Received) → IsBegun s r → HoldsItsStock r
@@ -82,15 +81,6 @@ keeps_all r (f ∷ fs) stock near =
     let one = keeps_of f.kind r f stock parts.0 in
     keeps_all (received r f) fs one.stock (rw (one.geometry, one.from) parts.1)
 
--- what is inserted of frames that are near
-pub inserted_stock : (old : Received) (bytes : List ℕ) (i : Inserted) (new : Received) (fs : List Frame) → HoldsItsStock old → are_near old fs ≡ true → ((gs : List Frame) → IsDatagram bytes gs → gs ≡ fs)
-    → Inserts old bytes i new → HoldsItsStock new
-inserted_stock old bytes i new fs stock near one inserts =
-    ⊎_elim
-    (λ foreign. rw foreign.2 stock)
-    (λ own. rw own.3.after (keeps_all old own.1 stock (rw (one own.1 own.2) near)))
-    inserts
-
 -- the rest of what is held, where the stock goes further
 stock_rest : (low high : ℕ) (taken ms : List (ℕ × Frame)) → low ≤ high → list_all (is_stocked low) (taken ++ ms) ≡ true → list_all (is_stocked high) ms ≡ true
 stock_rest low high [] [] le all = refl
@@ -115,10 +105,10 @@ taken_any old new (Ok None) stock block same = rw block.1 stock
 taken_any old new (Ok (Some b)) stock block same = taken_stock old b new stock block
 taken_any old new (Err refusal) stock block same = rw same stock
 
-pub inserted_any : (old new : Received) (bytes : List ℕ) (fs : List Frame) (result : Result Inserted Refusal) → HoldsItsStock old → are_near old fs ≡ true → ((gs : List Frame) → IsDatagram bytes gs → gs ≡ fs)
-    → IfOk result (λ i. Inserts old bytes i new) → OnErr result (new ≡ old) → HoldsItsStock new
-inserted_any old new bytes fs (Ok i) stock near one inserted same = inserted_stock old bytes i new fs stock near one inserted
-inserted_any old new bytes fs (Err refusal) stock near one inserted same = rw same stock
+pub offered_any : (old new : Received) (fs : List Frame) (result : Result Inserted Refusal) → HoldsItsStock old → are_near old fs ≡ true → IfOk result (λ i. TakesIn old fs i new)
+    → OnErr result (new ≡ old) → HoldsItsStock new
+offered_any old new fs (Ok i) stock near takes same = rw takes.after (keeps_all old fs stock near)
+offered_any old new fs (Err refusal) stock near takes same = rw same stock
 
 -- ---- requests
 

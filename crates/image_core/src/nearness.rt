@@ -3,10 +3,10 @@
 ghost use Rattle.std.specs.Prelude.{◌≡◌, ◌≤◌, ◌+◌, ◌^◌, map};
 ghost use Rattle.std.specs.List.{list_all};
 ghost use Rattle.frame_core.specs.FrameEncoding.{frame_of};
-ghost use Rattle.image_feed.specs.Stock.{are_near, is_near, stock_end};
+ghost use Rattle.image_core.specs.Stock.{are_near, is_near, stock_end};
 
+use crate::image::Image;
 use frame_core::{FrameKind, FrameRef, Geometry};
-use image_core::Image;
 
 /// How many bytes of its stream an image holds at most past what was taken.
 pub const STOCK: u64 = 1_048_576;

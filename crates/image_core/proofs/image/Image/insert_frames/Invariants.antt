@@ -1,7 +1,7 @@
 use Rattle.std.proofs.Common.{drop}
 use Rattle.image_core.specs.Kept.{IsKeptImage}
 use Rattle.image_core.proofs.InsertLemmas.{GoesOn}
-use Rattle.image_core.proofs.image.Image.insert_all.Given as goal
+use Rattle.image_core.proofs.image.Image.insert_frames.Given as goal
 
 -- the frames before the index were taken in
 abbrev pub invariant-loop-frame : goal.invariant-loop-frame

@@ -1,67 +1,68 @@
 //! An image and its stock: docs/PROTOCOL.md, "Stock".
 
-ghost use Rattle.std.specs.Prelude.{◌≡◌, ◌≢◌, ◌⊎◌, ◌<◌, ◌↔◌, pos, IfErr, IfOk, IsTrue, MatchOption, OnErr};
-ghost use Rattle.frame_core.specs.Datagram.{IsDatagramRefusal};
+ghost use Rattle.std.specs.Prelude.{◌≡◌, ◌≢◌, ◌<◌, ◌↔◌, false, map, pos, IfErr, IfOk, IsTrue, MatchOption, OnErr};
+ghost use Rattle.frame_core.specs.Block.{AreEncodable};
+ghost use Rattle.frame_core.specs.FrameEncoding.{frame_of};
 ghost use Rattle.frame_core.specs.Setup.{IsUsable};
 ghost use Rattle.frame_core.specs.declared.refusal.Refusal.TheVariants.{NoMemory};
-ghost use Rattle.image_core.specs.Insert.{IsInsertRefusal};
+ghost use Rattle.image_core.specs.Insert.{tally, uncounted};
 ghost use Rattle.image_core.specs.Received.{IsBegun, rebuilt};
+ghost use Rattle.image_core.specs.Stock.{Asks, AsksNothing, HoldsItsStock, Offers};
 ghost use Rattle.image_core.specs.Take.{GivesBlock};
-ghost use Rattle.image_feed.specs.Stock.{Asks, AsksNothing, HoldsItsStock, Offers};
 
+use crate::image::Image;
+use crate::inserted::Inserted;
 use crate::nearness::has_room_for;
 use crate::requests::request_of;
-use frame_core::laws::a_datagram_has_one_answer;
-use frame_core::{Block, Geometry, Nak, Publication, Refusal, Setup, frames_of_datagram};
-use image_core::{Image, Inserted};
+use frame_core::{Block, FrameRef, Geometry, Nak, Publication, Refusal, Setup};
 use std::alloc::Global;
 use std::marker::Model;
 
 /// An image that holds no frame which ends more than [`STOCK`](crate::STOCK) bytes past what was taken of it. To a contract
 /// it is the image.
 #[derive(Drop)]
-pub struct Feed {
+pub struct BoundedImage {
     image: Image,
 }
 
-impl Model for Feed {
+impl Model for BoundedImage {
     ghost use Rattle.image_core.specs.Received.{Received};
-    ghost use Rattle.image_feed.specs.Stock.{HoldsItsStock};
+    ghost use Rattle.image_core.specs.Stock.{HoldsItsStock};
 
     ghost Value = { Received };
 
-    ghost view = { λ f. f.image };
+    ghost view = { λ b. b.image };
 
-    ghost invariant = { λ f. HoldsItsStock f.image };
+    ghost invariant = { λ b. HoldsItsStock b.image };
 }
 
-impl Feed {
+impl BoundedImage {
     /// As [`Image::from_setup`].
-    pub fn from_setup(alloc: Global, setup: &Setup) -> Result<Feed, Refusal>
+    pub fn from_setup(alloc: Global, setup: &Setup) -> Result<BoundedImage, Refusal>
         ensures begun { IfOk result (IsBegun setup.now) }
         ensures unusable { OnErr result (IsUsable setup.now → ⊥) }
         ensures refusal { IfErr result (λ refusal. refusal ≡ Refusal.BadFrame 0) }
     {
         let image = Image::from_setup(alloc, setup)?;
-        Ok(Feed { image })
+        Ok(BoundedImage { image })
     }
 
-    /// Offers a datagram of frames to the image. None where a frame of it ends past the stock: then it is lost, as a
-    /// datagram always may be. BadFrame as of `frames_of_datagram`, which foreign datagrams are too; NoMemory as of that
-    /// and of [`Image::insert`]. A refused datagram changes nothing.
-    pub fn offer(&mut self, alloc: Global, datagram: &[u8]) -> Result<Option<Inserted>, Refusal>
-        ensures offered { IfOk result (λ found. Offers self.old datagram.now found self.new) }
-        ensures refused { IfErr result (λ refusal. IsDatagramRefusal datagram.now refusal
-            ⊎ IsInsertRefusal datagram.now refusal) }
+    /// Offers the frames of a datagram to the image. None where one of them ends past the stock: then all are lost, as a
+    /// datagram always may be. NoMemory as of [`Image::insert_frames`]; nothing changes then. Costs a step for each frame
+    /// beside that.
+    pub fn offer(&mut self, frames: &[FrameRef<'_>]) -> Result<Option<Inserted>, Refusal>
+        requires { AreEncodable (map frame_of frames.now) }
+        ensures offered { IfOk result
+            (λ found. Offers self.old (map frame_of frames.now) found self.new) }
+        ensures joins { OnErr result
+            (0 < (tally (uncounted false) self.old (map frame_of frames.now)).held) }
+        ensures memory { IfErr result (λ refusal. refusal ≡ NoMemory) }
         ensures same { OnErr result (self.new ≡ self.old) }
     {
-        let frames = frames_of_datagram(alloc, datagram)?;
-        a_datagram_has_one_answer();
-        let is_near = has_room_for(&self.image, frames.as_slice());
-        if !is_near {
+        if !has_room_for(&self.image, frames) {
             return Ok(None);
         }
-        let inserted = self.image.insert(datagram)?;
+        let inserted = self.image.insert_frames(frames)?;
         Ok(Some(inserted))
     }
 

@@ -7,11 +7,10 @@ use Rattle.frame_core.specs.declared.frame.Frame.{Frame}
 use Rattle.frame_core.specs.declared.geometry.Geometry.{Geometry}
 use Rattle.frame_core.specs.declared.nak.Nak.{Nak}
 use Rattle.frame_core.specs.FrameEncoding.{aligned_length}
-use Rattle.frame_core.specs.Datagram.{IsDatagram}
 use Rattle.frame_core.specs.Nak.{HasRange}
 use Rattle.frame_core.specs.Position.{HasPosition, frame_position}
 use Rattle.image_core.specs.declared.inserted.Inserted.{Inserted}
-use Rattle.image_core.specs.Insert.{Inserts}
+use Rattle.image_core.specs.Insert.{TakesIn}
 use Rattle.image_core.specs.Rebuild.{end_of}
 use Rattle.image_core.specs.Received.{Received, gap_end, rebuilt, window}
 
@@ -39,10 +38,10 @@ are_near r fs = list_all (is_near r.geometry (stock_end r)) fs
 
 -- ---- offers
 
--- A datagram is inserted where each of its frames ends within the stock or is never held; else it is lost.
-abbrev pub Offers : Received → List ℕ → Option Inserted → Received → Type 0
-Offers old bytes None new = (new ≡ old) × (fs : List Frame) × IsDatagram bytes fs × (are_near old fs ≡ false)
-Offers old bytes (Some i) new = Inserts old bytes i new × ((fs : List Frame) → IsDatagram bytes fs → are_near old fs ≡ true)
+-- The frames of a datagram are taken in where each of them ends within the stock or is never held; else they are lost.
+abbrev pub Offers : Received → List Frame → Option Inserted → Received → Type 0
+Offers old fs None new = (are_near old fs ≡ false) × (new ≡ old)
+Offers old fs (Some i) new = (are_near old fs ≡ true) × TakesIn old fs i new
 
 -- no frame that is held ends past the stock
 abbrev pub is_stocked : ℕ → ℕ × Frame → Bool

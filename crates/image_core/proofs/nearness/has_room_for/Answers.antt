@@ -1,8 +1,8 @@
 use Rattle.std.proofs.Common.{◌∙◌, sym}
 use Rattle.std.proofs.lemmas.List.Folds.{list_all-map}
 use Rattle.frame_core.specs.FrameEncoding.{frame_of}
-use Rattle.image_feed.specs.Stock.{is_near, stock_end}
-use Rattle.image_feed.proofs.nearness.has_room_for.Goals as goal
+use Rattle.image_core.specs.Stock.{is_near, stock_end}
+use Rattle.image_core.proofs.nearness.has_room_for.Goals as goal
 
 pub returns : goal.returns
 returns c =

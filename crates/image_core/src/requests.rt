@@ -2,11 +2,11 @@
 
 ghost use Rattle.std.specs.Prelude.{◌≡◌, ◌<◌, ◌≤ℤ◌, ◌^◌, pos, unsigned_abs, MatchOption};
 ghost use Rattle.image_core.specs.Received.{rebuilt};
-ghost use Rattle.image_feed.specs.Stock.{Asks, AsksNothing, reach};
+ghost use Rattle.image_core.specs.Stock.{Asks, AsksNothing, reach};
 
+use crate::image::Image;
 use crate::nearness::stock_end;
 use frame_core::Nak;
-use image_core::Image;
 
 /// A request for the part of the image's gap that its window and its stock have room for.
 pub fn request_of(image: &Image) -> Option<Nak>

@@ -2,9 +2,9 @@ use Rattle.std.proofs.Common.{◌≡◌, ◌<◌, ◌-◌, ap, w32, arith}
 use Rattle.std.specs.Prelude.{min, unsigned_abs}
 use Rattle.std.proofs.lemmas.Int.{to_z_pos}
 use Rattle.image_core.specs.Received.{rebuilt}
-use Rattle.image_feed.specs.Stock.{reach}
-use Rattle.image_feed.proofs.StockLemmas.{asks_for}
-use Rattle.image_feed.proofs.requests.request_of.Goals as goal
+use Rattle.image_core.specs.Stock.{reach}
+use Rattle.image_core.proofs.StockLemmas.{asks_for}
+use Rattle.image_core.proofs.requests.request_of.Goals as goal
 
 pub returns : goal.returns
 returns c =
