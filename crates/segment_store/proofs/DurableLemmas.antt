@@ -1,5 +1,5 @@
 -- Frames that stand whatever a crash does behind them.
-use Rattle.std.proofs.Common.{◌≡◌, ◌≢◌, ◌∙◌, inl, inr, sym, ap, subst, refl, ℕ, ℤ, ◌+◌, ◌-◌, ◌≤◌, true, Option, Some, None, List, [], ◌∷◌, ◌++◌, length, append-nil, take, drop, arith}
+use Rattle.std.proofs.Common.{◌≡◌, ◌≢◌, ◌∙◌, inl, inr, sym, ap, subst, refl, ℕ, ℤ, suc, ◌+◌, ◌-◌, ◌<◌, ◌≤◌, true, Option, Some, None, List, [], ◌∷◌, ◌++◌, All, length, append-nil, take, drop, arith}
 use Rattle.disk_core.specs.declared.file_id.FileId.{FileId}
 use Rattle.disk_core.specs.DiskImage.{DiskImage, FileState, Files, AgreesWhereDurable, LeavesFile, MayLeave, bytes_of, durable, reads}
 use Rattle.disk_core.specs.Standing.{Holds, KeepsBelow, unsynced_from}
@@ -37,14 +37,22 @@ pub durable_bytes : (file : FileState) (at : ℕ) (bytes : List ℕ) → file �
 durable_bytes file at bytes synced holds left leaves =
     durable_left file.reads at bytes holds left (subst (λ (f : FileState). LeavesFile (unsynced_from (at + length bytes) f) left) synced leaves)
 
--- frames in files that are durable as they read
-pub synced_frames : (files : Files) (l : Layout) (frames : List Frame) (from to : ℕ) → HoldsFrames (reads files) l from frames to
-    → ((p : ℕ) → from ≤ p → files (file_of l p) ≡ durable (reads files (file_of l p))) → AreDurableFrames files l from frames to
-synced_frames files l [] from to holds synced = holds
-synced_frames files l (f ∷ fs) from to holds synced = (
-  durable_bytes (files (file_of l from)) (offset_of l from) (stored f) (synced from (omega arith)) holds.0,
-  synced_frames files l fs (from + aligned_length f) to holds.1 (λ p behind. synced p (omega (arith, behind))),
-)
+-- frames end at or after the position where they begin
+held_end : (image : DiskImage) (l : Layout) (frames : List Frame) (from to : ℕ) → HoldsFrames image l from frames to → from ≤ to
+held_end image l [] from to holds = omega (arith, holds)
+held_end image l (f ∷ fs) from to holds = omega (arith, held_end image l fs (from + aligned_length f) to holds.1)
+
+-- frames that cover some bytes each, in files that are durable as they read up to the end of the frames
+pub synced_frames : (files : Files) (l : Layout) (frames : List Frame) (from to : ℕ) → All (λ f. 0 < aligned_length f) frames → HoldsFrames (reads files) l from frames to
+    → ((p : ℕ) → from ≤ p → p < to → files (file_of l p) ≡ durable (reads files (file_of l p))) → AreDurableFrames files l from frames to
+synced_frames files l [] from to some holds synced = holds
+synced_frames files l (f ∷ fs) from to some holds synced =
+    let next : ℕ = from + aligned_length f in
+    let first : 0 < aligned_length f = some 0 f (omega arith) in
+    let before : from < to = omega (arith, first, held_end (reads files) l fs next to holds.1) in (
+      durable_bytes (files (file_of l from)) (offset_of l from) (stored f) (synced from (omega arith) before) holds.0,
+      synced_frames files l fs next to (λ k d inside. some (suc k) d (omega (arith, inside))) holds.1 (λ p behind inside. synced p (omega (arith, behind)) inside),
+    )
 
 -- bytes stay durable in a file that is changed behind them alone
 bytes_kept : (old new : FileState) (at end : ℕ) (bytes : List ℕ) → AreDurableBytes old at bytes → at + length bytes ≤ end → KeepsBelow end old new → AreDurableBytes new at bytes

@@ -11,8 +11,9 @@ mod sweep;
 mod write;
 
 pub use boundary::is_boundary;
+pub use check::shown_frame;
 pub use keep::Keep;
-pub use layout::{Layout, base_of};
+pub use layout::{Layout, Spot, base_of, spot_of};
 pub use read::read_frame;
 pub use sweep::{stale_files, sweep_one};
 pub use write::{sync_segment, write_block};

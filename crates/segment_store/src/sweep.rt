@@ -1,9 +1,9 @@
 //! Files that are not needed any more: docs/STORAGE.md, "Stale files".
 
-ghost use Rattle.std.specs.Prelude.{◌≡◌, ◌⊎◌, true, None, All, IfOk, IfErr, IsErrOf, IsTrue, OnOk, OnErr};
+ghost use Rattle.std.specs.Prelude.{◌≡◌, ◌⊎◌, ◌≤◌, ◌+◌, true, None, All, IfOk, IfErr, IsErrOf, IsTrue, OnOk, OnErr};
 ghost use Rattle.std.specs.List.{list_any};
 ghost use Rattle.disk_core.specs.DiskImage.{durable, reads};
-ghost use Rattle.disk_core.specs.Life.{HasFailed, IsQuiet, IsSteady};
+ghost use Rattle.disk_core.specs.Life.{HasFailed, IsQuiet, IsSteady, moment};
 ghost use Rattle.disk_core.specs.declared.file_id.FileId.{FileId};
 ghost use Rattle.frame_core.specs.declared.refusal.Refusal.TheVariants.{DeviceFault, NoMemory};
 ghost use Rattle.segment_store.specs.Reading.{IsFaultOrMemory};
@@ -44,6 +44,7 @@ pub fn sweep_one<D: Disk>(disk: &mut D, keeps: &[Keep]) -> Result<bool, Refusal>
     // Also where it fails, at most the first stale file has changed.
     ensures bounded { IsQuiet (D.life disk.old) (D.life disk.new)
         ⊎ ((file : FileId) × SweepsAtMost keeps.now file (D.life disk.old) (D.life disk.new)) }
+    ensures calls { moment (D.life disk.new) ≤ moment (D.life disk.old) + 2 }
     ensures refused { IfErr result IsFaultOrMemory }
     // Want of memory comes before the first change.
     ensures unchanged { IsErrOf result NoMemory → IsQuiet (D.life disk.old) (D.life disk.new) }
@@ -76,6 +77,7 @@ fn first_stale<D: Disk>(disk: &mut D, keeps: &[Keep]) -> Result<Option<FileId>, 
 fn remove_file<D: Disk>(disk: &mut D, file: FileId) -> Result<(), Refusal>
     ensures gone { OnOk result ((D.life disk.new).now file ≡ durable None) }
     ensures bounded { TouchesOnly file (D.life disk.old) (D.life disk.new) }
+    ensures calls { moment (D.life disk.new) ≤ moment (D.life disk.old) + 2 }
     ensures refused { IfErr result (λ refusal. refusal ≡ DeviceFault) }
     ensures cause { OnErr result (HasFailed (D.life disk.old) (D.life disk.new)) }
     ensures steady { IsSteady result (D.life disk.old) (D.life disk.new) }
