@@ -4,8 +4,9 @@
 Usage: bench/compaction.py [program], on the file system of TRIAL_ROOM, else that of TMPDIR.
 
 Told are processor seconds and memory of `list` over the long history, of `compact`, and of `list` behind it, beside those of a
-history of three entries and of a new archive with as many recordings. It fails where `compact` takes more than 2.5 times
-`list`, `list` behind it more than 1.2 times that of a new archive, or the long history 8 MB more than the short one.
+history of three entries and of a new archive with as many recordings; and those of looks, which open nothing. It fails where
+`compact` takes more than 2.5 times `list`, `list` behind it more than 1.2 times that of a new archive, or `list`, a look or
+`describe` of the long history 8 MB more than of the short one.
 """
 import sys
 from collections.abc import Iterator
@@ -18,6 +19,8 @@ from tool import Fault, bank, file_system, program, room, run, settle_entry, sto
 
 RECORDINGS, ENTRIES = 1_024, 1_000_000
 RUNS = 5
+# What reads an archive: the first opens it, and the others look at it as it stands.
+READERS = ("list", "list --read-only", "describe")
 
 
 def history(entries: int, recordings: int) -> Iterator[bytes]:
@@ -57,7 +60,7 @@ def measured(tool: Path, work: Path, command: str, entries: int, recordings: int
         folder = archive(tool, work, entries, recordings)
         if compacted:
             run([tool, "compact", folder])
-        costs.append(cost([tool, command, folder]))
+        costs.append(cost([tool, *command.split(), folder]))
     return median(costs)
 
 
@@ -69,21 +72,23 @@ def main() -> int:
         compacts = measured(tool, work, "compact", ENTRIES, RECORDINGS)
         behind = measured(tool, work, "list", ENTRIES, RECORDINGS, compacted=True)
         fresh = measured(tool, work, "list", 2 * RECORDINGS, RECORDINGS)
-        few = measured(tool, work, "list", 3, 1)
-        many = measured(tool, work, "list", ENTRIES, 1)
+        few = {words: measured(tool, work, words, 3, 1) for words in READERS}
+        many = {words: measured(tool, work, words, ENTRIES, 1) for words in READERS}
         for name, (spent, size) in {
             "list": listed,
             "compact": compacts,
             "list behind it": behind,
             "list of a new archive": fresh,
-            "list of 3 entries": few,
-            "list of as many entries of one recording": many,
+            **{f"{words} of 3 entries": few[words] for words in READERS},
+            **{f"{words} of as many entries of one recording": many[words] for words in READERS},
         }.items():
             print(f"{name}: {spent:.4f} s of a processor, {size:.1f} MB", flush=True)
         print(f"compact beside list: {compacts[0] / listed[0]:.2f} (at most 2.5)")
         print(f"list behind it beside that of a new archive: {behind[0] / fresh[0]:.2f} (at most 1.2)")
-        print(f"memory of {ENTRIES:,} entries beside 3: {many[1] - few[1]:+.1f} MB (at most 8)")
-        if compacts[0] > 2.5 * listed[0] or behind[0] > 1.2 * fresh[0] + 0.005 or many[1] - few[1] > 8:
+        grown = {words: many[words][1] - few[words][1] for words in READERS}
+        for words, more in grown.items():
+            print(f"memory of {words}, {ENTRIES:,} entries beside 3: {more:+.1f} MB (at most 8)")
+        if compacts[0] > 2.5 * listed[0] or behind[0] > 1.2 * fresh[0] + 0.005 or max(grown.values()) > 8:
             raise Fault("over its goal")
     return 0
 

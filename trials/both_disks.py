@@ -251,10 +251,10 @@ def try_catalogues(trial: Trial) -> None:
         "cut to nothing": (b"", 1, NOT_CATALOGUE),
         "cut in its header": (whole[:31], 1, NOT_CATALOGUE),
         "cut behind its header": (whole[:32], 3, f"{DAMAGED} -1 32\n"),
-        "cut in its second entry": (whole[:100], 3, f"{DAMAGED} -1 87\n"),
-        "cut in front of its last gate": (whole[:-1], 3, f"{DAMAGED} -1 87\n"),
+        "cut in its second entry": (whole[:100], 3, f"{DAMAGED} -1 89\n"),
+        "cut in front of its last gate": (whole[:-1], 3, f"{DAMAGED} -1 89\n"),
         "closed": (b"\x00" + whole[1:], 1, NOT_CATALOGUE),
-        "of a later version": (b"\x01\x02" + whole[2:], 1, NEWER_VERSION),
+        "of a later version": (b"\x01\x03" + whole[2:], 1, NEWER_VERSION),
         "with an unknown entry": (whole[:33] + b"\x09" + whole[34:], 3, f"{DAMAGED} -1 32\n"),
     }
     for what, (text, status, line) in cases.items():

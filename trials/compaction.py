@@ -4,7 +4,8 @@
 The archive has three recordings, of which one is active, and a history of 100,000 entries. A round takes a copy of its folder and
 kills a compaction in it (SIGKILL), every other round two of them; a quarter lives as long as it wants to. Then the archive is
 opened: the recordings have to be those of before, with the active one stopped. It is compacted to the end, and has to be the same
-again: listed, verified, replayed; and the next recording has the next id.
+again: listed, verified, replayed; and the next recording has the next id. With `--version 1` the catalogue is one of version 1, as
+an earlier program wrote it, and has version 2 once it is compacted.
 
 Prints rounds, kills and how many of them left the new bank in use, and ends with status 1 where anything is wrong.
 """
@@ -16,12 +17,13 @@ import time
 from pathlib import Path
 from random import Random
 
-from tool import Fault, Stream, conclude, entry, expect, file_system, program, replayed, room, run, trial_words
+from tool import Fault, Stream, bank, conclude, entry, expect, file_system, program, replayed, room, run, settle_entry, stop_entry, trial_words
 
 STREAM = Stream(term_length=65_536, segment_length=131_072)
 CHANNELS = ["first", "second", "third"]
 FRAMES = 20  # of each recording, each of 64 bytes
 HISTORY = 100_000  # entries
+LIMIT = 1_048_576  # of the history, if none is asked for
 BANKS = "catalogue-a.bank", "catalogue-b.bank"
 
 
@@ -30,7 +32,15 @@ def truncation(recording: int, position: int) -> bytes:
     return entry(5, struct.pack("<qq", recording, position))
 
 
-def make(tool: Path, folder: Path) -> None:
+def earlier(count: int) -> bytes:
+    """The bank of version 1 for the same archive, with so many truncations."""
+    starts = [STREAM.start_entry(number, channel.encode(), 1) for number, channel in enumerate(CHANNELS)]
+    settles = [settle_entry(number, 64 * frame) for frame in range(1, FRAMES + 1) for number in range(len(CHANNELS))]
+    stops = [stop_entry(number, 2_000) for number in (0, 1)]
+    return bank(LIMIT, [*starts, *settles, *stops, *[truncation(0, 64 * FRAMES)] * count], 1)
+
+
+def make(tool: Path, folder: Path, version: int) -> None:
     """An archive with three recordings, the last one active, and with a long history."""
     run([tool, "create", folder])
     lines = [STREAM.start(channel) for channel in CHANNELS]
@@ -42,23 +52,30 @@ def make(tool: Path, folder: Path) -> None:
     path = folder / BANKS[0]
     known = path.read_bytes()
     count = HISTORY - (len(lines) + 2)
-    path.write_bytes(known[:-1] + (b"\x01" + truncation(0, 64 * FRAMES)) * count + b"\x00")
+    made = known[:-1] + (b"\x01" + truncation(0, 64 * FRAMES)) * count + b"\x00"
+    path.write_bytes(earlier(count) if version == 1 else made)
+
+
+def bank_in_use(folder: Path) -> bytes:
+    """The bank in use: of those that are open, the one of the later epoch."""
+    banks = [(folder / name).read_bytes() for name in BANKS if (folder / name).exists()]
+    return max((it for it in banks if len(it) >= 32 and it[0] == 1), key=lambda it: struct.unpack_from("<Q", it, 8)[0])
 
 
 def epoch_in_use(folder: Path) -> int:
     """The epoch of the bank in use."""
-    banks = [(folder / name).read_bytes() for name in BANKS if (folder / name).exists()]
-    return max(struct.unpack_from("<Q", bank, 8)[0] for bank in banks if len(bank) >= 32 and bank[0] == 1)
+    return struct.unpack_from("<Q", bank_in_use(folder), 8)[0]
 
 
 class Rounds:
     """A folder of which each round has a copy, and what is to be found in it."""
 
-    def __init__(self, tool: Path, room: Path, seed: int) -> None:
+    def __init__(self, tool: Path, room: Path, seed: int, version: int) -> None:
         self.tool, self.master, self.folder = tool, room / "long", room / "round"
         self.chance = Random(seed)
         self.killed = self.new = 0
-        make(tool, self.master)
+        make(tool, self.master, version)
+        expect("version", bank_in_use(self.master)[1], version)
         self.copy()
         begun = time.monotonic()
         expect("compact", run([tool, "compact", self.folder]), ["compacted"])
@@ -102,6 +119,7 @@ class Rounds:
             self.kill()
         self.listed("behind a kill")
         expect("compact", run([self.tool, "compact", self.folder]), ["compacted"])
+        expect("version behind a compaction", bank_in_use(self.folder)[1], 2)
         self.listed("behind a compaction")
         self.whole()
 
@@ -109,17 +127,18 @@ class Rounds:
 def main() -> int:
     words = trial_words(__doc__)
     words.add_argument("--rounds", type=int, default=100)
+    words.add_argument("--version", type=int, choices=(1, 2), default=2)
     asked = words.parse_args()
     tool = program(asked.program)
     with room() as folder:
         print(f"seed {asked.seed}, on {file_system(folder)}", flush=True)
-        rounds = Rounds(tool, folder, asked.seed)
+        rounds = Rounds(tool, folder, asked.seed, asked.version)
         for number in range(asked.rounds):
             try:
                 rounds.round(number)
             except Fault as fault:
                 raise Fault(f"round {number}: {fault}") from fault
-    print(f"{asked.rounds} rounds over {HISTORY} entries, {rounds.killed} compactions killed, {rounds.new} left the new bank in use")
+    print(f"{asked.rounds} rounds over {HISTORY} entries of version {asked.version}, {rounds.killed} compactions killed, {rounds.new} left the new bank in use")
     return 0
 
 

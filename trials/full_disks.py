@@ -160,7 +160,7 @@ def full_in_the_catalogue(archive: Archive) -> str:
 def full_at_an_opening(archive: Archive) -> str:
     """The entry by which an opening stops recordings has no room in the catalogue's last page."""
     session = archive.begun()
-    for number, length in enumerate([447] * 7 + [446], start=1):
+    for number, length in enumerate([445] * 7 + [442], start=1):
         expect("start", session.ask(STREAM.start("d" * length)), [f"started {number} {number}"])
     expect("bytes of the catalogue", (archive.folder / "catalogue-a.bank").stat().st_size, 4_095)
     expect("the status", session.end(), 0)

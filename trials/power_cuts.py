@@ -8,7 +8,8 @@ the file's last sync is left as it was written, not at all, cut short, or with o
 that those allow; and each name that came or went since the folder's last sync is there or not. Each image is opened by a
 new process. What the lines before that moment were answered has to be there, exactly, and of the line that was being
 answered either nothing or all of it: told by `list`, `verify` and a replay of each recording, which are compared with those
-of an archive that answered these lines alone, in memory.
+of an archive that answered these lines alone, in memory. Every other script begins with a catalogue of version 1, which its
+`compact` writes in version 2.
 
 Usage: trials/power_cuts.py [--images N] [--seed S] [--jobs J] [--scripts K] [--skip N] [program]. Prints how many images were
 opened, of how many moments; ends with status 1 at the first that is wrong. With `--skip N` every N-th sync of a file answers
@@ -25,12 +26,13 @@ from concurrent.futures import ProcessPoolExecutor
 from dataclasses import dataclass, field
 from pathlib import Path
 
-from tool import MTU, Fault, Stream, aligned, is_calm, program, room
+from tool import MTU, Fault, Stream, aligned, bank, is_calm, program, room
 
 STREAM = Stream(term_length=65_536, segment_length=131_072)
 TRACED = "openat,pwrite64,ftruncate,fdatasync,fsync,unlink,write,close,flock"
 CALL = re.compile(r"^(\w+)\((.*)\)\s+= (-?\d+)")
 MOST = 4_096  # frames of a poll, more than a recording of a script has
+LIMIT = 1_048_576  # of a history, if none is asked for
 
 
 @dataclass
@@ -259,13 +261,15 @@ def library(work: Path) -> Path:
     return path
 
 
-def traced(tool: Path, lines: list[str], work: Path, skip: int) -> list[Moment]:
+def traced(tool: Path, lines: list[str], work: Path, skip: int, version: int) -> list[Moment]:
     """The moments of an archive that answers these lines; each line is sent once the one before it was answered."""
     folder, log = work / "archive", work / "log"
     folder.mkdir()
     made = subprocess.run([tool, "create", folder], capture_output=True, text=True)
     if made.stdout != "created\n":
         raise Fault(f"create: {made.stderr}")
+    if version == 1:
+        (folder / "catalogue-a.bank").write_bytes(bank(LIMIT, [], 1))
     trace = Trace(folder)
     for path in folder.iterdir():
         text = path.read_bytes()
@@ -297,7 +301,7 @@ def tried(tool: Path, seed: int, images: int, skip: int, work: Path) -> tuple[in
     lines = script_of(chance)
     count = sum(line.startswith("start ") for line in lines)
     work.mkdir()
-    moments = traced(tool, lines, work, skip)
+    moments = traced(tool, lines, work, skip, 1 + seed % 2)
     right: dict[int, list[str]] = {}
 
     def state(answered: int) -> list[str]:

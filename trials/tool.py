@@ -136,10 +136,11 @@ class Stream:
             f"recording {recording} {TIMESTAMP} {stop_timestamp} 0 {stop} {geometry} {self.session_id} {STREAM_ID} {channel}"
         )
 
-    def start_entry(self, recording: int, channel: bytes) -> bytes:
-        """The catalogue's entry of a start at position 0: docs/STORAGE.md, "Entries"."""
+    def start_entry(self, recording: int, channel: bytes, version: int = 2) -> bytes:
+        """The catalogue's entry of a start at position 0, without a source: docs/STORAGE.md, "Entries"."""
         fields = INITIAL_TERM, self.segment_length, self.term_length, self.mtu, self.session_id, STREAM_ID, len(channel)
-        return entry(1, struct.pack("<qqq6iH", recording, TIMESTAMP, 0, *fields) + channel)
+        source = b"\x00\x00" if version == 2 else b""
+        return entry(1, struct.pack("<qqq6iH", recording, TIMESTAMP, 0, *fields) + channel + source)
 
 
 def entry(kind: int, body: bytes) -> bytes:
@@ -157,9 +158,9 @@ def stop_entry(recording: int, timestamp: int) -> bytes:
     return entry(3, struct.pack("<qq", recording, timestamp))
 
 
-def bank(history_limit: int, entries: Iterable[bytes]) -> bytes:
+def bank(history_limit: int, entries: Iterable[bytes], version: int = 2) -> bytes:
     """A catalogue's bank: docs/STORAGE.md, "Banks"."""
-    header = struct.pack("<BBHIQ16x", 1, 1, 0, history_limit, 1)
+    header = struct.pack("<BBHIQ16x", 1, version, 0, history_limit, 1)
     return header + b"".join(b"\x01" + text for text in entries) + b"\x00"
 
 

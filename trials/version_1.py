@@ -4,7 +4,8 @@
 A folder has the files of an archive in `archive/` and the lines that made it in `made.lines`. It keeps the output of `list --read-only`
 in `looked.txt`, of `list` in `list.txt`, of `verify` in `verify.txt`, and of a replay of each recording in `replay.txt`. The program has
 to print the same, and `readers/` has to read the same. A look changes no byte. An opening adds one Restart to the bank in use, and
-changes no other byte.
+changes no other byte. Then a recording with a source is refused, and the catalogue stays in version 1; behind `compact` it has
+version 2, the same recordings and the same next id, and takes that recording.
 
 Usage: trials/version_1.py [program].
 """
@@ -13,10 +14,11 @@ from pathlib import Path
 from comparison import Files, after_an_opening, ended, write
 from readers.archive import Archive, files_of, looked_at, opened
 from readers.catalogue import BANKS, read_banks
-from tool import conclude, expect, program, room, trial_words
+from tool import Stream, conclude, expect, program, room, run, trial_words
 
 DATA = Path(__file__).resolve().parent / "version_1"
 IN_USE = {"bank_a": BANKS[0], "bank_b": BANKS[1]}
+SOURCE = "127.0.0.1:40123"
 
 
 def replays(archive: Archive) -> list[str]:
@@ -35,6 +37,26 @@ def try_told(tool: Path, folder: Path, kept: Path, words: list[str], lines: list
     expect(f"the reader's answer on {kept.name}, against {words[1]}", read, right.splitlines())
 
 
+def version(folder: Path) -> int:
+    """The version of the catalogue in a folder."""
+    return read_banks(files_of(folder).get).version
+
+
+def try_compacted(tool: Path, folder: Path, next_id: int) -> None:
+    """Tries a recording with a source, before a compaction and behind it."""
+    listed = run([tool, "list", folder])
+    start = Stream(term_length=65_536, segment_length=131_072).start("with a source").replace("start ", f"start-from {SOURCE} ", 1)
+    expect(f"a source in {folder.name}", run([tool, "run", folder], [start, "reopen"]), ["error 23 NeedCompact", "reopened 0"])
+    expect(f"the version of {folder.name} behind openings", version(folder), 1)
+    expect(f"compact {folder.name}", run([tool, "compact", folder]), ["compacted"])
+    expect(f"the version of {folder.name} behind a compaction", version(folder), 2)
+    expect(f"list {folder.name} behind a compaction", run([tool, "list", folder]), listed)
+    told = run([tool, "run", folder], [start, f"source {next_id}", *(f"source {line.split()[1]}" for line in listed[:-1])])
+    right = [f"started {next_id} 0", f"source {len(SOURCE)} {SOURCE}", *["source 0"] * (len(listed) - 1)]
+    expect(f"sources in {folder.name}", told, right)
+    expect(f"the reader's source in {folder.name}", read_banks(files_of(folder).get).register.recordings[next_id].source, SOURCE.encode())
+
+
 def try_archive(tool: Path, folder: Path, kept: Path, bank: str) -> None:
     """Tries one of the archives."""
     files: Files = files_of(kept / "archive")
@@ -50,6 +72,7 @@ def try_archive(tool: Path, folder: Path, kept: Path, bank: str) -> None:
     try_told(tool, folder, kept, ["verify", "verify.txt"], [], verified)
     try_told(tool, folder, kept, ["run", "replay.txt"], replays(now), now.answers(replays(now)))
     expect(f"{kept.name} after openings", files_of(folder), after_an_opening(files))
+    try_compacted(tool, folder, known.register.next_id)
     print(f"{kept.name}: {len(known.entries)} entries, {len(known.register.recordings)} recordings, as they are kept")
 
 

@@ -9,8 +9,8 @@ from pathlib import Path
 
 from readers.blocks import BAD_BLOCK, BAD_PARAMETER, BAD_POSITION, Merge, begun, block_of
 from readers.catalogue import (
-    BANKS, EXTEND, LARGEST, PURGE_RECORDING, PURGE_SEGMENTS, RESTART, SETTLE, START, STOP, TRUNCATE, Entry, Recording, Refused, Register,
-    asks, read_banks,
+    BANKS, EXTEND, LARGEST, NEWEST, PURGE_RECORDING, PURGE_SEGMENTS, RESTART, SETTLE, START, STOP, TRUNCATE, Entry,
+    Recording, Refused, Register, asks, read_banks,
 )
 from readers.segments import Reader, stale_files
 
@@ -59,8 +59,9 @@ class Archive:
                 return [self.write(int(rest[0]), bytes.fromhex(rest[1]), word == "block")]
             if word.startswith("merge"):
                 return [self.merging(word, rest)]
-            if word == "start":
-                return [self.start(*map(int, rest[:8]), " ".join(rest[8:]).encode())]
+            if word in ("start", "start-from"):
+                source, *rest = rest if word == "start-from" else ["", *rest]
+                return [self.start(*map(int, rest[:8]), " ".join(rest[8:]).encode(), source.encode())]
             told = getattr(self, "listing" if word == "list" else word.replace("-", "_"))(*map(int, rest))
         except Refused as refused:
             return [str(refused)]
@@ -87,11 +88,14 @@ class Archive:
         return self.next_session - 1
 
     def start(
-        self, stream: int, session: int, term: int, term_length: int, mtu: int, segment: int, begin: int, timestamp: int, channel: bytes
+        self, stream: int, session: int, term: int, term_length: int, mtu: int, segment: int, begin: int, timestamp: int, *texts: bytes
     ) -> str:
+        channel, source = texts
         number = self.register.next_id
-        made = Recording(number, timestamp, begin, term, segment, term_length, mtu, session, stream, channel, begin, True)
-        asks(self.register.admits(Entry(START, made=made)), BAD_PARAMETER)
+        origin = term, segment, term_length, mtu, session, stream, channel
+        made = Recording(number, timestamp, begin, *origin, begin, True, source=source)
+        asks(replace(self.register, version=NEWEST).admits(Entry(START, made=made)), BAD_PARAMETER)
+        asks(self.register.admits(Entry(START, made=made)), "error 23 NeedCompact")
         self.register.take(Entry(START, made=made))
         return f"started {number} {self.begin_session(number)}"
 
@@ -213,9 +217,13 @@ class Archive:
         self.sessions, self.replays, self.next_session, self.next_replay = {}, {}, 0, 0
         return f"reopened {stopped}"
 
+    def source(self, number: int) -> str:
+        text = self.known(number).source
+        return f"source {len(text)} {text.decode()}".rstrip()
+
     def compact(self) -> str:
         self.reopen()
-        self.register.counted = 0
+        self.register.counted, self.register.version = 0, NEWEST
         return "compacted"
 
 

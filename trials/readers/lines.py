@@ -39,12 +39,18 @@ def is_rest(text: bytes) -> bool:
     return bool(text)
 
 
+def is_plain(word: bytes) -> bool:
+    """Whether a word is a `<source>`."""
+    return is_rest(word)
+
+
 Kind = Callable[[bytes], bool]
-LONG, SHORT, BYTES, REST = is_long, is_short, is_hex, is_rest
+LONG, SHORT, BYTES, PLAIN, REST = is_long, is_short, is_hex, is_plain, is_rest
 
 # By its first word: the words that follow in a line, and the last line of its reply. N is a number.
 LINES: dict[bytes, tuple[list[Kind], str]] = {
     b"start": ([SHORT] * 6 + [LONG, LONG, REST], r"started N N"),
+    b"start-from": ([PLAIN] + [SHORT] * 6 + [LONG, LONG, REST], r"started N N"),
     b"extend": ([LONG, *[SHORT] * 5, LONG], r"extended N"),
     b"write": ([LONG, BYTES], r"written N"),
     b"settle": ([LONG], r"settled N"),
@@ -56,6 +62,7 @@ LINES: dict[bytes, tuple[list[Kind], str]] = {
     b"list": ([LONG, LONG], r"end N"),
     b"find": ([LONG, SHORT, SHORT, REST], r"found (?:N|-1)"),
     b"positions": ([LONG], r"positions N N (?:N|-1)"),
+    b"source": ([LONG], r"source (?:0|N [^ ]+)"),
     b"replay": ([LONG, LONG, LONG], r"replay N"),
     b"poll": ([LONG, LONG], r"done|more N"),
     b"close": ([LONG], r"closed"),
@@ -77,7 +84,7 @@ BEFORE = {b"list": "recording ", b"poll": "frame "}
 REFUSALS = (
     "UnknownRecording ActiveRecording NotActive ActiveReplay BadPosition BadExtension MaxRecordings MaxReplays UnknownReplay "
     "BadParameter HistoryFull StaleSession BadBlock NeedSettle Damaged Broken DeviceFault NoMemory NotCatalogue NewerVersion "
-    "BadFrame BadLine"
+    "BadFrame BadLine NeedCompact"
 ).split()
 DETAILS = {"Damaged": r" (?:-1|\d+) \d+", "BadFrame": r" \d+"}
 REFUSAL = re.compile("|".join(rf"error {number} {name}{DETAILS.get(name, '')}" for number, name in enumerate(REFUSALS, 1)))

@@ -5,11 +5,17 @@ from collections.abc import Iterable, Iterator
 from dataclasses import dataclass, replace
 from itertools import islice
 
-from readers.catalogue import Files, Recording, Refused, Register, damaged
+from readers.catalogue import LARGEST, Files, Recording, Refused, Register, damaged
 
 SEGMENT = re.compile(r"(0|[1-9]\d*)-(0|[1-9]\d*)\.rec")
 HEADER = struct.Struct("<iBBHiiiiq")  # docs/PROTOCOL.md, "Data and pad header"
 PAD, DATA = 0, 1
+
+
+def segment_of(name: str) -> re.Match[str] | None:
+    """The recording and the base in the name of a segment file, None if it has another name: docs/STORAGE.md, "Folders"."""
+    match = SEGMENT.fullmatch(name)
+    return match if match and max(map(int, match.groups())) <= LARGEST else None
 
 
 def aligned(length: int) -> int:
@@ -129,7 +135,7 @@ def stale_files(register: Register, names: Iterable[str]) -> list[str]:
     """The segment files that sweeps remove, in order: docs/STORAGE.md, "Stale files"."""
     found = []
     for name in names:
-        if match := SEGMENT.fullmatch(name):
+        if match := segment_of(name):
             number, base = int(match[1]), int(match[2])
             known = register.recordings.get(number)
             if not known.keeps(base) if known else number < register.next_id:

@@ -1,0 +1,248 @@
+#!/usr/bin/env python3
+"""Damages the segment files of archives, and compares each answer of the program with that of a reader of the documents.
+
+The program makes each archive by random lines. In every other one a recording is active at the end. The trial damages one to three
+segment files: it changes bytes and header fields, cuts, grows, swaps and removes files. The catalogue stays whole. Then:
+
+1. `list` and `verify` look at the folder with `--read-only`; in half of the folders `verify` also opens it.
+2. `run` reads each recording, replays it from each boundary that it had, and answers 20 commands.
+3. A second `run` lists, verifies and replays the recordings again.
+
+The trial fails at the first line that differs from the answer of `readers/`, which knows docs/STORAGE.md, docs/PROTOCOL.md and
+docs/CONTROL.md and nothing of the program. After the commands it also compares the bytes of all segment files, and the state that
+the catalogue's entries make.
+
+Usage: trials/damaged.py [--seed S] [--folders N] [--jobs J] [--memory MB] [program]. --memory limits each address space; 0 sets no limit.
+"""
+import os
+import shutil
+import struct
+from collections import Counter
+from collections.abc import Callable
+from pathlib import Path
+from random import Random
+
+import random_lines
+from comparison import Files, Script, ended, in_parts, look_only, verification, write
+from readers.archive import Archive, files_of, looked_at, opened
+from readers.catalogue import BANKS, Recording, Register
+from readers.segments import HEADER, PAD, segment_of
+from tool import Fault, conclude, expect, file_system, program, room, trial_words
+
+STEPS, COMMANDS = 30, 20
+PART = 10  # folders that one worker tries in turn
+NUMBERS = 0, 1, 2, 31, 32, 33, 64, 65_536, 2**31 - 1, -1, -(2**31)  # values for a field of a header
+FIELDS = *[(0, "<i")] * 4, (4, "<b"), (6, "<h"), (8, "<i"), (12, "<i"), (16, "<i"), (20, "<i")  # docs/PROTOCOL.md, "Data and pad header"
+
+
+def made(tool: Path, folder: Path, chance: Random, is_active: bool) -> Archive:
+    """An archive that the program made, as the reader sees it. A recording of it is active, or none is."""
+    archive = Archive({}, Register(1))
+    script = Script(archive)
+    for _ in range(STEPS):
+        for line in random_lines.line(archive, chance):
+            script.ask(line)
+    if not is_active:
+        script.ask("reopen")
+    elif not archive.register.active():
+        script.ask(random_lines.start(chance))
+        for line in random_lines.blocks(archive, archive.next_session - 1, chance):
+            script.ask(line)
+    script.try_on(tool, folder, "a whole archive")
+    return archive
+
+
+def turn_bytes(files: Files, name: str, chance: Random) -> None:
+    """Changes one to three bytes of a file."""
+    text = bytearray(files[name])
+    for _ in range(chance.randint(1, 3) if text else 0):
+        at = chance.randrange(len(text))
+        text[at] = chance.choice((text[at] ^ (1 << chance.randrange(8)), chance.randrange(256), 0))
+    files[name] = bytes(text)
+
+
+def headers(text: bytes) -> list[int]:
+    """The multiples of 32 in a file at which a header may be."""
+    return [at for at in range(0, len(text) - HEADER.size + 1, 32) if any(text[at : at + 4])]
+
+
+def rest_of_term(text: bytes, at: int) -> int:
+    """How many bytes there are from a header's term offset to the end of the term."""
+    return 65_536 - struct.unpack_from("<i", text, at + 8)[0] % 65_536
+
+
+def set_field(files: Files, name: str, chance: Random) -> None:
+    """Changes a field of a header in a file, mostly the length."""
+    text = bytearray(files[name])
+    for at in chance.sample(headers(text), min(1, len(headers(text)))):
+        offset, form = chance.choice(FIELDS)
+        known = struct.unpack_from(form, text, at + offset)[0]
+        values = chance.choice(NUMBERS), known + chance.choice((1, -1, 32, -32)), rest_of_term(text, at) + chance.choice((0, 32))
+        bits = 8 * struct.calcsize(form)
+        struct.pack_into(form, text, at + offset, (chance.choice(values) + 2 ** (bits - 1)) % 2**bits - 2 ** (bits - 1))
+    files[name] = bytes(text)
+
+
+def make_pad(files: Files, name: str, chance: Random) -> None:
+    """Changes a frame into a pad, which may go past the recorded position or past its term."""
+    text = bytearray(files[name])
+    for at in chance.sample(headers(text), min(1, len(headers(text)))):
+        rest = rest_of_term(text, at)
+        struct.pack_into("<i", text, at, chance.choice((32, 64, 96, rest, rest, rest - 32, rest + 32, rest + 65_536)))
+        struct.pack_into("<H", text, at + 6, PAD)
+    files[name] = bytes(text)
+
+
+def cut(files: Files, name: str, chance: Random) -> None:
+    """Cuts a file."""
+    files[name] = files[name][: chance.randint(0, len(files[name]))]
+
+
+def grow(files: Files, name: str, chance: Random) -> None:
+    """Appends bytes to a file."""
+    count = chance.choice((1, 31, 32, 64, 200))
+    files[name] += chance.choice((bytes(count), chance.randbytes(count), files[name][:count]))
+
+
+def swap(files: Files, name: str, chance: Random) -> None:
+    """Swaps the bytes of two files."""
+    other = chance.choice(sorted(files))
+    files[name], files[other] = files[other], files[name]
+
+
+def move_bytes(files: Files, name: str, chance: Random) -> None:
+    """Copies some bytes of a file over others."""
+    text = files[name]
+    length = min(len(text), 32 * chance.randint(1, 4))
+    begin, end = (chance.randint(0, len(text) - length) // 32 * 32 for _ in range(2))
+    files[name] = text[:begin] + text[end : end + length] + text[begin + length :]
+
+
+def copy_ahead(files: Files, name: str, chance: Random) -> None:
+    """Copies a segment file to a later base, if it has a base and no file is there."""
+    if match := segment_of(name):
+        files.setdefault(f"{match[1]}-{int(match[2]) + 65_536 * chance.randint(1, 3)}.rec", files[name])
+
+
+def lose(files: Files, name: str, chance: Random) -> None:
+    """Removes a file."""
+    del files[name]
+
+
+DAMAGES: list[Callable[[Files, str, Random], None]] = [
+    turn_bytes, turn_bytes, set_field, set_field, make_pad, make_pad, cut, grow, swap, move_bytes, copy_ahead, lose
+]  # fmt: skip
+
+
+def damage(files: Files, names: list[str], chance: Random) -> None:
+    """Damages files of these names, one to three times."""
+    for _ in range(chance.randint(1, 3)):
+        there = [name for name in names if name in files]
+        if there:
+            segments = {name: files.pop(name) for name in there}
+            chance.choice(DAMAGES)(segments, chance.choice(there), chance)
+            files.update(segments)
+
+
+def looks(script: Script, whole: Archive, chance: Random) -> None:
+    """Reads each recording, also from the boundaries that it had before the damage and from positions near them."""
+    script.ask("list 0 1024")
+    for number in sorted(script.archive.register.recordings):
+        known = whole.register.recordings.get(number)
+        found = random_lines.boundaries(whole, known) if known else []
+        others = [at + chance.choice((1, 32, -32)) for at in found[:: max(1, len(found) // 2)]]
+        script.look([*found[-8:], *(at for at in others if at >= 0)], number, chance)
+
+
+def truncation(script: Script, whole: Archive, chance: Random) -> list[str]:
+    """A line that truncates a stopped recording to a boundary that it had before the damage, if there is one."""
+    active = {known.number for known in script.archive.register.active()}
+    stopped = [known for known in whole.register.listed() if known.number not in active]
+    chosen = chance.sample(stopped, min(1, len(stopped)))
+    return [f"truncate {known.number} {chance.choice(random_lines.boundaries(whole, known))}" for known in chosen]
+
+
+def commands(script: Script, whole: Archive, chance: Random) -> None:
+    """Adds commands: a truncation, an extension, and then what chance gives."""
+    steps = truncation(script, whole, chance)
+    stopped = [known for known in script.archive.register.listed() if known.recorded < 2**31 * known.term_length]
+    if stopped:
+        steps.append(random_lines.extension(chance.choice(stopped), chance))
+    for line in steps:
+        script.ask(line)
+    for _ in range(COMMANDS):
+        steps = truncation(script, whole, chance) if chance.random() < 0.15 else []
+        for line in steps or random_lines.line(script.archive, chance):
+            script.ask(line)
+
+
+def same_state(folder: Path, archive: Archive) -> None:
+    """Compares the files of a folder with those of an archive."""
+    found = looked_at(files_of(folder))
+    expect("the segment files after the commands", sorted(found.files), sorted(archive.files))
+    for name, text in archive.files.items():
+        expect(f"{name} after the commands", found.files[name].hex(), text.hex())
+    expect("the state that the entries make after the commands", state(found), state(archive))
+
+
+def state(archive: Archive) -> tuple[dict[int, Recording], int, int]:
+    """The recordings, the next id and the count of the history."""
+    return archive.register.recordings, archive.register.next_id, archive.register.counted
+
+
+def tried(tool: Path, folder: Path, seed: int, is_active: bool) -> Counter[str]:
+    """Tries one folder. Returns its counts."""
+    chance = Random(seed)
+    whole = made(tool, folder, chance, is_active)
+    files = files_of(folder)
+    damage(files, sorted(files.keys() - set(BANKS)), chance)
+    write(folder, files)
+    look_only(tool, folder, files, "damaged")
+    if chance.random() < 0.5:
+        done = ended(tool, "verify", folder)
+        expect("verify", (done.returncode, done.stdout.decode(), done.stderr.decode()), verification(opened(files)))
+    script = Script(opened(files))
+    looks(script, whole, chance)
+    commands(script, whole, chance)
+    script.try_on(tool, folder, "damaged")
+    same_state(folder, script.archive)
+    again = Script(script.archive)
+    again.archive.reopen()
+    looks(again, whole, chance)
+    again.try_on(tool, folder, "a second process")
+    told = [told for _, answers in script.asked + again.asked for told in answers]
+    return Counter(folders=1, lines=len(script.asked + again.asked), damaged=sum("Damaged" in each for each in told))
+
+
+def part(tool: Path, work: Path, seed: int, begin: int, end: int) -> Counter[str]:
+    """Tries some of the folders."""
+    counted: Counter[str] = Counter()
+    folder = work / str(begin)
+    for number in range(begin, end):
+        folder.mkdir()
+        try:
+            counted += tried(tool, folder, seed * 1_000_003 + number, number % 2 == 0)
+        except Fault as fault:
+            raise Fault(f"folder {number} of seed {seed}, {folder}: {fault}") from fault
+        shutil.rmtree(folder)
+    return counted
+
+
+def main() -> int:
+    words = trial_words(__doc__)
+    words.add_argument("--folders", type=int, default=300)
+    words.add_argument("--jobs", type=int, default=os.cpu_count())
+    words.add_argument("--memory", type=int, default=512)
+    asked = words.parse_args()
+    tool = program(asked.program)
+    with room("/dev/shm") as work:
+        print(f"seed {asked.seed}, on {file_system(work)}", flush=True)
+        ranges = [(begin, min(begin + PART, asked.folders)) for begin in range(0, asked.folders, PART)]
+        counted = in_parts(part, [(tool, work, asked.seed, *each) for each in ranges], asked.jobs, asked.memory)
+    told = f"{counted['folders']} folders, {counted['lines']} lines, {counted['damaged']} of them answered by Damaged"
+    print(f"{told}: each answer is the reader's")
+    return 0
+
+
+if __name__ == "__main__":
+    conclude(main)

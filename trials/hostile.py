@@ -1,0 +1,376 @@
+#!/usr/bin/env python3
+"""Gives the program hostile banks, folders, lines and datagrams, and compares each answer with that of a reader of the documents.
+
+1. Banks: the bank that docs/STORAGE.md shows byte for byte, cut to each length, with each bit turned, and each byte set to some values.
+2. Folders: the files of an archive that random lines made, mutated: bits, header fields, cuts, growth, bytes copied inside a file, files
+   swapped, removed, added and taken from another archive.
+3. Lines: rows of the table of docs/CONTROL.md, mostly malformed. The reply has to be BadLine exactly if `readers/lines.py` finds no form.
+   Any other reply has to have the form of its row.
+4. Datagrams: blocks of a recording, mostly mutated, by `write`, `block`, `merge-live` and `merge-replay`.
+
+Each bank and folder is listed, verified, described, exported and replayed, and `frames` prints each segment file that changed. A look
+and a refused opening have to leave every byte as it was. An opening that stops a recording adds one Restart to the bank in use.
+`readers/` knows docs/STORAGE.md, docs/PROTOCOL.md and docs/CONTROL.md and nothing of the program. No command may crash, or take more
+than five minutes.
+
+Usage: trials/hostile.py [--seed S] [--folders N] [--lines N] [--datagrams N] [--jobs J] [--memory MB] [program]. --memory limits each
+address space; 0 sets no limit.
+"""
+import json
+import os
+import shutil
+import struct
+from collections import Counter
+from pathlib import Path
+from random import Random
+
+import bent_lines
+import random_lines
+from comparison import Files, Script, after_an_opening, ended, in_parts, look_only, write
+from damaged import cut, damage, grow, looks, made, make_pad, move_bytes, same_state, set_field, turn_bytes
+from readers.archive import Archive, files_of, looked_at, opened
+from readers.catalogue import BANKS, Catalogue, Recording, Refused, Register, read_banks
+from readers.lines import form_of
+from readers.segments import DATA, PAD, aligned, frames_of_file, segment_of, stale_files
+from tool import Fault, Stream, conclude, expect, file_system, program, room, trial_words
+
+# docs/STORAGE.md, "Banks, byte for byte", of both versions, and the frame that they settled.
+WORKED_BANKS = [
+    bytes.fromhex(
+        "01 01 0000 03000000 0100000000000000 00000000000000000000000000000000"
+        "01 01 3300 0000000000000000e8030000000000000000000000000000 2a000000000002000000010080050000 07000000e9030000 0100 63"
+        "01 02 1000 00000000000000004000000000000000 00"
+    ),
+    bytes.fromhex(
+        "01 02 0000 03000000 0100000000000000 00000000000000000000000000000000"
+        "01 01 3500 0000000000000000e8030000000000000000000000000000 2a000000000002000000010080050000 07000000e9030000 0100 63 0000"
+        "01 02 1000 00000000000000004000000000000000 00"
+    ),
+]
+WORKED_FILES = {
+    BANKS[0]: WORKED_BANKS[1],
+    BANKS[1]: b"\x00",
+    "0-0.rec": Stream(term_length=65_536, segment_length=131_072).message(0, b"hello").ljust(64, b"\x00"),
+}
+VALUES = 0, 2, 10, 127, 255  # that each byte of a worked bank is set to
+FORMS = 1 + 8 + len(VALUES)  # of a worked bank, for each of its bytes
+TERM = 2**31 - 2  # the initial term id of recordings and merges that get hostile datagrams: it soon wraps
+PART = 20  # folders that one worker tries in turn
+LINES_OF_PART = 1_000
+LONGEST_MESSAGE = 65_504  # bytes of a message in a datagram
+NEW_NAMES = "0-5.rec", "77-0.rec", "0-00.rec", "note", "1-9223372036854775807.rec", "2-9223372036854775808.rec"
+NOT_OPEN = "the archive is not open: lines that need it are Broken until reopen opens it"
+
+
+def try_run(tool: Path, folder: Path, files: Files, whole: Archive, chance: Random) -> str:
+    """Compares all lines that read an archive. Returns the refusal of its opening, or an empty text."""
+    try:
+        script = Script(opened(files))
+    except Refused as refused:
+        done = ended(tool, "run", folder, given=b"list 0 1024\nreopen\nverify 0\npurge\n")
+        told = done.returncode, done.stdout.decode(), done.stderr.decode()
+        right = f"error 16 Broken\n{refused}\nerror 16 Broken\nerror 22 BadLine\n"
+        expect("run", told, (0, right, f"{refused}\n{NOT_OPEN}\n"))
+        return str(refused)
+    looks(script, whole, chance)
+    script.ask("reopen")
+    script.ask("list 0 1024")
+    script.try_on(tool, folder, "run")
+    return ""
+
+
+def try_description(tool: Path, folder: Path, files: Files) -> None:
+    """Compares `describe --json`, without dates and without the reasons why files are stale."""
+    done = ended(tool, "describe", folder, "--json")
+    try:
+        known = read_banks(files.get)
+    except Refused as refused:
+        expect("describe", (done.returncode, done.stdout, done.stderr.decode()), (3 if " 15 " in str(refused) else 1, b"", f"{refused}\n"))
+        return
+    told = json.loads(done.stdout)
+    for each in told["recordings"]:
+        del each["started"], each["stopped"]
+    told["stale_files"] = [each["file"] for each in told["stale_files"]]
+    expect("describe", (done.returncode, told), (0, description(known, files)))
+
+
+def description(known: Catalogue, files: Files) -> dict[str, object]:
+    """The description of an archive: docs/CONTROL.md, "A page for people"."""
+    owners = {name: int(match[1]) for name in files if (match := segment_of(name))}
+    unknown = sorted(name for name in owners if owners[name] >= known.register.next_id)
+    return {
+        "recordings": [described(each, [files[name] for name in owners if owners[name] == each.number]) for each in known.register.listed()],
+        "stale_files": stale_files(known.register, files),
+        "unknown_files": sorted(unknown, key=lambda name: [int(number) for number in segment_of(name).groups()]),
+        "disk_bytes": sum(len(files[name]) for name in owners),
+        "segment_files": len(owners),
+        "history_entries": known.register.counted,
+        "history_limit": known.history_limit,
+        "catalogue_version": known.version,
+    }
+
+
+def described(known: Recording, segments: list[bytes]) -> dict[str, object]:
+    """The part of a description on one recording."""
+    return {
+        "recording": known.number,
+        "active": known.is_active,
+        "channel": known.channel.decode(),
+        "source_identity": known.source.decode(),
+        "stream_id": known.stream_id,
+        "session_id": known.session_id,
+        "start_timestamp": known.start_timestamp,
+        "stop_timestamp": known.stop_timestamp,
+        "start_position": known.start,
+        "recorded_position": known.recorded,
+        "recorded_bytes": known.recorded - known.start,
+        "disk_bytes": sum(map(len, segments)),
+        "segment_files": len(segments),
+        "initial_term_id": known.initial_term,
+        "term_length": known.term_length,
+        "segment_length": known.segment_length,
+        "mtu": known.mtu,
+    }
+
+
+def try_export(tool: Path, folder: Path, files: Files, capture: Path) -> None:
+    """Compares `export` of the first recording. A refused export leaves no capture file."""
+    try:
+        archive = looked_at(files)
+    except Refused:
+        return
+    for known in archive.register.listed()[:1]:
+        done = ended(tool, "export", folder, str(known.number), "--pcap", capture)
+        try:
+            right = sent(archive, known)
+        except Refused as refused:
+            expect("export", (done.returncode, done.stderr.decode(), capture.exists()), (3, f"{refused}\n", False))
+            continue
+        expect("export", (done.returncode, done.stdout, done.stderr), (0, b"exported\n", b""))
+        expect("what was exported", packets(capture.read_bytes()), right)
+        capture.unlink()
+
+
+def sent(archive: Archive, known: Recording) -> list[bytes]:
+    """What a capture holds of each frame: docs/PROTOCOL.md, "Captures"."""
+    found = []
+    for at, frame in archive.reader().frames(known, known.start, known.recorded):
+        if frame.kind != PAD and frame.length > LONGEST_MESSAGE:
+            raise Refused(f"error 15 Damaged {known.number} {at}")
+        text = frame.encoding()
+        found.append(text if frame.kind == PAD else text.ljust(aligned(len(text)), b"\x00"))
+    return found
+
+
+def packets(text: bytes) -> list[bytes]:
+    """The frames in the packets of a capture file."""
+    found, at = [], 24
+    while at < len(text):
+        length = struct.unpack_from("<I", text, at + 8)[0]
+        found.append(text[at + 16 + 28 : at + 16 + length])
+        at += 16 + length
+    return found
+
+
+def try_frames(tool: Path, folder: Path, name: str, text: bytes) -> None:
+    """Compares `frames` of a segment file."""
+    done = ended(tool, "frames", folder / name)
+    right = frames_of_file(text)
+    told = done.returncode, done.stdout.decode().splitlines()
+    expect(f"frames {name}", told, (3 if right[-1].startswith("error") else 0, right))
+
+
+def try_folder(tool: Path, folder: Path, files: Files, whole: Archive, chance: Random) -> str:
+    """Compares every command that reads a folder. Returns the refusal of its opening, or an empty text."""
+    write(folder, files)
+    look_only(tool, folder, files, "mutated")
+    try_description(tool, folder, files)
+    try_export(tool, folder, files, folder.with_suffix(".pcap"))
+    expect("the files after looks", files_of(folder), files)
+    refused = try_run(tool, folder, files, whole, chance)
+    expect("the files after an opening", files_of(folder), after_an_opening(files))
+    return refused
+
+
+def worked_bank(number: int) -> bytes:
+    """A form of a worked bank: first those of version 1, then those of version 2."""
+    before = FORMS * len(WORKED_BANKS[0])
+    return form(WORKED_BANKS[0], number) if number < before else form(WORKED_BANKS[1], number - before)
+
+
+def form(bank: bytes, number: int) -> bytes:
+    """A form of a bank. The first ones are its cuts, the next ones have one bit turned, the last ones one byte set."""
+    text = bytearray(bank)
+    size = len(text)
+    if number < size:
+        return bytes(text[:number])
+    if number < 9 * size:
+        at, bit = divmod(number - size, 8)
+        text[at] ^= 1 << bit
+    else:
+        value, at = divmod(number - 9 * size, size)
+        text[at] = VALUES[value]
+    return bytes(text)
+
+
+def try_banks(tool: Path, work: Path, seed: int, begin: int, end: int) -> Counter[str]:
+    """Tries some forms of the worked banks."""
+    whole, counted, chance = opened(WORKED_FILES), Counter[str](), Random(seed)
+    for number in range(begin, end):
+        folder = work / f"bank-{number}"
+        try:
+            refused = try_folder(tool, folder, {**WORKED_FILES, BANKS[0]: worked_bank(number)}, whole, chance)
+        except Fault as fault:
+            raise Fault(f"form {number} of the worked banks, {folder}: {fault}") from fault
+        counted["banks"] += 1
+        counted["refused banks"] += bool(refused)
+        shutil.rmtree(folder)
+    return counted
+
+
+def has_archive(files: Files) -> bool:
+    """Whether a folder has a file of an archive. If it has none, `run` makes a new archive in it."""
+    return any(name in BANKS or segment_of(name) for name in files)
+
+
+def mutated(files: Files, others: Files, chance: Random) -> Files:
+    """The files of an archive, some of them mutated or taken from another archive."""
+    before, files = files, dict(files)
+    while files == before or not has_archive(files):
+        if chance.random() < 0.2:
+            name = chance.choice(sorted(files | others))
+            files[name] = chance.choice((others.get(name, b""), files.get(name, b""), others[chance.choice(sorted(others))]))
+        if chance.random() < 0.1:
+            files[chance.choice(NEW_NAMES)] = b"x" * 40
+        names = sorted(files)
+        damage(files, chance.choice((names, names, list(BANKS))), chance)
+    return files
+
+
+def try_folders(tool: Path, work: Path, seed: int, begin: int, end: int) -> Counter[str]:
+    """Tries some of the folders, which are mutations of one archive."""
+    counted, chance = Counter[str](), Random(f"{seed} {begin}")
+    folder = work / f"folder-{begin}"
+    folder.mkdir()
+    made(tool, folder, chance, True)
+    others = files_of(folder)
+    write(folder, {})
+    whole = made(tool, folder, chance, chance.random() < 0.5)
+    good = files_of(folder)
+    for number in range(begin, end):
+        files = mutated(good, others, chance)
+        try:
+            counted["refused folders"] += bool(try_folder(tool, folder, files, whole, chance))
+            for name in sorted(files.keys() - set(BANKS)):
+                if files[name] != good.get(name):
+                    try_frames(tool, folder, name, files[name])
+                    counted["segment files"] += 1
+        except Fault as fault:
+            raise Fault(f"folder {number} of seed {seed}, {folder}: {fault}") from fault
+        counted["folders"] += 1
+    shutil.rmtree(folder)
+    return counted
+
+
+def try_lines(tool: Path, work: Path, seed: int, begin: int, end: int) -> Counter[str]:
+    """Tries some of the lines in one process, over memory or over a folder."""
+    chance = Random(f"{seed} {begin}")
+    lines = bent_lines.lines(chance, end - begin)
+    folder = work / f"lines-{begin}"
+    folder.mkdir()
+    over = [folder] if chance.random() < 0.5 else []
+    done = ended(tool, "run", *over, given=b"".join(line + b"\n" for line in lines))
+    try:
+        bent_lines.expect_replies(lines, done.stdout.decode().splitlines())
+    except Fault as fault:
+        (work / f"lines-{begin}.txt").write_bytes(b"\n".join(lines) + b"\n")
+        raise Fault(f"lines {begin} of seed {seed}, {work}/lines-{begin}.txt: {fault}") from fault
+    shutil.rmtree(folder)
+    return Counter({"lines": end - begin, "lines with a form": sum(form_of(line) is not None for line in lines)})
+
+
+def messages(known: Recording, position: int, length: int, count: int) -> bytes:
+    """Messages of a length, one after another."""
+    size = aligned(length)
+    each = (random_lines.frame(known, position + size * number, DATA, length, bytes(length - 32)) for number in range(count))
+    return b"".join(text.ljust(size, b"\x00") for text in each)
+
+
+def datagram(archive: Archive, chance: Random) -> bytes:
+    """A datagram of the first recording, at its next position or near the cursor of the merge, mostly mutated."""
+    known = archive.known(0)
+    next_one, cursor = archive.sessions[0].end, archive.merge.cursor
+    at = max(0, chance.choice((next_one, next_one, cursor, cursor, cursor + 32 * chance.randint(-2, 8), chance.randint(0, 99) * 32)))
+    text = random_lines.block(known, at, chance)
+    if chance.random() < 0.05:
+        text = messages(known, at, known.mtu + chance.choice((0, 1, 32, 4_000)), chance.randint(1, 3))
+    if chance.random() < 0.1:
+        text = random_lines.frame(known, at, DATA, 0) + text[: chance.choice((0, 0, 40))]
+    if chance.random() < 0.1:
+        text += random_lines.block(known, at + aligned(len(text)), chance)
+    files = {"": text}
+    for _ in range(chance.randint(0, 2)):
+        chance.choice((turn_bytes, set_field, set_field, make_pad, cut, grow, move_bytes))(files, "", chance)
+    return files[""] or b"\x00"
+
+
+def try_datagrams(tool: Path, work: Path, seed: int, begin: int, end: int) -> Counter[str]:
+    """Writes and merges some datagrams in one process."""
+    chance = Random(f"{seed} datagrams {begin}")
+    script = Script(Archive({}, Register(1)))
+    term_length = chance.choice((65_536, 131_072))
+    script.ask(f"start 1001 7 {TERM} {term_length} 1408 {chance.choice((131_072, 262_144))} 0 1000 c")
+    for count in (47, 46):  # 47 messages of the MTU's length cover more than a block may
+        script.ask(f"block 0 {messages(script.archive.known(0), 0, 1_408, count).hex()}")
+    for number in range(end - begin):
+        if number % 50 == 0:
+            script.ask(f"merge {TERM} {term_length} {chance.choice((0, 64, script.archive.sessions[0].end))}")
+        text = datagram(script.archive, chance).hex()
+        words = chance.choice((["write 0"], ["block 0"], ["block 0"], ["merge-live"], ["merge-replay"], ["merge-replay", "merge-live"]))
+        for word in words:
+            script.ask(f"{word} {text}")
+        if chance.random() < 0.4:
+            script.ask(chance.choice(("settle 0", "merge-take", "merge-take", "merge-state")))
+    folder = work / f"datagrams-{begin}"
+    folder.mkdir()
+    try:
+        script.try_on(tool, folder, "datagrams")
+        same_state(folder, script.archive)
+    except Fault as fault:
+        raise Fault(f"datagrams {begin} of seed {seed}, {folder}: {fault}") from fault
+    shutil.rmtree(folder)
+    refused = sum(answers[0].startswith("error") for _, answers in script.asked)
+    return Counter({"datagrams": end - begin, "refusals": refused})
+
+
+def ranges(count: int, part: int) -> list[tuple[int, int]]:
+    """The ranges of a part each that make up a count."""
+    return [(begin, min(begin + part, count)) for begin in range(0, count, part)]
+
+
+def main() -> int:
+    words = trial_words(__doc__)
+    words.add_argument("--folders", type=int, default=1_000)
+    words.add_argument("--lines", type=int, default=10_000)
+    words.add_argument("--datagrams", type=int, default=10_000)
+    words.add_argument("--jobs", type=int, default=os.cpu_count())
+    words.add_argument("--memory", type=int, default=512)
+    asked = words.parse_args()
+    tool = program(asked.program)
+    works = (
+        (try_banks, ranges(FORMS * sum(map(len, WORKED_BANKS)), 100)),
+        (try_folders, ranges(asked.folders, PART)),
+        (try_lines, ranges(asked.lines, LINES_OF_PART)),
+        (try_datagrams, ranges(asked.datagrams, LINES_OF_PART)),
+    )
+    with room("/dev/shm") as work:
+        print(f"seed {asked.seed}, on {file_system(work)}", flush=True)
+        for each, parts in works:
+            counted = in_parts(each, [(tool, work, asked.seed, *part) for part in parts], asked.jobs, asked.memory)
+            print(", ".join(f"{count} {what}" for what, count in counted.items()), flush=True)
+    print("each answer is the reader's")
+    return 0
+
+
+if __name__ == "__main__":
+    conclude(main)
