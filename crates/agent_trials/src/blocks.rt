@@ -1,6 +1,6 @@
 //! Recordings, their blocks and datagrams.
 
-use archive_model::{Channel, ExtendFields, StartFields};
+use archive_model::{Channel, ExtendFields, SourceIdentity, StartFields};
 use frame_core::{Block, Frame, FrameKind, Items, Setup};
 use std::alloc::{AllocError, Global};
 
@@ -30,6 +30,7 @@ pub(crate) fn fields(alloc: Global, term_length: i32) -> Result<StartFields, All
         start_position: 0,
         timestamp: 1_000,
         channel: Channel::new(String::from_str(alloc, "c")?),
+        source_identity: SourceIdentity::none(alloc),
     })
 }
 

@@ -5,13 +5,11 @@ ghost use mathlib.Core.List.{IsPrefix};
 
 use crossbeam_queue::protocol::{Join, Lesson, Outcome, Protocol, Split};
 use crossbeam_queue::{Pass, RuledArrayQueue};
+use frame_core::limits::MAX_WAITING_BLOCKS;
 use std::alloc::{AllocError, Global};
 use std::collections::LinkedList;
 use std::marker::Model;
 use std::sync::Wait;
-
-/// How many items wait at most.
-pub const MAX_WAITING: usize = 16;
 
 /// What an end knows: whether it puts and takes, and what it has put and taken. No value of it is made.
 pub struct Passed<T> {
@@ -150,7 +148,7 @@ impl<T> Handoff<T> {
     {
         let (queue, mut pass) = RuledArrayQueue::<T, Passed<T>, InOrder>::ruled(
             alloc,
-            MAX_WAITING,
+            MAX_WAITING_BLOCKS,
         )?;
         let other = queue.another::<Ends>(&mut pass);
         Ok((Handoff { queue }, Putter { pass }, Taker { pass: other }))

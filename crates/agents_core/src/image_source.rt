@@ -7,14 +7,12 @@ ghost use Rattle.agents_core.specs.ImageSource.{GivesFromImage, GivesNoBlock, Ha
 
 use crate::block_source::BlockSource;
 use crate::datagram_end::DatagramEnd;
+use frame_core::limits::LONGEST_DATAGRAM;
 use frame_core::{Block, Refusal};
 use image_core::Image;
 use std::alloc::Global;
 use std::marker::Model;
 use std::sync::Wait;
-
-/// How many bytes of a datagram are received at most: more than one can have.
-const LONGEST_DATAGRAM: usize = 65_536;
 
 /// The blocks of an image, to which the datagrams of an end are given. To a contract it is the image and the end.
 ///

@@ -20,7 +20,7 @@ pub use block_source::BlockSource;
 pub use datagram_end::DatagramEnd;
 pub use frame_sink::FrameSink;
 pub use gate::Gate;
-pub use handoff::{Handoff, MAX_WAITING, Putter, Taker};
+pub use handoff::{Handoff, Putter, Taker};
 pub use image_source::ImageSource;
 pub use item::Item;
 pub use receiver::Receiver;

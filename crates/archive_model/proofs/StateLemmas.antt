@@ -14,7 +14,7 @@ use Rattle.archive_model.specs.declared.command.Command.TheVariants.{Start, Appe
 use Rattle.archive_model.specs.declared.command.StartFields.{StartFields}
 use Rattle.archive_model.specs.declared.registration.Registration.{Registration}
 use Rattle.archive_model.specs.declared.registration.Change.TheVariants as changes
-use Rattle.archive_model.specs.Descriptor.{is_channel, is_in_range, is_layout, is_negative, is_start_position}
+use Rattle.archive_model.specs.Descriptor.{is_in_range, is_layout, is_negative, is_origin, is_start_position}
 use Rattle.archive_model.specs.Keyed.{find, change, without, Each, Rise}
 use Rattle.archive_model.specs.Register as register
 use Rattle.archive_model.specs.Register.{RegisterState, is_later_base, changed_by, registered}
@@ -159,7 +159,7 @@ from_zero (negsuc n) is = absurd (true≢false (sym is))
 
 pub kept_fresh : (id : ℤ) (f : StartFields) → is_in_range f ≡ true → IsKept (fresh id f)
 kept_fresh id f range =
-    let first : ((is_layout f && is_start_position f.start_position f.term_length) && not (is_negative f.timestamp) ≡ true) × (is_channel f.channel ≡ true) = both range in
+    let first : ((is_layout f && is_start_position f.start_position f.term_length) && not (is_negative f.timestamp) ≡ true) × (is_origin f.channel f.source_identity ≡ true) = both range in
     let second : (is_layout f && is_start_position f.start_position f.term_length ≡ true) × (not (is_negative f.timestamp) ≡ true) = both first.0 in
     let third : (is_layout f ≡ true) × (is_start_position f.start_position f.term_length ≡ true) = both second.0 in
     let lengths = layout_of f third.0 in
@@ -172,7 +172,7 @@ kept_fresh id f range =
       no_less = lengths.2;
       mtu = lengths.3;
       began = from_zero f.timestamp second.1;
-      channel = first.1;
+      origin = first.1;
       of_stream = tt;
       encodable = tt;
       contiguous = tt;
@@ -202,7 +202,7 @@ kept_appended r blocks kept next active = record {
   no_less = kept.no_less;
   mtu = kept.mtu;
   began = kept.began;
-  channel = kept.channel;
+  origin = kept.origin;
   of_stream = each_append (IsOfStream r.descriptor.stream_id) r.frames (frames_of blocks) kept.of_stream (blocks_of_stream (geometry_of r.descriptor) (publication_of r.descriptor) (recorded_position r) blocks next.1);
   encodable = encodable_append r.frames (frames_of blocks) kept.encodable (blocks_encodable (geometry_of r.descriptor) (publication_of r.descriptor) (recorded_position r) blocks next.1);
   contiguous =
@@ -221,7 +221,7 @@ kept_stopped timestamp r kept = record {
   no_less = kept.no_less;
   mtu = kept.mtu;
   began = kept.began;
-  channel = kept.channel;
+  origin = kept.origin;
   of_stream = kept.of_stream;
   encodable = kept.encodable;
   contiguous = kept.contiguous;
@@ -238,7 +238,7 @@ kept_extended session_id r kept = record {
   no_less = kept.no_less;
   mtu = kept.mtu;
   began = kept.began;
-  channel = kept.channel;
+  origin = kept.origin;
   of_stream = kept.of_stream;
   encodable = kept.encodable;
   contiguous = kept.contiguous;
@@ -257,7 +257,7 @@ kept_truncated r p kept cut =
       no_less = kept.no_less;
       mtu = kept.mtu;
       began = kept.began;
-      channel = kept.channel;
+      origin = kept.origin;
       of_stream = each_left (IsOfStream r.descriptor.stream_id) (ends_by p) r.descriptor.start_position r.frames kept.of_stream;
       encodable = left.encodable;
       contiguous = left.contiguous;
@@ -291,7 +291,7 @@ kept_purged r p kept base =
       no_less = kept.no_less;
       mtu = kept.mtu;
       began = kept.began;
-      channel = kept.channel;
+      origin = kept.origin;
       of_stream = each_left (IsOfStream r.descriptor.stream_id) (λ f. int_le p f.position) r.descriptor.start_position r.frames kept.of_stream;
       encodable = left.encodable;
       contiguous = left.contiguous;

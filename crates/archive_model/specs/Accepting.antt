@@ -49,7 +49,7 @@ Says s (PurgeSegments id position) said = said ≡ true
 Says s (PurgeRecording id) said = said ≡ true
 Says s Restart said = said ≡ true
 
--- a new recording's channel and the frames of an append are copied
+-- a new recording's channel and source and the frames of an append are copied
 abbrev pub takes_memory : Command → Bool
 takes_memory (Start f) = true
 takes_memory (Append id blocks) = true

@@ -1,7 +1,7 @@
 -- What must hold for a call to pass each check, and the refusals in the order of the checks. docs/CONTROL.md, "Refusals".
 use Rattle.std.specs.Prelude.{◌&&◌, ◌||◌, ◌++◌, not, ℤ, Bool, true, false, List, [], ◌∷◌, Option, Some, None, is_some, Result, Err, if◌then◌else◌}
 use Rattle.frame_core.specs.declared.refusal.Refusal.{Refusal}
-use Rattle.frame_core.specs.declared.refusal.Refusal.TheVariants.{UnknownRecording, ActiveRecording, NotActive, BadPosition, BadExtension, MaxRecordings, MaxReplays, ActiveReplay, UnknownReplay, BadParameter, HistoryFull, StaleSession, BadBlock, NeedSettle, Broken}
+use Rattle.frame_core.specs.declared.refusal.Refusal.TheVariants.{UnknownRecording, ActiveRecording, NotActive, BadPosition, BadExtension, MaxRecordings, MaxReplays, ActiveReplay, NeedCompact, UnknownReplay, BadParameter, HistoryFull, StaleSession, BadBlock, NeedSettle, Broken}
 use Rattle.archive_model.specs.declared.command.StartFields.{StartFields}
 use Rattle.archive_model.specs.declared.command.ExtendFields.{ExtendFields}
 use Rattle.archive_model.specs.declared.registration.Registration.{Registration}
@@ -17,7 +17,7 @@ abbrev pub block_checks : List Refusal
 block_checks = BadExtension ∷ BadBlock ∷ []
 
 abbrev pub last_checks : List Refusal
-last_checks = NeedSettle ∷ ActiveReplay ∷ MaxRecordings ∷ MaxReplays ∷ HistoryFull ∷ []
+last_checks = NeedSettle ∷ ActiveReplay ∷ MaxRecordings ∷ MaxReplays ∷ NeedCompact ∷ HistoryFull ∷ []
 
 abbrev pub checks : List Refusal
 checks = first_checks ++ block_checks ++ last_checks

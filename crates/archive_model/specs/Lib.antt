@@ -3,6 +3,7 @@ pub mod Keyed
 pub mod Numbered
 pub mod Register
 pub mod State
+pub mod Version
 pub mod Descriptor
 pub mod Replay
 pub mod Commands

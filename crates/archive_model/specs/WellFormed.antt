@@ -8,7 +8,7 @@ use Rattle.frame_core.specs.FrameEncoding.{IsAligned}
 use Rattle.frame_core.specs.Limits.{is_mtu, is_term_length}
 use Rattle.archive_model.specs.declared.command.Command.{Command}
 use Rattle.archive_model.specs.declared.command.Command.TheVariants.{PurgeRecording, Truncate}
-use Rattle.archive_model.specs.Descriptor.{is_channel, is_negative}
+use Rattle.archive_model.specs.Descriptor.{is_negative, is_origin}
 use Rattle.archive_model.specs.Keyed.{Each, Rise}
 use Rattle.archive_model.specs.State.{Recording, State, id_of, is_active, recorded_position}
 use Rattle.archive_model.specs.Acceptance.{BookState, book_after}
@@ -21,7 +21,7 @@ pub record IsOfStream (stream : ℤ) (f : Frame) : Type 0 where
   pub stream_is : f.stream_id ≡ stream
 
 -- The frames of a recording are of its stream, have encodings and go without a gap from its start, a multiple of 32, each
--- inside its term; its terms and segments have lengths in their limits, and so have its MTU and its channel; it began at a
+-- inside its term; its terms and segments have lengths in their limits, and so have its MTU, its channel and its source; it began at a
 -- time from 0 on; where it isn't active it stopped at its recorded position. It starts at most 2^31 terms into the stream: a
 -- new one before that, and a purge may leave one that starts there, where the stream ends.
 pub record IsKept (r : Recording) : Type 0 where
@@ -33,7 +33,7 @@ pub record IsKept (r : Recording) : Type 0 where
   pub no_less : r.descriptor.term_length ≤ℤ r.descriptor.segment_length
   pub mtu : is_mtu r.descriptor.mtu ≡ true
   pub began : is_negative r.descriptor.start_timestamp ≡ false
-  pub channel : is_channel r.descriptor.channel ≡ true
+  pub origin : is_origin r.descriptor.channel r.descriptor.source_identity ≡ true
   pub of_stream : Each (IsOfStream r.descriptor.stream_id) r.frames
   pub encodable : AreEncodable r.frames
   pub contiguous : IsContiguous r

@@ -3,6 +3,7 @@
 ghost use Rattle.std.specs.Prelude.{◌≡◌, IfOk};
 
 use crate::channel::Channel;
+use crate::source::SourceIdentity;
 use frame_core::{Block, Items};
 use std::alloc::{AllocError, Global};
 
@@ -27,10 +28,12 @@ pub struct StartFields {
     pub timestamp: i64,
     /// Where the stream comes from.
     pub channel: Channel,
+    /// Who sends it, or the empty source.
+    pub source_identity: SourceIdentity,
 }
 
 impl StartFields {
-    /// A copy. Costs the channel's length.
+    /// A copy. Costs the lengths of its channel and source.
     pub fn copy(&self, alloc: Global) -> Result<StartFields, AllocError>
         ensures { IfOk result (λ copy. copy ≡ self.now) }
     {
@@ -44,6 +47,7 @@ impl StartFields {
             start_position: self.start_position,
             timestamp: self.timestamp,
             channel: self.channel.copy(alloc)?,
+            source_identity: self.source_identity.copy(alloc)?,
         })
     }
 }

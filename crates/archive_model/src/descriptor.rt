@@ -3,6 +3,7 @@
 ghost use Rattle.std.specs.Prelude.{◌≡◌, IfOk};
 
 use crate::channel::Channel;
+use crate::source::SourceIdentity;
 use std::alloc::{AllocError, Global};
 
 /// A recording's descriptor: Aeron Archive documentation, "Recording descriptor"; docs/CONTROL.md, "Recordings".
@@ -32,10 +33,12 @@ pub struct Descriptor {
     pub stream_id: i32,
     /// Where the stream comes from.
     pub channel: Channel,
+    /// Who sends it, or the empty source.
+    pub source_identity: SourceIdentity,
 }
 
 impl Descriptor {
-    /// A copy. Costs the channel's length.
+    /// A copy. Costs the lengths of its channel and source.
     pub fn copy(&self, alloc: Global) -> Result<Descriptor, AllocError>
         ensures { IfOk result (λ copy. copy ≡ self.now) }
     {
@@ -52,6 +55,7 @@ impl Descriptor {
             session_id: self.session_id,
             stream_id: self.stream_id,
             channel: self.channel.copy(alloc)?,
+            source_identity: self.source_identity.copy(alloc)?,
         })
     }
 }

@@ -10,13 +10,17 @@ mod range;
 mod register;
 mod registration;
 mod reply;
+mod source;
 mod stream;
+mod version;
 
 pub use channel::Channel;
 pub use command::{Command, ExtendFields, StartFields};
 pub use descriptor::Descriptor;
 pub use numbered::{Numbered, index_of};
-pub use range::{is_channel, may_begin_at};
+pub use range::{is_origin, may_begin_at};
 pub use register::Register;
 pub use registration::{Change, Registration};
 pub use reply::{PolledFrame, Reply};
+pub use source::SourceIdentity;
+pub use version::BankVersion;

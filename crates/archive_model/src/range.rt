@@ -3,14 +3,15 @@
 ghost use Rattle.std.specs.Prelude.{◌≡◌, ◌≤ℤ◌, ◌<ℤ◌, ◌*ℤ◌, pos, IsTrue, ◌==◌, ◌%◌, ◌*◌, ◌^◌, ◌&&◌, ℕ, int_le, nat_lt, not, unsigned_abs, chars};
 ghost use Rattle.std.specs.List.{list_any};
 ghost use Rattle.std.specs.Char.{is_control};
-ghost use Rattle.archive_model.specs.Descriptor.{is_channel, is_in_range, is_layout, is_negative, is_start_position, may_begin_at};
+ghost use Rattle.archive_model.specs.Descriptor.{is_blank, is_channel, is_in_range, is_layout, is_negative, is_origin, is_source, is_start_position, may_begin_at};
 
 use crate::channel::Channel;
 use crate::command::StartFields;
-use frame_core::limits::{MAX_CHANNEL_LENGTH, is_mtu, is_term_length};
+use crate::source::SourceIdentity;
+use frame_core::limits::{MAX_CHANNEL_LENGTH, MAX_SOURCE_LENGTH, is_mtu, is_term_length};
 
 impl StartFields {
-    /// Whether each field is one that a recording may have. Costs the channel's length.
+    /// Whether each field is one that a recording may have. Costs the lengths of its channel and source.
     pub fn is_in_range(&self) -> bool
         ensures range { result ≡ is_in_range self.now }
         ensures start { IsTrue result → pos 0 ≤ℤ self.now.start_position }
@@ -24,7 +25,7 @@ impl StartFields {
         if self.timestamp < 0 {
             return false;
         }
-        is_channel(&self.channel)
+        is_origin(&self.channel, &self.source_identity)
     }
 }
 
@@ -76,9 +77,16 @@ fn is_start(position: &i64, term_length: &i32) -> bool
     position < 0x8000_0000 * term_length.unsigned_abs() as u64
 }
 
+/// Whether a channel and a source are within their limits: docs/CONTROL.md, "Limits". Costs their lengths.
+pub fn is_origin(channel: &Channel, source: &SourceIdentity) -> bool
+    ensures { result ≡ is_origin channel.now source.now }
+{
+    is_channel(channel) && is_source(source)
+}
+
 /// Whether a text is a channel: docs/CONTROL.md, "Limits". Costs the text.
 #[tactic(auto, unfolding(crate::specs::Descriptor::is_channel))]
-pub fn is_channel(channel: &Channel) -> bool
+fn is_channel(channel: &Channel) -> bool
     ensures { result ≡ is_channel channel.now }
 {
     let text = channel.as_str();
@@ -96,4 +104,23 @@ fn has_control(text: &str) -> bool
     ensures { result ≡ list_any is_control (chars text.now) }
 {
     text.chars().any(|c| c.is_control())
+}
+
+/// Whether a text is a source: docs/CONTROL.md, "Limits". Costs the text.
+#[tactic(auto, unfolding(crate::specs::Descriptor::is_source))]
+fn is_source(source: &SourceIdentity) -> bool
+    ensures { result ≡ is_source source.now }
+{
+    let text = source.as_str();
+    if text.len() > MAX_SOURCE_LENGTH {
+        return false;
+    }
+    !has_blank(text)
+}
+
+/// Whether a text has a blank or a control character.
+fn has_blank(text: &str) -> bool
+    ensures { result ≡ list_any is_blank (chars text.now) }
+{
+    text.chars().any(|c| c == ' ' || c.is_control())
 }

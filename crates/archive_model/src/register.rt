@@ -211,7 +211,7 @@ impl Register {
 
 impl Register {
     /// A copy: the same recordings and the same next id. `NoMemory` where there is none for them. Costs the
-    /// channels' lengths.
+    /// channels' and sources' lengths.
     pub fn copy(&self, alloc: Global) -> Result<Register, Refusal>
         ensures same { IfOk result (λ copy. copy.state ≡ self.now.state) }
         ensures err { IfErr result (λ refusal. refusal ≡ NoMemory) }

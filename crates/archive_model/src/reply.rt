@@ -1,6 +1,7 @@
 //! What the archive answers to an accepted call. docs/CONTROL.md, "Lines".
 
 use crate::descriptor::Descriptor;
+use crate::source::SourceIdentity;
 use frame_core::{Frame, Items};
 
 /// A frame that a replay gives, and where it lies.
@@ -70,6 +71,8 @@ pub enum Reply {
         /// Its stop position, or -1 while it is active.
         stop: i64,
     },
+    /// Who sends a recording's stream.
+    Source(SourceIdentity),
     /// A replay is open.
     ReplayOpened {
         /// Its number.

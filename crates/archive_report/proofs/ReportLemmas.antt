@@ -151,8 +151,8 @@ module _ {D : Type 0} (life : D → Life) where
   no_look view = record { inside = unread (inner life view); desk = refl }
 
 -- the catalogue that was read again
-pub read_again : {D : Type 0} (life : D → Life) (old new : ReadOnly D) (total epoch : ℕ) (result : Result Bool Refusal)
-    → MatchResult result (λ moved. Looks life (λ image. TellsMoved image total epoch moved) old new) (λ refusal. Refuses life (λ image. RefusesCatalogue image refusal) old new refusal)
+pub read_again : {D : Type 0} (life : D → Life) (old new : ReadOnly D) (counted epoch : ℕ) (result : Result Bool Refusal)
+    → MatchResult result (λ moved. Looks life (λ image. TellsMoved image counted epoch moved) old new) (λ refusal. Refuses life (λ image. RefusesCatalogue image refusal) old new refusal)
     → IsOnlyRead (life (disk_of old)) (life (disk_of new))
-read_again life old new total epoch (Ok moved) looks = looks.inside
-read_again life old new total epoch (Err refusal) refuses = refuses.look.inside
+read_again life old new counted epoch (Ok moved) looks = looks.inside
+read_again life old new counted epoch (Err refusal) refuses = refuses.look.inside

@@ -3,3 +3,6 @@ pub mod Viewing
 pub mod Verifying
 pub mod Describing
 pub mod Exported
+-- words of archive_view that clauses here cite
+pub use Rattle.archive_view.specs.ReadOnly
+pub use Rattle.archive_view.specs.declared.view.ArchiveView

@@ -20,9 +20,9 @@ use Rattle.archive_view.specs.Viewed.{desk_of, read_of}
 -- A disk was only read, and the desk is that of its catalogue, if it obeys the crash model.
 pub record ShowsDesk (old new : Life) (desk : DeskState) : Type 0 where
   pub inside : IsOnlyRead old new
-  pub total : ℕ
+  pub counted : ℕ
   pub epoch : ℕ
-  pub seen : IsTrue new.obeys → IsAsCatalogued (reads old.now) desk total epoch
+  pub seen : IsTrue new.obeys → IsAsCatalogued (reads old.now) desk counted epoch
 
 -- a disk was only read, and its catalogue is refused so
 pub record RefusesDesk (old new : Life) (Why : Type 0) : Type 0 where

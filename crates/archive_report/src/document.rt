@@ -2,6 +2,7 @@
 
 use crate::dates::Date;
 use crate::summary::{Staleness, Summary, recorded_bytes};
+use crate::version::version_number;
 use archive_model::Registration;
 use control_core::Desk;
 use serde_json::{Value, json};
@@ -23,6 +24,7 @@ pub(crate) fn document_of(
         "unknown_files": unknown,
         "history_entries": desk.counted(),
         "history_limit": desk.limit(),
+        "catalogue_version": version_number(desk.version()),
         "disk_bytes": total.bytes,
         "segment_files": total.files
     })?;
@@ -56,6 +58,7 @@ fn recording_of(
         "channel": found.channel.as_str(),
         "stream_id": found.stream_id,
         "session_id": found.session_id,
+        "source_identity": found.source_identity.as_str(),
         "started": started,
         "stopped": stopped,
         "start_timestamp": found.start_timestamp,

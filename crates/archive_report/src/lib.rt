@@ -10,6 +10,7 @@ mod page;
 mod progress;
 mod summary;
 mod verify;
+mod version;
 mod viewing;
 
 pub use describe::{Form, describe_archive};

@@ -2,6 +2,7 @@
 
 use crate::dates::Date;
 use crate::summary::{Staleness, Summary, recorded_bytes};
+use crate::version::version_number;
 use archive_model::Registration;
 use control_core::Desk;
 use std::alloc::{AllocError, Global};
@@ -36,8 +37,17 @@ fn add_stream(known: &Registration, page: &mut String) -> Result<(), AllocError>
     writeln!(page, "  channel    {}", found.channel.as_str())?;
     writeln!(page, "  stream     {}", found.stream_id)?;
     writeln!(page, "  session    {}", found.session_id)?;
+    add_source(found.source_identity.as_str(), page)?;
     writeln!(page, "  started    {}", Date(found.start_timestamp))?;
     writeln!(page, "  stopped    {}", Date(found.stop_timestamp))
+}
+
+/// Who sends it, if that is known.
+fn add_source(source: &str, page: &mut String) -> Result<(), AllocError> {
+    if source.is_empty() {
+        return Ok(());
+    }
+    writeln!(page, "  source     {source}")
 }
 
 /// How much of it is recorded, and in which files.
@@ -67,7 +77,7 @@ fn add_extent(
     writeln!(page)
 }
 
-/// The totals, and how much of the history is used.
+/// The totals, how much of the history is used, and the catalogue's version.
 fn add_totals(desk: &Desk, summary: &Summary, page: &mut String) -> Result<(), AllocError> {
     let total = summary.of_all();
     let recordings = desk.recordings().len();
@@ -86,5 +96,10 @@ fn add_totals(desk: &Desk, summary: &Summary, page: &mut String) -> Result<(), A
         "history    {} of {} entries",
         desk.counted(),
         desk.limit()
+    )?;
+    writeln!(
+        page,
+        "catalogue  version {}",
+        version_number(desk.version())
     )
 }

@@ -8,13 +8,15 @@ use Rattle.disk_core.specs.declared.file_id.FileId.{FileId}
 use Rattle.disk_core.specs.DiskImage.{DiskImage, Files, LeavesFile, MayLeave, begun, reads}
 use Rattle.disk_core.specs.Life.{AnyLeaves, HasFailed, IsQuiet, LeavesOnly, Life, moment, moments}
 use Rattle.disk_core.proofs.CallerLemmas.{durable_left, goes_quiet, started}
+use Rattle.archive_model.specs.declared.version.BankVersion.{BankVersion}
 use Rattle.archive_model.specs.declared.registration.Registration.{Registration}
 use Rattle.archive_model.specs.Register.{RegisterState, no_recordings}
 use Rattle.archive_model.specs.State.{geometry_of}
 use Rattle.catalogue_entries.specs.declared.entry.Entry.{Entry}
-use Rattle.catalogue_log.specs.Catalogue.{IsCatalogue, KeepsReads, RefusesCatalogue}
+use Rattle.catalogue_log.specs.Catalogue.{KeepsReads, RefusesCatalogue}
 use Rattle.catalogue_entries.specs.Fold.{after_entries, counts}
-use Rattle.catalogue_log.specs.LogState.{IsAtRest, LogState}
+use Rattle.catalogue_log.specs.LogState.{IsAtRest, IsLogIn, LogState}
+use Rattle.catalogue_log.proofs.CallerLemmas.{log_catalogue}
 use Rattle.control_core.specs.Desk.{DeskState, opened_desk}
 use Rattle.engine_core.specs.Reading.{RefusesCount}
 use Rattle.archive_view.specs.declared.read_only.ReadOnly.{ReadOnly}
@@ -96,11 +98,14 @@ quiet_read old new refused more stays quiet =
     only_read old new refused more stays (λ file. ap (λ (files : Files). reads files file) quiet.now) quiet.obeyed
     (goes_quiet seen seen (read_life new more) (MayLeave seen.now) (started seen (MayLeave seen.now) (λ image left. left)) quiet)
 
--- a desk that was opened is of its register, its counts and its limit
-same_desk : (g h : RegisterState) (counted more limit most : ℕ) → g ≡ h → counted ≡ more
-    → limit ≡ most → opened_desk g counted limit ≡ opened_desk h more most
-same_desk g h counted more limit most one two three =
-    ap (λ (r : RegisterState). opened_desk r counted limit) one ∙ ap (λ (n : ℕ). opened_desk h n limit) two ∙ ap (λ (n : ℕ). opened_desk h more n) three
+-- a desk that was opened is of its register, its counts, its limit and its version
+same_desk : (g h : RegisterState) (counted more limit most : ℕ) (version w : BankVersion) → g ≡ h → counted ≡ more → limit ≡ most → version ≡ w
+    → opened_desk g counted limit version ≡ opened_desk h more most w
+same_desk g h counted more limit most version w one two three four =
+    ap (λ (r : RegisterState). opened_desk r counted limit version) one
+    ∙ ap (λ (n : ℕ). opened_desk h n limit version) two
+    ∙ ap (λ (n : ℕ). opened_desk h more n version) three
+    ∙ ap (λ (v : BankVersion). opened_desk h more most v) four
 
 module _ {D : Type 0} (life : D → Life) where
   -- a catalogue was read
@@ -118,27 +123,19 @@ module _ {D : Type 0} (life : D → Life) where
       → (refusal ≡ DeviceFault → HasFailed (life_of life old) (life_of life new)) → Refuses life (λ image. RefusesCatalogue image refusal) old new refusal
   refused_read old new refusal stays kept only refused cause = record { look = catalogue_read old new (λ image. RefusesCatalogue image refusal) stays kept only refused; cause = cause }
 
-  -- there was no memory for its recordings
-  pub unread : (old new : ReadOnly D) (refusal : Refusal) → MayLeave (life old.disk).now (reads (life old.disk).now) → KeepsReads (life_of life old) (life_of life new)
-      → LeavesOnly (life_of life old) (life_of life new) (MayLeave (life_of life old).now) → refusal ≡ NoMemory → Refuses life (λ image. RefusesCatalogue image refusal) old new refusal
-  unread old new refusal stays kept only is =
-      subst (λ (r : Refusal). Refuses life (λ image. RefusesCatalogue image r) old new r) (sym is) (refused_read old new NoMemory stays kept only (λ obeys. tt) (λ fault. absurd (differ fault)))
-    where
-      differ : NoMemory ≡ DeviceFault → ⊥
-      differ e = cc
-
   -- it gave a desk
-  pub desk_read : (old new : ReadOnly D) (log : LogState) (entries : List Entry) (register : RegisterState) (desk : DeskState) (counted limit total epoch : ℕ)
+  pub desk_read : (old new : ReadOnly D) (log : LogState) (entries : List Entry) (register : RegisterState) (desk : DeskState) (counted limit epoch : ℕ) (version : BankVersion)
       → MayLeave (life old.disk).now (reads (life old.disk).now) → KeepsReads (life_of life old) (life_of life new) → LeavesOnly (life_of life old) (life_of life new) (MayLeave (life_of life old).now)
-      → (IsTrue (life new.disk).obeys → IsCatalogue (reads (life old.disk).now) log.header entries) → (IsTrue (life new.disk).obeys → IsAtRest (life_of life new).now log entries)
-      → register ≡ after_entries no_recordings entries → desk ≡ opened_desk register counted limit → counted ≡ log.counted → limit ≡ log.header.history_limit → total ≡ length entries → epoch ≡ log.header.epoch
-      → Looks life (λ image. IsAsCatalogued image desk total epoch) old new
-  desk_read old new log entries register desk counted limit total epoch stays kept only found rests made is counted_is limit_is total_is epoch_is = catalogue_read old new _ stays kept only (λ obeys. record {
+      → (IsTrue (life new.disk).obeys → IsLogIn (reads (life old.disk).now) log entries) → (IsTrue (life new.disk).obeys → IsAtRest (life_of life new).now log entries)
+      → register ≡ after_entries no_recordings entries → desk ≡ opened_desk register counted limit version → counted ≡ log.counted → limit ≡ log.header.history_limit → version ≡ log.header.version → epoch ≡ log.header.epoch
+      → Looks life (λ image. IsAsCatalogued image desk counted epoch) old new
+  desk_read old new log entries register desk counted limit epoch version stays kept only found rests made is counted_is limit_is version_is epoch_is = catalogue_read old new _ stays kept only (λ obeys. record {
     header = log.header;
     entries = entries;
-    catalogue = found obeys;
-    is = is ∙ same_desk register (after_entries no_recordings entries) counted (count_by counts entries) limit log.header.history_limit made (counted_is ∙ (rests obeys).is_log.counted) limit_is;
-    entries_are = total_is;
+    catalogue = log_catalogue (reads (life old.disk).now) log entries (found obeys);
+    is = is ∙ same_desk register (after_entries no_recordings entries) counted (count_by counts entries) limit log.header.history_limit version log.header.version made
+        (counted_is ∙ (rests obeys).is_log.counted) limit_is version_is;
+    counted_are = counted_is ∙ (rests obeys).is_log.counted;
     epoch_is = epoch_is;
   })
 

@@ -15,22 +15,22 @@ use Rattle.catalogue_entries.specs.Fold.{after_entries, counts}
 use Rattle.control_core.specs.Desk.{DeskState, opened_desk}
 use Rattle.engine_core.specs.Recovery.{layout_of}
 
--- The desk is that of the image's catalogue, with the recordings as its entries leave them: an active one is active. The
--- catalogue has so many entries, and this epoch.
-pub record IsAsCatalogued (image : DiskImage) (desk : DeskState) (total epoch : ℕ) : Type 0 where
+-- The desk is that of the image's catalogue, with the recordings as its entries leave them: an active one is active. So many
+-- of its entries count, and it has this epoch.
+pub record IsAsCatalogued (image : DiskImage) (desk : DeskState) (counted epoch : ℕ) : Type 0 where
   pub header : BankHeader
   pub entries : List Entry
   pub catalogue : IsCatalogue image header entries
-  pub is : desk ≡ opened_desk (after_entries no_recordings entries) (count_by counts entries) header.history_limit
-  pub entries_are : total ≡ length entries
+  pub is : desk ≡ opened_desk (after_entries no_recordings entries) (count_by counts entries) header.history_limit header.version
+  pub counted_are : counted ≡ count_by counts entries
   pub epoch_is : epoch ≡ header.epoch
 
--- whether the image's catalogue has another number of entries than this, or another epoch
-pub record TellsMoved (image : DiskImage) (total epoch : ℕ) (moved : Bool) : Type 0 where
+-- whether another number of entries counts in the image's catalogue than this, or it has another epoch
+pub record TellsMoved (image : DiskImage) (counted epoch : ℕ) (moved : Bool) : Type 0 where
   pub header : BankHeader
   pub entries : List Entry
   pub catalogue : IsCatalogue image header entries
-  pub is : moved ≡ not (length entries == total) || not (header.epoch == epoch)
+  pub is : moved ≡ not (count_by counts entries == counted) || not (header.epoch == epoch)
 
 -- The frames of a recording are shown from its start to its recorded position, one after another, and are so many.
 pub record HasFrames (image : DiskImage) (g : Registration) (count : ℤ) : Type 0 where

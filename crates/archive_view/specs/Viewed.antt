@@ -13,9 +13,9 @@ module _ {D : Type 0} where
   abbrev pub desk_of : ArchiveView D → DeskState
   desk_of view = view.desk.state
 
-  -- how many entries its catalogue has, and its epoch
-  abbrev pub total_of : ArchiveView D → ℕ
-  total_of view = view.total
+  -- how many entries of its catalogue count, and its epoch
+  abbrev pub counted_of : ArchiveView D → ℕ
+  counted_of view = view.counted
 
   abbrev pub epoch_of : ArchiveView D → ℕ
   epoch_of view = view.epoch

@@ -1,13 +1,13 @@
 //! An archive as it stands: docs/STORAGE.md, "Looking at an archive".
 
-ghost use Rattle.std.specs.Prelude.{◌≡◌, ◌⊎◌, ℕ, IfErr, IfOk, IsErrOf, IsTrue, MatchResult, length};
+ghost use Rattle.std.specs.Prelude.{◌≡◌, ◌⊎◌, ℕ, IfErr, IfOk, IsErrOf, IsTrue, MatchResult};
 ghost use Rattle.frame_core.specs.declared.refusal.Refusal.TheVariants.{DeviceFault};
 ghost use Rattle.catalogue_log.specs.Catalogue.{RefusesCatalogue};
 ghost use Rattle.archive_view.specs.View.{IsAsCatalogued, TellsMoved};
 ghost use Rattle.archive_view.specs.ReadOnly.{Looks, Refuses};
 
 use crate::ReadOnly;
-use catalogue_log::register_from;
+use catalogue_log::open_register;
 use control_core::Desk;
 use disk_core::Disk;
 use engine_core::laws::admitted_entries_make_laid_recordings;
@@ -19,8 +19,8 @@ use std::alloc::Global;
 pub struct ArchiveView<D> {
     pub(crate) disk: ReadOnly<D>,
     pub(crate) desk: Desk,
-    // How many entries its catalogue had, and its bank's epoch.
-    pub(crate) total: usize,
+    // How many entries of its catalogue counted, and its bank's epoch.
+    pub(crate) counted: usize,
     pub(crate) epoch: u64,
 }
 
@@ -37,30 +37,36 @@ pub struct ViewRefusal<D> {
 #[derive(Drop)]
 struct Catalogued {
     desk: Desk,
-    total: usize,
+    counted: usize,
     epoch: u64,
 }
 
 impl<D: Disk> ArchiveView<D> {
     ghost use Rattle.archive_view.specs.ReadOnly.{Looks, Refuses};
-    ghost use Rattle.archive_view.specs.Viewed.{desk_of, epoch_of, read_of, total_of};
+    ghost use Rattle.archive_view.specs.Viewed.{desk_of, epoch_of, read_of, counted_of};
 
     /// The archive of a disk as it stands: what its catalogue's entries make, with no recording stopped.
     ///
     /// `NotCatalogue`, `NewerVersion` and `Damaged` as `catalogue_log::open`; `DeviceFault`; `NoMemory`. The disk is only
     /// read, and comes back. docs/STORAGE.md, "Looking at an archive". Costs a call of the disk for each 64 KiB of the
-    /// catalogue, and the memory of the entries and the recordings.
+    /// catalogue, and the memory of the recordings: none for the entries.
     pub fn open(alloc: Global, disk: ReadOnly<D>) -> Result<ArchiveView<D>, ViewRefusal<D>>
         ensures { MatchResult result
-            (λ view. Looks D.life (λ image. IsAsCatalogued image (desk_of view) (total_of view) (epoch_of view)) disk (read_of view))
+            (λ view. Looks D.life (λ image. IsAsCatalogued image (desk_of view) (counted_of view) (epoch_of view)) disk (read_of view))
             (λ refused. Refuses D.life (λ image. RefusesCatalogue image refused.refusal) disk refused.disk refused.refusal) }
     {
         let mut disk = disk;
         match catalogue_of(alloc, &mut disk) {
-            Ok(Catalogued { desk, total, epoch }) => Ok(ArchiveView {
+            Ok(
+                Catalogued {
+                    desk,
+                    counted,
+                    epoch,
+                },
+            ) => Ok(ArchiveView {
                 disk,
                 desk,
-                total,
+                counted,
                 epoch,
             }),
             Err(refusal) => Err(ViewRefusal { refusal, disk }),
@@ -74,18 +80,19 @@ impl<D: Disk> ArchiveView<D> {
         &self.desk
     }
 
-    /// Whether the catalogue has other entries by now, as it may over a folder that another process writes: then what was
-    /// read of the files since may be of no moment at all.
+    /// Whether the catalogue by now counts other entries than those that were read, as it may if another process writes the
+    /// folder: then what was read of the files since may be of no moment at all. A restart is an entry that does not count,
+    /// and takes no frame away.
     ///
     /// The refusals of `open`. The disk is only read. Costs what `open` costs.
     pub fn has_moved(&mut self, alloc: Global) -> Result<bool, Refusal>
         ensures told { MatchResult result
-            (λ moved. Looks D.life (λ image. TellsMoved image (total_of self.old) (epoch_of self.old) moved) (read_of self.old) (read_of self.new))
+            (λ moved. Looks D.life (λ image. TellsMoved image (counted_of self.old) (epoch_of self.old) moved) (read_of self.old) (read_of self.new))
             (λ refusal. Refuses D.life (λ image. RefusesCatalogue image refusal) (read_of self.old) (read_of self.new) refusal) }
         ensures desk { desk_of self.new ≡ desk_of self.old }
     {
         let found = catalogue_of(alloc, &mut self.disk)?;
-        Ok(found.total != self.total || found.epoch != self.epoch)
+        Ok(found.counted != self.counted || found.epoch != self.epoch)
     }
 
     /// The disk, which was only read.
@@ -99,16 +106,16 @@ impl<D: Disk> ArchiveView<D> {
 /// What the catalogue of a disk gives, which is only read.
 fn catalogue_of<D: Disk>(alloc: Global, disk: &mut ReadOnly<D>) -> Result<Catalogued, Refusal>
     ensures found { IfOk result (λ found. Looks D.life (λ image.
-        IsAsCatalogued image found.desk.state found.total found.epoch) disk.old disk.new) }
+        IsAsCatalogued image found.desk.state found.counted found.epoch) disk.old disk.new) }
     ensures refused { IfErr result (λ refusal.
         Refuses D.life (λ image. RefusesCatalogue image refusal) disk.old disk.new refusal) }
 {
     admitted_entries_make_laid_recordings();
-    let (log, entries) = catalogue_log::open(alloc, disk)?;
-    let register = register_from(alloc, &entries)?;
+    let (log, register) = open_register(alloc, disk)?;
+    let counted = log.counted();
     Ok(Catalogued {
-        desk: Desk::opened(alloc, register, log.counted() as u64, log.limit()),
-        total: entries.len(),
+        desk: Desk::opened(alloc, register, counted as u64, log.limit(), log.version()),
+        counted,
         epoch: log.epoch(),
     })
 }

@@ -180,7 +180,7 @@ fn help(rt: HostRuntime) -> Result<(), Fail> {
         (
             "archive_tool --version",
             ErrorKind::DisplayVersion,
-            "archive_tool 0.1.0 (catalogue 1, rattle-kit-",
+            "archive_tool 0.1.0 (catalogue 2, rattle-kit-",
         ),
     ] {
         check_refused(&rt, rt.alloc(), line, kind, text, 0)?;

@@ -96,6 +96,7 @@ allowed d (requests.PurgeRecording id) c e = allows_made d (commands.PurgeRecord
 allowed d (requests.List from count) c e = absurd (answered_none _ c e)
 allowed d (requests.Find f) c e = absurd (answered_none _ c e)
 allowed d (requests.Positions id) c e = absurd (answered_none _ c e)
+allowed d (requests.Source id) c e = absurd (answered_none _ c e)
 
 -- ---- what is decided is what was asked for
 
@@ -117,6 +118,7 @@ asked_is d (requests.PurgeRecording id) c e = asked_for (purge_tests d id) check
 asked_is d (requests.List from count) c e = absurd (answered_none _ c e)
 asked_is d (requests.Find f) c e = absurd (answered_none _ c e)
 asked_is d (requests.Positions id) c e = absurd (answered_none _ c e)
+asked_is d (requests.Source id) c e = absurd (answered_none _ c e)
 
 -- ---- the desk follows the state
 

@@ -8,6 +8,7 @@ use Rattle.archive_model.specs.declared.command.Command.{Command}
 use Rattle.archive_model.specs.declared.command.Command.TheVariants as commands
 use Rattle.archive_model.specs.declared.registration.Registration.{Registration}
 use Rattle.archive_model.specs.declared.reply.Reply.{Reply}
+use Rattle.archive_model.specs.declared.version.BankVersion.{BankVersion}
 use Rattle.archive_model.specs.Keyed.{Each, Rise, change, find}
 use Rattle.archive_model.specs.Register as register
 use Rattle.archive_model.specs.Register.{RegisterState, is_end, registration_in}
@@ -373,8 +374,8 @@ rise_registrations : (low next : ℤ) (rs : List Recording) → Rise id_of low r
 rise_registrations low next [] rising = rising
 rise_registrations low next (r ∷ rs) rising = (rising.0, rise_registrations (id_of r +ℤ pos 1) next rs rising.1)
 
-pub consistent_opened : (s : State) (counted limit : ℕ) → IsWell s → IsConsistent (opened_archive s counted limit)
-consistent_opened s counted limit well = record {
+pub consistent_opened : (s : State) (counted limit : ℕ) (version : BankVersion) → IsWell s → IsConsistent (opened_archive s counted limit version)
+consistent_opened s counted limit version well = record {
   agrees = refl;
   well = well;
   seats = keeps_none (register_of s) (rise_registrations (pos 0) s.next s.recordings well.rising);

@@ -13,6 +13,7 @@ use Rattle.archive_model.specs.declared.command.ExtendFields.{ExtendFields}
 use Rattle.archive_model.specs.declared.registration.Registration.{Registration}
 use Rattle.archive_model.specs.declared.reply.Reply.{Reply}
 use Rattle.archive_model.specs.Keyed.{Each, find}
+use Rattle.archive_model.specs.Version.{holds}
 use Rattle.archive_model.specs.Register.{RegisterState, extends, is_active, is_end, is_later_base, is_within, may_begin, may_record, registration_in}
 use Rattle.archive_model.specs.Descriptor.{is_in_range}
 use Rattle.archive_model.specs.Commands.{frames_of, recorded_in}
@@ -54,11 +55,13 @@ WithRegister tests g = passes (tests g) checks ≡ true
 accepts_start : (a : Archive) (f : StartFields) → Agrees a.desk a.state → Allows a.desk (commands.Start f) → Accepts (book_of a) (commands.Start f)
 accepts_start a f agrees pass =
     let d = a.desk in
-    let whole : (not d.is_broken ≡ true) × ((is_in_range f && (((may_begin d.register && may_record d.register) && has_session_number d) && (has_room d && true))) ≡ true) = both pass in
-    let range : (is_in_range f ≡ true) × ((((may_begin d.register && may_record d.register) && has_session_number d) && (has_room d && true)) ≡ true) = both whole.1 in
-    let more : (((may_begin d.register && may_record d.register) && has_session_number d) ≡ true) × ((has_room d && true) ≡ true) = both range.1 in
+    let held : Bool = holds d.version f.channel f.source_identity in
+    let whole : (not d.is_broken ≡ true) × ((is_in_range f && (((may_begin d.register && may_record d.register) && has_session_number d) && (held && (has_room d && true)))) ≡ true) = both pass in
+    let range : (is_in_range f ≡ true) × ((((may_begin d.register && may_record d.register) && has_session_number d) && (held && (has_room d && true))) ≡ true) = both whole.1 in
+    let more : (((may_begin d.register && may_record d.register) && has_session_number d) ≡ true) × ((held && (has_room d && true)) ≡ true) = both range.1 in
     let few : ((may_begin d.register && may_record d.register) ≡ true) × (has_session_number d ≡ true) = both more.0 in
-    (true, refl, subst (WithRegister (λ g. model.start_tests g (has_room d) f)) agrees (and_true range.0 (and_true few.0 more.1)))
+    let room : (held ≡ true) × ((has_room d && true) ≡ true) = both more.1 in
+    (true, refl, subst (WithRegister (λ g. model.start_tests g (has_room d) f)) agrees (and_true range.0 (and_true few.0 room.1)))
 
 accepts_stop : (a : Archive) (id timestamp : ℤ) → Agrees a.desk a.state → Allows a.desk (commands.Stop id timestamp) → Accepts (book_of a) (commands.Stop id timestamp)
 accepts_stop a id timestamp agrees pass =
@@ -212,6 +215,7 @@ decided_accepted a (requests.PurgeRecording id) c agrees e = by_tests a (command
 decided_accepted a (requests.List from count) c agrees e = absurd (no_answer a _ c e)
 decided_accepted a (requests.Find f) c agrees e = absurd (no_answer a _ c e)
 decided_accepted a (requests.Positions id) c agrees e = absurd (no_answer a _ c e)
+decided_accepted a (requests.Source id) c agrees e = absurd (no_answer a _ c e)
 
 -- ---- a settling
 

@@ -12,7 +12,7 @@ use Rattle.archive_model.specs.declared.registration.Change.{Change}
 use Rattle.archive_model.specs.declared.registration.Change.TheVariants as changes
 use Rattle.archive_model.specs.declared.registration.Registration.{Registration}
 use Rattle.archive_model.specs.Checks.{is_of}
-use Rattle.archive_model.specs.Descriptor.{is_channel, is_in_range, is_layout, is_negative, is_start_position}
+use Rattle.archive_model.specs.Descriptor.{is_in_range, is_layout, is_negative, is_origin, is_start_position}
 use Rattle.archive_model.specs.Register.{RegisterState, all_stopped, changed, changed_by, id_of, is_active, is_later_base, is_within, registered, registration_in, restarted, with_one, with_out}
 use Rattle.archive_model.proofs.RegisterLemmas.{each_map, each_push}
 use Rattle.archive_model.proofs.StateLemmas.{each_change, each_without}
@@ -49,7 +49,7 @@ record HasRange (f : StartFields) : Type 0 where
 has_range : (f : StartFields) → is_in_range f ≡ true → HasRange f
 unfolding is_layout
 has_range f range =
-    let first : ((is_layout f && is_start_position f.start_position f.term_length) && not (is_negative f.timestamp) ≡ true) × (is_channel f.channel ≡ true) = both range in
+    let first : ((is_layout f && is_start_position f.start_position f.term_length) && not (is_negative f.timestamp) ≡ true) × (is_origin f.channel f.source_identity ≡ true) = both range in
     let second : (is_layout f && is_start_position f.start_position f.term_length ≡ true) × (not (is_negative f.timestamp) ≡ true) = both first.0 in
     let third : (is_layout f ≡ true) × (is_start_position f.start_position f.term_length ≡ true) = both second.0 in
     let layout : ((is_term_length f.term_length && is_term_length f.segment_length) && int_le f.term_length f.segment_length ≡ true) × (is_mtu f.mtu ≡ true) = both third.0 in

@@ -5,7 +5,7 @@ use Rattle.std.proofs.lemmas.Bool.Decides.{Decides-int_eq}
 use Rattle.std.specs.Prelude.{IfSome, IsSomeAnd}
 use Rattle.std.specs.List.{list_any}
 use Rattle.std.specs.Ordering.{int_eq}
-use Rattle.frame_core.specs.declared.refusal.Refusal.TheVariants.{ActiveRecording, ActiveReplay, BadParameter, BadPosition, Broken, MaxRecordings, MaxReplays, HistoryFull, NeedSettle, NotActive, StaleSession, UnknownRecording, UnknownReplay}
+use Rattle.frame_core.specs.declared.refusal.Refusal.TheVariants.{ActiveRecording, ActiveReplay, BadParameter, BadPosition, Broken, MaxRecordings, MaxReplays, HistoryFull, NeedCompact, NeedSettle, NotActive, StaleSession, UnknownRecording, UnknownReplay}
 use Rattle.archive_model.specs.declared.command.Command.TheVariants.{Start, Truncate, PurgeSegments}
 use Rattle.archive_model.specs.declared.command.StartFields.{StartFields}
 use Rattle.archive_model.specs.declared.registration.Change.{Change}
@@ -98,7 +98,7 @@ stopped g c id timestamp orderly =
     let k : Change = changes.Stop timestamp in
     with_none (changed id k g) c id (record {
       register = changed_laid g id k orderly.register (λ r found laid. laid_stopped timestamp r laid);
-      sessions = sessions_changed g c.sessions id k (λ r found w lies. record { behind = lies.behind; forward = lies.forward; in_stream = lies.in_stream }) orderly.sessions;
+      sessions = sessions_changed g c.sessions id k (λ r found w lies. record { behind = lies.behind; forward = lies.forward; in_stream = lies.in_stream; aligned = lies.aligned }) orderly.sessions;
       replays = replays_changed g c.replays id k (λ r. refl) orderly.replays;
     })
 
@@ -107,7 +107,7 @@ extended g c id session_id orderly =
     let k : Change = changes.Extend session_id in
     with_one_session (changed id k g) c id (record {
       register = changed_laid g id k orderly.register (λ r found laid. laid_extended session_id r laid);
-      sessions = sessions_changed g c.sessions id k (λ r found w lies. record { behind = lies.behind; forward = lies.forward; in_stream = lies.in_stream }) orderly.sessions;
+      sessions = sessions_changed g c.sessions id k (λ r found w lies. record { behind = lies.behind; forward = lies.forward; in_stream = lies.in_stream; aligned = lies.aligned }) orderly.sessions;
       replays = replays_changed g c.replays id k (λ r. refl) orderly.replays;
     })
 
@@ -116,7 +116,7 @@ truncated g c id position orderly boundary =
     let k : Change = changes.Truncate position in
     with_none (changed id k g) c id (record {
       register = changed_laid g id k orderly.register (λ r found laid. laid_truncated position r laid (within r found));
-      sessions = sessions_changed g c.sessions id k (λ r found w lies. record { behind = fallen r found w lies.behind; forward = lies.forward; in_stream = lies.in_stream }) orderly.sessions;
+      sessions = sessions_changed g c.sessions id k (λ r found w lies. record { behind = fallen r found w lies.behind; forward = lies.forward; in_stream = lies.in_stream; aligned = lies.aligned }) orderly.sessions;
       replays = replays_changed g c.replays id k (λ r. refl) orderly.replays;
     })
   where
@@ -154,7 +154,7 @@ purged g c id position orderly base none =
     let k : Change = changes.PurgeSegments position in
     record {
       register = changed_laid g id k orderly.register (λ r found laid. laid_purged position r laid (test_of (registration_in g id) (is_later_base position) r found base));
-      sessions = sessions_changed g c.sessions id k (λ r found w lies. record { behind = lies.behind; forward = lies.forward; in_stream = lies.in_stream }) orderly.sessions;
+      sessions = sessions_changed g c.sessions id k (λ r found w lies. record { behind = lies.behind; forward = lies.forward; in_stream = lies.in_stream; aligned = lies.aligned }) orderly.sessions;
       replays = each_both (ReadsFromStart g) (λ replay. is_replay_before id position replay ≡ false) (ReadsFromStart (changed id k g)) c.replays
           (λ replay has other. some_changed replay.recording id (changed_by k) g.recordings (λ known. known.descriptor.start_position ≤ℤ replay.next) (id_kept k)
           (λ same r found low. goes_behind id position replay other same) has) orderly.replays (none_before (is_replay_before id position) c.replays none);
@@ -244,7 +244,7 @@ truncate_boundary d id position allows = passes_at (command_tests d (Truncate id
 pub unread_before : (d : DeskState) (id position : ℤ) → Allows d (PurgeSegments id position) → list_any (is_replay_before id position) d.callers.replays ≡ false
 unread_before d id position allows =
     is_not (list_any (is_replay_before id position) d.callers.replays)
-    (passes_at (command_tests d (PurgeSegments id position)) (first_checks ++ block_checks ++ NeedSettle ∷ []) (MaxRecordings ∷ MaxReplays ∷ HistoryFull ∷ []) ActiveReplay allows)
+    (passes_at (command_tests d (PurgeSegments id position)) (first_checks ++ block_checks ++ NeedSettle ∷ []) (MaxRecordings ∷ MaxReplays ∷ NeedCompact ∷ HistoryFull ∷ []) ActiveReplay allows)
 
 -- ---- other calls
 

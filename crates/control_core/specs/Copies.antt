@@ -7,4 +7,5 @@ abbrev pub IsLong : Reply → Type 0
 IsLong (replies.Recordings all) = Unit {0}
 IsLong (replies.Polled frames next) = Unit {0}
 IsLong (replies.Taken frame) = Unit {0}
+IsLong (replies.Source text) = Unit {0}
 IsLong reply = ⊥

@@ -4,7 +4,7 @@ use Rattle.std.specs.List.{list_any}
 use Rattle.std.specs.Int.{int_max}
 use Rattle.std.specs.Ordering.{int_eq}
 use Rattle.frame_core.specs.declared.refusal.Refusal.{Refusal}
-use Rattle.frame_core.specs.declared.refusal.Refusal.TheVariants.{UnknownRecording, ActiveReplay, MaxRecordings, BadParameter, Broken, NoMemory}
+use Rattle.frame_core.specs.declared.refusal.Refusal.TheVariants.{UnknownRecording, ActiveReplay, MaxRecordings, NeedCompact, BadParameter, Broken, NoMemory}
 use Rattle.archive_model.specs.declared.command.StartFields.{StartFields}
 use Rattle.archive_model.specs.declared.command.ExtendFields.{ExtendFields}
 use Rattle.archive_model.specs.declared.command.Command.{Command}
@@ -12,24 +12,26 @@ use Rattle.archive_model.specs.declared.command.Command.TheVariants as commands
 use Rattle.archive_model.specs.declared.descriptor.Descriptor.{Descriptor}
 use Rattle.archive_model.specs.declared.registration.Registration.{Registration}
 use Rattle.archive_model.specs.declared.reply.Reply.{Reply}
-use Rattle.archive_model.specs.declared.reply.Reply.TheVariants.{Recordings, Found, Positions}
+use Rattle.archive_model.specs.declared.reply.Reply.TheVariants.{Recordings, Found, Positions, Source}
 use Rattle.archive_model.specs.Register.{id_of, is_end, registration_in}
 use Rattle.archive_model.specs.Checks as model
 use Rattle.archive_model.specs.Checks.{Tests, checked, checks, first_checks, block_checks, last_checks, passes}
 use Rattle.archive_model.specs.Descriptor.{is_negative}
+use Rattle.archive_model.specs.Version.{holds}
 use Rattle.control_core.specs.declared.request.Request.{Request}
-use Rattle.control_core.specs.declared.request.Request.TheVariants.{Start, Stop, Extend, Truncate, PurgeSegments, PurgeRecording, List as AskList, Find, Positions as AskPositions}
+use Rattle.control_core.specs.declared.request.Request.TheVariants.{Start, Stop, Extend, Truncate, PurgeSegments, PurgeRecording, List as AskList, Find, Positions as AskPositions, Source as AskSource}
 use Rattle.control_core.specs.declared.request.FindFields.{FindFields}
 use Rattle.control_core.specs.Decided.{Decision}
 use Rattle.control_core.specs.Decided.{Refused, Answered, Accepted, IfBoundary}
 use Rattle.control_core.specs.Desk.{DeskState, has_room, has_session_number, is_replayed, is_replay_before}
 
--- What must hold of the desk for a request to pass each check: the tests of its command, no failed write, and what only
--- the callers' sessions and replays say.
+-- What must hold of the desk for a request to pass each check: the tests of its command, no failed write, what only the
+-- callers' sessions and replays say, and that the catalogue's bank can hold a new recording's channel and source.
 
 abbrev pub start_tests : DeskState → StartFields → Tests
 start_tests d f Broken = not d.is_broken
 start_tests d f MaxRecordings = model.start_tests d.register (has_room d) f MaxRecordings && has_session_number d
+start_tests d f NeedCompact = holds d.version f.channel f.source_identity
 start_tests d f refusal = model.start_tests d.register (has_room d) f refusal
 
 abbrev pub append_tests : DeskState → ℤ → Tests
@@ -88,6 +90,10 @@ abbrev pub positions_tests : DeskState → ℤ → Tests
 positions_tests d id UnknownRecording = is_some (registration_in d.register id)
 positions_tests d id _ = true
 
+abbrev pub source_tests : DeskState → ℤ → Tests
+source_tests d id UnknownRecording = is_some (registration_in d.register id)
+source_tests d id _ = true
+
 -- ---- replies
 
 -- the descriptors of recordings of at least an id, at most so many
@@ -113,6 +119,10 @@ greatest f rs = fold int_max (negsuc 0) (map id_of (filter (matches f) rs))
 abbrev pub positions_reply : Option Registration → Reply
 positions_reply None = Positions (pos 0) (pos 0) (pos 0)
 positions_reply (Some r) = Positions r.descriptor.start_position r.recorded r.descriptor.stop_position
+
+abbrev pub source_reply : Option Registration → Reply
+source_reply None = Source []
+source_reply (Some r) = Source r.descriptor.source_identity
 
 -- ---- decisions
 
@@ -151,6 +161,7 @@ decision_of d (PurgeRecording id) = accepted (checked (purge_tests d id) checks 
 decision_of d (AskList from count) = answered (checked (list_tests from count) checks (Ok (Recordings (listed from count d.register.recordings))))
 decision_of d (Find f) = answered (checked (find_tests f) checks (Ok (Found (greatest f d.register.recordings))))
 decision_of d (AskPositions id) = answered (checked (positions_tests d id) checks (Ok (positions_reply (registration_in d.register id))))
+decision_of d (AskSource id) = answered (checked (source_tests d id) checks (Ok (source_reply (registration_in d.register id))))
 
 -- the command that a request asks for; none, where it asks what is there
 abbrev pub asked_command : Request → Option Command
@@ -167,7 +178,7 @@ abbrev pub Decides : Bool → Decision → Decision → Type 0
 Decides takes (Refused NoMemory) decision = takes ≡ true
 Decides takes made decision = made ≡ decision
 
--- a start copies its channel, a list its descriptors
+-- a start copies its channel and source, a list its descriptors, and an answer with a source its text
 abbrev pub takes_memory : Request → Bool
 takes_memory (Start f) = true
 takes_memory (AskList from count) = true
@@ -178,6 +189,7 @@ takes_memory (PurgeSegments id position) = false
 takes_memory (PurgeRecording id) = false
 takes_memory (Find f) = false
 takes_memory (AskPositions id) = false
+takes_memory (AskSource id) = true
 
 -- the command that a decision leads to, if a frame begins where it asks
 abbrev pub command_in : Decision → Option Command

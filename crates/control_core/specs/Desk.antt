@@ -2,26 +2,29 @@
 use Rattle.std.specs.Prelude.{◌&&◌, not, ℕ, ℤ, Bool, false, nat_lt, int_le}
 use Rattle.std.specs.List.{list_any}
 use Rattle.std.specs.Ordering.{int_eq}
+use Rattle.archive_model.specs.declared.version.BankVersion.{BankVersion}
+use Rattle.archive_model.specs.declared.version.BankVersion.TheVariants.{Two}
 use Rattle.archive_model.specs.Register.{RegisterState, no_recordings}
 use Rattle.control_core.specs.declared.callers.OpenReplay.{OpenReplay}
 use Rattle.control_core.specs.Callers.{CallersState, no_callers, last_number}
 
--- the recordings without their frames, the callers, how many entries of the history count and may, and whether a write
--- has failed
+-- the recordings without their frames, the callers, how many entries of the history count and may, the version of the
+-- catalogue's bank, and whether a write has failed
 pub record DeskState : Type 0 where
   pub register : RegisterState
   pub callers : CallersState
   pub counted : ℕ
   pub limit : ℕ
+  pub version : BankVersion
   pub is_broken : Bool
 
 -- an archive that is opened: nobody calls yet, and the numbers of sessions and replays begin at 0
-abbrev pub opened_desk : RegisterState → ℕ → ℕ → DeskState
-opened_desk register counted limit = record { register = register; callers = no_callers; counted = counted; limit = limit; is_broken = false }
+abbrev pub opened_desk : RegisterState → ℕ → ℕ → BankVersion → DeskState
+opened_desk register counted limit version = record { register = register; callers = no_callers; counted = counted; limit = limit; version = version; is_broken = false }
 
--- before the first recording
+-- before the first recording, of a catalogue in version 2
 abbrev pub new_desk : ℕ → DeskState
-new_desk limit = opened_desk no_recordings 0 limit
+new_desk limit = opened_desk no_recordings 0 limit Two
 
 -- the history has room for one more entry
 abbrev pub has_room : DeskState → Bool

@@ -12,6 +12,7 @@ use Rattle.archive_model.specs.declared.command.Command.TheVariants as commands
 use Rattle.archive_model.specs.declared.reply.PolledFrame.{PolledFrame}
 use Rattle.archive_model.specs.declared.reply.Reply.{Reply}
 use Rattle.archive_model.specs.declared.reply.Reply.TheVariants as replies
+use Rattle.archive_model.specs.declared.version.BankVersion.{BankVersion}
 use Rattle.archive_model.specs.Keyed.{find}
 use Rattle.archive_model.specs.State.{Recording, State, geometry_of, id_of, publication_of, register_of, registration_of}
 use Rattle.archive_model.specs.Acceptance.{BookState}
@@ -50,8 +51,8 @@ pub record Archive : Type 0 where
   pub doubt : Option State
 
 -- an archive that is opened with these recordings: nobody has written, and nothing is in doubt
-abbrev pub opened_archive : State → ℕ → ℕ → Archive
-opened_archive s counted limit = record { state = s; desk = opened_desk (register_of s) counted limit; blocks = λ session. []; doubt = None }
+abbrev pub opened_archive : State → ℕ → ℕ → BankVersion → Archive
+opened_archive s counted limit version = record { state = s; desk = opened_desk (register_of s) counted limit version; blocks = λ session. []; doubt = None }
 
 -- the plain book of the archive
 abbrev pub book_of : Archive → BookState

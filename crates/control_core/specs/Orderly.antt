@@ -1,6 +1,7 @@
 -- What a desk keeps beside its seats, so that the files are asked for no position outside a recording: docs/CONTROL.md,
 -- "Control state" and "Limits".
-use Rattle.std.specs.Prelude.{◌≡◌, ◌≤◌, ◌≤ℤ◌, ◌*◌, ◌^◌, ℕ, ℤ, pos, true, IfSome, IsSomeAnd, unsigned_abs}
+use Rattle.std.specs.Prelude.{◌≡◌, ◌≤◌, ◌≤ℤ◌, ◌<ℤ◌, ◌*◌, ◌^◌, ℕ, ℤ, pos, true, IfSome, IsSomeAnd, unsigned_abs}
+use Rattle.frame_core.specs.FrameEncoding.{IsAligned}
 use Rattle.frame_core.specs.Limits.{is_mtu, is_term_length}
 use Rattle.archive_model.specs.declared.registration.Registration.{Registration}
 use Rattle.archive_model.specs.Keyed.{Each}
@@ -40,11 +41,12 @@ pub record IsLaid (g : Registration) : Type 0 where
 abbrev pub AreLaid : RegisterState → Type 0
 AreLaid g = Each IsLaid g.recordings
 
--- blocks lie in the stream of a recording, behind what is recorded
+-- blocks, of at least one frame, lie in the stream of a recording after what is recorded, and end at a multiple of 32
 pub record LiesBehind (w : Written) (g : Registration) : Type 0 where
   pub behind : g.recorded ≤ℤ w.first
-  pub forward : w.first ≤ℤ w.last
+  pub forward : w.first <ℤ w.last
   pub in_stream : w.last ≤ℤ stream_end g
+  pub aligned : IsAligned w.last
 
 -- what a session wrote and did not settle lies behind what is recorded
 abbrev pub WroteBehind : RegisterState → RecorderSession → Type 0

@@ -11,7 +11,7 @@ use frame_core::{Items, Refusal};
 use std::alloc::{AllocError, Global};
 
 impl Desk {
-    /// A copy. Costs each recording with its channel, each session and each replay. `NoMemory`.
+    /// A copy. Costs each recording with its channel and source, each session and each replay. `NoMemory`.
     pub fn copy(&self, alloc: Global) -> Result<Desk, Refusal>
         ensures same { IfOk result (λ copy. copy.state ≡ self.now.state) }
         ensures memory { IfErr result (λ refusal. refusal ≡ NoMemory) }
@@ -22,6 +22,7 @@ impl Desk {
             replays: self.replays.copy(alloc)?,
             counted: self.counted,
             limit: self.limit,
+            version: self.version,
             is_broken: self.is_broken,
         })
     }
@@ -42,7 +43,7 @@ impl FindFields {
 }
 
 impl Request {
-    /// A copy. Costs the text of a start's channel and of a search's fragment.
+    /// A copy. Costs the texts of a start's channel and source, and of a search's fragment.
     pub fn copy(&self, alloc: Global) -> Result<Request, AllocError>
         ensures { IfOk result (λ copy. copy ≡ self.now) }
     {
@@ -81,6 +82,9 @@ impl Request {
             Request::Positions { recording } => Request::Positions {
                 recording: *recording,
             },
+            Request::Source { recording } => Request::Source {
+                recording: *recording,
+            },
         })
     }
 }
@@ -102,6 +106,7 @@ pub fn copy_reply(alloc: Global, reply: &Reply) -> Result<Reply, Refusal>
             Ok(Reply::Polled { frames, next })
         }
         Reply::Taken(taken) => Ok(Reply::Taken(copy_taken(alloc, taken)?)),
+        Reply::Source(text) => Ok(Reply::Source(text.copy(alloc)?)),
         _ => Ok(copy_short(reply)),
     }
 }
@@ -156,7 +161,8 @@ fn copy_short(reply: &Reply) -> Reply
     ensures { result ≡ reply.now }
 {
     match reply {
-        Reply::Recordings(_) | Reply::Polled { .. } | Reply::Taken(_) => unreachable!(),
+        Reply::Recordings(_) | Reply::Polled { .. } | Reply::Taken(_) | Reply::Source(_) =>
+            unreachable!(),
         Reply::Started { recording, session } => Reply::Started {
             recording: *recording,
             session: *session,

@@ -13,14 +13,14 @@ ghost use Rattle.control_core.specs.Desk.{new_desk, has_room, has_session_number
 use crate::callers::{Reader, RecorderSession, Writer};
 use crate::replays::Replays;
 use crate::sessions::Sessions;
-use archive_model::{Register, Registration};
+use archive_model::{BankVersion, Register, Registration};
 use frame_core::limits::LAST_NUMBER;
 use std::alloc::Global;
 use std::marker::Model;
 
 /// The recordings without their frames, the recorder sessions and open replays, how many entries of the history count and
-/// may, and whether a write has failed. To a contract it is these, and beside them how many more recordings, sessions and
-/// replays it can take without memory.
+/// may, the version of the catalogue's bank, and whether a write has failed. To a contract it is these, and beside them how
+/// many more recordings, sessions and replays it can take without memory.
 #[derive(Drop)]
 pub struct Desk {
     pub(crate) register: Register,
@@ -28,6 +28,7 @@ pub struct Desk {
     pub(crate) replays: Replays,
     pub(crate) counted: u64,
     pub(crate) limit: u32,
+    pub(crate) version: BankVersion,
     pub(crate) is_broken: bool,
 }
 
@@ -49,6 +50,7 @@ impl Model for Desk {
         };
         counted = d.counted;
         limit = d.limit;
+        version = d.version;
         is_broken = d.is_broken;
       };
       recordings = d.register.room;
@@ -65,7 +67,8 @@ impl Model for Desk {
 }
 
 impl Desk {
-    /// The desk of an archive without recordings, whose history may have so many entries. Does not allocate.
+    /// The desk of an archive without recordings, whose history may have so many entries: its catalogue is in version 2.
+    /// Does not allocate.
     pub fn new(alloc: Global, limit: u32) -> Desk
         ensures { result.state ≡ new_desk limit }
     {
@@ -75,6 +78,7 @@ impl Desk {
             replays: Replays::new(alloc),
             counted: 0,
             limit,
+            version: BankVersion::Two,
             is_broken: false,
         }
     }
@@ -123,6 +127,13 @@ impl Desk {
         ensures { result ≡ self.now.state.limit }
     {
         self.limit
+    }
+
+    /// The version of the catalogue's bank, which tells what it can hold.
+    pub fn version(&self) -> BankVersion
+        ensures { result ≡ self.now.state.version }
+    {
+        self.version
     }
 
     /// Whether the history has room for one more entry.

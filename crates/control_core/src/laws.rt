@@ -17,6 +17,7 @@ ghost use Rattle.control_core.specs.Agreement.{Agrees, HasWritten};
 ghost use Rattle.frame_core.specs.declared.refusal.Refusal.{Refusal};
 ghost use Rattle.frame_core.specs.declared.refusal.Refusal.TheVariants.{DeviceFault};
 ghost use Rattle.archive_model.specs.declared.reply.Reply.{Reply};
+ghost use Rattle.archive_model.specs.declared.version.BankVersion.{BankVersion};
 ghost use Rattle.control_core.specs.declared.event.Event.{Event};
 ghost use Rattle.control_core.specs.ByDecision.{OpensBy, PollsBy, SweepsBy, VerifiesBy};
 ghost use Rattle.control_core.specs.Machine.{Outcome, Step, Stepped};
@@ -158,8 +159,8 @@ pub fn a_settling_leaves_what_other_sessions_wrote()
 /// An archive that is opened with a well-formed state is consistent: docs/CONTROL.md, "Control state".
 #[tactic(auto, using(crate::proofs::ConsistentLemmas::consistent_opened))]
 pub fn an_opened_archive_is_consistent()
-    ensures { (s : State) (counted limit : ℕ) → IsWell s →
-        IsConsistent (opened_archive s counted limit) }
+    ensures { (s : State) (counted limit : ℕ) (version : BankVersion) → IsWell s →
+        IsConsistent (opened_archive s counted limit version) }
 {}
 
 /// A consistent archive still is after each call, whatever it ends with, want of memory and a device fault too:

@@ -7,15 +7,22 @@ ghost use Rattle.control_core.specs.Orderly.{AreLaid};
 use crate::desk::Desk;
 use crate::replays::Replays;
 use crate::sessions::Sessions;
-use archive_model::Register;
+use archive_model::{BankVersion, Register};
 use std::alloc::Global;
 
 impl Desk {
     /// The desk of an archive with these recordings, each laid out and recorded inside its stream, of whose history so many
-    /// entries count and may: nobody calls yet, and the numbers of sessions and replays begin at 0. Does not allocate.
-    pub fn opened(alloc: Global, register: Register, counted: u64, limit: u32) -> Desk
+    /// entries count and may, and whose catalogue's bank has this version: nobody calls yet, and the numbers of sessions and
+    /// replays begin at 0. Does not allocate.
+    pub fn opened(
+        alloc: Global,
+        register: Register,
+        counted: u64,
+        limit: u32,
+        version: BankVersion,
+    ) -> Desk
         requires { AreLaid register.state }
-        ensures { result.state ≡ opened_desk register.state counted limit }
+        ensures { result.state ≡ opened_desk register.state counted limit version }
     {
         Desk {
             register,
@@ -23,6 +30,7 @@ impl Desk {
             replays: Replays::new(alloc),
             counted,
             limit,
+            version,
             is_broken: false,
         }
     }

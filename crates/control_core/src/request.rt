@@ -62,4 +62,9 @@ pub enum Request {
         /// The recording's id.
         recording: i64,
     },
+    /// Tell who sends a recording's stream.
+    Source {
+        /// The recording's id.
+        recording: i64,
+    },
 }

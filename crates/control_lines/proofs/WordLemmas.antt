@@ -1,5 +1,5 @@
 -- Words of a line, and what they stand for.
-use Rattle.std.proofs.Common.{◌≡◌, ◌≢◌, ℕ, ◌+◌, ◌^◌, ◌<◌, zero, suc, ℤ, pos, negsuc, neg_ℤ, Bool, true, false, not, if◌then◌else◌, ◌&&◌, ◌==◌, eqb-true, ltb-true, List, [], ◌∷◌, ◌++◌, length, map, get_or, Option, Some, None, Result, Ok, Err, refl, sym, ◌∙◌, ap, subst, arith, rules, tests, length-append, ne_eqb}
+use Rattle.std.proofs.Common.{◌≡◌, ◌≢◌, ℕ, ◌+◌, ◌^◌, ◌<◌, ◌≤◌, zero, suc, ℤ, pos, negsuc, neg_ℤ, Bool, true, false, not, if◌then◌else◌, ◌&&◌, ◌==◌, eq-eqb, eqb-true, ltb-true, List, take, [], ◌∷◌, ◌++◌, length, map, get_or, Option, Some, None, Result, Ok, Err, refl, sym, ◌∙◌, ap, subst, arith, rules, tests, length-append, ne_eqb}
 use Rattle.std.specs.List.{All, position_or_len, before_first, after_first}
 use Rattle.std.specs.Str.{bytes_eq}
 use Rattle.std.specs.Str.Parse.{AllDigits, digits_value, signed_digits_value}
@@ -8,10 +8,10 @@ use Rattle.std.specs.Int.{IsInRange}
 use Rattle.std.specs.Char.{to_ascii_lowercase}
 use Rattle.std.proofs.lemmas.Fmt.{decimal_is_IsNumeral}
 use Rattle.std.proofs.lemmas.Str.Parse.{digit_at}
-use Rattle.std.proofs.lemmas.Bool.{and_parts, not-false}
-use Rattle.std.proofs.lemmas.List.Sums.{split_at_first, prefix_len_stops}
+use Rattle.std.proofs.lemmas.Bool.{and_parts, ltb-false, not-false}
+use Rattle.std.proofs.lemmas.List.Sums.{fails_before_first, split_at_first, prefix_len_stops}
 use Rattle.std.proofs.Math.Seq.{take-append_seam, drop-append-add}
-use Rattle.std.proofs.lemmas.List.{append-nil}
+use Rattle.std.proofs.lemmas.List.{append-nil, get_or-take, length-take-le}
 use Rattle.std.proofs.lemmas.List.Elements.{All-head, All-tail, All-cons, All-get_or, All-from_get_or}
 use Rattle.std.proofs.lemmas.Slice.Eq.{bytes_eq-Decides}
 use Rattle.hex.specs.Hex.{IsBytes, decode_of, encode_lower, is_hex_digit}
@@ -20,8 +20,8 @@ use Rattle.hex.proofs.HexLemmas.{decode_of-encode_lower, decode_of-ok}
 use Rattle.frame_core.specs.declared.refusal.Refusal.{Refusal}
 use Rattle.frame_core.specs.declared.refusal.Refusal.TheVariants.{BadLine}
 use Rattle.frame_core.specs.Outcome.{◌>>=◌}
-use Rattle.control_lines.specs.Numbers.{fits, long_of, int_of, decoded, hex_bytes_of}
-use Rattle.control_lines.specs.Table.{Kind, int, long, hex, Value}
+use Rattle.control_lines.specs.Numbers.{fits, long_of, int_of, decoded, hex_bytes_of, plain_of}
+use Rattle.control_lines.specs.Table.{Kind, int, long, hex, plain, Value}
 use Rattle.control_lines.specs.Lines.{has_blank, word_at, value_of, value_at}
 use Rattle.control_lines.specs.LineText.{IsFit, word_of, IsWordOf}
 use Rattle.control_lines.proofs.NumbersLemmas.{mag_below}
@@ -98,6 +98,35 @@ word_by false s w found h =
 
 pub word_at-ok : (s : List ℕ) (w : List ℕ × Option (List ℕ)) → word_at (Some s) ≡ Ok w → s ≡ w.0 ++ behind w.1
 word_at-ok s w h = word_by (has_blank s) s w refl h
+
+-- what is read as a word has no blank
+no_blank_at : (g : ℕ) → (g == 32) ≡ false → g ≢ 32
+no_blank_at g other e = let same = eq-eqb g 32 e in absurd cc
+
+before_blank : (s : List ℕ) (n : ℕ) → n ≤ length s → ((k : ℕ) → k < n → (get_or s k 0 == 32) ≡ false) → HasNoBlank (take n s)
+before_blank s n within fails =
+    All-from_get_or (λ b. b ≢ 32) (take n s) 0
+    (λ i lt.
+    let low : i < n = omega (arith, lt, length-take-le n s within) in
+    let same : get_or (take n s) i 0 ≡ get_or s i 0 = get_or-take n s i 0 low in
+    no_blank_at (get_or (take n s) i 0) (ap (λ g. g == 32) same ∙ fails i low))
+
+word_free : (t : Bool) (s : List ℕ) (w : List ℕ × Option (List ℕ)) → has_blank s ≡ t
+    → (if t then ok (before_first (λ b. b == 32) s, Some (after_first (λ b. b == 32) s)) else ok (s, None)) ≡ ok w → HasNoBlank w.0
+word_free true s w found h =
+    let p : ℕ → Bool = λ b. b == 32 in
+    let inside : position_or_len p s < length s = ltb-true _ _ found in
+    let same = ok_same _ w h in
+    subst (λ (v : List ℕ × Option (List ℕ)). HasNoBlank v.0) same (before_blank s (position_or_len p s) (omega (arith, inside)) (λ k lt. fails_before_first p s k 0 lt))
+word_free false s w found h =
+    let p : ℕ → Bool = λ b. b == 32 in
+    let whole : length s ≤ position_or_len p s = ltb-false _ _ found in
+    let same = ok_same _ w h in
+    subst (λ (v : List ℕ × Option (List ℕ)). HasNoBlank v.0) same
+    (All-from_get_or (λ b. b ≢ 32) s 0 (λ i lt. no_blank_at (get_or s i 0) (fails_before_first p s i 0 (omega (arith, lt, whole)))))
+
+pub word_at-free : (s : List ℕ) (w : List ℕ × Option (List ℕ)) → word_at (Some s) ≡ Ok w → HasNoBlank w.0
+word_at-free s w h = word_free (has_blank s) s w refl h
 
 position_or_len-none : (word : List ℕ) → HasNoBlank word → position_or_len (λ b. b == 32) word ≡ length word
 position_or_len-none [] h = refl
@@ -231,10 +260,25 @@ lowered_self bytes fit = decode_of-lowered (encode_lower bytes) bytes (decode_of
 
 -- ---- fields
 
-pub value_of-ok : (k : Kind) (word : List ℕ) (v : Value k) → value_of k word ≡ Ok v → IsFit k v × IsWordOf k v word
-value_of-ok int word v h = let is = int_of-ok word v h in (is.fit, is.spelled)
-value_of-ok long word v h = let is = long_of-ok word v h in (is.fit, is.spelled)
-value_of-ok hex word v h = let is = hex_bytes_of-ok word v h in ((is.some, is.fit), is.lowered)
+plain_by : (t : Bool) (word v : List ℕ) → (length word == 0) ≡ t → (if t then Err BadLine else ok word) ≡ ok v → (0 < length v) × (word ≡ v)
+plain_by true word v is h = absurd (cc h)
+plain_by false word v is h =
+    let same = ok_same word v h in
+    (subst (λ w. 0 < length w) same (some_length (length word) is), same)
+
+plain_of-ok : (word v : List ℕ) → plain_of word ≡ Ok v → (0 < length v) × (word ≡ v)
+unfolding plain_of
+plain_of-ok word v h = plain_by (length word == 0) word v refl h
+
+plain_of-text : (word : List ℕ) → 0 < length word → plain_of word ≡ Ok word
+unfolding plain_of
+plain_of-text word some = rw (some_bytes word some)
+
+pub value_of-ok : (k : Kind) (word : List ℕ) (v : Value k) → HasNoBlank word → value_of k word ≡ Ok v → IsFit k v × IsWordOf k v word
+value_of-ok int word v free h = let is = int_of-ok word v h in (is.fit, is.spelled)
+value_of-ok long word v free h = let is = long_of-ok word v h in (is.fit, is.spelled)
+value_of-ok hex word v free h = let is = hex_bytes_of-ok word v h in ((is.some, is.fit), is.lowered)
+value_of-ok plain word v free h = let is = plain_of-ok word v h in ((is.0, subst HasNoBlank is.1 free), is.1)
 
 value_of-word : (k : Kind) (v : Value k) (word : List ℕ) → IsFit k v → IsWordOf k v word → value_of k word ≡ Ok v
 value_of-word int v word fit is = ap int_of is ∙ int_of-text v fit
@@ -244,6 +288,7 @@ value_of-word hex v word fit is =
     let shape = decode_of-ok word v read in
     let some = fit.0 in
     hex_bytes_of-digits word v (omega (arith, shape.2)) read
+value_of-word plain v word fit is = ap plain_of is ∙ plain_of-text v fit.0
 
 -- no blank is in a field's word
 word_without : (k : Kind) (v : Value k) (word : List ℕ) → IsFit k v → IsWordOf k v word → HasNoBlank word
@@ -252,6 +297,7 @@ word_without long v word fit is = subst HasNoBlank (sym is) (signed_decimal_is_t
 word_without hex v word fit is =
     let shape = decode_of-ok word v (decode_of-either word v fit.1 is) in
     All-from_get_or (λ b. b ≢ 32) word 0 (λ i lt. digit_no_blank (get_or word i 0) (All-get_or (λ b. is_hex_digit b ≡ true) word i 0 lt shape.1))
+word_without plain v word fit is = subst HasNoBlank (sym is) fit.1
 
 -- what was read as a field
 pub record IsField (k : Kind) (rest : Option (List ℕ)) (v : Value k × Option (List ℕ)) : Type 0 where
@@ -266,7 +312,7 @@ value_at-ok k (Some s) v h =
     let word = bind_ok (word_at (Some s)) _ v h in
     let value = bind_ok (value_of k word.0.0) _ v word.2 in
     let same : (value.0, word.0.1) ≡ v = ok_same _ v value.2 in
-    let is = value_of-ok k word.0.0 value.0 value.1 in
+    let is = value_of-ok k word.0.0 value.0 (word_at-free s word.0 word.1) value.1 in
     subst (IsField k (Some s)) same (record { word = word.0.0; split = ap (λ t. 32 ∷ t) (word_at-ok s word.0 word.1); fit = is.0; spelled = is.1 })
 
 pub value_at-word : (k : Kind) (v : Value k) (word : List ℕ) (tail : Option (List ℕ)) → IsFit k v → IsWordOf k v word → value_at k (Some (word ++ behind tail)) ≡ Ok (v, tail)
@@ -277,3 +323,4 @@ pub word_of-spelled : (k : Kind) (v : Value k) → IsFit k v → IsWordOf k v (w
 word_of-spelled int v fit = refl
 word_of-spelled long v fit = refl
 word_of-spelled hex v fit = lowered_self v fit.1
+word_of-spelled plain v fit = refl

@@ -1,11 +1,12 @@
 -- Which texts control lines have: docs/CONTROL.md, "Lines".
-use Rattle.std.specs.Prelude.{◌≡◌, ◌<◌, ◌≤◌, ◌++◌, [], ◌∷◌, ℕ, true, List, length, map, IsUtf8, Contains}
+use Rattle.std.specs.Prelude.{◌≡◌, ◌≢◌, ◌<◌, ◌≤◌, ◌++◌, [], ◌∷◌, ℕ, true, List, length, map, IsUtf8, Contains}
 use Rattle.std.specs.Fmt.{signed_decimal}
+use Rattle.std.specs.List.{All}
 use Rattle.std.specs.Char.{to_ascii_lowercase}
 use Rattle.hex.specs.Hex.{encode_lower, IsBytes}
 use Rattle.control_lines.specs.declared.line.Line.{Line}
 use Rattle.control_lines.specs.Numbers.{fits}
-use Rattle.control_lines.specs.Table.{Kind, int, long, hex, Value, Fields, none, text, ◌&◌, MakesLine, Row, rows}
+use Rattle.control_lines.specs.Table.{Kind, int, long, hex, plain, Value, Fields, none, text, ◌&◌, MakesLine, Row, rows}
 
 -- a value for each field
 abbrev pub Values : Fields → Type 0
@@ -24,6 +25,7 @@ abbrev pub IsFit : (k : Kind) → Value k → Type 0
 IsFit int z = fits 31 z ≡ true
 IsFit long z = fits 63 z ≡ true
 IsFit hex bytes = (0 < length bytes) × IsBytes bytes
+IsFit plain bytes = (0 < length bytes) × All (λ b. b ≢ 32) bytes
 
 abbrev pub AreFit : (fields : Fields) → Values fields → Type 0
 AreFit none values = Unit {0}
@@ -35,6 +37,7 @@ abbrev pub word_of : (k : Kind) → Value k → List ℕ
 word_of int z = signed_decimal z
 word_of long z = signed_decimal z
 word_of hex bytes = encode_lower bytes
+word_of plain bytes = bytes
 
 -- the one text of fields, each behind a blank
 abbrev pub text_with : (fields : Fields) → Values fields → List ℕ
@@ -47,6 +50,7 @@ abbrev pub IsWordOf : (k : Kind) → Value k → List ℕ → Type 0
 IsWordOf int z word = word ≡ signed_decimal z
 IsWordOf long z word = word ≡ signed_decimal z
 IsWordOf hex bytes word = map to_ascii_lowercase word ≡ encode_lower bytes
+IsWordOf plain bytes word = word ≡ bytes
 
 abbrev pub AreSpelled : (fields : Fields) → Values fields → List ℕ → Type 0
 AreSpelled none values s = s ≡ []

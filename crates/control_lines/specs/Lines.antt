@@ -6,8 +6,8 @@ use Rattle.frame_core.specs.declared.refusal.Refusal.{Refusal}
 use Rattle.frame_core.specs.declared.refusal.Refusal.TheVariants.{BadLine, NoMemory}
 use Rattle.frame_core.specs.Outcome.{◌>>=◌}
 use Rattle.control_lines.specs.declared.line.Line.{Line}
-use Rattle.control_lines.specs.Table.{Kind, int, long, hex, Value, Fields, none, text, ◌&◌, MakesLine, Row, copies, rows}
-use Rattle.control_lines.specs.Numbers.{long_of, int_of, hex_bytes_of}
+use Rattle.control_lines.specs.Table.{Kind, int, long, hex, plain, Value, Fields, none, text, ◌&◌, MakesLine, Row, copies, rows}
+use Rattle.control_lines.specs.Numbers.{long_of, int_of, hex_bytes_of, plain_of}
 
 -- a blank is U+0020 alone
 abbrev pub has_blank : List ℕ → Bool
@@ -24,6 +24,7 @@ abbrev pub value_of : (k : Kind) → List ℕ → Result (Value k) Refusal
 value_of int word = int_of word
 value_of long word = long_of word
 value_of hex word = hex_bytes_of word
+value_of plain word = plain_of word
 
 -- the first word as that value, and what stands behind it
 abbrev pub value_at : (k : Kind) → Option (List ℕ) → Result (Value k × Option (List ℕ)) Refusal

@@ -1,4 +1,4 @@
--- Numbers and bytes in control lines: docs/CONTROL.md, "Words".
+-- Numbers, bytes and texts as words of control lines: docs/CONTROL.md, "Words".
 use Rattle.std.specs.Prelude.{◌^◌, ◌==◌, ◌&&◌, ℕ, ℤ, pos, negsuc, nat_lt, Bool, List, length, Result, Ok, Err, bytes_eq, if◌then◌else◌}
 use Rattle.std.specs.Fmt.{signed_decimal}
 use Rattle.std.specs.Str.Parse.{signed_digits_value}
@@ -33,3 +33,7 @@ decoded (Err fault) = Err BadLine
 -- pairs of hex digits in either case, at least one pair
 unfoldable pub hex_bytes_of : List ℕ → Result (List ℕ) Refusal
 hex_bytes_of text = if length text == 0 then Err BadLine else decoded (decode_of text)
+
+-- a text of at least one byte
+unfoldable pub plain_of : List ℕ → Result (List ℕ) Refusal
+plain_of text = if length text == 0 then Err BadLine else Ok text

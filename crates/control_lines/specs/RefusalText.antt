@@ -3,7 +3,7 @@ use Rattle.std.specs.Prelude.{◌++◌, ℕ, List, [], codes, decimal}
 use Rattle.std.specs.Fmt.{signed_decimal}
 use Rattle.frame_core.specs.Refusal.{number_of}
 use Rattle.frame_core.specs.declared.refusal.Refusal.{Refusal}
-use Rattle.frame_core.specs.declared.refusal.Refusal.TheVariants.{UnknownRecording, ActiveRecording, NotActive, ActiveReplay, BadPosition, BadExtension, MaxRecordings, MaxReplays, UnknownReplay, BadParameter, HistoryFull, StaleSession, BadBlock, NeedSettle, Damaged, Broken, DeviceFault, NoMemory, NotCatalogue, NewerVersion, BadFrame, BadLine}
+use Rattle.frame_core.specs.declared.refusal.Refusal.TheVariants.{UnknownRecording, ActiveRecording, NotActive, ActiveReplay, BadPosition, BadExtension, MaxRecordings, MaxReplays, UnknownReplay, BadParameter, HistoryFull, StaleSession, BadBlock, NeedSettle, Damaged, Broken, DeviceFault, NoMemory, NotCatalogue, NewerVersion, BadFrame, BadLine, NeedCompact}
 
 -- its name
 abbrev pub name_of : Refusal → List ℕ
@@ -29,6 +29,7 @@ name_of NotCatalogue = codes "NotCatalogue"
 name_of NewerVersion = codes "NewerVersion"
 name_of (BadFrame offset) = codes "BadFrame"
 name_of BadLine = codes "BadLine"
+name_of NeedCompact = codes "NeedCompact"
 
 -- what stands behind the name: where it is damaged, or where no frame is
 abbrev pub details_of : Refusal → List ℕ

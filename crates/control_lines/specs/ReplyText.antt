@@ -1,5 +1,5 @@
 -- The text of replies: docs/CONTROL.md, "Lines". Each line has its end.
-use Rattle.std.specs.Prelude.{◌++◌, ℕ, ℤ, Bool, true, false, List, length, codes, decimal, Option, Some, None}
+use Rattle.std.specs.Prelude.{◌++◌, ℕ, ℤ, Bool, true, false, List, [], length, codes, decimal, Option, Some, None}
 use Rattle.std.specs.Fmt.{signed_decimal}
 use Rattle.std.specs.List.{flat_map}
 use Rattle.hex.specs.Hex.{encode_lower}
@@ -28,6 +28,11 @@ descriptor_line d =
 -- a frame, and where it lies
 abbrev pub frame_line : PolledFrame → List ℕ
 frame_line f = codes "frame " ++ (signed_decimal f.position ++ (codes " " ++ (encode_lower (encoded f.frame) ++ codes "\n")))
+
+-- who sends a recording's stream: the length of that text in bytes, and the text where it has any
+abbrev pub source_line : List ℕ → List ℕ
+source_line [] = codes "source 0\n"
+source_line text = codes "source " ++ (decimal (length text) ++ (codes " " ++ (text ++ codes "\n")))
 
 -- where a poll ended
 abbrev pub end_line : Option ℤ → List ℕ
@@ -63,6 +68,7 @@ reply_text (replies.Recordings descriptors) =
 reply_text (replies.Found recording) = told (codes "found ") recording
 reply_text (replies.Positions start recorded stop) =
     codes "positions " ++ (signed_decimal start ++ (codes " " ++ (signed_decimal recorded ++ (codes " " ++ (signed_decimal stop ++ codes "\n")))))
+reply_text (replies.Source text) = source_line text
 reply_text (replies.ReplayOpened replay) = told (codes "replay ") replay
 reply_text (replies.Polled frames next) = flat_map frame_line frames ++ end_line next
 reply_text replies.Closed = codes "closed\n"

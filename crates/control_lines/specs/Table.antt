@@ -6,17 +6,19 @@ use Rattle.control_lines.specs.declared.line.Line.{Line}
 use Rattle.control_lines.specs.declared.line.Line.TheVariants.{Event, Write, Block, Reopen, Compact, Merge, Quit}
 use Rattle.control_lines.specs.declared.merge_line.MergeLine.TheVariants as merges
 
--- what a word is: a number of 32 bits, a number of 64 bits, or hexadecimal digits
+-- what a word is: a number of 32 bits, a number of 64 bits, hexadecimal digits, or a text without a blank
 pub data Kind : Type 0 where
   int : Kind
   long : Kind
   hex : Kind
+  plain : Kind
 
 -- what it stands for
 abbrev pub Value : Kind → Type 0
 Value int = ℤ
 Value long = ℤ
 Value hex = List ℕ
+Value plain = List ℕ
 
 infixr 5 ◌&◌
 -- what stands behind a first word: nothing, a text to the line's end, or a word and what stands behind that
@@ -30,6 +32,7 @@ abbrev pub is_copied : Kind → Bool
 is_copied int = false
 is_copied long = false
 is_copied hex = true
+is_copied plain = true
 
 -- one of these fields is, or the text
 abbrev pub copies : Fields → Bool
@@ -64,6 +67,22 @@ start_row = row (codes "start") (int & int & int & int & int & int & long & long
       start_position = position;
       timestamp = timestamp;
       channel = channel;
+      source_identity = [];
+    }))))
+
+abbrev pub start_from_row : Row
+start_from_row = row (codes "start-from") (plain & int & int & int & int & int & int & long & long & text)
+    (λ source stream session term term_length mtu segment_length position timestamp channel. Event (Ask (asks.Start (record {
+      stream_id = stream;
+      session_id = session;
+      initial_term_id = term;
+      term_length = term_length;
+      mtu = mtu;
+      segment_length = segment_length;
+      start_position = position;
+      timestamp = timestamp;
+      channel = channel;
+      source_identity = source;
     }))))
 
 abbrev pub extend_row : Row
@@ -82,6 +101,7 @@ extend_row = row (codes "extend") (long & int & int & int & int & int & long & n
 abbrev pub recorder_rows : List Row
 recorder_rows =
     start_row
+    ∷ start_from_row
     ∷ extend_row
     ∷ row (codes "write") (long & hex & none) (λ session bytes. Write session bytes)
     ∷ row (codes "settle") (long & none) (λ session. Event (Settle session))
@@ -109,6 +129,7 @@ asking_rows =
       fragment = fragment;
     }))))
     ∷ row (codes "positions") (long & none) (λ recording. Event (Ask (asks.Positions recording)))
+    ∷ row (codes "source") (long & none) (λ recording. Event (Ask (asks.Source recording)))
     ∷ []
 
 -- replays, and the archive as a whole

@@ -1,10 +1,11 @@
-//! Words of a control line that are numbers or bytes. docs/CONTROL.md, "Words".
+//! Words of a control line that are numbers, bytes or texts. docs/CONTROL.md, "Words".
 
 ghost use Rattle.std.specs.Prelude.{false, true};
 ghost use Rattle.control_lines.specs.Lines.{Reads};
-ghost use Rattle.control_lines.specs.Numbers.{long_of, int_of, hex_bytes_of};
+ghost use Rattle.control_lines.specs.Numbers.{long_of, int_of, hex_bytes_of, plain_of};
 
 use crate::hex_digits::decode_over;
+use archive_model::SourceIdentity;
 use frame_core::{Items, Refusal};
 use std::alloc::Global;
 
@@ -48,4 +49,15 @@ pub(crate) fn bytes(alloc: Global, text: &str) -> Result<Items<u8>, Refusal>
     } else {
         Err(Refusal::BadLine)
     }
+}
+
+/// The source that a word is: `BadLine` where it is empty, or `NoMemory`.
+#[tactic(auto, unfolding(crate::specs::Numbers::plain_of))]
+pub(crate) fn plain(alloc: Global, word: &str) -> Result<SourceIdentity, Refusal>
+    ensures { Reads true (λ x. x) result (plain_of word.now) }
+{
+    if word.is_empty() {
+        return Err(Refusal::BadLine);
+    }
+    Ok(SourceIdentity::new(String::from_str(alloc, word)?))
 }

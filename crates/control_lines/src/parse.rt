@@ -1,13 +1,13 @@
 //! Control lines read. docs/CONTROL.md, "Lines".
 
 ghost use Rattle.std.specs.Prelude.{◌≡◌, ◌++◌, false, true};
-ghost use Rattle.control_lines.specs.Table.{start_row, extend_row, catalogue_rows, asking_rows, archive_rows, merge_rows, rows};
+ghost use Rattle.control_lines.specs.Table.{start_row, start_from_row, extend_row, catalogue_rows, asking_rows, archive_rows, merge_rows, rows};
 ghost use Rattle.control_lines.specs.Lines.{Reads, copies_by, line_copies, line_of, read, read_by, read_copies, read_of, text_copies, text_of};
 
 use crate::line::Line;
 use crate::merge_line::MergeLine;
 use crate::words::Words;
-use archive_model::{ExtendFields, StartFields};
+use archive_model::{ExtendFields, SourceIdentity, StartFields};
 use control_core::{Event, FindFields, Request};
 use frame_core::Refusal;
 use frame_core::limits::MAX_LINE_LENGTH;
@@ -80,6 +80,9 @@ fn asking_line(alloc: Global, word: &str, words: &mut Words) -> Result<Line, Ref
         "positions" => Request::Positions {
             recording: words.long()?,
         },
+        "source" => Request::Source {
+            recording: words.long()?,
+        },
         _ => return archive_line(alloc, word, words),
     })))
 }
@@ -123,6 +126,25 @@ fn start_line(alloc: Global, words: &mut Words) -> Result<Line, Refusal>
         start_position: words.long()?,
         timestamp: words.long()?,
         channel: words.text(alloc)?,
+        source_identity: SourceIdentity::none(alloc),
+    }))))
+}
+
+fn start_from_line(alloc: Global, words: &mut Words) -> Result<Line, Refusal>
+    ensures { Reads true (λ line. (line, words.new)) result
+        (read start_from_row.fields start_from_row.line words.old) }
+{
+    Ok(Line::Event(Event::Ask(Request::Start(StartFields {
+        source_identity: words.plain(alloc)?,
+        stream_id: words.int()?,
+        session_id: words.int()?,
+        initial_term_id: words.int()?,
+        term_length: words.int()?,
+        mtu: words.int()?,
+        segment_length: words.int()?,
+        start_position: words.long()?,
+        timestamp: words.long()?,
+        channel: words.text(alloc)?,
     }))))
 }
 
@@ -148,6 +170,7 @@ fn recorder_line(alloc: Global, word: &str, words: &mut Words) -> Result<Line, R
 {
     Ok(match word {
         "start" => start_line(alloc, words)?,
+        "start-from" => start_from_line(alloc, words)?,
         "extend" => extend_line(words)?,
         "write" => Line::Write {
             session: words.long()?,
@@ -190,8 +213,8 @@ fn line_of_bytes(alloc: Global, line: &[u8]) -> Result<Line, Refusal>
 
 /// The line that these bytes are, their end not among them: docs/CONTROL.md, "Lines". Costs their length.
 ///
-/// `BadLine` where they are none that the grammar has, also where they are more than 262,144; `NoMemory` where a channel, a
-/// fragment or bytes find no memory, and of no line whose first word has none of these.
+/// `BadLine` where they are none that the grammar has, also where they are more than 262,144; `NoMemory` where a source, a
+/// channel, a fragment or bytes find no memory, and of no line whose first word has none of these.
 #[tactic(auto, unfolding(crate::specs::Lines::line_of, crate::specs::Lines::line_copies))]
 pub fn parse_line(alloc: Global, line: &[u8]) -> Result<Line, Refusal>
     ensures { Reads (line_copies line.now) (λ x. x) result (line_of line.now) }

@@ -5,9 +5,9 @@ ghost use Rattle.std.specs.List.{flat_map};
 ghost use Rattle.hex.specs.Hex.{encode_lower};
 ghost use Rattle.frame_core.specs.declared.refusal.Refusal.TheVariants.{NoMemory};
 ghost use Rattle.frame_core.specs.FrameEncoding.{encoded};
-ghost use Rattle.control_lines.specs.ReplyText.{told, descriptor_line, frame_line, end_line, taken_line, swept_line, merge_line, reply_text};
+ghost use Rattle.control_lines.specs.ReplyText.{told, descriptor_line, frame_line, source_line, end_line, taken_line, swept_line, merge_line, reply_text};
 
-use archive_model::{Descriptor, PolledFrame, Reply};
+use archive_model::{Descriptor, PolledFrame, Reply, SourceIdentity};
 use frame_core::{Frame, Refusal};
 use std::alloc::{AllocError, Global};
 
@@ -109,6 +109,16 @@ fn frame_text(alloc: Global, f: &PolledFrame) -> Result<String, AllocError>
     Ok(out)
 }
 
+fn source_text(alloc: Global, source: &SourceIdentity) -> Result<String, AllocError>
+    ensures { IfOk result (λ text. string_bytes text ≡ source_line source.now) }
+{
+    let source = source.as_str();
+    if source.is_empty() {
+        return String::from_str(alloc, "source 0\n");
+    }
+    format!(in alloc; "source {} {source}\n", source.len())
+}
+
 fn told(alloc: Global, word: &str, value: i64) -> Result<String, AllocError>
     ensures { IfOk result (λ text. string_bytes text ≡ told word.now value) }
 {
@@ -146,6 +156,7 @@ fn text(alloc: Global, reply: &Reply) -> Result<String, AllocError>
             recorded,
             stop,
         } => format!(in alloc; "positions {start} {recorded} {stop}\n"),
+        Reply::Source(source) => source_text(alloc, source),
         Reply::ReplayOpened { replay } => told(alloc, "replay ", *replay),
         Reply::Polled { frames, next } => polled_text(alloc, frames.as_slice(), *next),
         Reply::Closed => String::from_str(alloc, "closed\n"),

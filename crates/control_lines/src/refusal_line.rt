@@ -80,6 +80,7 @@ fn name(refusal: &Refusal) -> &'static str
         Refusal::NewerVersion => "NewerVersion",
         Refusal::BadFrame { .. } => "BadFrame",
         Refusal::BadLine => "BadLine",
+        Refusal::NeedCompact => "NeedCompact",
     }
 }
 

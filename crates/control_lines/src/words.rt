@@ -1,11 +1,11 @@
 //! The words of a control line, one after another. docs/CONTROL.md, "Words".
 
 ghost use Rattle.std.specs.Prelude.{◌≡◌, Some, false, is_none, option_copied, true};
-ghost use Rattle.control_lines.specs.Table.{int, long, hex};
+ghost use Rattle.control_lines.specs.Table.{int, long, hex, plain};
 ghost use Rattle.control_lines.specs.Lines.{Reads, text_at, value_at, word_at};
 
-use crate::number::{bytes, int, long};
-use archive_model::Channel;
+use crate::number::{bytes, int, long, plain};
+use archive_model::{Channel, SourceIdentity};
 use frame_core::{Items, Refusal};
 use std::alloc::Global;
 use std::marker::Model;
@@ -67,6 +67,13 @@ impl<'a> Words<'a> {
         ensures { Reads true (λ bytes. (bytes, self.new)) result (value_at hex self.old) }
     {
         bytes(alloc, self.word()?)
+    }
+
+    /// The next word as a source: `BadLine` where it is empty, or `NoMemory`.
+    pub(crate) fn plain(&mut self, alloc: Global) -> Result<SourceIdentity, Refusal>
+        ensures { Reads true (λ source. (source, self.new)) result (value_at plain self.old) }
+    {
+        plain(alloc, self.word()?)
     }
 
     /// All that is left as a text: `BadLine` where it has no byte, or `NoMemory`.

@@ -149,7 +149,7 @@ fn note(desk: &mut Desk, last: i64) -> Result<(), Refusal> {
     let Some(known) = desk.recording(&found.session.recording) else {
         return Err(Refusal::UnknownRecording);
     };
-    if known.recorded != 0 || last < 0 || last > 131_072 {
+    if known.recorded != 0 || last <= 0 || last > 131_072 || last % 32 != 0 {
         return Err(Refusal::BadPosition);
     }
     let None = found.session.written else {

@@ -41,7 +41,7 @@ fn asked(kind: u8, recording: i64, number: i64) -> Request {
 }
 
 /// Makes an accepted request.
-fn make(alloc: Global, desk: &mut Desk, request: &Request) -> Result<(), Refusal> {
+pub(crate) fn make(alloc: Global, desk: &mut Desk, request: &Request) -> Result<(), Refusal> {
     laws::what_is_decided_is_allowed();
     let Decision::Accepted(command) = decide(alloc, desk, request) else {
         return Err(Refusal::BadLine);

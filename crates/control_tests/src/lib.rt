@@ -9,4 +9,6 @@ mod desks;
 #[cfg(test)]
 mod lines;
 #[cfg(test)]
+mod origins;
+#[cfg(test)]
 mod requests;

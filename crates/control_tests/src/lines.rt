@@ -1,6 +1,6 @@
 //! Control lines read, and replies and refusals printed: docs/CONTROL.md, "Lines" and "Refusals", by example.
 
-use archive_model::{Channel, Descriptor, PolledFrame, Reply, StartFields};
+use archive_model::{Channel, Descriptor, PolledFrame, Reply, SourceIdentity, StartFields};
 use control_core::{Event, FindFields, Request};
 use control_lines::{Line, MergeLine, parse_line, print_refusal, print_reply};
 use frame_core::{Frame, FrameKind, Items, Refusal};
@@ -9,6 +9,9 @@ use std::test::*;
 
 const START_LINE: &[u8] =
     b"start 1001 7 42 65536 1408 131072 0 1000 aeron:udp?endpoint=localhost:40123";
+
+const START_FROM_LINE: &[u8] =
+    b"start-from 127.0.0.1:40123 1001 7 42 65536 1408 131072 0 1000 aeron:udp?endpoint=localhost:40123";
 
 fn has_terms(fields: &StartFields) -> bool {
     fields.initial_term_id == 42 && fields.term_length == 65_536 && fields.mtu == 1_408
@@ -46,6 +49,37 @@ fn a_line_that_starts_a_recording(rt: HostRuntime) -> Result<(), Fail> {
     Ok(())
 }
 
+fn source_of(line: &Line) -> Option<&str> {
+    match line {
+        Line::Event(Event::Ask(Request::Start(fields))) => Some(fields.source_identity.as_str()),
+        _ => None,
+    }
+}
+
+/// Whether a line starts the recording that is told, of a stream from this source.
+fn starts_from(alloc: Global, line: &[u8], source: &str) -> Result<bool, Refusal> {
+    let line = parse_line(alloc, line)?;
+    Ok(started(&line) == Some([true; 4]) && source_of(&line) == Some(source))
+}
+
+/// A source of bytes beyond ASCII, with a no-break space, which is no blank.
+const WIDE_SOURCE_LINE: &str =
+    "start-from \u{e9}\u{a0}1 1001 7 42 65536 1408 131072 0 1000 aeron:udp?endpoint=localhost:40123";
+
+/// A line that starts a recording, and the source that it names.
+#[test]
+fn lines_that_name_a_source(rt: HostRuntime) -> Result<(), Fail> {
+    for (line, source) in [
+        (START_LINE, ""),
+        (START_FROM_LINE, "127.0.0.1:40123"),
+        (WIDE_SOURCE_LINE.as_bytes(), "\u{e9}\u{a0}1"),
+    ] {
+        let starts = starts_from(rt.alloc(), line, source)?;
+        assert!(rt; starts, "{source}");
+    }
+    Ok(())
+}
+
 /// The bytes of a line that has some.
 fn bytes_of(line: &Line) -> Option<&[u8]> {
     match line {
@@ -77,7 +111,7 @@ fn lines_with_bytes(rt: HostRuntime) -> Result<(), Fail> {
 }
 
 /// A line, and what it asks the archive for.
-const ASKED: [(&'static str, &'static str); 13] = [
+const ASKED: [(&'static str, &'static str); 14] = [
     ("list 0 -1", "Event(Ask(List { from: 0, count: -1 }))"),
     (
         "extend 1 1001 7 42 65536 1408 128",
@@ -99,6 +133,7 @@ const ASKED: [(&'static str, &'static str); 13] = [
     ),
     ("purge 1", "Event(Ask(PurgeRecording { recording: 1 }))"),
     ("positions 1", "Event(Ask(Positions { recording: 1 }))"),
+    ("source 1", "Event(Ask(Source { recording: 1 }))"),
     ("close 4", "Event(ReplayClose { replay: 4 })"),
     ("sweep", "Event(Sweep)"),
     ("verify 1", "Event(Verify { recording: 1 })"),
@@ -168,6 +203,18 @@ block 0 00 00
 find 0 1001 7 
 start 2147483648 7 42 65536 1408 131072 0 1000 c
 start 1001 7 42 65536 1408 131072 0 1000 \nframe 0 00
+start-from
+start-from x
+start-from  1001 7 42 65536 1408 131072 0 1000 c
+start-from x 1001 7 42 65536 1408 131072 0 1000
+start-from x 1001 7 42 65536 1408 131072 0 1000 
+start-from 1001 7 42 65536 1408 131072 0 1000 c
+Start-from x 1001 7 42 65536 1408 131072 0 1000 c
+source
+source 
+source x
+source 1 
+source 1 2
 write 0
 sweep 1
 compact 1";
@@ -195,6 +242,12 @@ fn malformed_lines(rt: HostRuntime) -> Result<(), Fail> {
         assert!(rt; is_malformed(rt.alloc(), line.as_bytes()), "{line:?}");
     }
     assert!(rt; is_malformed(rt.alloc(), b"quit\xff"));
+    assert!(rt;
+        is_malformed(
+            rt.alloc(),
+            b"start-from \xff 1001 7 42 65536 1408 131072 0 1000 c"
+        )
+    );
     let longest = longest(rt.alloc())?;
     assert!(rt; longest == (true, true));
     Ok(())
@@ -237,6 +290,18 @@ fn check_recordings(alloc: Global) -> Result<(), Fail> {
     check_printed(alloc, positions, "positions 0 128 -1\n")
 }
 
+fn check_source(alloc: Global, source: &str, text: &str) -> Result<(), Fail> {
+    let source = SourceIdentity::new(String::from_str(alloc, source)?);
+    check_printed(alloc, Reply::Source(source), text)
+}
+
+/// What is told of sources, with their length in bytes.
+fn check_sources(alloc: Global) -> Result<(), Fail> {
+    check_source(alloc, "", "source 0\n")?;
+    check_source(alloc, "127.0.0.1:40123", "source 15 127.0.0.1:40123\n")?;
+    check_source(alloc, "\u{e9}", "source 2 \u{e9}\n")
+}
+
 /// What is told of replays, of reading and of the archive.
 fn check_archive(alloc: Global) -> Result<(), Fail> {
     check_printed(alloc, Reply::ReplayOpened { replay: 0 }, "replay 0\n")?;
@@ -268,6 +333,7 @@ fn check_merges(alloc: Global) -> Result<(), Fail> {
 fn replies_of_one_word_and_numbers(rt: HostRuntime) -> Result<(), Fail> {
     check_recorders(rt.alloc())?;
     check_recordings(rt.alloc())?;
+    check_sources(rt.alloc())?;
     check_archive(rt.alloc())?;
     check_merges(rt.alloc())
 }
@@ -286,6 +352,7 @@ fn descriptor(alloc: Global, recording: i64) -> Result<Descriptor, Fail> {
         session_id: 7,
         stream_id: 1_001,
         channel: Channel::new(String::from_str(alloc, "aeron:udp?endpoint=localhost:40123")?),
+        source_identity: SourceIdentity::new(String::from_str(alloc, "127.0.0.1:40123")?),
     })
 }
 
@@ -296,6 +363,7 @@ fn one_listed(alloc: Global) -> Result<Reply, Fail> {
     Ok(Reply::Recordings(found))
 }
 
+/// A descriptor's line does not show its source.
 #[test]
 fn descriptor_lines(rt: HostRuntime) -> Result<(), Fail> {
     check_printed(
@@ -344,7 +412,7 @@ fn frame_lines(rt: HostRuntime) -> Result<(), Fail> {
     )
 }
 
-const REFUSALS: [(Refusal, &'static str); 22] = [
+const REFUSALS: [(Refusal, &'static str); 23] = [
     (Refusal::UnknownRecording, "error 1 UnknownRecording\n"),
     (Refusal::ActiveRecording, "error 2 ActiveRecording\n"),
     (Refusal::NotActive, "error 3 NotActive\n"),
@@ -373,6 +441,7 @@ const REFUSALS: [(Refusal, &'static str); 22] = [
     (Refusal::NewerVersion, "error 20 NewerVersion\n"),
     (Refusal::BadFrame { offset: 32 }, "error 21 BadFrame 32\n"),
     (Refusal::BadLine, "error 22 BadLine\n"),
+    (Refusal::NeedCompact, "error 23 NeedCompact\n"),
 ];
 
 #[test]
@@ -403,7 +472,7 @@ fn printed(alloc: Global, reply: &Reply) -> Result<Vec<u8>, Refusal> {
 /// this test for each of its requests for memory, which it refuses.
 #[test]
 fn refused_memory_is_told(rt: HostRuntime) -> Result<(), Fail> {
-    for line in [START_LINE, b"block 0 00ff", b"merge-live 00ff"] {
+    for line in [START_FROM_LINE, b"block 0 00ff", b"merge-live 00ff"] {
         let goes_on = goes_on(rt.alloc(), line)?;
         assert!(rt; goes_on);
     }

@@ -17,7 +17,8 @@ pub(crate) fn start_of_bad_terms(alloc: Global) -> Result<Request, Refusal> {
     request_of(alloc, b"start 1001 7 42 65535 1408 131072 0 1000 c")
 }
 
-fn request_of(alloc: Global, line: &[u8]) -> Result<Request, Refusal> {
+/// The request that a line asks for.
+pub(crate) fn request_of(alloc: Global, line: &[u8]) -> Result<Request, Refusal> {
     match parse_line(alloc, line)? {
         Line::Event(Event::Ask(request)) => Ok(request),
         _ => Err(Refusal::BadLine),

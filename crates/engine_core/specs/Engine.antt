@@ -33,11 +33,13 @@ content_of a = record { state = a.state; blocks = a.blocks; doubt = a.doubt }
 abbrev pub new_archive : ℕ → Archive
 new_archive limit = record { state = empty; desk = new_desk limit; blocks = λ number. []; doubt = None }
 
--- while no write has failed the log works, and counts the entries that the desk counts, up to the desk's limit
+-- while no write has failed the log works, and counts the entries that the desk counts, up to the desk's limit, in a bank of
+-- the desk's version
 pub record IsTied (log : LogState) (desk : DeskState) : Type 0 where
   pub works : IsFalse desk.is_broken → IsFalse log.is_broken
   pub counted : IsFalse desk.is_broken → log.counted ≡ desk.counted
   pub limit : IsFalse desk.is_broken → log.header.history_limit ≡ desk.limit
+  pub version : IsFalse desk.is_broken → log.header.version ≡ desk.version
 
 -- entries are added to a bank of the same header, beside the same other one
 pub record KeepsBank (old new : LogState) : Type 0 where

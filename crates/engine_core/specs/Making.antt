@@ -3,6 +3,7 @@ use Rattle.std.specs.Prelude.{◌≡◌, ◌⊎◌, ℕ, ℤ, pos, IfErr, IfOk, 
 use Rattle.disk_core.specs.Life.{HasFailed, LeavesOnly, Life}
 use Rattle.frame_core.specs.declared.refusal.Refusal.{Refusal}
 use Rattle.frame_core.specs.declared.refusal.Refusal.TheVariants.{DeviceFault, NoMemory}
+use Rattle.archive_model.specs.declared.version.BankVersion.{BankVersion}
 use Rattle.archive_model.specs.declared.command.Command.TheVariants.{Restart}
 use Rattle.archive_model.specs.declared.reply.Reply.{Reply}
 use Rattle.archive_model.specs.Commands.{after}
@@ -44,11 +45,11 @@ pub record Restarts (old new : EngineState) (result : Result ℤ Refusal) : Type
   pub kept : IfErr result (λ refusal. (refusal ≡ DeviceFault) ⊎ (new.life ≡ old.life))
   pub idle : IfOk result (λ stopped. stopped ≡ pos 0 → new.life ≡ old.life)
   pub stopped : IfOk result (λ stopped. stopped ≡ pos (active_count old.desk.register))
-  pub desk : OnOk result ((g : RegisterState) (counted limit : ℕ) → old.desk ≡ opened_desk g counted limit → new.desk ≡ opened_desk (all_stopped g) counted limit)
+  pub desk : OnOk result ((g : RegisterState) (counted limit : ℕ) (version : BankVersion) → old.desk ≡ opened_desk g counted limit version → new.desk ≡ opened_desk (all_stopped g) counted limit version)
   -- of an archive at which nobody calls yet
-  pub restarted : OnOk result ((s : State) (counted limit : ℕ) → old.desk ≡ opened_desk (register_of s) counted limit → IsCrashConsistent old.life old.log (opened_archive s counted limit) →
-      IsCrashConsistent new.life new.log (opened_archive (after s Restart) counted limit))
-  pub any_moment : (s : State) (counted limit : ℕ) → old.desk ≡ opened_desk (register_of s) counted limit → IsCrashConsistent old.life old.log (opened_archive s counted limit) →
+  pub restarted : OnOk result ((s : State) (counted limit : ℕ) (version : BankVersion) → old.desk ≡ opened_desk (register_of s) counted limit version → IsCrashConsistent old.life old.log (opened_archive s counted limit version) →
+      IsCrashConsistent new.life new.log (opened_archive (after s Restart) counted limit version))
+  pub any_moment : (s : State) (counted limit : ℕ) (version : BankVersion) → old.desk ≡ opened_desk (register_of s) counted limit version → IsCrashConsistent old.life old.log (opened_archive s counted limit version) →
       LeavesOnly old.life new.life (RecoversTo (IsEither s (after s Restart)))
 
 -- It did not restart, and its disk is handed back.

@@ -31,12 +31,12 @@ LeavesEither life s u = (image : DiskImage) → MayLeave life.now image → Reco
 abbrev pub IsNear : State → State → State → Type 0
 IsNear s u x = IsEither s u x ⊎ ((y : State) × IsEither s u y × (x ≡ after y Restart))
 
--- nobody calls yet, nothing is written and nothing is in doubt; the history has the catalogue's count and limit
+-- nobody calls yet, nothing is written and nothing is in doubt; the history has the catalogue's count and limit, and its version
 pub record IsFresh (image : DiskImage) (s : State) (a : Archive) : Type 0 where
   pub header : BankHeader
   pub entries : List Entry
   pub catalogue : IsCatalogue image header entries
-  pub is : a ≡ opened_archive s (count_by counts entries) header.history_limit
+  pub is : a ≡ opened_archive s (count_by counts entries) header.history_limit header.version
 
 -- An archive is open: it is the restart of the state that the disk read as, which had so many active recordings, and a
 -- crash at any moment of the opening leaves one of the states before it or a restart of one of them.
@@ -62,7 +62,7 @@ pub record IsDeskOf (image : DiskImage) (desk : DeskState) (restarted : ℤ) : T
   pub header : BankHeader
   pub entries : List Entry
   pub catalogue : IsCatalogue image header entries
-  pub is : desk ≡ opened_desk (all_stopped (after_entries no_recordings entries)) (count_by counts entries) header.history_limit
+  pub is : desk ≡ opened_desk (all_stopped (after_entries no_recordings entries)) (count_by counts entries) header.history_limit header.version
   pub stopped : restarted ≡ pos (register.active_count (after_entries no_recordings entries))
 
 -- What `Engine::open` says of a disk that it opens, by stopping so many recordings.

@@ -7,8 +7,9 @@ use disk_core::Disk;
 use frame_core::Refusal;
 use std::alloc::Global;
 
-/// Writes the catalogue of a closed archive anew into the bank that is not in use, with the next epoch: the next id, each
-/// recording as it is, and no other entry. So the history is empty again, and the state is the same.
+/// Writes the catalogue of a closed archive anew into the bank that is not in use, of version 2 and with the next
+/// epoch: the next id, each recording as it is, and no other entry. So the history is empty again, the state is the same, and
+/// a catalogue of version 1 becomes one of version 2.
 ///
 /// `ActiveRecording` where a recording is active, which opening the archive stops; `NotCatalogue` where the other bank may
 /// not be written; `HistoryFull` at the last epoch; else the refusals of an opening. After these and `NoMemory` each file

@@ -18,6 +18,7 @@ ghost use Rattle.archive_model.specs.Register.{no_recordings};
 ghost use Rattle.archive_model.specs.State.{Recording, State, register_of};
 ghost use Rattle.archive_model.specs.WellFormed.{IsWell};
 ghost use Rattle.catalogue_entries.specs.declared.entry.Entry.{Entry};
+ghost use Rattle.archive_model.specs.declared.version.BankVersion.{BankVersion};
 ghost use Rattle.catalogue_entries.specs.Fold.{AreAdmitted, after_entries, first_place};
 ghost use Rattle.catalogue_entries.specs.History.{IsRequested, entry_of};
 ghost use Rattle.catalogue_log.specs.Compacting.{HasRegister, LeavesRegister};
@@ -150,6 +151,6 @@ pub fn a_catalogue_of_the_same_register_keeps_the_state()
 /// Entries of which each may follow those before it, as an opening finds them in a catalogue, make recordings that are laid:
 /// what a desk that is opened over them asks for.
 pub fn admitted_entries_make_laid_recordings()
-    ensures { (entries : List Entry) → AreAdmitted first_place entries →
+    ensures { (v : BankVersion) (entries : List Entry) → AreAdmitted (first_place v) entries →
         AreLaid (after_entries no_recordings entries) }
 {}

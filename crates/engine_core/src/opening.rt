@@ -15,6 +15,7 @@ ghost use Rattle.catalogue_log.specs.Catalogue.{RefusesCatalogue};
 ghost use Rattle.catalogue_entries.specs.Fold.{after_entries};
 ghost use Rattle.catalogue_log.specs.LogState.{IsLogIn, banks_of};
 ghost use Rattle.engine_core.specs.Opening.{ReadsAsBefore, SyncsOnly};
+ghost use Rattle.archive_model.specs.declared.version.BankVersion.TheVariants.{Two};
 ghost use Rattle.control_core.specs.Desk.{opened_desk};
 ghost use Rattle.control_core.specs.Orderly.{AreLaid};
 ghost use Rattle.engine_core.specs.Engine.{DiskGoesOn, IsTied};
@@ -45,13 +46,15 @@ pub(crate) fn read_desk<D: Disk>(
         AreFilesWith (λ file. IsSome (reads (D.life disk.old).now file)) files.now }
     ensures sound { IfOk result (λ opened. IsTrue (D.life disk.new).obeys → (x : State) →
         Recovers (reads (D.life disk.old).now) x → IsSound (D.life disk.new).now opened.0 x
-        × (opened.1.state ≡ opened_desk (register_of x) opened.0.counted opened.0.header.history_limit)) }
+        × (opened.1.state ≡ opened_desk (register_of x) opened.0.counted opened.0.header.history_limit
+        opened.0.header.version)) }
     ensures tied { IfOk result (λ opened. IsTied opened.0 opened.1.state
         × IsFalse opened.1.state.is_broken) }
     // Of any catalogue, whatever the segment files hold.
     ensures log { IfOk result (λ opened. IsTrue (D.life disk.new).obeys →
         (entries : List Entry) × IsLogIn (reads (D.life disk.old).now) opened.0 entries
-        × (opened.1.state ≡ opened_desk (after_entries no_recordings entries) opened.0.counted opened.0.header.history_limit)) }
+        × (opened.1.state ≡ opened_desk (after_entries no_recordings entries) opened.0.counted opened.0.header.history_limit
+        opened.0.header.version)) }
     ensures refused { IfErr result (λ refusal. IsTrue (D.life disk.new).obeys →
         RefusesCatalogue (reads (D.life disk.old).now) refusal) }
     ensures whole { IfErr result (λ refusal. IsTrue (D.life disk.new).obeys → (x : State) →
@@ -62,7 +65,8 @@ pub(crate) fn read_desk<D: Disk>(
     let (log, register) = open_files(alloc, disk, files)?;
     let counted = log.counted() as u64;
     let limit = log.limit();
-    let desk = Desk::opened(alloc, register, counted, limit);
+    let version = log.version();
+    let desk = Desk::opened(alloc, register, counted, limit, version);
     Ok((log, desk))
 }
 
@@ -141,7 +145,7 @@ pub(crate) fn create<D: Disk>(
     requires most { history_limit ≤ 16777216 }
     ensures sound { IfOk result (λ log. IsSound (D.life disk.new).now log empty) }
     ensures log { IfOk result (λ log. (log.header
-        ≡ record { history_limit = history_limit; epoch = 1 })
+        ≡ record { version = Two; history_limit = history_limit; epoch = 1 })
         × (log.counted ≡ 0) × IsFalse log.is_broken) }
     ensures banks { IfOk result (λ log. banks_of log ≡ new_banks) }
     ensures spare { OnOk result (HasClosedGate (D.life disk.new).now BankB) }

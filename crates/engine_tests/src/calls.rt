@@ -1,6 +1,6 @@
 //! Calls as lines of a word and numbers, and their answers as the lines of docs/CONTROL.md.
 
-use archive_model::{Channel, ExtendFields, Reply, StartFields};
+use archive_model::{Channel, ExtendFields, Reply, SourceIdentity, StartFields};
 use control_core::{Event, Request};
 use control_lines::{print_refusal, print_reply};
 use disk_core::{Disk, MemoryDisk};
@@ -25,6 +25,7 @@ fn fields(alloc: Global, start_position: i64) -> Result<StartFields, AllocError>
         start_position,
         timestamp: 1_000,
         channel: Channel::new(String::from_str(alloc, "c")?),
+        source_identity: SourceIdentity::none(alloc),
     })
 }
 

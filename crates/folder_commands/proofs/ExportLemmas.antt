@@ -10,7 +10,7 @@ use Rattle.tool_core.specs.declared.commands.Stopped.{Stopped}
 use Rattle.tool_core.specs.declared.commands.Stopped.TheVariants as stops
 use Rattle.tool_core.specs.declared.fault.EarlyEnd.TheVariants as ends
 use Rattle.tool_core.specs.declared.watched.Watched.{Watched}
-use Rattle.archive_view.specs.declared.view.ArchiveView.{ArchiveView}
+use Rattle.archive_report.specs.ArchiveView.{ArchiveView}
 use Rattle.archive_export.specs.declared.span.Span.{Span}
 use Rattle.archive_export.specs.Exporting.{IsLookedOn}
 use Rattle.archive_report.specs.Exported.{FailsToExportFrom, HasExportedFrom, HasRefusedFrom}

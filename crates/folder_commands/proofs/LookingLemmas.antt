@@ -10,7 +10,7 @@ use Rattle.tool_core.specs.declared.commands.Stopped.TheVariants as stops
 use Rattle.tool_core.specs.declared.reports.Verdict.{Verdict}
 use Rattle.tool_core.specs.declared.reports.Verdict.TheVariants as verdicts
 use Rattle.tool_core.specs.declared.watched.Watched.{Watched}
-use Rattle.archive_view.specs.ReadOnly.{IsOnlyRead}
+use Rattle.archive_report.specs.ReadOnly.{IsOnlyRead}
 use Rattle.archive_report.specs.Verifying.{FailsToVerify, HasVerified}
 use Rattle.archive_report.specs.Viewing.{FailsToList, HasListed}
 use Rattle.folder_commands.specs.declared.status.Ending.TheVariants.{Done}

@@ -7,7 +7,7 @@ use Rattle.tool_core.specs.declared.commands.Stopped.{Stopped}
 use Rattle.tool_core.specs.declared.commands.Stopped.TheVariants as stops
 use Rattle.tool_core.specs.declared.reports.Verdict.{Verdict}
 use Rattle.tool_core.specs.declared.watched.Watched.{Watched}
-use Rattle.archive_view.specs.declared.view.ArchiveView.{ArchiveView}
+use Rattle.archive_report.specs.ArchiveView.{ArchiveView}
 use Rattle.archive_report.specs.Verifying.{FailsToVerify, HasVerified, VerifiesEach}
 use Rattle.archive_report.specs.Viewing.{FailsToList}
 use Rattle.folder_commands.proofs.WatchedLemmas.{inside}
@@ -17,7 +17,7 @@ abbrev pub unwatched_view : {D V : Type 0} → ArchiveView (Watched D V) → Arc
 unwatched_view view = record {
   disk = record { disk = view.disk.disk.disk; refused = view.disk.refused };
   desk = view.desk;
-  total = view.total;
+  counted = view.counted;
   epoch = view.epoch;
 }
 

@@ -12,7 +12,7 @@ use Rattle.tool_core.specs.declared.commands.Stopped.TheVariants as stops
 use Rattle.tool_core.specs.declared.fault.EarlyEnd.TheVariants as ends
 use Rattle.tool_core.specs.declared.reports.Verdict.TheVariants as verdicts
 use Rattle.archive_export.specs.declared.span.Span.{Span}
-use Rattle.archive_view.specs.ReadOnly.{IsOnlyRead}
+use Rattle.archive_report.specs.ReadOnly.{IsOnlyRead}
 use Rattle.archive_report.specs.Exported.{FailsToExportFrom, HasExportedFrom}
 use Rattle.archive_report.specs.Verifying.{FailsToVerify, HasVerified}
 use Rattle.archive_report.specs.Viewing.{FailsToList, HasListed}

@@ -95,7 +95,7 @@ FitsSigned-i64_at bytes offset small = signed_fits64 _ (number_fits 8 offset byt
 pub i32_back : (z : ℤ) (rest : List ℕ) → FitsSigned w32 z → cast_signed w32 (little_number 4 (i32_bytes z ++ rest)) ≡ z
 i32_back z rest fits = ap (cast_signed w32) (little_number-reads_back 4 (cast_unsigned w32 z) rest (omega (arith, ints))) ∙ to_z-of_z w32 z fits
 
-i64_back : (z : ℤ) (rest : List ℕ) → FitsSigned w64 z → cast_signed w64 (little_number 8 (i64_bytes z ++ rest)) ≡ z
+pub i64_back : (z : ℤ) (rest : List ℕ) → FitsSigned w64 z → cast_signed w64 (little_number 8 (i64_bytes z ++ rest)) ≡ z
 i64_back z rest fits = ap (cast_signed w64) (little_number-reads_back 8 (cast_unsigned w64 z) rest (omega (arith, ints))) ∙ to_z-of_z w64 z fits
 
 -- the number of a type is small

@@ -9,3 +9,4 @@ pub mod OrderLemmas
 pub mod PositionLemmas
 pub mod SegmentLemmas
 pub mod SetupLemmas
+pub mod StatusLemmas

@@ -5,6 +5,7 @@ use Rattle.frame_core.specs.declared.frame.FrameKind.TheVariants.{Pad, Message, 
 use Rattle.frame_core.specs.declared.frame.Frame.{Frame}
 use Rattle.frame_core.specs.declared.nak.Nak.{Nak}
 use Rattle.frame_core.specs.declared.setup.Setup.{Setup}
+use Rattle.frame_core.specs.declared.status.StatusMessage.{StatusMessage}
 use Rattle.frame_core.specs.FrameEncoding.{u16_at, i32_at, i64_at, aligned}
 
 -- a header of these bytes is of a frame of the kind, whose encoding ends at an offset and which uses that many bytes
@@ -50,4 +51,16 @@ read_nak bytes = record {
   term_id = i32_at bytes 16;
   term_offset = i32_at bytes 20;
   length = i32_at bytes 24;
+}
+
+-- the fields of a status message
+abbrev pub read_status : List ℕ → StatusMessage
+read_status bytes = record {
+  flags = slice_index bytes 5;
+  session_id = i32_at bytes 8;
+  stream_id = i32_at bytes 12;
+  consumption_term_id = i32_at bytes 16;
+  consumption_term_offset = i32_at bytes 20;
+  receiver_window = i32_at bytes 24;
+  receiver_id = i64_at bytes 28;
 }

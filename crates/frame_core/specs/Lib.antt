@@ -1,4 +1,4 @@
--- What a reader has to believe: frames, datagrams, positions, segments, where a replay ends, setup and NAK frames, blocks and the refusals' numbers.
+-- What a reader has to believe: frames, datagrams, positions, segments, where a replay ends, setup, NAK and status frames, blocks and the refusals' numbers.
 pub mod FrameEncoding
 pub mod Front
 pub mod Header
@@ -9,6 +9,7 @@ pub mod ReplayEnd
 pub mod Limits
 pub mod Setup
 pub mod Nak
+pub mod Status
 pub mod Block
 pub mod Refusal
 pub mod Outcome

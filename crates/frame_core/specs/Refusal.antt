@@ -1,7 +1,7 @@
 -- The refusals' numbers: docs/CONTROL.md, "Refusals".
 use Rattle.std.specs.Prelude.{ℕ}
 use Rattle.frame_core.specs.declared.refusal.Refusal.{Refusal}
-use Rattle.frame_core.specs.declared.refusal.Refusal.TheVariants.{UnknownRecording, ActiveRecording, NotActive, ActiveReplay, BadPosition, BadExtension, MaxRecordings, MaxReplays, UnknownReplay, BadParameter, HistoryFull, StaleSession, BadBlock, NeedSettle, Damaged, Broken, DeviceFault, NoMemory, NotCatalogue, NewerVersion, BadFrame, BadLine}
+use Rattle.frame_core.specs.declared.refusal.Refusal.TheVariants.{UnknownRecording, ActiveRecording, NotActive, ActiveReplay, BadPosition, BadExtension, MaxRecordings, MaxReplays, UnknownReplay, BadParameter, HistoryFull, StaleSession, BadBlock, NeedSettle, Damaged, Broken, DeviceFault, NoMemory, NotCatalogue, NewerVersion, BadFrame, BadLine, NeedCompact}
 
 -- the number that the control lines print
 abbrev pub number_of : Refusal → ℕ
@@ -27,3 +27,4 @@ number_of NotCatalogue = 19
 number_of NewerVersion = 20
 number_of (BadFrame offset) = 21
 number_of BadLine = 22
+number_of NeedCompact = 23

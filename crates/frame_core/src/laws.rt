@@ -4,17 +4,19 @@ ghost use Rattle.std.specs.Prelude.{◌≡◌, ◌<◌, ◌≤◌, ◌^◌, ◌+
 ghost use Rattle.std.specs.Int.{w32};
 ghost use Rattle.frame_core.specs.Block.{AreBlock};
 ghost use Rattle.frame_core.specs.Datagram.{IsBadAt, IsDatagram};
-ghost use Rattle.frame_core.specs.FrameEncoding.{IsEncodable, IsHeader, Fits, aligned_length, encoded, header_of, stored};
+ghost use Rattle.frame_core.specs.FrameEncoding.{IsEncodable, IsHeader, Fits, aligned_length, encoded, header_of, i32_at, stored};
 ghost use Rattle.frame_core.specs.Front.{IsFront, used_by};
 ghost use Rattle.frame_core.specs.Limits.{is_term_length};
 ghost use Rattle.frame_core.specs.Nak.{HasRange, IsNak, NakFits, encoded_nak};
 ghost use Rattle.frame_core.specs.Position.{HasPosition, position_of};
 ghost use Rattle.frame_core.specs.Setup.{HasJoinPosition, IsSetup};
+ghost use Rattle.frame_core.specs.Status.{IsStatus, MayStand, StatusFits, encoded_status};
 ghost use Rattle.frame_core.specs.declared.frame.Frame.{Frame};
 ghost use Rattle.frame_core.specs.declared.frame.FrameKind.TheVariants.{Message};
 ghost use Rattle.frame_core.specs.declared.geometry.Geometry.{Geometry};
 ghost use Rattle.frame_core.specs.declared.nak.Nak.{Nak};
 ghost use Rattle.frame_core.specs.declared.setup.Setup.{Setup};
+ghost use Rattle.frame_core.specs.declared.status.StatusMessage.{StatusMessage};
 
 /// The bytes alone determine the frame in front of them, and how many of them it uses.
 pub fn one_frame_in_front()
@@ -103,4 +105,18 @@ pub fn an_encoded_nak_is_read_as_it()
         → IsNak (encoded_nak n ++ rest) n }
     ensures bytes { (bytes : List ℕ) (n : Nak) → ((k : ℕ) → slice_index bytes k < 256)
         → IsNak bytes n → slice_index bytes 5 ≡ 0 → take 28 bytes ≡ encoded_nak n }
+{}
+
+/// The bytes alone determine the status message at their beginning.
+pub fn one_status_in_front()
+    ensures { (bytes : List ℕ) (s t : StatusMessage) → IsStatus bytes s → IsStatus bytes t → s ≡ t }
+{}
+
+/// A status message that was encoded is read as it, whatever follows; and 36 bytes that are read as it, without feedback of
+/// an application, are its encoding. Aeron Transport Protocol Specification, "Status Message Frame".
+pub fn an_encoded_status_is_read_as_it()
+    ensures read { (s : StatusMessage) (rest : List ℕ) → StatusFits s → MayStand s
+        → IsStatus (encoded_status s ++ rest) s }
+    ensures bytes { (bytes : List ℕ) (s : StatusMessage) → ((k : ℕ) → slice_index bytes k < 256)
+        → IsStatus bytes s → i32_at bytes 0 ≡ pos 36 → take 36 bytes ≡ encoded_status s }
 {}

@@ -10,7 +10,11 @@ pub const MAX_ACTIVE_RECORDERS: usize = 64;
 /// Replays that are open at most.
 pub const MAX_OPEN_REPLAYS: usize = 64;
 /// Bytes of a channel at most.
-pub const MAX_CHANNEL_LENGTH: usize = 512;
+pub const MAX_CHANNEL_LENGTH: usize = 1_024;
+/// Bytes of a channel at most that a catalogue of version 1 can hold.
+pub const MAX_SHORT_CHANNEL_LENGTH: usize = 512;
+/// Bytes of a source at most.
+pub const MAX_SOURCE_LENGTH: usize = 128;
 /// Bytes of a term at least.
 pub const MIN_TERM_LENGTH: i32 = 65_536;
 /// Bytes of a term, and of a segment, at most.
@@ -33,6 +37,10 @@ pub const MAX_LIST: i64 = 1_024;
 pub const MAX_HISTORY: u32 = 16_777_216;
 /// Bytes of a control line at most, its end not counted.
 pub const MAX_LINE_LENGTH: usize = 262_144;
+/// Bytes of a datagram at most that a receiver takes.
+pub const LONGEST_DATAGRAM: usize = 65_536;
+/// Blocks that wait at most between the thread that receives them and the one that records them.
+pub const MAX_WAITING_BLOCKS: usize = 16;
 /// Where recording ids and the numbers of sessions and replays stop.
 pub const LAST_NUMBER: i64 = 9_223_372_036_854_775_807;
 

@@ -61,12 +61,14 @@ pub enum Refusal {
     },
     /// The line is none that the grammar has.
     BadLine,
+    /// The catalogue is of version 1, which can't hold the recording's channel or source: compact it first.
+    NeedCompact,
 }
 
 impl Refusal {
     ghost use Rattle.frame_core.specs.Refusal.{number_of};
 
-    /// The number that the control lines print, from 1 to 22: docs/CONTROL.md, "Refusals".
+    /// The number that the control lines print, from 1 to 23: docs/CONTROL.md, "Refusals".
     pub fn number(&self) -> u8
         ensures { result ≡ number_of self.now }
     {
@@ -93,6 +95,7 @@ impl Refusal {
             Refusal::NewerVersion => 20,
             Refusal::BadFrame { .. } => 21,
             Refusal::BadLine => 22,
+            Refusal::NeedCompact => 23,
         }
     }
 }

@@ -1,6 +1,6 @@
 //! A bank of 100,000 entries on a disk in memory, opened again and again.
 
-use archive_model::{Channel, StartFields};
+use archive_model::{Channel, SourceIdentity, StartFields};
 use catalogue_log::{Entry, Log, create, open};
 use disk_core::MemoryDisk;
 use std::alloc::Global;
@@ -45,6 +45,7 @@ fn add_start(alloc: Global, disk: &mut MemoryDisk, log: &mut Log) -> Option<()> 
             start_position: 0,
             timestamp: 1_000,
             channel,
+            source_identity: SourceIdentity::none(alloc),
         },
     };
     add(disk, log, &start).then_some(())
@@ -65,5 +66,5 @@ fn add_settlements(disk: &mut MemoryDisk, log: &mut Log) -> bool {
 
 /// Adds an entry. Whether it was added.
 fn add(disk: &mut MemoryDisk, log: &mut Log, entry: &Entry) -> bool {
-    entry.is_short() && log.append(disk, entry).is_ok()
+    entry.is_held(log.version()) && log.append(disk, entry).is_ok()
 }

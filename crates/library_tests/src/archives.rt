@@ -2,7 +2,7 @@
 
 use crate::catalogues::register_of_bank;
 use crate::vectors::{HELLO_AT_0, HELLO_AT_64, HELLO_AT_128};
-use archive_model::{Channel, Command, Descriptor, Register, Reply, StartFields};
+use archive_model::{Channel, Command, Descriptor, Register, Reply, SourceIdentity, StartFields};
 use frame_core::limits::LAST_NUMBER;
 use frame_core::{Block, Geometry, Items, Refusal, block_of};
 use plain_book::{Book, Recording};
@@ -28,6 +28,7 @@ fn fields(alloc: Global, start_position: i64) -> Result<StartFields, Refusal> {
         start_position,
         timestamp: 1_000,
         channel: Channel::new(String::from_str(alloc, "c")?),
+        source_identity: SourceIdentity::none(alloc),
     })
 }
 

@@ -77,9 +77,10 @@ fn the_open_bank_of_the_later_epoch_is_in_use(rt: HostRuntime) -> Result<(), Fai
         (1, 9, 1, 33, ("A", 2)),
         (1, 1, 2, 33, ("NotCatalogue", 0)),
         (1, 1, 3, 33, ("B", 0)),
+        (1, 2, 3, 33, ("B", 0)),
         // A later bank that is damaged, of another version, or none, is not passed over.
         (1, 1, 3, 32, ("Damaged", 32)),
-        (1, 2, 3, 33, ("NewerVersion", 0)),
+        (1, 3, 3, 33, ("NewerVersion", 0)),
         (1, 0, 3, 33, ("NotCatalogue", 0)),
     ];
     for (gate, version, epoch, length, told) in rows {
@@ -118,8 +119,8 @@ fn opening(alloc: Global, count: usize) -> Result<(usize, Option<u64>), Fail> {
     Ok(opened(alloc, &mut disk)?)
 }
 
-/// An opening makes two syncs, a read of each bank's header, and one for each 64,512 bytes: of 65,536 that are read at once
-/// the last 1,024 may be too few for an entry.
+/// An opening makes two syncs, a read of each bank's header, and one for each 64,256 bytes: of 65,536 that are read at once
+/// the last 1,280 may be too few for an entry.
 #[test]
 fn an_opening_reads_each_part_once(rt: HostRuntime) -> Result<(), Fail> {
     for (count, calls) in [(0, 5), (16_000, 5), (32_000, 6), (64_000, 8)] {

@@ -1,10 +1,7 @@
 //! The catalogue: the bank of docs/STORAGE.md, "Entries", byte for byte, cut and changed; stops at each change of the disk;
 //! requests for memory refused.
 
-ghost use Rattle.std.specs.Prelude.{◌≡◌, length, IfOk, IsTrue};
-ghost use Rattle.catalogue_entries.specs.EntryBytes.{is_short};
-
-use archive_model::{Channel, Command, Register, StartFields};
+use archive_model::{BankVersion, Channel, Command, Register, SourceIdentity, StartFields};
 use catalogue_log::{Bank, Entry, Log, create, open, register_from};
 use disk_core::{Disk, Fault, FileId, MemoryDisk};
 use frame_core::Refusal;
@@ -12,7 +9,7 @@ use std::alloc::{AllocError, Global};
 use std::process::Abort;
 use std::test::Fail;
 
-// The bank of docs/STORAGE.md, "Entries".
+// The bank of version 1 of docs/STORAGE.md, "Entries".
 const BANK: [u8; 108] = [
     0x01, 0x01, 0x00, 0x00, 0x03, 0x00, 0x00, 0x00, 0x01, 0x00, 0x00, 0x00, 0x00, 0x00, 0x00, 0x00,
     0x00, 0x00, 0x00, 0x00, 0x00, 0x00, 0x00, 0x00, 0x00, 0x00, 0x00, 0x00, 0x00, 0x00, 0x00, 0x00,
@@ -23,10 +20,19 @@ const BANK: [u8; 108] = [
     0x00, 0x00, 0x00, 0x40, 0x00, 0x00, 0x00, 0x00, 0x00, 0x00, 0x00, 0x00,
 ];
 
+// The bank of version 2 with the same entries.
+const NEW_BANK: [u8; 110] = [
+    0x01, 0x02, 0x00, 0x00, 0x03, 0x00, 0x00, 0x00, 0x01, 0x00, 0x00, 0x00, 0x00, 0x00, 0x00, 0x00,
+    0x00, 0x00, 0x00, 0x00, 0x00, 0x00, 0x00, 0x00, 0x00, 0x00, 0x00, 0x00, 0x00, 0x00, 0x00, 0x00,
+    0x01, 0x01, 0x35, 0x00, 0x00, 0x00, 0x00, 0x00, 0x00, 0x00, 0x00, 0x00, 0xe8, 0x03, 0x00, 0x00,
+    0x00, 0x00, 0x00, 0x00, 0x00, 0x00, 0x00, 0x00, 0x00, 0x00, 0x00, 0x00, 0x2a, 0x00, 0x00, 0x00,
+    0x00, 0x00, 0x02, 0x00, 0x00, 0x00, 0x01, 0x00, 0x80, 0x05, 0x00, 0x00, 0x07, 0x00, 0x00, 0x00,
+    0xe9, 0x03, 0x00, 0x00, 0x01, 0x00, 0x63, 0x00, 0x00, 0x01, 0x02, 0x10, 0x00, 0x00, 0x00, 0x00,
+    0x00, 0x00, 0x00, 0x00, 0x00, 0x40, 0x00, 0x00, 0x00, 0x00, 0x00, 0x00, 0x00, 0x00,
+];
+
 /// What the bank's recording is.
-fn fields(alloc: Global) -> Result<StartFields, AllocError>
-    ensures { IfOk result (λ fields. length fields.channel ≡ 1) }
-{
+fn fields(alloc: Global) -> Result<StartFields, AllocError> {
     Ok(StartFields {
         stream_id: 1_001,
         session_id: 7,
@@ -37,13 +43,12 @@ fn fields(alloc: Global) -> Result<StartFields, AllocError>
         start_position: 0,
         timestamp: 1_000,
         channel: Channel::new(String::from_str(alloc, "c")?),
+        source_identity: SourceIdentity::none(alloc),
     })
 }
 
 /// The start of the bank's recording.
-fn start(alloc: Global) -> Result<Entry, AllocError>
-    ensures { IfOk result (λ entry. IsTrue (is_short entry)) }
-{
+fn start(alloc: Global) -> Result<Entry, AllocError> {
     Ok(Entry::Start {
         recording: 0,
         fields: fields(alloc)?,
@@ -60,25 +65,22 @@ const STOP: Entry = Entry::Stop {
     timestamp: 2_000,
 };
 
-/// Adds an entry.
-fn add(log: &mut Log, disk: &mut MemoryDisk, entry: &Entry) -> Result<(), Refusal>
-    requires { IsTrue (is_short entry.now) }
-{
+/// Adds an entry, which the bank's version has to hold.
+fn add(log: &mut Log, disk: &mut MemoryDisk, entry: &Entry) -> Result<(), Refusal> {
+    if !entry.is_held(log.version()) {
+        return Err(Refusal::NeedCompact);
+    }
     log.append(disk, entry)
 }
 
 /// Adds this entry and a settle.
-fn add_two(log: &mut Log, disk: &mut MemoryDisk, first: &Entry) -> Result<(), Refusal>
-    requires { IsTrue (is_short first.now) }
-{
+fn add_two(log: &mut Log, disk: &mut MemoryDisk, first: &Entry) -> Result<(), Refusal> {
     add(log, disk, first)?;
     add(log, disk, &SETTLE)
 }
 
 /// A catalogue with these two.
-fn bank_from(alloc: Global, disk: &mut MemoryDisk, first: &Entry) -> Result<Log, Refusal>
-    requires { IsTrue (is_short first.now) }
-{
+fn bank_from(alloc: Global, disk: &mut MemoryDisk, first: &Entry) -> Result<Log, Refusal> {
     let mut log = create(alloc, disk, 3)?;
     add_two(&mut log, disk, first).and(Ok(log))
 }
@@ -115,9 +117,9 @@ pub(crate) fn holds(disk: &mut MemoryDisk, file: FileId, bytes: &[u8]) -> Result
     Ok(read.get(..count) == Some(bytes))
 }
 
-/// Whether bank A is the one of docs/STORAGE.md.
+/// Whether bank A is the one of version 2.
 fn is_bank(disk: &mut MemoryDisk) -> Result<bool, Fault> {
-    holds(disk, FileId::BankA, &BANK)
+    holds(disk, FileId::BankA, &NEW_BANK)
 }
 
 /// Writes the bank, which is that one; bank B has its closed gate alone.
@@ -134,10 +136,15 @@ fn a_bank_is_written_byte_for_byte(rt: HostRuntime) -> Result<(), Fail> {
     check_written(&rt, rt.alloc(), &mut disk)
 }
 
-/// A disk with that bank.
-fn with_bank(alloc: Global) -> Result<MemoryDisk, Fault> {
+/// A disk with a bank.
+fn with_bytes(alloc: Global, bank: &[u8]) -> Result<MemoryDisk, Fault> {
     let mut disk = MemoryDisk::new(alloc);
-    disk.write_at(FileId::BankA, 0, &BANK).and(Ok(disk))
+    disk.write_at(FileId::BankA, 0, bank).and(Ok(disk))
+}
+
+/// A disk with the bank of version 1.
+fn with_bank(alloc: Global) -> Result<MemoryDisk, Fault> {
+    with_bytes(alloc, &BANK)
 }
 
 /// The limit, the epoch and the counted entries of the catalogue that is opened, and how many entries there are.
@@ -154,6 +161,25 @@ fn a_bank_is_opened(rt: HostRuntime) -> Result<(), Fail> {
     Ok(())
 }
 
+/// The bank of version 1 behind an entry more: its version, and whether its bytes before the last gate are as they were.
+fn gone_on(alloc: Global, disk: &mut MemoryDisk) -> Result<(BankVersion, bool), Refusal> {
+    let (mut log, _) = open(alloc, disk)?;
+    add(&mut log, disk, &STOP)?;
+    let mut read = [9; 200];
+    let count = disk.read_at(FileId::BankA, 0, &mut read).unwrap_or(0);
+    Ok((
+        log.version(),
+        count == 128 && read.get(..107) == BANK.get(..107),
+    ))
+}
+
+#[test]
+fn a_bank_of_version_1_goes_on_in_it(rt: HostRuntime) -> Result<(), Fail> {
+    let mut disk = with_bank(rt.alloc())?;
+    assert!(rt; gone_on(rt.alloc(), &mut disk) == Ok((BankVersion::One, true)));
+    Ok(())
+}
+
 /// The entry of the command that starts the bank's recording.
 fn start_of_command(alloc: Global) -> Result<Entry, Refusal> {
     let command = Command::Start(fields(alloc)?);
@@ -167,7 +193,7 @@ fn begins_bank(
     disk: &mut MemoryDisk,
     entry: &Entry,
 ) -> Result<bool, Fail> {
-    assert!(rt; entry.is_short());
+    assert!(rt; entry.is_held(BankVersion::Two));
     bank_from(alloc, disk, entry)?;
     Ok(is_bank(disk)?)
 }
@@ -226,6 +252,77 @@ fn a_bank_is_cut_at_each_length(rt: HostRuntime) -> Result<(), Fail> {
         for length in from..to {
             assert!(rt; cut_bank(rt.alloc(), length)? == told);
         }
+    }
+    Ok(())
+}
+
+/// What opening the bank of version 2 answers where its file is cut to a length.
+fn cut_new_bank(alloc: Global, length: u64) -> Result<(&'static str, i64), Fault> {
+    let mut disk = with_bytes(alloc, &NEW_BANK)?;
+    disk.cut(FileId::BankA, length)
+        .and(Ok(answer(alloc, &mut disk)))
+}
+
+#[test]
+fn a_bank_of_version_2_is_cut_at_each_length(rt: HostRuntime) -> Result<(), Fail> {
+    let rows = [
+        (0, 32, ("NotCatalogue", 0)),
+        (32, 90, ("Damaged", 32)),
+        (90, 110, ("Damaged", 89)),
+        (110, 111, ("A", 2)),
+    ];
+    for (from, to, told) in rows {
+        for length in from..to {
+            assert!(rt; cut_new_bank(rt.alloc(), length)? == told);
+        }
+    }
+    Ok(())
+}
+
+/// What opening a bank answers whose version is another.
+fn of_version(alloc: Global, bank: &[u8], version: u8) -> Result<(&'static str, i64), Fault> {
+    let mut disk = with_bytes(alloc, bank)?;
+    disk.write_at(FileId::BankA, 1, &[version])
+        .and(Ok(answer(alloc, &mut disk)))
+}
+
+#[test]
+fn banks_are_read_by_their_version(rt: HostRuntime) -> Result<(), Fail> {
+    // The version, and what the banks of version 1 and 2 are answered where they have it.
+    let rows = [
+        (0, ("NotCatalogue", 0), ("NotCatalogue", 0)),
+        (1, ("A", 2), ("Damaged", 32)),
+        (2, ("Damaged", 32), ("A", 2)),
+        (3, ("NewerVersion", 0), ("NewerVersion", 0)),
+        (200, ("NewerVersion", 0), ("NewerVersion", 0)),
+    ];
+    for (version, first, second) in rows {
+        assert!(rt; of_version(rt.alloc(), &BANK, version)? == first);
+        assert!(rt; of_version(rt.alloc(), &NEW_BANK, version)? == second);
+    }
+    Ok(())
+}
+
+/// What opening the bank of version 2 answers where its start has a source of one byte.
+fn with_source(alloc: Global, source: u8) -> Result<(&'static str, i64), Fault> {
+    let mut disk = with_bytes(alloc, &NEW_BANK)?;
+    disk.write_at(FileId::BankA, 34, &[0x36])?;
+    disk.write_at(FileId::BankA, 87, &[1, 0, source])?;
+    disk.write_at(FileId::BankA, 90, &NEW_BANK[89..])
+        .and(Ok(answer(alloc, &mut disk)))
+}
+
+#[test]
+fn a_source_is_a_text_without_blanks(rt: HostRuntime) -> Result<(), Fail> {
+    let rows = [
+        (0x41, ("A", 2)),
+        (0x20, ("Damaged", 32)),
+        (0x09, ("Damaged", 32)),
+        (0x7f, ("Damaged", 32)),
+        (0xff, ("Damaged", 32)),
+    ];
+    for (source, told) in rows {
+        assert!(rt; with_source(rt.alloc(), source)? == told);
     }
     Ok(())
 }
@@ -353,9 +450,7 @@ fn a_stop_at_each_change_of_three_appends(rt: HostRuntime) -> Result<(), Fail> {
 }
 
 /// The start, made again where memory is refused.
-fn start_again(alloc: Global) -> Result<Entry, AllocError>
-    ensures { IfOk result (λ entry. IsTrue (is_short entry)) }
-{
+fn start_again(alloc: Global) -> Result<Entry, AllocError> {
     match start(alloc) {
         Ok(entry) => Ok(entry),
         Err(_) => start(alloc),
@@ -376,9 +471,7 @@ fn add_opened(
     disk: &mut MemoryDisk,
     entry: &Entry,
     entries: usize,
-) -> Result<Log, Refusal>
-    requires { IsTrue (is_short entry.now) }
-{
+) -> Result<Log, Refusal> {
     let (mut log, found) = open(alloc, disk)?;
     let done = if found.len() == entries {
         add(&mut log, disk, entry)
@@ -396,9 +489,7 @@ fn append_again(
     disk: &mut MemoryDisk,
     log: &mut Log,
     entry: &Entry,
-) -> Result<(), Refusal>
-    requires { IsTrue (is_short entry.now) }
-{
+) -> Result<(), Refusal> {
     let changes = disk.changes();
     let entries = log.counted();
     let told = add(log, disk, entry);
@@ -419,9 +510,7 @@ fn append_two_again(
     disk: &mut MemoryDisk,
     log: &mut Log,
     first: &Entry,
-) -> Result<(), Refusal>
-    requires { IsTrue (is_short first.now) }
-{
+) -> Result<(), Refusal> {
     append_again(rt, alloc, disk, log, first)?;
     append_again(rt, alloc, disk, log, &SETTLE)
 }
@@ -432,9 +521,7 @@ fn bank_again(
     alloc: Global,
     disk: &mut MemoryDisk,
     first: &Entry,
-) -> Result<usize, Refusal>
-    requires { IsTrue (is_short first.now) }
-{
+) -> Result<usize, Refusal> {
     let mut log = create_again(alloc, disk)?;
     append_two_again(rt, alloc, disk, &mut log, first)?;
     Ok(log.counted())
@@ -459,9 +546,7 @@ fn check_again(
     alloc: Global,
     disk: &mut MemoryDisk,
     first: &Entry,
-) -> Result<(), Fail>
-    requires { IsTrue (is_short first.now) }
-{
+) -> Result<(), Fail> {
     let counted = bank_again(rt, alloc, disk, first)?;
     assert!(rt; counts_again(alloc, disk)? == (2, counted));
     Ok(())

@@ -1,13 +1,14 @@
-//! Frames, datagrams, positions, blocks, setup and NAK frames: the vectors of docs/SCENARIOS.md, and docs/PROTOCOL.md by
+//! Frames, datagrams, positions, blocks, setup frames, NAKs and status messages: the vectors of docs/SCENARIOS.md, and docs/PROTOCOL.md by
 //! example.
 
 use crate::vectors::{
     HEARTBEAT_AT_256, HELLO_AT_0, HELLO_AT_64, HELLO_AT_128, HELLO_AT_TERM_END, HELLO_IN_NEXT_TERM,
-    NAK_AT_64, NAK_AT_192, PAD_AT_TERM_END, PAD_OF_NEXT_TERM, PAD_OF_TERM, SETUP, WORLD_AT_64,
+    NAK_AT_64, NAK_AT_192, PAD_AT_TERM_END, PAD_OF_NEXT_TERM, PAD_OF_TERM, SETUP, STATUS,
+    WORLD_AT_64,
 };
 use frame_core::{
-    FrameKind, Geometry, Items, Nak, Publication, Refusal, Setup, block_end, block_of,
-    decode_front, encode_into, frames_of_datagram, position, term_of,
+    FrameKind, Geometry, Items, Nak, Publication, Refusal, Setup, StatusMessage, block_end,
+    block_of, decode_front, encode_into, frames_of_datagram, position, term_of,
 };
 use std::alloc::{AllocError, Global};
 use std::process::Abort;
@@ -204,6 +205,90 @@ fn setup_frames_and_naks(rt: HostRuntime) {
             "{term_offset}"
         );
     }
+}
+
+// What the vector of a status message says.
+const SAID: StatusMessage = StatusMessage {
+    flags: 0x80,
+    session_id: 7,
+    stream_id: 1_001,
+    consumption_term_id: 42,
+    consumption_term_offset: 64,
+    receiver_window: 131_072,
+    receiver_id: 9,
+};
+
+/// Status messages with each field at a limit are read as they were written.
+fn check_limits(rt: &impl Abort) {
+    for said in [
+        StatusMessage {
+            flags: 255,
+            session_id: i32::MIN,
+            stream_id: i32::MAX,
+            consumption_term_id: i32::MIN,
+            consumption_term_offset: 2_147_483_616,
+            receiver_window: i32::MAX,
+            receiver_id: i64::MIN,
+        },
+        StatusMessage {
+            flags: 0,
+            session_id: i32::MAX,
+            stream_id: i32::MIN,
+            consumption_term_id: i32::MAX,
+            consumption_term_offset: 0,
+            receiver_window: 0,
+            receiver_id: i64::MAX,
+        },
+    ] {
+        assert!(rt; StatusMessage::decode(&said.encode()) == Ok(said));
+    }
+}
+
+/// A status message that ends early is none.
+fn check_cut(rt: &impl Abort) {
+    for length in 0..36 {
+        let cut = STATUS.get(..length).unwrap_or(&STATUS);
+        assert!(rt;
+            StatusMessage::decode(cut) == Err(Refusal::BadFrame { offset: 0 }),
+            "{length}"
+        );
+    }
+}
+
+/// A status message with one byte changed is none: its version, its type, its length, its offset, its window.
+fn check_changed(rt: &impl Abort) {
+    for (at, byte) in [
+        (4, 1),
+        (6, 2),
+        (7, 1),
+        (0, 35),
+        (0, 37),
+        (3, 0x80),
+        (20, 65),
+        (23, 0x80),
+        (27, 0x80),
+    ] {
+        let mut bytes = STATUS;
+        if let Some(changed) = bytes.get_mut(at) {
+            *changed = byte;
+        }
+        assert!(rt;
+            StatusMessage::decode(&bytes) == Err(Refusal::BadFrame { offset: 0 }),
+            "{at}"
+        );
+    }
+}
+
+#[test]
+fn status_messages(rt: HostRuntime) {
+    assert!(rt; StatusMessage::decode(&STATUS) == Ok(SAID) && SAID.encode() == STATUS);
+    let mut with_feedback = [0xff; 48];
+    with_feedback[..36].copy_from_slice(&STATUS);
+    with_feedback[0] = 44;
+    assert!(rt; StatusMessage::decode(&with_feedback) == Ok(SAID));
+    check_limits(&rt);
+    check_cut(&rt);
+    check_changed(&rt);
 }
 
 #[test]

@@ -36,3 +36,5 @@ mod segments;
 mod sparse;
 #[cfg(test)]
 mod vectors;
+#[cfg(test)]
+mod versions;

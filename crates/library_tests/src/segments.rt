@@ -6,7 +6,10 @@ ghost use Rattle.segment_store.specs.Layout.{IsLayout};
 
 use crate::vectors::{HELLO_AT_0, HELLO_AT_64, HELLO_IN_NEXT_TERM, PAD_AT_TERM_END};
 use disk_core::{Disk, Fault, FileId, MemoryDisk};
-use frame_core::{Frame, FrameKind, Geometry, Publication, Refusal, block_end, block_of};
+use frame_core::{
+    Frame, FrameKind, Geometry, Publication, Refusal, block_end, block_of, decode_front,
+    encode_into,
+};
 use segment_store::{
     Keep, Layout, base_of, is_boundary, read_frame, stale_files, sweep_one, sync_segment,
     write_block,
@@ -162,6 +165,50 @@ fn a_frame_costs_one_call(rt: HostRuntime) -> Result<(), Fail> {
         position: 0,
     };
     assert!(rt; told(&mut disk, 65_536, 65_536) == Err(damaged));
+    Ok(())
+}
+
+/// Puts the 64 bytes of the frame of this number, of those that have 64 bytes each from the start.
+fn put_frame(rt: &impl Abort, alloc: Global, bytes: &mut Vec<u8>, number: i32) -> Result<(), Fail> {
+    let (found, _) = decode_front(HELLO_AT_0)?;
+    let mut frame = found.to_frame(alloc)?;
+    frame.term_id = number.wrapping_div(1_024).wrapping_add(42);
+    frame.term_offset = number.wrapping_rem(1_024).wrapping_mul(64);
+    let mut out = [0; 64];
+    assert!(rt; frame.is_encodable() && frame.encoded_length() <= out.len());
+    encode_into(&frame, &mut out);
+    bytes.extend_from_slice(&out)?;
+    Ok(())
+}
+
+/// Writes 1,040 frames of 64 bytes each.
+fn store_frames(rt: &impl Abort, alloc: Global, disk: &mut MemoryDisk) -> Result<(), Fail> {
+    let mut bytes = Vec::new(alloc);
+    for number in 0..1_040 {
+        put_frame(rt, alloc, &mut bytes, number)?;
+    }
+    disk.write_at(FIRST, 0, &bytes)?;
+    Ok(())
+}
+
+/// What a walk to a position tells, and how many calls it makes.
+fn walked(disk: &mut MemoryDisk, position: i64) -> Result<(bool, Option<u64>), Refusal> {
+    let before = disk.calls();
+    let is_one = told(disk, 66_560, position)?;
+    Ok((is_one, disk.calls().checked_sub(before)))
+}
+
+/// Two calls for each window, and not two for each frame.
+#[test]
+fn a_walk_reads_each_window_once(rt: HostRuntime) -> Result<(), Fail> {
+    let mut disk = MemoryDisk::new(rt.alloc());
+    store_frames(&rt, rt.alloc(), &mut disk)?;
+    for (position, calls) in [(0, 0), (64, 2), (65_536, 2), (65_600, 4), (66_560, 4)] {
+        assert!(rt;
+            walked(&mut disk, position)? == (true, Some(calls)),
+            "{position}"
+        );
+    }
     Ok(())
 }
 

@@ -6,7 +6,7 @@ use Rattle.frame_core.specs.declared.refusal.Refusal.TheVariants.{BadLine, Broke
 use Rattle.control_core.specs.declared.event.Event.{Event}
 use Rattle.control_core.specs.declared.event.Event.TheVariants.{Ask, Settle}
 use Rattle.control_core.specs.declared.request.Request.{Request}
-use Rattle.control_core.specs.declared.request.Request.TheVariants.{Find, List, Positions}
+use Rattle.control_core.specs.declared.request.Request.TheVariants.{Find, List, Positions, Source}
 use Rattle.control_core.specs.Bytes.{terms_in}
 use Rattle.call_history.specs.Values.{PassView}
 use Rattle.engine_core.specs.Engine.{EngineState}
@@ -49,6 +49,7 @@ abbrev pub is_command : Request → Bool
 is_command (List from count) = false
 is_command (Find fields) = false
 is_command (Positions recording) = false
+is_command (Source recording) = false
 is_command request = true
 
 -- a call that makes an entry of the history, where it is accepted

@@ -124,7 +124,7 @@ fn is_command(request: &Request) -> bool
 {
     !matches!(
         request,
-        Request::List { .. } | Request::Find(_) | Request::Positions { .. }
+        Request::List { .. } | Request::Find(_) | Request::Positions { .. } | Request::Source { .. }
     )
 }
 

@@ -4,14 +4,11 @@ ghost use Rattle.std.specs.Prelude.{◌≡◌, [], ◌∷◌, ◌++◌, ◌||◌
 ghost use Rattle.serve_core.specs.Handing.{may_put};
 
 use frame_core::Block;
+use frame_core::limits::MAX_WAITING_BLOCKS;
 use std::alloc::{AllocError, Global};
 use std::collections::VecDeque;
 use std::mem;
 use std::sync::{Condvar, Mutex, Wait};
-
-/// Blocks that wait at most, and so the blocks of one batch at most: as each covers 65,536 bytes of the stream at most,
-/// they cover 1,048,576 bytes.
-pub(crate) const MAX_WAITING: usize = 16;
 
 /// A block, and the image that it is of.
 #[derive(Drop)]
@@ -52,7 +49,7 @@ impl Waiting {
         }) }
     {
         Ok(Waiting {
-            blocks: VecDeque::with_capacity(alloc, MAX_WAITING)?,
+            blocks: VecDeque::with_capacity(alloc, MAX_WAITING_BLOCKS)?,
             is_awaited: false,
             is_kept_back: false,
             is_ended: false,
@@ -65,7 +62,7 @@ impl Waiting {
         ensures kept_back { self.new ≡ record self.old
             { is_kept_back = self.old.is_kept_back || not result } }
     {
-        let may_put = self.blocks.len() < MAX_WAITING && (is_full || self.is_awaited);
+        let may_put = self.blocks.len() < MAX_WAITING_BLOCKS && (is_full || self.is_awaited);
         if !may_put {
             self.is_kept_back = true;
         }
@@ -129,7 +126,7 @@ impl Queue {
     /// Waits until fewer than 16 blocks wait.
     pub fn wait_for_room<R: Wait>(&self, rt: &R) {
         let state = self.emptied.wait_while(rt, self.state.lock(rt), |state| {
-            state.blocks.len() >= MAX_WAITING
+            state.blocks.len() >= MAX_WAITING_BLOCKS
         });
         let _ = state.is_ended;
     }

@@ -14,7 +14,7 @@ use crate::door::Door;
 use crate::happening::Happening;
 use crate::images::Images;
 use crate::options::ServeOptions;
-use crate::queue::{FedBlock, MAX_WAITING};
+use crate::queue::FedBlock;
 use crate::receiving::receive_all;
 use crate::recording::{Recording, record_all};
 use crate::seats::{Benches, PASSES, Seats};
@@ -25,6 +25,7 @@ use archive_lock::{Closed, Made, Naming, SharedArchive};
 use call_history::{Opened, Pass};
 use disk_core::Disk;
 use engine_core::Engine;
+use frame_core::limits::{LONGEST_DATAGRAM, MAX_WAITING_BLOCKS};
 use std::alloc::{AllocError, Global};
 use std::collections::VecDeque;
 use std::marker::Brand;
@@ -34,9 +35,6 @@ use std::sync::Wait;
 use std::thread::{self, Threads};
 use std::time::Duration;
 use tool_core::{Beginning, EarlyEnd, ScriptArchive, ScriptFault, ScriptState};
-
-/// Bytes that a datagram has at most, and more.
-const LONGEST_DATAGRAM: usize = 65_536;
 
 /// Milliseconds for which the thread that receives sleeps at most.
 const DOZE: u64 = 100;
@@ -66,7 +64,7 @@ impl Tools {
         Ok(Tools {
             images: Images::new(alloc),
             buffer: vec![in alloc; 0; LONGEST_DATAGRAM]?,
-            batch: VecDeque::with_capacity(alloc, MAX_WAITING)?,
+            batch: VecDeque::with_capacity(alloc, MAX_WAITING_BLOCKS)?,
         })
     }
 }

@@ -6,6 +6,8 @@ use Rattle.frame_core.specs.declared.refusal.Refusal.TheVariants.{ActiveRecordin
 use Rattle.disk_core.specs.DiskImage.{DiskImage, MayLeave, reads}
 use Rattle.disk_core.specs.Life.{HasFailed, LeavesOnly, Life}
 use Rattle.disk_core.proofs.CallerLemmas.{goes_on_part, now_leaves, weaker}
+use Rattle.archive_model.specs.declared.version.BankVersion.TheVariants.{Two}
+use Rattle.archive_model.specs.declared.version.BankVersion.{BankVersion}
 use Rattle.archive_model.specs.declared.command.Command.TheVariants.{Restart}
 use Rattle.archive_model.specs.declared.reply.Reply.{Reply}
 use Rattle.archive_model.specs.declared.reply.Reply.TheVariants.{Compacted, Reopened}
@@ -53,14 +55,15 @@ pub record IsRestartOf (a f : Archive) : Type 0 where
   pub stood : MayStand a read
   pub counted : ℕ
   pub limit : ℕ
-  pub is : f ≡ opened_archive (after read Restart) counted limit
+  pub version : BankVersion
+  pub is : f ≡ opened_archive (after read Restart) counted limit version
 
 same_opened : (a b : Archive) → opened a ≡ opened b → a ≡ b
 same_opened a b same = cc
 
 restart_read : (life : Life) (faulted : Type 0) (a f : Archive) (o : Option State) (reply : Reply) → a.doubt ≡ o → IsWell a.state → ReopensOpened life faulted a o (Ok reply) (opened f) → IsRestartOf a f
 restart_read life faulted a f None reply certain well ends =
-    record { read = a.state; well = well; stood = inl refl; counted = a.desk.counted; limit = a.desk.limit; is = same_opened f (reopened a) ends.1 }
+    record { read = a.state; well = well; stood = inl refl; counted = a.desk.counted; limit = a.desk.limit; version = a.desk.version; is = same_opened f (reopened a) ends.1 }
 restart_read life faulted a f (Some u) reply doubt well ends = by reply ends
   where
     by : (reply : Reply) → ReopensEither life faulted a.state u (Ok reply) (opened f) → IsRestartOf a f
@@ -70,6 +73,7 @@ restart_read life faulted a f (Some u) reply doubt well ends = by reply ends
       stood = either_stands a u ends.read doubt ends.is;
       counted = count_by counts ends.fresh.entries;
       limit = ends.fresh.header.history_limit;
+      version = ends.fresh.header.version;
       is = ends.fresh.is;
     }
     by reply ends = absurd ends
@@ -108,7 +112,7 @@ module _ (a f : Archive) (is : IsRestartOf a f) where
       ap (λ (s : State). after s Restart) state ∙ restart_again is.read is.well ∙ sym state
 
   pub same_compacted : reopened (compacted f) ≡ compacted f
-  same_compacted = ap (λ (s : State). opened_archive s 0 f.desk.limit) same_restart
+  same_compacted = ap (λ (s : State). opened_archive s 0 f.desk.limit Two) same_restart
 
   pub is_certain_now : f.doubt ≡ None
   is_certain_now = ap (λ (x : Archive). x.doubt) is.is
@@ -145,6 +149,7 @@ module _ (old new : Life) (a f : Archive) (b : Banks) (is : IsRestartOf a f) (le
     catalogue = w.behind;
     counted = sym (none_counts (after_entries no_recordings w.entries));
     limit = leaves.limit ∙ ap (λ (h : BankHeader). h.history_limit) (sym (read_catalogue w.header w.entries w.before.catalogue).0);
+    version = refl;
   }
 
   pub banks_anew : IsCompacted old new → LeavesBanks new (next_banks b)
@@ -169,6 +174,7 @@ stays_closed old new a was before = record {
   catalogue = λ image left. was.catalogue image (now_leaves old new (MayLeave old.now) before.any_moment image left);
   counted = was.counted;
   limit = was.limit;
+  version = was.version;
 }
 
 banks_stay : (old new : Life) (b : Banks) → LeavesBanks old b → ReadsAsBefore old new → LeavesBanks new b

@@ -6,6 +6,7 @@ use Rattle.std.specs.Prelude.{Option, None, count_by}
 use Rattle.disk_core.specs.DiskImage.{DiskImage, Files, MayLeave, begun, durable, reads}
 use Rattle.disk_core.specs.Life.{Life}
 use Rattle.disk_core.proofs.CallerLemmas.{durable_left}
+use Rattle.archive_model.specs.declared.version.BankVersion.{BankVersion}
 use Rattle.archive_model.specs.declared.command.Command.TheVariants.{Restart}
 use Rattle.archive_model.specs.Commands.{after}
 use Rattle.archive_model.specs.State.{State, active_count}
@@ -35,7 +36,9 @@ goes_on life a b left was catalogue told = inr (
       header = left.header;
       entries = left.entries;
       catalogue = catalogue;
-      is = ap (λ (n : ℕ). opened_archive (after a.state Restart) n a.desk.limit) left.counted ∙ ap (λ (n : ℕ). opened_archive (after a.state Restart) (count_by counts left.entries) n) left.limit;
+      is = ap (λ (n : ℕ). opened_archive (after a.state Restart) n a.desk.limit a.desk.version) left.counted
+          ∙ ap (λ (n : ℕ). opened_archive (after a.state Restart) (count_by counts left.entries) n a.desk.version) left.limit
+          ∙ ap (λ (v : BankVersion). opened_archive (after a.state Restart) (count_by counts left.entries) left.header.history_limit v) left.version;
     };
   },
   told,
@@ -66,6 +69,7 @@ behind_a_crash life left a b image none stands banks may is =
       catalogue = λ other may_be. subst (λ (i : DiskImage). IsCatalogue i leaves.header leaves.entries) (sym (one_image left image is other may_be)) (leaves.catalogue image may);
       counted = leaves.counted;
       limit = leaves.limit;
+      version = leaves.version;
     })
     (subst (λ (files : Files). Recovers (reads files) a.state) (sym is) (leaves.recovers image may))
     (subst (λ (files : Files). IsCatalogue (reads files) leaves.header leaves.entries) (sym is) (leaves.catalogue image may))
@@ -116,7 +120,7 @@ swapped life s u x (inr same) leaves = (
 restart_of : (life : Life) (s u : State) → LeavesEither life s u → RecoversTo (IsEither s u) (reads life.now) → GoesOnFromEither s u life
 restart_of life s u leaves to =
     let is = to.recovers in
-    let a : Archive = opened_archive (after to.state Restart) (count_by counts is.entries) is.header.history_limit in
+    let a : Archive = opened_archive (after to.state Restart) (count_by counts is.entries) is.header.history_limit is.header.version in
     let fresh : IsFresh (reads life.now) (after to.state Restart) a = record { header = is.header; entries = is.entries; catalogue = is.catalogue; is = refl } in
     let both = swapped life s u to.state to.is leaves in
     let banks = some_banks (reads life.now) is.header is.entries is.catalogue in (

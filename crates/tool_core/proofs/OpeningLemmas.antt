@@ -6,6 +6,7 @@ use Rattle.frame_core.specs.declared.refusal.Refusal.TheVariants.{DeviceFault, N
 use Rattle.disk_core.specs.DiskImage.{DiskImage, Files, MayLeave, reads}
 use Rattle.disk_core.specs.Life.{HasFailed, IsQuiet, LeavesOnly, Life}
 use Rattle.disk_core.proofs.CallerLemmas.{now_leaves, started, weaker}
+use Rattle.archive_model.specs.declared.version.BankVersion.{BankVersion}
 use Rattle.archive_model.specs.declared.command.Command.TheVariants.{Restart}
 use Rattle.archive_model.specs.declared.reply.Reply.{Reply}
 use Rattle.archive_model.specs.declared.reply.Reply.TheVariants.{Reopened}
@@ -37,16 +38,16 @@ use Rattle.tool_core.proofs.CallLemmas.{Kept, is_unknown}
 -- ---- an archive at which nobody calls yet
 
 -- its image's catalogue says which it is
-pub fresh_is : (image : DiskImage) (s : State) (a : Archive) (h : BankHeader) (es : List Entry) → IsFresh image s a → IsCatalogue image h es → a ≡ opened_archive s (count_by counts es) h.history_limit
+pub fresh_is : (image : DiskImage) (s : State) (a : Archive) (h : BankHeader) (es : List Entry) → IsFresh image s a → IsCatalogue image h es → a ≡ opened_archive s (count_by counts es) h.history_limit h.version
 fresh_is image s a h es fresh catalogue =
     let one = one_catalogue image fresh.header h fresh.entries es fresh.catalogue catalogue in
-    fresh.is ∙ ap (λ (ks : List Entry). opened_archive s (count_by counts ks) fresh.header.history_limit) one.1 ∙ ap (λ (k : BankHeader). opened_archive s (count_by counts es) k.history_limit) one.0
+    fresh.is ∙ ap (λ (ks : List Entry). opened_archive s (count_by counts ks) fresh.header.history_limit fresh.header.version) one.1 ∙ ap (λ (k : BankHeader). opened_archive s (count_by counts es) k.history_limit k.version) one.0
 
 one_fresh : (image : DiskImage) (s u : State) (a b : Archive) → IsFresh image s a → IsFresh image u b → s ≡ u → a ≡ b
 one_fresh image s u a b first second same =
-    let one : a ≡ opened_archive s (count_by counts second.entries) second.header.history_limit = fresh_is image s a second.header second.entries first second.catalogue in
-    let other : b ≡ opened_archive u (count_by counts second.entries) second.header.history_limit = fresh_is image u b second.header second.entries second second.catalogue in
-    one ∙ ap (λ (x : State). opened_archive x (count_by counts second.entries) second.header.history_limit) same ∙ sym other
+    let one : a ≡ opened_archive s (count_by counts second.entries) second.header.history_limit second.header.version = fresh_is image s a second.header second.entries first second.catalogue in
+    let other : b ≡ opened_archive u (count_by counts second.entries) second.header.history_limit second.header.version = fresh_is image u b second.header second.entries second second.catalogue in
+    one ∙ ap (λ (x : State). opened_archive x (count_by counts second.entries) second.header.history_limit second.header.version) same ∙ sym other
 
 -- it is crash-consistent, and nothing is in doubt
 pub record IsAt (e : EngineState) (a : Archive) : Type 0 where
@@ -102,10 +103,11 @@ read_is old new count a o = elim o.is [ inl same ↦ same | inr same ↦ same ]
 pub opened_again : (old : Life) (new : EngineState) (count : ℤ) (a : Archive) → LeavesArchive old a → MayLeave old.now (reads old.now) → IsOpened old new count a.state a.state → IsAt new (reopened a) × (count ≡ pos (active_count a.state))
 opened_again old new count a was may o =
     let same : o.read ≡ a.state = read_is old new count a o in
-    let is : o.archive ≡ opened_archive (after o.read Restart) (count_by counts was.entries) was.header.history_limit = fresh_is (reads old.now) (after o.read Restart) o.archive was.header was.entries o.fresh (was.catalogue (reads old.now) may) in
-    let whole : o.archive ≡ reopened a = is ∙ ap (λ (x : State). opened_archive (after x Restart) (count_by counts was.entries) was.header.history_limit) same
-    ∙ ap (λ (n : ℕ). opened_archive (after a.state Restart) n was.header.history_limit) (sym was.counted)
-    ∙ ap (λ (n : ℕ). opened_archive (after a.state Restart) a.desk.counted n) (sym was.limit) in
+    let is : o.archive ≡ opened_archive (after o.read Restart) (count_by counts was.entries) was.header.history_limit was.header.version = fresh_is (reads old.now) (after o.read Restart) o.archive was.header was.entries o.fresh (was.catalogue (reads old.now) may) in
+    let whole : o.archive ≡ reopened a = is ∙ ap (λ (x : State). opened_archive (after x Restart) (count_by counts was.entries) was.header.history_limit was.header.version) same
+    ∙ ap (λ (n : ℕ). opened_archive (after a.state Restart) n was.header.history_limit was.header.version) (sym was.counted)
+    ∙ ap (λ (n : ℕ). opened_archive (after a.state Restart) a.desk.counted n was.header.version) (sym was.limit)
+    ∙ ap (λ (v : BankVersion). opened_archive (after a.state Restart) a.desk.counted a.desk.limit v) (sym was.version) in
     (at_fresh new (reads old.now) (after o.read Restart) (reopened a) o.archive o.desk o.consistent o.fresh whole, o.stopped ∙ ap (λ (x : State). pos (active_count x)) same)
 
 -- where it was refused for want of memory the disk keeps it
@@ -117,6 +119,7 @@ stays_closed old new a was before = record {
   catalogue = λ image left. was.catalogue image (now_leaves old new (MayLeave old.now) before.any_moment image left);
   counted = was.counted;
   limit = was.limit;
+  version = was.version;
 }
 
 -- ---- at any moment of an opening

@@ -40,6 +40,7 @@ kept e a tied desk was certain =
       catalogue = λ image left. rest_left e.life.now e.log sound.entries image sound.rests left;
       counted = counted;
       limit = limit;
+      version = ap (λ (d : DeskState). d.version) (sym desk) ∙ sym (tied.version works);
     }
 
 -- the state in doubt is the other of two

@@ -102,7 +102,8 @@ pub record BeginsAt (old : Life) (first : Standing) (b : Banks) (begun : Scene) 
 
 -- ---- what is left
 
--- every image that a crash now may leave recovers to the state of the archive, and its catalogue has the archive's history
+-- every image that a crash now may leave recovers to the state of the archive, and its catalogue has the archive's history and
+-- version
 pub record LeavesArchive (life : Life) (a : Archive) : Type 0 where
   pub recovers : (image : DiskImage) → MayLeave life.now image → Recovers image a.state
   pub header : BankHeader
@@ -110,6 +111,7 @@ pub record LeavesArchive (life : Life) (a : Archive) : Type 0 where
   pub catalogue : (image : DiskImage) → MayLeave life.now image → IsCatalogue image header entries
   pub counted : a.desk.counted ≡ count_by counts entries
   pub limit : a.desk.limit ≡ header.history_limit
+  pub version : a.desk.version ≡ header.version
 
 -- an archive, of which this state is in doubt
 abbrev pub LeavesOpened : Life → Archive → Option State → Type 0

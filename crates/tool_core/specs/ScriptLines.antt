@@ -5,6 +5,7 @@ use Rattle.frame_core.specs.declared.refusal.Refusal.{Refusal}
 use Rattle.frame_core.specs.declared.refusal.Refusal.TheVariants.{Broken, DeviceFault, HistoryFull, NoMemory, NotCatalogue}
 use Rattle.disk_core.specs.DiskImage.{DiskImage, MayLeave, reads}
 use Rattle.disk_core.specs.Life.{HasFailed, LeavesOnly, Life}
+use Rattle.archive_model.specs.declared.version.BankVersion.TheVariants.{Two}
 use Rattle.archive_model.specs.declared.command.Command.TheVariants.{Restart}
 use Rattle.archive_model.specs.declared.reply.Reply.{Reply}
 use Rattle.archive_model.specs.declared.reply.Reply.TheVariants.{Bye, Compacted, Reopened}
@@ -68,7 +69,7 @@ Records faulted session bytes a outcome b =
 
 -- the archive once it is opened again: each active recording has stopped, and nobody calls yet
 abbrev pub reopened : Archive → Archive
-reopened a = opened_archive (after a.state Restart) a.desk.counted a.desk.limit
+reopened a = opened_archive (after a.state Restart) a.desk.counted a.desk.limit a.desk.version
 
 -- It is closed and opened again. Where there is no memory for that it stays closed; a device fault leaves the state or its
 -- restart.
@@ -130,9 +131,9 @@ BanksAgain life certain b standing c = c ≡ b
 
 -- ---- compaction
 
--- the archive behind a compaction, at which nobody calls yet: no entry of its history counts
+-- the archive behind a compaction, at which nobody calls yet: no entry of its history counts, and it is of version 2
 abbrev pub compacted : Archive → Archive
-compacted a = opened_archive a.state 0 a.desk.limit
+compacted a = opened_archive a.state 0 a.desk.limit Two
 
 -- the next epoch; the bank that was in use may be written
 abbrev pub next_banks : Banks → Banks

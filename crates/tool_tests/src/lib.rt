@@ -24,4 +24,6 @@ mod reports;
 #[cfg(test)]
 mod scenarios;
 #[cfg(test)]
+mod versions;
+#[cfg(test)]
 mod views;

@@ -17,9 +17,8 @@ fn with_further_files(alloc: Global) -> Result<MemoryDisk, Fail> {
 }
 
 /// Fails where the description of the archive of a disk is another.
-fn check(alloc: Global, form: Form, told: &str) -> Result<(), Fail> {
+fn check(alloc: Global, disk: MemoryDisk, form: Form, told: &str) -> Result<(), Fail> {
     let mut out = Vec::new(alloc);
-    let disk = with_further_files(alloc)?;
     if describe_archive(alloc, disk, form, &mut out, &mut Unobserved).is_err() {
         return Err(Fail::new("the description ended early"));
     }
@@ -33,6 +32,7 @@ fn check(alloc: Global, form: Form, told: &str) -> Result<(), Fail> {
 fn a_page(rt: HostRuntime) -> Result<(), Fail> {
     check(
         rt.alloc(),
+        with_further_files(rt.alloc())?,
         Form::Page,
         "recording 0, stopped\n\
         \x20 channel    c\n\
@@ -59,6 +59,7 @@ fn a_page(rt: HostRuntime) -> Result<(), Fail> {
         archive    2 recordings, 1 of them active\n\
         on disk    130 bytes in 4 segment files\n\
         history    5 of 1048576 entries\n\
+        catalogue  version 2\n\
         stale      0-131072.rec: it lies behind the recorded position\n\
         unknown    7-0.rec\n",
     )
@@ -68,17 +69,46 @@ fn a_page(rt: HostRuntime) -> Result<(), Fail> {
 fn a_document(rt: HostRuntime) -> Result<(), Fail> {
     check(
         rt.alloc(),
+        with_further_files(rt.alloc())?,
         Form::Json,
-        "{\"disk_bytes\":130,\"history_entries\":5,\"history_limit\":1048576,\"recordings\":[\
+        "{\"catalogue_version\":2,\"disk_bytes\":130,\"history_entries\":5,\"history_limit\":1048576,\"recordings\":[\
         {\"active\":false,\"channel\":\"c\",\"disk_bytes\":65,\"initial_term_id\":42,\"mtu\":1408,\
         \"recorded_bytes\":64,\"recorded_position\":64,\"recording\":0,\"segment_files\":2,\"segment_length\":131072,\
-        \"session_id\":7,\"start_position\":0,\"start_timestamp\":1000,\"started\":\"1970-01-01T00:00:01Z\",\
+        \"session_id\":7,\"source_identity\":\"\",\"start_position\":0,\"start_timestamp\":1000,\"started\":\"1970-01-01T00:00:01Z\",\
         \"stop_timestamp\":2000,\"stopped\":\"1970-01-01T00:00:02Z\",\"stream_id\":1001,\"term_length\":65536},\
         {\"active\":true,\"channel\":\"d\",\"disk_bytes\":64,\"initial_term_id\":42,\"mtu\":1408,\
         \"recorded_bytes\":64,\"recorded_position\":64,\"recording\":1,\"segment_files\":1,\"segment_length\":131072,\
-        \"session_id\":7,\"start_position\":0,\"start_timestamp\":1000,\"started\":\"1970-01-01T00:00:01Z\",\
+        \"session_id\":7,\"source_identity\":\"\",\"start_position\":0,\"start_timestamp\":1000,\"started\":\"1970-01-01T00:00:01Z\",\
         \"stop_timestamp\":-1,\"stopped\":null,\"stream_id\":1001,\"term_length\":65536}],\
         \"segment_files\":4,\"stale_files\":[{\"file\":\"0-131072.rec\",\"why\":\"it lies behind the recorded position\"}],\
         \"unknown_files\":[\"7-0.rec\"]}\n",
+    )
+}
+
+#[test]
+fn a_page_of_a_source(rt: HostRuntime) -> Result<(), Fail> {
+    check(
+        rt.alloc(),
+        after(
+            rt.alloc(),
+            "start-from 127.0.0.1:40123 1001 7 42 65536 1408 131072 0 1000 c\n",
+        )?,
+        Form::Page,
+        "recording 0, active\n\
+        \x20 channel    c\n\
+        \x20 stream     1001\n\
+        \x20 session    7\n\
+        \x20 source     127.0.0.1:40123\n\
+        \x20 started    1970-01-01T00:00:01Z\n\
+        \x20 stopped    -\n\
+        \x20 positions  0 to 0\n\
+        \x20 recorded   0 bytes\n\
+        \x20 on disk    0 bytes in 0 segment files\n\
+        \x20 lengths    term 65536, segment 131072, MTU 1408\n\
+        \n\
+        archive    1 recordings, 1 of them active\n\
+        on disk    0 bytes in 0 segment files\n\
+        history    1 of 1048576 entries\n\
+        catalogue  version 2\n",
     )
 }

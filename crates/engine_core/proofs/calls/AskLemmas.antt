@@ -26,7 +26,7 @@ use Rattle.control_core.specs.declared.request.Request.TheVariants as requests
 use Rattle.control_core.specs.Agreement.{Agrees}
 use Rattle.control_core.specs.Changes.{reply_after}
 use Rattle.control_core.specs.Consistent.{is_asked}
-use Rattle.control_core.specs.Decisions.{Allows, Decides, accepted, answered, command_in, command_tests, decided, decision_of, extend_tests, find_tests, greatest, if_boundary, list_tests, listed, on_truncate, positions_reply, positions_tests, purge_segments_tests, purge_tests, start_tests, stop_tests, takes_memory, truncate_tests}
+use Rattle.control_core.specs.Decisions.{Allows, Decides, accepted, answered, command_in, command_tests, decided, decision_of, extend_tests, find_tests, greatest, if_boundary, list_tests, listed, on_truncate, positions_reply, positions_tests, source_reply, source_tests, purge_segments_tests, purge_tests, start_tests, stop_tests, takes_memory, truncate_tests}
 use Rattle.control_core.specs.Desk.{DeskState}
 use Rattle.control_core.specs.Exact.{Archive, ArchiveEnds, CallEnds, DecisionEnds, archive_after, asked_frames, book_of, plain, reads_files, recording_at, waits_for_frames, writes_files}
 use Rattle.control_core.specs.Machine.{Decided, OrOutside, Outcome, Outside, Stepped}
@@ -120,6 +120,7 @@ request_other d (requests.PurgeRecording id) = checked_command (purge_tests d id
 request_other d (requests.List from count) = checked_reply (list_tests from count) (replies.Recordings (listed from count d.register.recordings))
 request_other d (requests.Find f) = checked_reply (find_tests f) (replies.Found (greatest f d.register.recordings))
 request_other d (requests.Positions id) = checked_reply (positions_tests d id) (positions_reply (registration_in d.register id))
+request_other d (requests.Source id) = checked_reply (source_tests d id) (source_reply (registration_in d.register id))
 
 refused_other : (takes : Bool) (d : DeskState) (request : Request) (refusal : Refusal)
     → Decides takes (decisions.Refused refusal) (decision_of d request) → refusal ≡ DeviceFault → ⊥
@@ -154,6 +155,7 @@ asked d (requests.PurgeRecording id) c is = made_asked d (commands.PurgeRecordin
 asked d (requests.List from count) c is = absurd (answered_none _ c is)
 asked d (requests.Find f) c is = absurd (answered_none _ c is)
 asked d (requests.Positions id) c is = absurd (answered_none _ c is)
+asked d (requests.Source id) c is = absurd (answered_none _ c is)
 
 requested_of : (c : Command) → IsTrue (is_asked c) → IsRequested c
 requested_of (commands.Start f) asks = tt
@@ -226,6 +228,7 @@ asks_inside d (requests.PurgeRecording other) id position behind is = absurd (no
 asks_inside d (requests.List from count) id position behind is = absurd (not_answered _ id position behind is)
 asks_inside d (requests.Find f) id position behind is = absurd (not_answered _ id position behind is)
 asks_inside d (requests.Positions other) id position behind is = absurd (not_answered _ id position behind is)
+asks_inside d (requests.Source other) id position behind is = absurd (not_answered _ id position behind is)
 
 pub requested_inside : (d : DeskState) (request : Request) (id position : ℤ) (behind : Result Command Refusal) (c : Command) → decisions.IfBoundary id position behind ≡ decision_of d request → behind ≡ Ok c
     → IsRequested c × Allows d c × IsFalse d.is_broken

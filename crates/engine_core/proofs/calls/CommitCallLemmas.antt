@@ -35,17 +35,18 @@ use Rattle.engine_core.proofs.calls.StandLemmas.{stand_on}
 
 -- they count alike behind an entry for which a desk that works has room
 pub tied_behind : (log new_log : LogState) (d new_d : DeskState) (n : ℕ) → IsTied log d → d.is_broken ≡ false → new_log.header ≡ log.header → new_log.is_broken ≡ log.is_broken → new_log.counted ≡ log.counted + n
-    → new_d.counted ≡ d.counted + n → new_d.limit ≡ d.limit → IsTied new_log new_d
-tied_behind log new_log d new_d n tied works header broke counted desk limit = record {
+    → new_d.counted ≡ d.counted + n → new_d.limit ≡ d.limit → new_d.version ≡ d.version → IsTied new_log new_d
+tied_behind log new_log d new_d n tied works header broke counted desk limit version = record {
   works = λ is_yes. broke ∙ tied.works works;
   counted = λ is_yes. counted ∙ ap (λ (m : ℕ). m + n) (tied.counted works) ∙ sym desk;
   limit = λ is_yes. ap (λ h. h.history_limit) header ∙ tied.limit works ∙ sym limit;
+  version = λ is_yes. ap (λ h. h.version) header ∙ tied.version works ∙ sym version;
 }
 
 -- where it was refused
 pub tied_refused : (log new_log : LogState) (d : DeskState) (refusal : Refusal) → IsTied log d
     → (refusal ≢ DeviceFault → new_log ≡ log) → IsTied new_log (after_failure refusal d)
-tied_refused log new_log d DeviceFault tied same = record { works = λ is_yes. absurd (true≢false is_yes); counted = λ is_yes. absurd (true≢false is_yes); limit = λ is_yes. absurd (true≢false is_yes) }
+tied_refused log new_log d DeviceFault tied same = record { works = λ is_yes. absurd (true≢false is_yes); counted = λ is_yes. absurd (true≢false is_yes); limit = λ is_yes. absurd (true≢false is_yes); version = λ is_yes. absurd (true≢false is_yes) }
 tied_refused log new_log d refusal tied same = subst (λ (l : LogState). IsTied l d) (sym (same (λ is. absurd cc))) tied
 
 -- the log has room for the entry of a command that the desk allows

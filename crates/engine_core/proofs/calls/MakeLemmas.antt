@@ -5,6 +5,7 @@ use Rattle.frame_core.specs.declared.refusal.Refusal.{Refusal}
 use Rattle.frame_core.specs.declared.refusal.Refusal.TheVariants.{DeviceFault, NoMemory}
 use Rattle.disk_core.specs.DiskImage.{DiskImage, FileState, reads}
 use Rattle.disk_core.specs.Life.{HasFailed, Life}
+use Rattle.archive_model.specs.declared.version.BankVersion.{BankVersion}
 use Rattle.archive_model.specs.declared.command.Command.{Command}
 use Rattle.archive_model.specs.declared.command.Command.TheVariants as commands
 use Rattle.archive_model.specs.declared.reply.Reply.{Reply}
@@ -16,7 +17,7 @@ use Rattle.archive_model.specs.State.{State}
 use Rattle.archive_model.proofs.StateLemmas.{each_found}
 use Rattle.catalogue_entries.specs.declared.entry.Entry.{Entry}
 use Rattle.catalogue_log.specs.Catalogue.{ChangesBank}
-use Rattle.catalogue_entries.specs.EntryBytes.{is_short}
+use Rattle.catalogue_entries.specs.EntryBytes.{is_held}
 use Rattle.catalogue_entries.specs.Fold.{counts}
 use Rattle.catalogue_entries.specs.History.{IsRequested, entry_of}
 use Rattle.catalogue_log.specs.LogState.{LogState}
@@ -28,7 +29,7 @@ use Rattle.control_core.specs.Decisions.{Allows}
 use Rattle.control_core.specs.Desk.{DeskState}
 use Rattle.control_core.specs.Exact.{Archive, archive_after, book_of}
 use Rattle.control_core.specs.Turns.{session_in}
-use Rattle.control_core.proofs.AllowedLemmas.{start_short}
+use Rattle.control_core.proofs.AllowedLemmas.{start_held}
 use Rattle.control_core.proofs.CommandLemmas.{consistent_after, sessions_stay}
 use Rattle.control_core.proofs.FoundLemmas.{each_both}
 use Rattle.control_core.proofs.StayLemmas.{each_itself, open_blocks}
@@ -77,6 +78,16 @@ desk_limit d (commands.PurgeSegments id position) made = refl
 desk_limit d (commands.PurgeRecording id) made = refl
 desk_limit d commands.Restart made = refl
 
+desk_version : (d : DeskState) (c : Command) → IsRequested c → (desk_after d c).version ≡ d.version
+desk_version d (commands.Start f) made = refl
+desk_version d (commands.Append id blocks) made = absurd made
+desk_version d (commands.Stop id timestamp) made = refl
+desk_version d (commands.Extend f) made = refl
+desk_version d (commands.Truncate id position) made = refl
+desk_version d (commands.PurgeSegments id position) made = refl
+desk_version d (commands.PurgeRecording id) made = refl
+desk_version d commands.Restart made = refl
+
 entry_counts : (s : State) (c : Command) → counts (entry_of s c) ≡ acceptance.counts c
 entry_counts s (commands.Start f) = refl
 entry_counts s (commands.Append id blocks) = refl
@@ -111,15 +122,16 @@ entry_counted d c e for =
     let s : State = record { recordings = []; next = d.register.next } in
     ap counts (for.is s refl) ∙ entry_counts s c
 
--- the entry of an accepted command may stand in a bank
-pub short_for : (d : DeskState) (c : Command) (e : Entry) → Allows d c → IsEntryFor d c e
-    → IsTrue (is_short e)
-short_for d c e allows for =
+-- a bank of the desk's version can hold the entry of an accepted command
+pub held_for : (log : LogState) (d : DeskState) (c : Command) (e : Entry) → IsTied log d → IsFalse d.is_broken → Allows d c → IsEntryFor d c e
+    → IsTrue (is_held log.header.version e)
+held_for log d c e tied works allows for =
     let s : State = record { recordings = []; next = d.register.next } in
-    subst (λ (x : Entry). IsTrue (is_short x)) (sym (for.is s refl)) (by s c allows)
+    subst (λ (v : BankVersion). IsTrue (is_held v e)) (sym (tied.version works))
+    (subst (λ (x : Entry). IsTrue (is_held d.version x)) (sym (for.is s refl)) (by s c allows))
   where
-    by : (s : State) (c : Command) → Allows d c → IsTrue (is_short (entry_of s c))
-    by s (commands.Start f) allows = start_short d f allows
+    by : (s : State) (c : Command) → Allows d c → IsTrue (is_held d.version (entry_of s c))
+    by s (commands.Start f) allows = start_held d f allows
     by s (commands.Append id blocks) allows = refl
     by s (commands.Stop id timestamp) allows = refl
     by s (commands.Extend f) allows = refl
@@ -137,7 +149,7 @@ has_room log d c e tied works allows for = room_for log d c e tied works allows 
 pub made_tied : (log new_log : LogState) (d : DeskState) (c : Command) (e : Entry) → IsTied log d → IsFalse d.is_broken → IsRequested c → IsEntryFor d c e → new_log.header ≡ log.header → new_log.is_broken ≡ log.is_broken
     → new_log.counted ≡ log.counted + cond (counts e) 1 0 → IsTied new_log (desk_after d c)
 made_tied log new_log d c e tied works made for header broke counted =
-    tied_behind log new_log d (desk_after d c) (cond (acceptance.counts c) 1 0) tied works header broke (subst (λ b. new_log.counted ≡ log.counted + cond b 1 0) (entry_counted d c e for) counted) (desk_counts d c made) (desk_limit d c made)
+    tied_behind log new_log d (desk_after d c) (cond (acceptance.counts c) 1 0) tied works header broke (subst (λ b. new_log.counted ≡ log.counted + cond b 1 0) (entry_counted d c e for) counted) (desk_counts d c made) (desk_limit d c made) (desk_version d c made)
 
 -- ---- a crash-consistent archive
 

@@ -9,6 +9,7 @@ use Rattle.frame_core.specs.declared.refusal.Refusal.TheVariants.{DeviceFault, N
 use Rattle.frame_core.specs.Block.{covered}
 use Rattle.segment_store.specs.declared.layout.Layout.{Layout}
 use Rattle.segment_store.specs.Layout.{IsFromStart, IsLayout, file_of}
+use Rattle.archive_model.specs.declared.version.BankVersion.TheVariants.{Two}
 use Rattle.archive_model.specs.declared.command.Command.{Command}
 use Rattle.archive_model.specs.declared.command.Command.TheVariants as commands
 use Rattle.archive_model.specs.declared.registration.Registration.{Registration}
@@ -148,7 +149,7 @@ module _ (log : LogState) (d : DeskState) (n id : ℤ) (w : Written) (layout : L
       let s = decided.of.session in
       let one : new_log.counted ≡ log.counted + 1 = subst (λ (e : Entry). new_log.counted ≡ log.counted + (cond (counts e) 1 0)) asks.entry_is counted in
       let desk : new_d ≡ settled_by s (Some w) d = is ∙ ap (λ (o : Option RecorderSession). settled o d) decided.of.found ∙ ap (λ (o : Option Written). settled_by s o d) decided.of.written in
-      subst (IsTied new_log) (sym desk) (tied_behind log new_log d (settled_by s (Some w) d) 1 tied decided.works header broke one refl refl)
+      subst (IsTied new_log) (sym desk) (tied_behind log new_log d (settled_by s (Some w) d) 1 tied decided.works header broke one refl refl refl)
 
 -- ---- of a crash-consistent archive
 
@@ -300,7 +301,7 @@ no_fault_in {X = X} tests (refusal ∷ rs) x others is = by (tests refusal) is (
     by false is rest = others.0 cc
 
 pub no_fault : {X : Type 0} (tests : Tests) (x : X) → checked tests checks (Ok x) ≢ Err DeviceFault
-no_fault tests x = no_fault_in tests checks x ((λ e. cc), ((λ e. cc), ((λ e. cc), ((λ e. cc), ((λ e. cc), ((λ e. cc), ((λ e. cc), ((λ e. cc), ((λ e. cc), ((λ e. cc), ((λ e. cc), ((λ e. cc), ((λ e. cc), ((λ e. cc), ((λ e. cc), tt)))))))))))))))
+no_fault tests x = no_fault_in tests checks x ((λ e. cc), ((λ e. cc), ((λ e. cc), ((λ e. cc), ((λ e. cc), ((λ e. cc), ((λ e. cc), ((λ e. cc), ((λ e. cc), ((λ e. cc), ((λ e. cc), ((λ e. cc), ((λ e. cc), ((λ e. cc), ((λ e. cc), ((λ e. cc), tt))))))))))))))))
 
 ends_exactly : (a : Archive) (event : Event) (faulted : Type 0) (outcome : Result Reply Refusal) (b : Archive) → ArchiveEnds a event outcome b → CallEnds a event faulted outcome b
 ends_exactly a event faulted (Ok reply) b ends = ends
@@ -308,7 +309,7 @@ ends_exactly a event faulted (Err refusal) b ends = inl ends
 
 -- what makes an archive of a desk
 abbrev pub blank : Content
-blank = content_of (opened_archive empty 0 0)
+blank = content_of (opened_archive empty 0 0 Two)
 
 -- an event that is answered by the desk alone, and changes nothing
 pub answered_still : (e : EngineState) (event : Event) (outcome : Result Reply Refusal) (some : Content) → is_poll event ≡ false → event ≢ events.Sweep → outcome ≢ Err DeviceFault → ArchiveEnds (archive_of e some) event outcome (archive_of e some)

@@ -11,7 +11,8 @@ use Rattle.frame_core.specs.declared.block.Publication.{Publication}
 use Rattle.frame_core.specs.declared.frame.Frame.{Frame}
 use Rattle.frame_core.specs.declared.geometry.Geometry.{Geometry}
 use Rattle.frame_core.specs.declared.refusal.Refusal.{Refusal}
-use Rattle.frame_core.specs.declared.refusal.Refusal.TheVariants.{ActiveReplay, BadBlock, BadExtension, Broken, HistoryFull, MaxRecordings, MaxReplays, NeedSettle, StaleSession}
+use Rattle.frame_core.specs.declared.refusal.Refusal.TheVariants.{ActiveReplay, BadBlock, BadExtension, Broken, HistoryFull, MaxRecordings, MaxReplays, NeedCompact, NeedSettle, StaleSession}
+use Rattle.frame_core.specs.FrameEncoding.{IsAligned}
 use Rattle.frame_core.specs.Block.{AreBlockOf, IsBlock, block_ids, covered, end_position}
 use Rattle.segment_store.specs.declared.layout.Layout.{Layout}
 use Rattle.segment_store.specs.Layout.{IsFromStart, IsLayout, file_of}
@@ -47,6 +48,7 @@ use Rattle.engine_core.specs.Consistent.{Stands, StandsBehind}
 use Rattle.engine_core.specs.Recovery.{last_of, layout_of}
 use Rattle.engine_core.proofs.calls.Targets.{HasNoTarget, IsTarget}
 use Rattle.engine_core.proofs.files.FrameLemmas.{apart}
+use Rattle.engine_core.proofs.files.BlockLemmas.{block_aligned, block_some}
 use Rattle.engine_core.proofs.calls.KnownLemmas.{begins_behind, block_behind, block_from_start, laid_found, layout_laid, one_known, written_behind}
 use Rattle.engine_core.proofs.calls.SettleCallLemmas.{not_so}
 use Rattle.engine_core.proofs.calls.StandLemmas.{frames_behind}
@@ -92,7 +94,7 @@ pub lets : (d : DeskState) (n : ℤ) (w : Written) (s : RecorderSession) (reply 
     → session_in d n ≡ Some s → write_decision d n w true ≡ Ok reply → Lets d s w
 lets d n w s reply found is =
     let all : passes (write_tests d n w true) checks ≡ true = (held (write_tests d n w true) checks (WrittenReply w.last) reply is).0 in
-    let soon : not (is_waiting d (session_in d n)) ≡ true = passes_at (write_tests d n w true) (first_checks ++ block_checks) (ActiveReplay ∷ MaxRecordings ∷ MaxReplays ∷ HistoryFull ∷ []) NeedSettle all in
+    let soon : not (is_waiting d (session_in d n)) ≡ true = passes_at (write_tests d n w true) (first_checks ++ block_checks) (ActiveReplay ∷ MaxRecordings ∷ MaxReplays ∷ NeedCompact ∷ HistoryFull ∷ []) NeedSettle all in
     record {
       works = not_so d.is_broken (both (not d.is_broken) _ all).0;
       goes_on = subst (λ (o : Option RecorderSession). continues d o w ≡ true) found (passes_at (write_tests d n w true) (first_checks ++ BadExtension ∷ []) last_checks BadBlock all);
@@ -162,14 +164,20 @@ module _ (d : DeskState) (n : ℤ) (block : Block) (layout : Layout) (end : ℤ)
         let behind : at.registration.recorded ≤ℤ block.position = block_behind d n at.session at.registration (span_to block end) at.keeps at.found at.known let_through.goes_on in
         let ends = ends_inside in
         let last = at.end_is in
-        by o has behind (omega (arith, ints, last)) (omega (arith, ints, last, ends))
+        let geometry = geometry_of at.registration.descriptor in
+        let publication = publication_of at.registration.descriptor in
+        let some = block_some geometry publication block.frames block.position at.is_block in
+        let term = (laid_found d at.session.recording at.registration at.keeps (sym at.known)).laid_out.layout.term in
+        let aligned : IsAligned end = subst IsAligned (sym at.end_is) (block_aligned geometry publication block.frames block.position term at.is_block) in
+        by o has behind (omega (arith, ints, last, some)) (omega (arith, ints, last, ends)) aligned
       where
-        by : (o : Option Written) → at.session.written ≡ o → at.registration.recorded ≤ℤ block.position → block.position ≤ℤ end → end ≤ℤ stream_end at.registration → LiesBehind (with_block (span_to block end) o) at.registration
-        by None has behind forward inside = record { behind = behind; forward = forward; in_stream = inside }
-        by (Some v) has behind forward inside =
+        by : (o : Option Written) → at.session.written ≡ o → at.registration.recorded ≤ℤ block.position → block.position <ℤ end → end ≤ℤ stream_end at.registration → IsAligned end
+            → LiesBehind (with_block (span_to block end) o) at.registration
+        by None has behind forward inside aligned = record { behind = behind; forward = forward; in_stream = inside; aligned = aligned }
+        by (Some v) has behind forward inside aligned =
             let was = written_behind d n at.session at.registration v at.keeps at.found at.known has in
             let here : block.position ≡ v.last = begins_behind d at.session at.registration (Some v) (span_to block end) at.known has let_through.goes_on in
-            record { behind = was.behind; forward = omega (arith, ints, was.forward, here, forward); in_stream = inside }
+            record { behind = was.behind; forward = omega (arith, ints, was.forward, here, forward); in_stream = inside; aligned = aligned }
 
     pub lies_behind : IsSomeAnd (session_in d n) (λ s. IsSomeAnd (registration_in d.register s.recording) (LiesBehind (with_block (span_to block end) s.written)))
     lies_behind =

@@ -1,15 +1,21 @@
 -- A block lies in one segment.
-use Rattle.std.proofs.Common.{◌≡◌, ◌∙◌, inl, inr, sym, ap, subst, refl, ℕ, ℤ, pos, ◌+◌, ◌%◌, ◌<◌, ◌≤◌, List, [], ◌∷◌, ◌++◌, append-nil, append_assoc, unsigned_abs, arith}
+use Rattle.std.proofs.Common.{◌≡◌, ◌∙◌, inl, inr, sym, ap, subst, refl, ℕ, ℤ, pos, negsuc, ◌+◌, ◌-◌, ◌*◌, ◌/◌, ◌%◌, ◌^◌, ◌<◌, ◌≤◌, ◌+ℤ◌, ◌*ℤ◌, ◌≤ℤ◌, true, List, [], ◌∷◌, ◌++◌, append-nil, append_assoc, unsigned_abs, arith}
 use Rattle.std.proofs.lemmas.Int.{ints}
+use Rattle.std.proofs.lemmas.Nat.{pow-add}
 use Rattle.disk_core.specs.declared.file_id.FileId.{FileId}
 use Rattle.disk_core.specs.declared.file_id.FileId.TheVariants.{Segment}
 use Rattle.disk_core.specs.DiskImage.{DiskImage}
 use Rattle.frame_core.specs.declared.block.Block.{Block}
 use Rattle.frame_core.specs.declared.block.Publication.{Publication}
 use Rattle.frame_core.specs.declared.frame.Frame.{Frame}
+use Rattle.frame_core.specs.declared.frame.FrameKind.{FrameKind}
+use Rattle.frame_core.specs.declared.frame.FrameKind.TheVariants.{Heartbeat, Message, Pad}
 use Rattle.frame_core.specs.declared.geometry.Geometry.{Geometry}
 use Rattle.frame_core.specs.Block.{AreBlockOf, AreEncodable, block_ids, covered, end_position}
-use Rattle.frame_core.specs.FrameEncoding.{aligned_length}
+use Rattle.frame_core.specs.FrameEncoding.{HasLength, IsAligned, aligned_length}
+use Rattle.frame_core.specs.Limits.{is_term_length}
+use Rattle.frame_core.specs.Position.{terms_since}
+use Rattle.frame_core.proofs.LimitsLemmas.{is_power}
 use Rattle.frame_core.proofs.SegmentLemmas.{same_part}
 use Rattle.segment_store.specs.declared.layout.Layout.{Layout}
 use Rattle.segment_store.specs.Layout.{IsBlockIn, IsFromStart, IsLayout, base_of, file_of}
@@ -105,3 +111,45 @@ stands_more image r bs block layout from is at base stood holds =
           (subst (HoldsFrames image l (last_of r) (frames_of bs)) (sym at) stood.holds) holds);
       lie = lie_append this l (frames_of bs) block.frames (last_of r) (unsigned_abs block.position) at stood.lie lie;
     })
+
+-- a block covers something
+pub block_some : (g : Geometry) (publication : Publication) (frames : List Frame) (position : ℤ) → AreBlockOf g publication frames position → 0 < covered frames
+block_some g publication [] position is = absurd is
+block_some g publication (f ∷ fs) position (at, encodable, inl pad) =
+    let long : pos 32 ≤ℤ f.length = pad_length f.kind f.length f.payload pad.kind encodable.0.length in omega (arith, ints, long)
+  where
+    pad_length : (kind : FrameKind) (size : ℤ) (payload : List ℕ) → kind ≡ Pad → HasLength kind size payload → pos 32 ≤ℤ size
+    pad_length Pad size payload is has = has.0
+    pad_length Message size payload is has = absurd cc
+    pad_length Heartbeat size payload is has = absurd cc
+block_some g publication (f ∷ fs) position (at, encodable, inr messages) =
+    let run = run_covers (block_ids g publication f) messages.offset messages.end (f ∷ fs) messages.ends in
+    omega (arith, message_some f encodable.0 run.1.0)
+
+-- frames cover a multiple of 32
+covered_is : (fs : List Frame) → (k : ℕ) × (covered fs ≡ 32 * k)
+covered_is [] = (0, refl)
+covered_is (f ∷ fs) = let rest = covered_is fs in let is = rest.1 in ((unsigned_abs f.length + 31) / 32 + rest.0, omega (arith, is))
+
+-- so is a position at an offset that is one, in terms of such a length
+position_aligned : (since term offset position : ℤ) (k o : ℕ) → 16 ≤ k → term ≡ pos (2 ^ k) → offset ≡ pos (32 * o) → pos 0 ≤ℤ since
+    → position ≡ since *ℤ term +ℤ offset → IsAligned position
+position_aligned (pos a) term offset position k o least term_is offset_is low sum =
+    let more : 2 ^ k ≡ 2 ^ (k - 5) * 2 ^ 5 = ap (λ (n : ℕ). 2 ^ n) (omega (arith, least)) ∙ pow-add 2 (k - 5) 5 in
+    let whole : a * 2 ^ k ≡ a * (2 ^ (k - 5) * 2 ^ 5) = ap (λ (n : ℕ). a * n) more in
+    let here : position ≡ pos a *ℤ pos (2 ^ k) +ℤ pos (32 * o) = sum ∙ ap (λ (z : ℤ). pos a *ℤ z +ℤ offset) term_is ∙ ap (λ (z : ℤ). pos a *ℤ pos (2 ^ k) +ℤ z) offset_is in
+    let there : position ≡ pos (a * 2 ^ k + 32 * o) = omega (arith, ints, here) in
+    let multiple : a * 2 ^ k + 32 * o ≡ 32 * (a * 2 ^ (k - 5) + o) = omega (arith, whole) in
+    (a * 2 ^ (k - 5) + o, there ∙ ap pos multiple)
+position_aligned (negsuc a) term offset position k o least term_is offset_is low sum = absurd (omega (arith, ints, low))
+
+-- a block ends at a multiple of 32
+pub block_aligned : (g : Geometry) (publication : Publication) (frames : List Frame) (position : ℤ) → is_term_length g.term_length ≡ true
+    → AreBlockOf g publication frames position → IsAligned (position +ℤ pos (covered frames))
+block_aligned g publication [] position term is = absurd is
+block_aligned g publication (f ∷ fs) position term is =
+    let power = is_power g.term_length term in
+    let offset = is.1.0.offset in
+    let at = position_aligned (terms_since g f.term_id) g.term_length f.term_offset position power.0 offset.0 power.1 power.3 offset.1 is.0.since is.0.sum in
+    let size = covered_is (f ∷ fs) in
+    (at.0 + size.0, omega (arith, ints, at.1, size.1))

@@ -8,7 +8,7 @@ use Rattle.std.specs.Ordering.{int_eq}
 use Rattle.archive_model.specs.declared.registration.Change.TheVariants as changes
 use Rattle.archive_model.specs.declared.descriptor.Descriptor.{Descriptor}
 use Rattle.archive_model.specs.declared.registration.Registration.{Registration}
-use Rattle.archive_model.specs.Descriptor.{is_channel, is_in_range, is_negative}
+use Rattle.archive_model.specs.Descriptor.{is_in_range, is_negative, is_origin}
 use Rattle.archive_model.specs.Register.{RegisterState, changed_by, is_active, is_behind, is_later_base, is_within, may_begin, may_record, registered, registration_in}
 use Rattle.archive_model.proofs.WellLemmas.{both}
 use Rattle.catalogue_entries.specs.declared.entry.Entry.{Entry}
@@ -64,8 +64,8 @@ pub record HasLimits (d : Descriptor) : Type 0 where
 limits_of : (d : Descriptor) → has_limits d ≡ true → HasLimits d
 unfolding has_limits
 limits_of d is =
-    let a : (((((is_term_length d.term_length && is_term_length d.segment_length) && int_le d.term_length d.segment_length) && is_mtu d.mtu) && is_channel d.channel) ≡ true) × (not (is_negative d.start_timestamp) ≡ true) = both is in
-    let b : ((((is_term_length d.term_length && is_term_length d.segment_length) && int_le d.term_length d.segment_length) && is_mtu d.mtu) ≡ true) × (is_channel d.channel ≡ true) = both a.0 in
+    let a : (((((is_term_length d.term_length && is_term_length d.segment_length) && int_le d.term_length d.segment_length) && is_mtu d.mtu) && is_origin d.channel d.source_identity) ≡ true) × (not (is_negative d.start_timestamp) ≡ true) = both is in
+    let b : ((((is_term_length d.term_length && is_term_length d.segment_length) && int_le d.term_length d.segment_length) && is_mtu d.mtu) ≡ true) × (is_origin d.channel d.source_identity ≡ true) = both a.0 in
     let c : (((is_term_length d.term_length && is_term_length d.segment_length) && int_le d.term_length d.segment_length) ≡ true) × (is_mtu d.mtu ≡ true) = both b.0 in
     let e : ((is_term_length d.term_length && is_term_length d.segment_length) ≡ true) × (int_le d.term_length d.segment_length ≡ true) = both c.0 in
     let f : (is_term_length d.term_length ≡ true) × (is_term_length d.segment_length ≡ true) = both e.0 in

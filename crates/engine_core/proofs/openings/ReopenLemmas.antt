@@ -9,6 +9,7 @@ use Rattle.disk_core.specs.DiskImage.{DiskImage, FileState, Files, MayLeave, rea
 use Rattle.disk_core.specs.FileNames.{AreFilesWith}
 use Rattle.disk_core.specs.Life.{HasFailed, IsQuiet, Life, LeavesOnly}
 use Rattle.disk_core.proofs.CallerLemmas.{goes_on_part, now_leaves, weaker}
+use Rattle.archive_model.specs.declared.version.BankVersion.{BankVersion}
 use Rattle.archive_model.specs.declared.command.Command.TheVariants.{Restart}
 use Rattle.archive_model.specs.Commands.{after}
 use Rattle.archive_model.specs.Register as register
@@ -60,7 +61,7 @@ all_moments old mid new s u x leaves before is moments =
 
 -- what the restart of an archive whose files were read leaves
 module _ (old mid : Life) (s u : State) (log : LogState) (desk : DeskState) (leaves : LeavesEither old s u) (before : ReadsAsBefore old mid) (to : RecoversTo (IsEither s u) (reads old.now)) (sound : IsSound mid.now log to.state)
-    (is : desk ≡ opened_desk (register_of to.state) log.counted log.header.history_limit) where
+    (is : desk ≡ opened_desk (register_of to.state) log.counted log.header.history_limit log.header.version) where
   abbrev read : EngineState
   read = record { life = mid; log = log; desk = desk }
 
@@ -69,22 +70,23 @@ module _ (old mid : Life) (s u : State) (log : LogState) (desk : DeskState) (lea
   open_done new stopped may went =
       let counted = log.counted in
       let limit = log.header.history_limit in
-      let was = opened_consistent mid log to.state counted limit sound in
+      let version = log.header.version in
+      let was = opened_consistent mid log to.state counted limit version sound in
       record {
         read = to.state;
         is = to.is;
         recovers = to.recovers;
-        stopped = active_same desk to.state counted limit stopped is went.stopped;
-        archive = opened_archive (after to.state Restart) counted limit;
+        stopped = active_same desk to.state counted limit version stopped is went.stopped;
+        archive = opened_archive (after to.state Restart) counted limit version;
         fresh = record {
           header = log.header;
           entries = sound.entries;
           catalogue = subst (λ (image : DiskImage). IsCatalogue image log.header sound.entries) (same_image (reads mid.now) (reads old.now) before.same) (rest_left mid.now log sound.entries (reads mid.now) sound.rests may);
-          is = ap (λ (n : ℕ). opened_archive (after to.state Restart) n log.header.history_limit) sound.rests.is_log.counted;
+          is = ap (λ (n : ℕ). opened_archive (after to.state Restart) n log.header.history_limit log.header.version) sound.rests.is_log.counted;
         };
-        desk = went.desk (register_of to.state) counted limit is ∙ ap (λ (g : RegisterState). opened_desk g counted limit) (register_restarted to.state counted limit sound.well);
-        consistent = went.restarted to.state counted limit is was;
-        any_moment = all_moments old mid new.life s u to.state leaves before to.is (went.any_moment to.state counted limit is was);
+        desk = went.desk (register_of to.state) counted limit version is ∙ ap (λ (g : RegisterState). opened_desk g counted limit version) (register_restarted to.state counted limit version sound.well);
+        consistent = went.restarted to.state counted limit version is was;
+        any_moment = all_moments old mid new.life s u to.state leaves before to.is (went.any_moment to.state counted limit version is was);
       }
 
   -- or as the recordings were to stop
@@ -92,7 +94,7 @@ module _ (old mid : Life) (s u : State) (log : LogState) (desk : DeskState) (lea
       → IsNotOpened old disk s u
   stop_refused disk refusal went =
       let moments : LeavesOnly mid disk (RecoversTo (IsEither to.state (after to.state Restart))) =
-      subst (λ (life : Life). LeavesOnly mid life (RecoversTo (IsEither to.state (after to.state Restart)))) went.life (went.restarts.any_moment to.state log.counted log.header.history_limit is (opened_consistent mid log to.state log.counted log.header.history_limit sound)) in
+      subst (λ (life : Life). LeavesOnly mid life (RecoversTo (IsEither to.state (after to.state Restart)))) went.life (went.restarts.any_moment to.state log.counted log.header.history_limit log.header.version is (opened_consistent mid log to.state log.counted log.header.history_limit log.header.version sound)) in
       record {
         now = inr (to.state, to.is, λ image left. now_leaves mid disk (RecoversTo (IsEither to.state (after to.state Restart))) moments image left);
         any_moment = all_moments old mid disk s u to.state leaves before to.is moments;
@@ -113,20 +115,23 @@ reads_otherwise old mid new before changes file not_a not_b = ap (λ (state : Fi
 
 -- the desk of the bank whose log was read
 pub desk_read : (image : DiskImage) (log : LogState) (entries : List Entry) (read_desk desk : DeskState) (restarted : ℤ) → IsLogIn image log entries
-    → read_desk ≡ opened_desk (after_entries no_recordings entries) log.counted log.header.history_limit → desk ≡ opened_desk (all_stopped (after_entries no_recordings entries)) log.counted log.header.history_limit
+    → read_desk ≡ opened_desk (after_entries no_recordings entries) log.counted log.header.history_limit log.header.version → desk ≡ opened_desk (all_stopped (after_entries no_recordings entries)) log.counted log.header.history_limit log.header.version
     → restarted ≡ pos (register.active_count read_desk.register) → IsDeskOf image desk restarted
 desk_read image log entries read_desk desk restarted read known is stopped = record {
   header = log.header;
   entries = entries;
   catalogue = log_catalogue image log entries read;
-  is = is ∙ ap (λ (n : ℕ). opened_desk (all_stopped (after_entries no_recordings entries)) n log.header.history_limit) read.is_log.counted;
+  is = is ∙ ap (λ (n : ℕ). opened_desk (all_stopped (after_entries no_recordings entries)) n log.header.history_limit log.header.version) read.is_log.counted;
   stopped = stopped ∙ ap (λ (d : DeskState). pos (register.active_count d.register)) known;
 }
 
-pub same_desk : (g h : RegisterState) (counted more limit most : ℕ) → g ≡ h → counted ≡ more
-    → limit ≡ most → opened_desk g counted limit ≡ opened_desk h more most
-same_desk g h counted more limit most one two three =
-    ap (λ (r : RegisterState). opened_desk r counted limit) one ∙ ap (λ (n : ℕ). opened_desk h n limit) two ∙ ap (λ (n : ℕ). opened_desk h more n) three
+pub same_desk : (g h : RegisterState) (counted more limit most : ℕ) (version w : BankVersion) → g ≡ h → counted ≡ more → limit ≡ most → version ≡ w
+    → opened_desk g counted limit version ≡ opened_desk h more most w
+same_desk g h counted more limit most version w one two three four =
+    ap (λ (r : RegisterState). opened_desk r counted limit version) one
+    ∙ ap (λ (n : ℕ). opened_desk h n limit version) two
+    ∙ ap (λ (n : ℕ). opened_desk h more n version) three
+    ∙ ap (λ (v : BankVersion). opened_desk h more most v) four
 
 -- the fault came after the files were read
 pub failed_later : (old mid new : Life) → ReadsAsBefore old mid → HasFailed mid new

@@ -7,6 +7,7 @@ use Rattle.frame_core.specs.declared.refusal.Refusal.{Refusal}
 use Rattle.frame_core.specs.declared.refusal.Refusal.TheVariants.{DeviceFault, NoMemory}
 use Rattle.disk_core.specs.Life.{HasFailed, Life, LeavesOnly}
 use Rattle.disk_core.proofs.CallerLemmas.{started, weaker}
+use Rattle.archive_model.specs.declared.version.BankVersion.{BankVersion}
 use Rattle.archive_model.specs.declared.command.Command.TheVariants.{Restart}
 use Rattle.archive_model.specs.declared.registration.Change.TheVariants as changes
 use Rattle.archive_model.specs.declared.registration.Registration.{Registration}
@@ -34,9 +35,9 @@ use Rattle.engine_core.proofs.calls.EndedLemmas.{recovers_as, same_bank, sound_c
 
 -- ---- an archive at which nobody calls yet
 
-pub opened_consistent : (life : Life) (log : LogState) (s : State) (counted limit : ℕ)
-    → IsSound life.now log s → IsCrashConsistent life log (opened_archive s counted limit)
-opened_consistent life log s counted limit sound = sound_consistent life log (opened_archive s counted limit) sound (consistent_opened s counted limit sound.well) tt (λ obeys. tt)
+pub opened_consistent : (life : Life) (log : LogState) (s : State) (counted limit : ℕ) (version : BankVersion)
+    → IsSound life.now log s → IsCrashConsistent life log (opened_archive s counted limit version)
+opened_consistent life log s counted limit version sound = sound_consistent life log (opened_archive s counted limit version) sound (consistent_opened s counted limit version sound.well) tt (λ obeys. tt)
 
 -- ---- the restart
 
@@ -46,8 +47,8 @@ counted_same [] = refl
 counted_same (r ∷ rs) =
     sum_by-cons (λ g. cond (register.is_active g) 1 0) (registration_of r) (map registration_of rs) ∙ ap (λ n. cond (is_active r) 1 0 + n) (counted_same rs) ∙ sym (sum_by-cons (λ x. cond (is_active x) 1 0) r rs)
 
-pub active_same : (desk : DeskState) (s : State) (counted limit : ℕ) (stopped : ℤ) → desk ≡ opened_desk (register_of s) counted limit → stopped ≡ pos (register.active_count desk.register) → stopped ≡ pos (active_count s)
-active_same desk s counted limit stopped is count = count ∙ ap (λ (d : DeskState). pos (register.active_count d.register)) is ∙ ap pos (counted_same s.recordings)
+pub active_same : (desk : DeskState) (s : State) (counted limit : ℕ) (version : BankVersion) (stopped : ℤ) → desk ≡ opened_desk (register_of s) counted limit version → stopped ≡ pos (register.active_count desk.register) → stopped ≡ pos (active_count s)
+active_same desk s counted limit version stopped is count = count ∙ ap (λ (d : DeskState). pos (register.active_count d.register)) is ∙ ap pos (counted_same s.recordings)
 
 -- what changes only elements of which something holds changes none where it holds of none
 unchanged : {X Y : Type 0} (of : X → Y) (test : Y → Bool) (change : X → X) (xs : List X) → ((x : X) → test (of x) ≡ false → change x ≡ x) → count_by test (map of xs) ≡ 0 → map change xs ≡ xs
@@ -74,43 +75,43 @@ none_stop g none =
 accepts_restart : (b : BookState) → Accepts b Restart
 accepts_restart b = (true, refl, refl)
 
-pub register_restarted : (s : State) (counted limit : ℕ) → IsWell s
+pub register_restarted : (s : State) (counted limit : ℕ) (version : BankVersion) → IsWell s
     → all_stopped (register_of s) ≡ register_of (after s Restart)
-register_restarted s counted limit well =
+register_restarted s counted limit version well =
     let b : BookState = record { state = s; counted = counted; limit = limit } in
     sym (register_follows b Restart well (accepts_restart b))
 
-restart_of : (s : State) (counted limit : ℕ) → IsWell s → archive_after (opened_archive s counted limit) Restart ≡ opened_archive (after s Restart) counted limit
-restart_of s counted limit well =
-    ap (λ (g : RegisterState). record { state = after s Restart; desk = opened_desk g counted limit; blocks = λ session. []; doubt = None }) (register_restarted s counted limit well)
+restart_of : (s : State) (counted limit : ℕ) (version : BankVersion) → IsWell s → archive_after (opened_archive s counted limit version) Restart ≡ opened_archive (after s Restart) counted limit version
+restart_of s counted limit version well =
+    ap (λ (g : RegisterState). record { state = after s Restart; desk = opened_desk g counted limit version; blocks = λ session. []; doubt = None }) (register_restarted s counted limit version well)
 
 -- what stands in an archive at which nobody called, or in its restart
-stands_either : (x y : State) (counted limit : ℕ) (s : State) → MayStandIn (opened_archive x counted limit) (opened_archive y counted limit) s → IsEither x y s
-stands_either x y counted limit s (inl (inl is)) = inl is
-stands_either x y counted limit s (inl (inr doubt)) = let none : None ≡ Some s = doubt in absurd cc
-stands_either x y counted limit s (inr (inl is)) = inr is
-stands_either x y counted limit s (inr (inr doubt)) = let none : None ≡ Some s = doubt in absurd cc
+stands_either : (x y : State) (counted limit : ℕ) (version : BankVersion) (s : State) → MayStandIn (opened_archive x counted limit version) (opened_archive y counted limit version) s → IsEither x y s
+stands_either x y counted limit version s (inl (inl is)) = inl is
+stands_either x y counted limit version s (inl (inr doubt)) = let none : None ≡ Some s = doubt in absurd cc
+stands_either x y counted limit version s (inr (inl is)) = inr is
+stands_either x y counted limit version s (inr (inr doubt)) = let none : None ≡ Some s = doubt in absurd cc
 
 -- or where its restart is in doubt
-stands_broken : (x y : State) (counted limit : ℕ) (s : State) → MayStandIn (opened_archive x counted limit) (broken y (opened_archive x counted limit)) s → IsEither x y s
-stands_broken x y counted limit s (inl (inl is)) = inl is
-stands_broken x y counted limit s (inl (inr doubt)) = let none : None ≡ Some s = doubt in absurd cc
-stands_broken x y counted limit s (inr (inl is)) = inl is
-stands_broken x y counted limit s (inr (inr doubt)) = let some : Some y ≡ Some s = doubt in let same : s ≡ y = cc in inr same
+stands_broken : (x y : State) (counted limit : ℕ) (version : BankVersion) (s : State) → MayStandIn (opened_archive x counted limit version) (broken y (opened_archive x counted limit version)) s → IsEither x y s
+stands_broken x y counted limit version s (inl (inl is)) = inl is
+stands_broken x y counted limit version s (inl (inr doubt)) = let none : None ≡ Some s = doubt in absurd cc
+stands_broken x y counted limit version s (inr (inl is)) = inl is
+stands_broken x y counted limit version s (inr (inr doubt)) = let some : Some y ≡ Some s = doubt in let same : s ≡ y = cc in inr same
 
 moments_of : (old new : Life) (x y : State) (a b c : Archive) → c ≡ b → ((s : State) → MayStandIn a b s → IsEither x y s) → LeavesOnly old new (RecoversTo (MayStandIn a c)) → LeavesOnly old new (RecoversTo (IsEither x y))
 moments_of old new x y a b c is stands any =
     let any_of : LeavesOnly old new (RecoversTo (MayStandIn a b)) = subst (λ (z : Archive). LeavesOnly old new (RecoversTo (MayStandIn a z))) is any in
     weaker old new (RecoversTo (IsEither x y)) (RecoversTo (MayStandIn a b)) any_of (λ image. recovers_as (MayStandIn a b) (IsEither x y) image stands)
 
-refused_moments : (refusal : Refusal) (old new : EngineState) (s : State) (counted limit : ℕ) (reply : Reply) (faulted : Type 0)
-    → CallEnded old new (opened_archive s counted limit) (CommitEnds (opened_archive s counted limit) reply (opened_archive (after s Restart) counted limit) faulted (Err refusal)) → LeavesOnly old.life new.life (RecoversTo (IsEither s (after s Restart)))
-refused_moments NoMemory old new s counted limit reply faulted ended =
-    moments_of old.life new.life s (after s Restart) (opened_archive s counted limit) (opened_archive s counted limit) (archive_of new ended.after) ended.ends
-    (λ x stands. elim (stands_either s s counted limit x stands) [ inl is ↦ inl is | inr is ↦ inl is ]) ended.any_moment
-refused_moments DeviceFault old new s counted limit reply faulted ended =
-    moments_of old.life new.life s (after s Restart) (opened_archive s counted limit) (broken (after s Restart) (opened_archive s counted limit)) (archive_of new ended.after) ended.ends.1 (stands_broken s (after s Restart) counted limit) ended.any_moment
-refused_moments refusal old new s counted limit reply faulted ended = absurd ended.ends
+refused_moments : (refusal : Refusal) (old new : EngineState) (s : State) (counted limit : ℕ) (version : BankVersion) (reply : Reply) (faulted : Type 0)
+    → CallEnded old new (opened_archive s counted limit version) (CommitEnds (opened_archive s counted limit version) reply (opened_archive (after s Restart) counted limit version) faulted (Err refusal)) → LeavesOnly old.life new.life (RecoversTo (IsEither s (after s Restart)))
+refused_moments NoMemory old new s counted limit version reply faulted ended =
+    moments_of old.life new.life s (after s Restart) (opened_archive s counted limit version) (opened_archive s counted limit version) (archive_of new ended.after) ended.ends
+    (λ x stands. elim (stands_either s s counted limit version x stands) [ inl is ↦ inl is | inr is ↦ inl is ]) ended.any_moment
+refused_moments DeviceFault old new s counted limit version reply faulted ended =
+    moments_of old.life new.life s (after s Restart) (opened_archive s counted limit version) (broken (after s Restart) (opened_archive s counted limit version)) (archive_of new ended.after) ended.ends.1 (stands_broken s (after s Restart) counted limit version) ended.any_moment
+refused_moments refusal old new s counted limit version reply faulted ended = absurd ended.ends
 
 -- ---- by an entry
 
@@ -123,23 +124,23 @@ abbrev RestartsBy : EngineState → EngineState → Result Reply Refusal → Typ
 RestartsBy old new result = CommitsEntry old new (λ a. Accepts (book_of a) Restart) (reply_after old.desk Restart) (λ a. archive_after a Restart) result
 
 -- of an archive at which nobody calls yet
-ended_restart : (old new : EngineState) (s : State) (counted limit : ℕ) (result : Result Reply Refusal) → RestartsBy old new result → old.desk ≡ opened_desk (register_of s) counted limit → IsCrashConsistent old.life old.log (opened_archive s counted limit)
-    → CallEnded old new (opened_archive s counted limit) (CommitEnds (opened_archive s counted limit) (reply_after (opened_desk (register_of s) counted limit) Restart) (opened_archive (after s Restart) counted limit) (HasFailed old.life new.life) result)
-ended_restart old new s counted limit result made is was =
-    let a : Archive = opened_archive s counted limit in
+ended_restart : (old new : EngineState) (s : State) (counted limit : ℕ) (version : BankVersion) (result : Result Reply Refusal) → RestartsBy old new result → old.desk ≡ opened_desk (register_of s) counted limit version → IsCrashConsistent old.life old.log (opened_archive s counted limit version)
+    → CallEnded old new (opened_archive s counted limit version) (CommitEnds (opened_archive s counted limit version) (reply_after (opened_desk (register_of s) counted limit version) Restart) (opened_archive (after s Restart) counted limit version) (HasFailed old.life new.life) result)
+ended_restart old new s counted limit version result made is was =
+    let a : Archive = opened_archive s counted limit version in
     let made_here : RestartsBy (with_desk a.desk old) new result = subst (λ (d : DeskState). RestartsBy (with_desk d old) new result) is made in
     let ended = made_here.ended (content_of a) was (accepts_restart (book_of a)) in
     let Goes : EngineState → Archive → Type 0 = λ e b. CallEnded e new a (CommitEnds a (reply_after a.desk Restart) b (HasFailed old.life new.life) result) in
     let same : with_desk a.desk old ≡ old = ap (λ (d : DeskState). with_desk d old) (sym is) in
-    subst (Goes old) (restart_of s counted limit was.archive.well) (subst (λ (e : EngineState). Goes e (archive_after a Restart)) same ended)
+    subst (Goes old) (restart_of s counted limit version was.archive.well) (subst (λ (e : EngineState). Goes e (archive_after a Restart)) same ended)
 
 nothing_known : Content
 nothing_known = record { state = empty; blocks = λ number. []; doubt = None }
 
 -- a desk that was opened is that of a restart
-desk_restarted : (old new : EngineState) (told : Reply) → RestartsBy old new (Ok told) → (g : RegisterState) (counted limit : ℕ) → old.desk ≡ opened_desk g counted limit → new.desk ≡ opened_desk (all_stopped g) counted limit
-desk_restarted old new told made g counted limit is =
-    let made_here : RestartsBy (with_desk (opened_desk g counted limit) old) new (Ok told) = subst (λ (d : DeskState). RestartsBy (with_desk d old) new (Ok told)) is made in
+desk_restarted : (old new : EngineState) (told : Reply) → RestartsBy old new (Ok told) → (g : RegisterState) (counted limit : ℕ) (version : BankVersion) → old.desk ≡ opened_desk g counted limit version → new.desk ≡ opened_desk (all_stopped g) counted limit version
+desk_restarted old new told made g counted limit version is =
+    let made_here : RestartsBy (with_desk (opened_desk g counted limit version) old) new (Ok told) = subst (λ (d : DeskState). RestartsBy (with_desk d old) new (Ok told)) is made in
     ap (λ (b : Archive). b.desk) (made_here.exact nothing_known).1.1
 
 pub restarts_done : (old new : EngineState) (told : Reply) (count : ℤ) → RestartsBy old new (Ok told) → ChangesBank old.life new.life → count ≢ pos 0 → count ≡ pos (register.active_count old.desk.register) → Restarts old new (Ok count)
@@ -152,9 +153,9 @@ restarts_done old new told count made changes some is = record {
   idle = λ none. absurd (some none);
   stopped = is;
   desk = desk_restarted old new told made;
-  restarted = λ s counted limit desk was. (let ended = ended_restart old new s counted limit (Ok told) made desk was in subst (λ (b : Archive). IsCrashConsistent new.life new.log b) ended.ends.1 ended.consistent);
-  any_moment = λ s counted limit desk was. (let ended = ended_restart old new s counted limit (Ok told) made desk was in
-      moments_of old.life new.life s (after s Restart) (opened_archive s counted limit) (opened_archive (after s Restart) counted limit) (archive_of new ended.after) ended.ends.1 (stands_either s (after s Restart) counted limit) ended.any_moment);
+  restarted = λ s counted limit version desk was. (let ended = ended_restart old new s counted limit version (Ok told) made desk was in subst (λ (b : Archive). IsCrashConsistent new.life new.log b) ended.ends.1 ended.consistent);
+  any_moment = λ s counted limit version desk was. (let ended = ended_restart old new s counted limit version (Ok told) made desk was in
+      moments_of old.life new.life s (after s Restart) (opened_archive s counted limit version) (opened_archive (after s Restart) counted limit version) (archive_of new ended.after) ended.ends.1 (stands_either s (after s Restart) counted limit version) ended.any_moment);
 }
 
 abbrev Refused : Refusal → Result (Unit {0}) Refusal
@@ -188,15 +189,15 @@ restarts_refused old new refusal made changes quiet =
       stopped = tt;
       desk = tt;
       restarted = tt;
-      any_moment = λ s counted limit desk was.
-          refused_moments refusal old new s counted limit (reply_after (opened_desk (register_of s) counted limit) Restart) (HasFailed old.life new.life) (ended_restart old new s counted limit (Err refusal) made desk was);
+      any_moment = λ s counted limit version desk was.
+          refused_moments refusal old new s counted limit version (reply_after (opened_desk (register_of s) counted limit version) Restart) (HasFailed old.life new.life) (ended_restart old new s counted limit version (Err refusal) made desk was);
     }
 
 -- ---- where none is active
 
-none_active : (s : State) (counted limit : ℕ) → register.active_count (register_of s) ≡ 0
-    → opened_archive s counted limit ≡ opened_archive (after s Restart) counted limit
-none_active s counted limit none = ap (λ (x : State). opened_archive x counted limit) (sym (same_after s none))
+none_active : (s : State) (counted limit : ℕ) (version : BankVersion) → register.active_count (register_of s) ≡ 0
+    → opened_archive s counted limit version ≡ opened_archive (after s Restart) counted limit version
+none_active s counted limit version none = ap (λ (x : State). opened_archive x counted limit version) (sym (same_after s none))
 
 pub restarts_none : (old : EngineState) (count : ℤ) → count ≡ pos 0
     → register.active_count old.desk.register ≡ 0 → Restarts old old (Ok count)
@@ -208,10 +209,10 @@ restarts_none old count zero none = record {
   kept = tt;
   idle = λ is. refl;
   stopped = zero ∙ ap pos (sym none);
-  desk = λ g counted limit is.
-      is ∙ ap (λ (r : RegisterState). opened_desk r counted limit) (sym (none_stop g (sym (ap (λ (d : DeskState). register.active_count d.register) is) ∙ none)));
-  restarted = λ s counted limit is was. subst (λ (a : Archive). IsCrashConsistent old.life old.log a) (none_active s counted limit (sym (ap (λ (d : DeskState). register.active_count d.register) is) ∙ none)) was;
-  any_moment = λ s counted limit is was.
-      started old.life (RecoversTo (IsEither s (after s Restart))) (λ image left. recovers_as (MayStandIn (opened_archive s counted limit) (opened_archive s counted limit)) (IsEither s (after s Restart)) image
-      (λ x stands. elim (stands_either s s counted limit x stands) [ inl same ↦ inl same | inr same ↦ inl same ]) (recovers_as _ _ image (λ x stands. inl stands) (was.images image left)));
+  desk = λ g counted limit version is.
+      is ∙ ap (λ (r : RegisterState). opened_desk r counted limit version) (sym (none_stop g (sym (ap (λ (d : DeskState). register.active_count d.register) is) ∙ none)));
+  restarted = λ s counted limit version is was. subst (λ (a : Archive). IsCrashConsistent old.life old.log a) (none_active s counted limit version (sym (ap (λ (d : DeskState). register.active_count d.register) is) ∙ none)) was;
+  any_moment = λ s counted limit version is was.
+      started old.life (RecoversTo (IsEither s (after s Restart))) (λ image left. recovers_as (MayStandIn (opened_archive s counted limit version) (opened_archive s counted limit version)) (IsEither s (after s Restart)) image
+      (λ x stands. elim (stands_either s s counted limit version x stands) [ inl same ↦ inl same | inr same ↦ inl same ]) (recovers_as _ _ image (λ x stands. inl stands) (was.images image left)));
 }

@@ -58,13 +58,14 @@ other_replays a rs next was seats =
     }
 
 -- the log stays with a desk whose history is as it was
-pub tied_on : (log : LogState) (d other new : DeskState) → other.is_broken ≡ d.is_broken → other.counted ≡ d.counted → other.limit ≡ d.limit → new ≡ other → IsTied log d → IsTied log new
-tied_on log d other new broken counted limit is tied =
+pub tied_on : (log : LogState) (d other new : DeskState) → other.is_broken ≡ d.is_broken → other.counted ≡ d.counted → other.limit ≡ d.limit → other.version ≡ d.version → new ≡ other → IsTied log d → IsTied log new
+tied_on log d other new broken counted limit version is tied =
     let works : IsFalse other.is_broken → IsFalse d.is_broken = λ off. sym broken ∙ off in
     subst (IsTied log) (sym is) (record {
       works = λ off. tied.works (works off);
       counted = λ off. tied.counted (works off) ∙ sym counted;
       limit = λ off. tied.limit (works off) ∙ sym limit;
+      version = λ off. tied.version (works off) ∙ sym version;
     })
 
 -- ---- calls that only read

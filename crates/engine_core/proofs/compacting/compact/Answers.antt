@@ -1,6 +1,14 @@
-use Rattle.std.proofs.Common.{inl, inr, sym, subst}
-use Rattle.std.specs.Prelude.{Result, Ok, Err}
-use Rattle.archive_model.specs.State.{register_of}
+use Rattle.std.proofs.Common.{IsTrue, refl}
+use Rattle.std.proofs.lemmas.Result.{on_ok_weaker}
+use Rattle.disk_core.specs.Life.{LeavesOnly}
+use Rattle.disk_core.proofs.CallerLemmas.{now_leaves}
+use Rattle.archive_model.specs.Register.{no_recordings}
+use Rattle.archive_model.specs.State.{State, register_of}
+use Rattle.catalogue_entries.specs.Fold.{after_entries}
+use Rattle.catalogue_entries.specs.Snapshot.{snapshot_of}
+use Rattle.catalogue_log.specs.Compacting.{next_header}
+use Rattle.engine_core.specs.Calls.{LeavesAlone}
+use Rattle.engine_core.specs.Recovery.{Recovers}
 use Rattle.engine_core.proofs.openings.AnewCallLemmas.{kept_as_before}
 use Rattle.engine_core.proofs.compacting.compact.Goals as goal
 
@@ -9,8 +17,15 @@ returns g c =
     let old = g.D.Disk.life c.args.disk.now in
     let new = g.D.Disk.life c.compact.new.disk in
     let law = c.a_catalogue_of_the_same_register_keeps_the_state.ensures in
+    let moments : (s : State) → LeavesAlone old s → IsTrue new.obeys → LeavesOnly old new (λ image. Recovers image s) =
+    λ s leaves obeys. law.moments old new s (g.met.D.Disk.reads_may_stay c.args.disk.now) leaves (c.compact.ensures.any_moment (register_of s) (law.start old.now s leaves) obeys) in
     record {
-      any_moment = λ s leaves obeys. law.moments old new s (g.met.D.Disk.reads_may_stay c.args.disk.now) leaves (c.compact.ensures.any_moment (register_of s) (law.start old.now s leaves) obeys);
+      any_moment = moments;
+      migrated = on_ok_weaker c.compact.result (λ compacted obeys s leaves image left.
+          let anew = compacted obeys in (
+            now_leaves old new (λ image. Recovers image s) (moments s leaves obeys) image left,
+            record { header = next_header anew.header; entries = snapshot_of (after_entries no_recordings anew.entries); catalogue = anew.behind image left; is = refl },
+          )) c.compact.ensures.compacted;
       compacted = c.compact.ensures.compacted;
       refused = c.compact.ensures.refused;
       kept = kept_as_before c.compact.result old new c.compact.ensures.kept;

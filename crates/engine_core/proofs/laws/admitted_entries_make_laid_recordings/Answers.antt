@@ -3,4 +3,4 @@ use Rattle.engine_core.proofs.openings.EntryLaidLemmas.{entries_laid}
 use Rattle.engine_core.proofs.laws.admitted_entries_make_laid_recordings.Goals as goal
 
 pub returns : goal.returns
-returns c entries admitted = entries_laid first_place entries admitted tt
+returns c v entries admitted = entries_laid (first_place v) entries admitted tt

@@ -25,7 +25,7 @@ returns-clause-sound g c =
 
 pub returns-clause-laid : goal.returns-clause-laid
 returns-clause-laid g c =
-    IfOk-weaker c.open_register.result _ _ (λ found opened. subst AreLaid (sym opened.makes) (entries_laid first_place opened.entries opened.admitted tt)) c.open_register.ensures.opened
+    IfOk-weaker c.open_register.result _ _ (λ found opened. subst AreLaid (sym opened.makes) (entries_laid (first_place found.0.header.version) opened.entries opened.admitted tt)) c.open_register.ensures.opened
 
 pub returns-clause-log : goal.returns-clause-log
 returns-clause-log g c =

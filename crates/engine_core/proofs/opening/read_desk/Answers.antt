@@ -20,8 +20,11 @@ returns-clause-sound g c obeys x recovers =
     let log = c.in_ok-log.log in
     let is : c.counted-counted.result ≡ log.counted = c.counted-counted.ensures in
     let counted = c.counted-counted.result in
-    let found = c.in_ok-log.ensures.sound obeys x recovers in
-    (found.0, c.opened-desk.ensures ∙ same_desk c.in_ok-log.register.state (register_of x) counted log.counted c.limit-limit.result log.header.history_limit found.1 is c.limit-limit.ensures)
+    let found = c.in_ok-log.ensures.sound obeys x recovers in (
+      found.0,
+      c.opened-desk.ensures ∙ same_desk c.in_ok-log.register.state (register_of x) counted log.counted c.limit-limit.result log.header.history_limit c.version-version.result log.header.version
+          found.1 is c.limit-limit.ensures c.version-version.ensures,
+    )
 
 pub returns-clause-log : goal.returns-clause-log
 returns-clause-log g c obeys =
@@ -31,7 +34,8 @@ returns-clause-log g c obeys =
     let counted = c.counted-counted.result in (
       found.0,
       found.1,
-      c.opened-desk.ensures ∙ same_desk c.in_ok-log.register.state (after_entries no_recordings found.0) counted log.counted c.limit-limit.result log.header.history_limit found.2 is c.limit-limit.ensures,
+      c.opened-desk.ensures ∙ same_desk c.in_ok-log.register.state (after_entries no_recordings found.0) counted log.counted c.limit-limit.result log.header.history_limit
+          c.version-version.result log.header.version found.2 is c.limit-limit.ensures c.version-version.ensures,
     )
 
 pub returns-clause-tied : goal.returns-clause-tied
@@ -41,6 +45,6 @@ returns-clause-tied g c =
     let register = c.in_ok-log.register.state in
     let limit = c.limit-limit.result in
     let is : counted ≡ log.counted = c.counted-counted.ensures in (
-      subst (IsTied log) (sym c.opened-desk.ensures) (record { works = λ works. c.in_ok-log.ensures.works; counted = λ works. sym is; limit = λ works. sym c.limit-limit.ensures }),
+      subst (IsTied log) (sym c.opened-desk.ensures) (record { works = λ works. c.in_ok-log.ensures.works; counted = λ works. sym is; limit = λ works. sym c.limit-limit.ensures; version = λ works. sym c.version-version.ensures }),
       ap (λ (d : DeskState). d.is_broken) c.opened-desk.ensures,
     )

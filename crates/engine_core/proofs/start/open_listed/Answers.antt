@@ -25,7 +25,7 @@ returns-in-Ok g c =
           open_done old mid s u log c.in-Ok.desk.state leaves before to sound.0 sound.1 (seen life started.0) started.1 (g.met.D.Disk.reads_may_stay c.read_desk.new.disk) went);
       desk = λ obeys.
           (let found = read.log (went.changes.obeyed obeys) in
-          desk_read (reads old.now) log found.0 c.in-Ok.desk.state started.0.desk.state started.1 found.1 found.2 (went.desk (after_entries no_recordings found.0) log.counted log.header.history_limit found.2) went.stopped);
+          desk_read (reads old.now) log found.0 c.in-Ok.desk.state started.0.desk.state started.1 found.1 found.2 (went.desk (after_entries no_recordings found.0) log.counted log.header.history_limit log.header.version found.2) went.stopped);
       banks = λ obeys. (let found = read.log (went.changes.obeyed obeys) in banks_read (reads old.now) log started.0.storage.log found.0 found.1 went.bank);
       goes_on = goes_later old mid (life started.0.storage.disk) before went.changes;
       others = reads_otherwise old mid (life started.0.storage.disk) before went.changes;

@@ -4,7 +4,7 @@ use Rattle.control_core.specs.Changes.{desk_after, reply_after}
 use Rattle.control_core.specs.Desk.{DeskState}
 use Rattle.engine_core.specs.Engine.{IsTied}
 use Rattle.engine_core.specs.Making.{after_failure}
-use Rattle.engine_core.proofs.calls.MakeLemmas.{IsEntryFor, commits_done, commits_refused, has_room, made_tied, short_for, unmade}
+use Rattle.engine_core.proofs.calls.MakeLemmas.{IsEntryFor, commits_done, commits_refused, has_room, made_tied, held_for, unmade}
 use Rattle.engine_core.proofs.engine.Engine.make.Goals as goal
 
 pub returns-in_err-entry-clause-made : goal.returns-in_err-entry-clause-made
@@ -17,11 +17,11 @@ returns-in_err-reserve-clause-made g c =
     let is : c.from_residual-in_err-reserve.result ≡ Err c.in_err-reserve.field-0.0 = search rules in
     unmade _ _ _ _ _ c.from_residual-in_err-reserve.result refl refl c.in_err-reserve.ensures.state (is ∙ ap Err c.in_err-reserve.ensures.err)
 
-pub commit-requires-clause-short : goal.commit-requires-clause-short
-commit-requires-clause-short g c =
+pub commit-requires-clause-held : goal.commit-requires-clause-held
+commit-requires-clause-held g c =
     let d = c.args.self.now.desk.state in
     let entry : IsEntryFor d c.args.command c.in_ok-entry.entry = record { is = λ s next. (let known : s.next ≡ c.next_recording.result = next ∙ sym c.next_recording.ensures in c.in_ok-entry.ensures.ok s (search (rules, known))) } in
-    short_for d c.args.command c.in_ok-entry.entry c.requires.allowed entry
+    held_for c.args.self.now.storage.log d c.args.command c.in_ok-entry.entry c.args.self.now.tied c.requires.works c.requires.allowed entry
 
 pub commit-requires-clause-works : goal.commit-requires-clause-works
 commit-requires-clause-works g c = c.args.self.now.tied.works c.requires.works

@@ -45,7 +45,7 @@ move_replay-requires-clause-further g c =
     subst (λ o. IsSomeAnd o (λ it. it.next ≤ℤ c.in_ok-given.given.next)) (sym c.in_ok-reader.ensures.found.found.replay) further
 
 pub invariant_of-self-2 : goal.invariant_of-self-2
-invariant_of-self-2 g c = record { tied = tied_on _ c.args.self.now.desk.state _ _ refl refl refl c.move_replay.ensures c.args.self.now.tied }
+invariant_of-self-2 g c = record { tied = tied_on _ c.args.self.now.desk.state _ _ refl refl refl refl c.move_replay.ensures c.args.self.now.tied }
 
 pub returns : goal.returns
 returns g c =
