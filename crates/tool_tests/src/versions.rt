@@ -128,16 +128,32 @@ fn version_1_goes_on(rt: HostRuntime) -> Result<(), Fail> {
     Ok(())
 }
 
-/// A source stays over an extension and an opening; of a recording that is not there it is refused.
+/// A source stays over a purge of segments, a truncation, an extension, an opening and a compaction.
 #[test]
 fn a_source_stays(rt: HostRuntime) -> Result<(), Fail> {
     check_on(
         rt.alloc(),
         MemoryDisk::new(rt.alloc()),
-        "start-from 127.0.0.1:40123 1001 7 42 65536 1408 131072 0 1000 c; stop 0 5; extend 0 1001 7 42 65536 1408 0; \
-        source 0; reopen; source 0; compact; source 0; source 5; source -1; source; start-from x",
-        "started 0 0; stopped 0; extended 1; source 15 127.0.0.1:40123; reopened 1; source 15 127.0.0.1:40123; compacted; \
-        source 15 127.0.0.1:40123; error 1 UnknownRecording; error 1 UnknownRecording; error 22 BadLine; error 22 BadLine",
+        "start-from 127.0.0.1:40123 1001 7 42 65536 1408 131072 0 1000 c; \
+        block 0 0000010000c000000000000007000000e90300002a0000000000000000000000; \
+        block 0 0000010000c000000000000007000000e90300002b0000000000000000000000; \
+        purge-segments 0 131072; source 0; stop 0 5; truncate 0 131072; source 0; \
+        extend 0 1001 7 42 65536 1408 131072; source 0; reopen; source 0; compact; source 0",
+        "started 0 0; settled 65536; settled 131072; purged 1; source 15 127.0.0.1:40123; stopped 131072; truncated 131072; \
+        source 15 127.0.0.1:40123; extended 1; source 15 127.0.0.1:40123; reopened 1; source 15 127.0.0.1:40123; compacted; \
+        source 15 127.0.0.1:40123",
+    )?;
+    Ok(())
+}
+
+/// Of a recording that is not there a source is refused, and lines of another form are.
+#[test]
+fn no_source_is_told(rt: HostRuntime) -> Result<(), Fail> {
+    check_on(
+        rt.alloc(),
+        MemoryDisk::new(rt.alloc()),
+        "source 5; source -1; source; start-from x",
+        "error 1 UnknownRecording; error 1 UnknownRecording; error 22 BadLine; error 22 BadLine",
     )?;
     Ok(())
 }
