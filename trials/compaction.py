@@ -17,6 +17,7 @@ import time
 from pathlib import Path
 from random import Random
 
+from readers.catalogue import BANKS, bank_in_use, epoch_of
 from tool import Fault, Stream, bank, conclude, entry, expect, file_system, program, replayed, room, run, settle_entry, stop_entry, trial_words
 
 STREAM = Stream(term_length=65_536, segment_length=131_072)
@@ -24,7 +25,6 @@ CHANNELS = ["first", "second", "third"]
 FRAMES = 20  # of each recording, each of 64 bytes
 HISTORY = 100_000  # entries
 LIMIT = 1_048_576  # of the history, if none is asked for
-BANKS = "catalogue-a.bank", "catalogue-b.bank"
 
 
 def truncation(recording: int, position: int) -> bytes:
@@ -56,15 +56,10 @@ def make(tool: Path, folder: Path, version: int) -> None:
     path.write_bytes(earlier(count) if version == 1 else made)
 
 
-def bank_in_use(folder: Path) -> bytes:
-    """The bank in use: of those that are open, the one of the later epoch."""
-    banks = [(folder / name).read_bytes() for name in BANKS if (folder / name).exists()]
-    return max((it for it in banks if len(it) >= 32 and it[0] == 1), key=lambda it: struct.unpack_from("<Q", it, 8)[0])
-
-
-def epoch_in_use(folder: Path) -> int:
-    """The epoch of the bank in use."""
-    return struct.unpack_from("<Q", bank_in_use(folder), 8)[0]
+def in_use(folder: Path) -> bytes:
+    """The bank in use of a folder."""
+    banks = {name: (folder / name).read_bytes() if (folder / name).exists() else None for name in BANKS}
+    return banks[bank_in_use(banks)]
 
 
 class Rounds:
@@ -75,7 +70,7 @@ class Rounds:
         self.chance = Random(seed)
         self.killed = self.new = 0
         make(tool, self.master, version)
-        expect("version", bank_in_use(self.master)[1], version)
+        expect("version", in_use(self.master)[1], version)
         self.copy()
         begun = time.monotonic()
         expect("compact", run([tool, "compact", self.folder]), ["compacted"])
@@ -98,7 +93,7 @@ class Rounds:
             process.send_signal(signal.SIGKILL)
             process.communicate()
             self.killed += 1
-        self.new += epoch_in_use(self.folder) > 1
+        self.new += epoch_of(in_use(self.folder)) > 1
 
     def listed(self, what: str) -> None:
         """The recordings have to be those of before."""
@@ -119,7 +114,7 @@ class Rounds:
             self.kill()
         self.listed("behind a kill")
         expect("compact", run([self.tool, "compact", self.folder]), ["compacted"])
-        expect("version behind a compaction", bank_in_use(self.folder)[1], 2)
+        expect("version behind a compaction", in_use(self.folder)[1], 2)
         self.listed("behind a compaction")
         self.whole()
 

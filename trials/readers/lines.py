@@ -31,7 +31,7 @@ def is_hex(word: bytes) -> bool:
 
 
 def is_rest(text: bytes) -> bool:
-    """Whether the rest of a line is a `<channel>` or a `<fragment>`."""
+    """Whether bytes are a `<channel>` or a `<fragment>`; a `<source>` too, as a word without blanks."""
     try:
         text.decode()
     except UnicodeDecodeError:
@@ -39,18 +39,13 @@ def is_rest(text: bytes) -> bool:
     return bool(text)
 
 
-def is_plain(word: bytes) -> bool:
-    """Whether a word is a `<source>`."""
-    return is_rest(word)
-
-
 Kind = Callable[[bytes], bool]
-LONG, SHORT, BYTES, PLAIN, REST = is_long, is_short, is_hex, is_plain, is_rest
+LONG, SHORT, BYTES, REST = is_long, is_short, is_hex, is_rest
 
 # By its first word: the words that follow in a line, and the last line of its reply. N is a number.
 LINES: dict[bytes, tuple[list[Kind], str]] = {
     b"start": ([SHORT] * 6 + [LONG, LONG, REST], r"started N N"),
-    b"start-from": ([PLAIN] + [SHORT] * 6 + [LONG, LONG, REST], r"started N N"),
+    b"start-from": ([REST] + [SHORT] * 6 + [LONG, LONG, REST], r"started N N"),
     b"extend": ([LONG, *[SHORT] * 5, LONG], r"extended N"),
     b"write": ([LONG, BYTES], r"written N"),
     b"settle": ([LONG], r"settled N"),
