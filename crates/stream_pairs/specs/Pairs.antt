@@ -1,6 +1,6 @@
 -- Which image feeds which recorder session: docs/ARCHITECTURE.md, "Images and recorder sessions".
 use Rattle.std.specs.Prelude.{◌&&◌, ◌||◌, ◌==◌, ◌++◌, ℕ, ℤ, nat_lt, not, length, slice_get, slice_set, slice_index_or, Bool, true, false, if◌then◌else◌, List, [], ◌∷◌, Option, Some, None, is_some, replicate, zero, suc}
-use Rattle.std.specs.List.{position}
+use Rattle.std.specs.List.{list_any, position}
 use Rattle.std.specs.Ordering.{int_eq}
 use Rattle.frame_core.specs.declared.block.Publication.{Publication}
 use Rattle.frame_core.specs.declared.geometry.Geometry.{Geometry}
@@ -139,6 +139,15 @@ after_settled n position s = with_slot n (moved position (slot_of n s)) s
 abbrev pub writes : ℤ → Option SessionSlot → Bool
 writes recording None = false
 writes recording (Some slot) = slot.is_open && int_eq slot.recording recording
+
+-- the session is open, and the image of an index feeds it
+abbrev pub is_recorded_by : ℕ → Option SessionSlot → Bool
+is_recorded_by i None = false
+is_recorded_by i (Some slot) = slot.is_open && feeds i (Some slot)
+
+-- the image of an index feeds a session that is open
+abbrev pub is_recorded : ℕ → PairsState → Bool
+is_recorded i s = list_any (is_recorded_by i) s.slots
 
 -- a session that has ended keeps its image
 abbrev pub ended : Option SessionSlot → Option SessionSlot

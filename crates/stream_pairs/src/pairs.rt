@@ -3,7 +3,7 @@
 ghost use Rattle.std.specs.Prelude.{◌≡◌, ◌<◌, ◌≤◌, IfOk, IfErr, length, slice_get};
 ghost use Rattle.std.specs.List.{position};
 ghost use Rattle.frame_core.specs.declared.refusal.Refusal.TheVariants.{NoMemory};
-ghost use Rattle.stream_pairs.specs.Pairs.{after_joined, after_opened, after_refused, after_settled, after_stopped, ended, fed_by, feeds, image_at, image_with, joined, joined_index, may_join, no_pairs, with_new_session, pair_all, pair_one, slot_of, takes, with_lost_image, with_slot, writes};
+ghost use Rattle.stream_pairs.specs.Pairs.{after_joined, after_opened, after_refused, after_settled, after_stopped, ended, fed_by, feeds, image_at, image_with, is_recorded, is_recorded_by, joined, joined_index, may_join, no_pairs, with_new_session, pair_all, pair_one, slot_of, takes, with_lost_image, with_slot, writes};
 
 use crate::points::StreamPoint;
 use frame_core::{Publication, Refusal};
@@ -120,7 +120,7 @@ impl Pairs {
     pub fn stopped(&mut self, recording: i64)
         ensures { self.new ≡ after_stopped recording self.old }
     {
-        if let Some(number) = self.writer_of(&recording) {
+        if let Some(number) = self.writer_of(recording) {
             self.end(number);
         }
     }
@@ -160,6 +160,28 @@ impl Pairs {
         ensures { result ≡ position (feeds index) self.now.slots }
     {
         self.slots.iter().position(|slot| feeds(slot, index))
+    }
+
+    /// The number of the open session that writes a recording, the least of them. None where no open session does. Costs a
+    /// step for each session. Does not allocate.
+    pub fn writer_of(&self, recording: i64) -> Option<usize>
+        ensures { result ≡ position (writes recording) self.now.slots }
+    {
+        self.slots.iter().position(|slot| writes(slot, &recording))
+    }
+
+    /// Whether the image of an index feeds a session that is open. Costs a step for each session. Does not allocate.
+    pub fn is_recorded(&self, index: usize) -> bool
+        ensures { result ≡ is_recorded index self.now }
+    {
+        self.slots.iter().any(|slot| is_recorded_by(slot, index))
+    }
+
+    /// The images, by the order in which they came. Costs a constant time.
+    pub fn images(&self) -> &[JoinedImage]
+        ensures { result.now ≡ self.now.images }
+    {
+        self.images.as_slice()
     }
 
     /// How many images came.
@@ -270,13 +292,6 @@ impl Pairs {
     {
         self.slots.iter().position(|slot| takes(slot, join))
     }
-
-    /// The least session that writes a recording.
-    fn writer_of(&self, recording: &i64) -> Option<usize>
-        ensures { result ≡ position (writes recording.now) self.now.slots }
-    {
-        self.slots.iter().position(|slot| writes(slot, recording))
-    }
 }
 
 /// Whether a session takes an image that joined there.
@@ -295,6 +310,16 @@ fn feeds(slot: &Option<SessionSlot>, index: usize) -> bool
 {
     match slot {
         Some(slot) => slot.image == Some(index),
+        None => false,
+    }
+}
+
+/// Whether a session is open and an image feeds it.
+fn is_recorded_by(slot: &Option<SessionSlot>, index: usize) -> bool
+    ensures { result ≡ is_recorded_by index slot.now }
+{
+    match slot {
+        Some(slot) => slot.is_open && slot.image == Some(index),
         None => false,
     }
 }
