@@ -8,13 +8,14 @@ use std::alloc::{AllocError, Global};
 use std::process::Abort;
 use std::test::Fail;
 
-fn joined(alloc: Global) -> Result<BoundedImage, Refusal> {
+/// An image that nothing came of.
+pub fn joined(alloc: Global) -> Result<BoundedImage, Refusal> {
     BoundedImage::from_setup(alloc, &Setup::decode(&SETUP)?)
 }
 
 /// Offers the frames of a datagram.
 #[tactic(auto, using(frame_core::proofs::DatagramLemmas::datagram_encodable))]
-fn offer(
+pub fn offer(
     alloc: Global,
     image: &mut BoundedImage,
     bytes: &[u8],

@@ -29,6 +29,8 @@ mod merges;
 #[cfg(test)]
 mod pairs;
 #[cfg(test)]
+mod receivers;
+#[cfg(test)]
 mod replays;
 #[cfg(test)]
 mod segments;

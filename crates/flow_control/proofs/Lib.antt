@@ -1,0 +1,4 @@
+mod AlignmentLemmas
+mod ProgressLemmas
+mod RoomLemmas
+mod TermLemmas

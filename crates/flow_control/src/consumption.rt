@@ -1,0 +1,50 @@
+//! How far the stream of an image was consumed and rebuilt, and status messages that say so.
+
+ghost use Rattle.std.specs.Prelude.{◌≡◌, ◌<◌, ◌^◌, true};
+ghost use Rattle.image_core.specs.Received.{rebuilt};
+ghost use Rattle.flow_control.specs.Feedback.{IsStatusOf, has_term};
+ghost use Rattle.flow_control.specs.Windows.{receiver_window};
+
+use crate::windows::receiver_window;
+use frame_core::{StatusMessage, term_of};
+use image_core::BoundedImage;
+
+/// The consumed position, in bytes of the stream: where what the image did not give as blocks yet begins.
+pub fn consumed(image: &BoundedImage) -> u64
+    ensures position { result ≡ image.now.from }
+    ensures small { result < 2 ^ 63 }
+{
+    image.taken() as u64
+}
+
+/// The rebuild position, in bytes of the stream: where the gap begins, if there is one.
+pub fn rebuilt(image: &BoundedImage) -> u64
+    ensures position { result ≡ rebuilt image.now }
+    ensures small { result < 2 ^ 63 }
+{
+    image.rebuilt() as u64
+}
+
+/// Whether the consumed position has a term id: it lies before the end of the stream's last term.
+pub fn has_term(image: &BoundedImage) -> bool
+    ensures { result ≡ has_term image.now.geometry image.now.from }
+{
+    image.taken() < (1 << 31) * i64::from(image.geometry().term_length)
+}
+
+/// The status message of an image, with a window of at most so many bytes.
+pub fn status_of(image: &BoundedImage, most: i32, receiver_id: i64) -> StatusMessage
+    requires { has_term image.now.geometry image.now.from ≡ true }
+    ensures { IsStatusOf image.now (receiver_window image.now.geometry most) receiver_id result }
+{
+    let (term_id, term_offset) = term_of(image.geometry(), image.taken());
+    StatusMessage {
+        flags: 0,
+        session_id: image.publication().session_id,
+        stream_id: image.publication().stream_id,
+        consumption_term_id: term_id,
+        consumption_term_offset: term_offset,
+        receiver_window: receiver_window(image.geometry(), most),
+        receiver_id,
+    }
+}

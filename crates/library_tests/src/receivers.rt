@@ -1,0 +1,212 @@
+//! What a receiver sends to a sender, and when: docs/PROTOCOL.md, "Status messages and NAKs of a receiver".
+
+use crate::bounded_images::{joined, offer};
+use crate::vectors::HEARTBEAT_AT_256;
+use flow_control::{Feedback, INITIAL_WINDOW, SetupRequests, setup_request, window_of};
+use frame_core::{Geometry, Nak, Publication, Refusal, StatusMessage};
+use image_core::BoundedImage;
+use std::alloc::Global;
+use std::process::Abort;
+use std::test::Fail;
+
+/// A pad of 8,160 bytes, term 42, offset 0.
+const PAD_OF_8160: &[u8] =
+    b"\xe0\x1f\0\0\0\xc0\0\0\0\0\0\0\x07\0\0\0\xe9\x03\0\0\x2a\0\0\0\0\0\0\0\0\0\0\0";
+
+/// A pad of 32 bytes, term 42, offset 8,160.
+const PAD_AT_8160: &[u8] =
+    b"\x20\0\0\0\0\xc0\0\0\xe0\x1f\0\0\x07\0\0\0\xe9\x03\0\0\x2a\0\0\0\0\0\0\0\0\0\0\0";
+
+/// Session 7, stream 1,001, receiver 9: asked for a setup frame.
+const SETUP_REQUEST: [u8; 36] = [
+    0x24, 0x00, 0x00, 0x00, 0x00, 0x80, 0x03, 0x00, 0x07, 0x00, 0x00, 0x00, 0xe9, 0x03, 0x00, 0x00,
+    0x00, 0x00, 0x00, 0x00, 0x00, 0x00, 0x00, 0x00, 0x00, 0x00, 0x00, 0x00, 0x09, 0x00, 0x00, 0x00,
+    0x00, 0x00, 0x00, 0x00,
+];
+
+/// When a gap is asked for in its first second.
+const NAK_TIMES: [u64; 10] = [0, 10, 30, 70, 150, 310, 470, 630, 790, 950];
+
+/// A publication of a session id.
+fn publication(session_id: i32) -> Publication {
+    Publication {
+        session_id,
+        stream_id: 1_001,
+    }
+}
+
+/// An image of which the first 256 bytes are missing.
+fn with_gap(alloc: Global) -> Result<BoundedImage, Refusal> {
+    let mut image = joined(alloc)?;
+    offer(alloc, &mut image, HEARTBEAT_AT_256)?;
+    Ok(image)
+}
+
+/// The gap is asked for at these times, and at no other.
+fn check_times(rt: &impl Abort, image: &BoundedImage) {
+    let mut feedback = Feedback::new(0);
+    for now in 0..1_000 {
+        let asked = feedback.request(now, image).is_some();
+        assert!(rt; asked == NAK_TIMES.contains(&now), "at {now}");
+    }
+}
+
+/// What is asked for, and nothing after ten seconds of silence.
+fn check_nak(rt: &impl Abort, image: &BoundedImage) {
+    let gap = Nak {
+        session_id: 7,
+        stream_id: 1_001,
+        term_id: 42,
+        term_offset: 0,
+        length: 256,
+    };
+    let mut feedback = Feedback::new(0);
+    assert!(rt; feedback.request(9_999, image) == Some(gap));
+    assert!(rt; feedback.request(10_009, image).is_none());
+}
+
+#[test]
+fn a_gap_is_asked_for_again_and_again(rt: HostRuntime) -> Result<(), Fail> {
+    let image = with_gap(rt.alloc())?;
+    check_times(&rt, &image);
+    check_nak(&rt, &image);
+    Ok(())
+}
+
+/// The status message of an image that consumed so many bytes of its first term.
+fn said(consumed: i32) -> StatusMessage {
+    StatusMessage {
+        flags: 0,
+        session_id: 7,
+        stream_id: 1_001,
+        consumption_term_id: 42,
+        consumption_term_offset: consumed,
+        receiver_window: 32_768,
+        receiver_id: 9,
+    }
+}
+
+/// What is due of an image now.
+fn due(feedback: &mut Feedback, now: u64, image: &BoundedImage) -> Option<StatusMessage> {
+    feedback.status(now, image, INITIAL_WINDOW, 9)
+}
+
+/// A pad comes and is given as a block.
+fn consume(alloc: Global, image: &mut BoundedImage, pad: &[u8]) -> Result<(), Refusal> {
+    offer(alloc, image, pad)?;
+    image.take_block()?;
+    Ok(())
+}
+
+/// Messages of an image of which nothing is consumed.
+fn check_pauses(rt: &impl Abort, feedback: &mut Feedback, image: &BoundedImage) {
+    assert!(rt; due(feedback, 0, image) == Some(said(0)));
+    assert!(rt; due(feedback, 199, image).is_none());
+    assert!(rt; due(feedback, 200, image) == Some(said(0)));
+    assert!(rt; due(feedback, 201, image).is_none());
+}
+
+/// A quarter of the window is consumed, but for 32 bytes at first.
+fn check_quarter(
+    rt: &impl Abort,
+    alloc: Global,
+    feedback: &mut Feedback,
+    image: &mut BoundedImage,
+) -> Result<(), Refusal> {
+    consume(alloc, image, PAD_OF_8160)?;
+    assert!(rt; due(feedback, 201, image).is_none());
+    consume(alloc, image, PAD_AT_8160)?;
+    assert!(rt; due(feedback, 201, image) == Some(said(8_192)));
+    Ok(())
+}
+
+/// Nothing comes for ten seconds, and then something.
+fn check_silence(rt: &impl Abort, feedback: &mut Feedback, image: &BoundedImage) {
+    assert!(rt; due(feedback, 9_999, image).is_some());
+    assert!(rt; due(feedback, 20_000, image).is_none());
+    feedback.hear(20_000);
+    assert!(rt; feedback.is_live(20_000) && due(feedback, 20_000, image).is_some());
+}
+
+#[test]
+fn status_messages_follow_the_clock_and_the_stream(rt: HostRuntime) -> Result<(), Fail> {
+    let mut image = joined(rt.alloc())?;
+    let mut feedback = Feedback::new(0);
+    check_pauses(&rt, &mut feedback, &image);
+    check_quarter(&rt, rt.alloc(), &mut feedback, &mut image)?;
+    check_silence(&rt, &mut feedback, &image);
+    Ok(())
+}
+
+/// The window of a publication.
+fn window(most: i32, term_length: i32, mtu: i32) -> Option<i32> {
+    window_of(
+        &Geometry {
+            initial_term_id: 0,
+            term_length,
+            mtu,
+        },
+        most,
+    )
+}
+
+#[test]
+fn windows(rt: HostRuntime) {
+    for (most, term_length, mtu, bytes) in [
+        (131_072, 65_536, 1_408, Some(32_768)),
+        (131_072, 262_144, 1_408, Some(131_072)),
+        (1_048_576, 1_073_741_824, 65_504, Some(1_048_576)),
+        (2_147_483_647, 1_073_741_824, 65_504, Some(1_048_576)),
+        (4_096, 65_536, 4_096, Some(4_096)),
+        (4_096, 65_536, 4_128, None),
+    ] {
+        assert!(rt; window(most, term_length, mtu) == bytes, "at most {most}");
+    }
+}
+
+/// Sessions 0 to 63 are asked.
+fn ask_64(rt: &impl Abort, requests: &mut SetupRequests) {
+    for session_id in 0..64 {
+        assert!(rt; requests.asks(&publication(session_id), 0));
+    }
+}
+
+/// Session 64 waits until the oldest request is 200 milliseconds old.
+fn check_65(rt: &impl Abort, requests: &mut SetupRequests) {
+    for (session_id, now, is_asked) in [
+        (64, 0, false),
+        (0, 199, false),
+        (64, 199, false),
+        (64, 200, true),
+        (63, 200, true),
+        (0, 200, true),
+        (64, 399, false),
+        (64, 400, true),
+    ] {
+        assert!(rt;
+            requests.asks(&publication(session_id), now) == is_asked,
+            "{session_id} at {now}"
+        );
+    }
+}
+
+#[test]
+fn the_65th_publication_waits(rt: HostRuntime) -> Result<(), Fail> {
+    let mut requests = SetupRequests::new(rt.alloc())?;
+    ask_64(&rt, &mut requests);
+    check_65(&rt, &mut requests);
+    Ok(())
+}
+
+#[test]
+fn a_setup_frame_is_asked_for_by_these_bytes(rt: HostRuntime) {
+    assert!(rt; setup_request(&publication(7), 9).encode() == SETUP_REQUEST);
+}
+
+/// Where memory is refused once, requests may be made again: trials/refused_memory.py runs this test for each of its
+/// requests for memory, which it refuses.
+#[test]
+fn refused_memory_makes_no_requests(rt: HostRuntime) {
+    let alloc = rt.alloc();
+    assert!(rt; SetupRequests::new(alloc).is_ok() || SetupRequests::new(alloc).is_ok());
+}
