@@ -13,8 +13,9 @@ use Rattle.clap.proofs.OnLiterals.{clap_on_literals}
 use Rattle.clap.specs.declared.parser.matches.Found.{Found}
 use Rattle.clap.proofs.WalkLemmas.{first_value-rows, one_text-rows}
 use Rattle.command_line.specs.declared.command.ToolCommand.{ToolCommand}
+use Rattle.command_line.specs.declared.serving.ServeWords.{ServeWords}
 use Rattle.command_line.specs.declared.command.ToolCommand.TheVariants.{Create, Run, Serve, Compact, List as AskList, Verify, Describe, Export, Frames}
-use Rattle.command_line.specs.CommandLine.{HasWords, IsAsked, IsCommand, IsExporting, IsFlag, IsHeld, IsMet, IsNumber, IsSigned, IsSignedIf, IsPlain, IsPlainWord, IsServing, IsWordsFault, command_word, tool_app, words_of}
+use Rattle.command_line.specs.CommandLine.{HasWords, IsAsked, IsCommand, IsExporting, IsFlag, IsHeld, IsMet, IsNumber, IsNumberIf, IsSigned, IsSignedIf, IsPlain, IsPlainWord, IsServing, IsWordsFault, command_word, tool_app, words_of}
 
 -- what a getter gave is what the rows hold
 pub text_given : (f : Found) (id : Text) (given got : Option (Bor Text)) → option_map (λ s. s.now) given ≡ first_value f id → given ≡ got → first_of id (rows_of f) ≡ option_map (λ s. s.now) got
@@ -41,6 +42,15 @@ module _ {E : Type 0} (gives : List ℕ → Result ℕ E → Type 0) (reads : (t
   pub number_lacks : (f : Found) (id : Text) (n : ℕ) (got : Option ℕ) → ((t : List ℕ) → one_text f id ≡ Some t → ReadsOne gives t got) → got ≡ None → IsSomeAnd (one_of id (rows_of f)) (IsNumber n) → ⊥
   number_lacks f id n got value is number =
       lacks_number n (one_text f id) (λ t e. subst (ReadsOne gives t) is (value t e)) (subst (λ text. IsSomeAnd text (IsNumber n)) (sym (one_text-rows f id)) number)
+
+  may_be_number : (text : Option Text) (got : Option ℕ) → (text ≡ None → got ≡ None) → ((t : List ℕ) → text ≡ Some t → ReadsOne gives t got) → IsNumberIf text got
+  may_be_number None None none value = tt
+  may_be_number None (Some n) none value = let bad = none refl in cc
+  may_be_number (Some t) None none value = λ n. lacks_number n (Some t) (λ u e. value u e)
+  may_be_number (Some t) (Some n) none value = given_number n (Some t) (Some n) none value refl
+
+  pub number_if : (f : Found) (id : Text) (got : Option ℕ) → (one_text f id ≡ None → got ≡ None) → ((t : List ℕ) → one_text f id ≡ Some t → ReadsOne gives t got) → IsNumberIf (one_of id (rows_of f)) got
+  number_if f id got none value = subst (λ text. IsNumberIf text got) (one_text-rows f id) (may_be_number (one_text f id) got none value)
 
 -- the same of a signed number, and of one that may be left out
 module _ {E : Type 0} (gives : List ℕ → Result ℤ E → Type 0) (reads : (text : List ℕ) (x : Result ℤ E) → gives text x → ParsesSigned w64 10 text x) where
@@ -76,8 +86,7 @@ module _ {E : Type 0} (gives : List ℕ → Result ℤ E → Type 0) (reads : (t
 -- What the rows of a command hold, told by its word: `create`, `serve`, `export`, `run`, `frames`, or another, which has a folder.
 abbrev Holds : Bool → Bool → Bool → Bool → Bool → List Row → Type 0
 Holds true serve export run frames rows = (first_of (codes "folder") rows ≢ None) × (n : ℕ) × IsSomeAnd (one_of (codes "history") rows) (IsNumber n)
-Holds false true export run frames rows =
-    (folder : Text) × (control : ℕ) × (receive : ℕ) × (receive_on : Text) × (idle : ℕ) × (is_quiet : Bool) × IsServing rows folder control receive receive_on idle is_quiet
+Holds false true export run frames rows = (words : ServeWords) × IsServing rows words
 Holds false false true run frames rows =
     (folder : Text) × (recording : ℤ) × (from : Option ℤ) × (to : Option ℤ) × (pcap : Text) × IsExporting rows folder recording from to pcap
 Holds false false false true frames rows = Unit {0}
@@ -93,7 +102,7 @@ is_there id rows text is none = let bad = sym none ∙ is in cc
 holds_by : (rows : List Row) (command : ToolCommand) → HasWords rows command → HoldsBy (command_word command) rows
 holds_by rows (Create folder history) words = (is_there (codes "folder") rows folder.now words.0, history, words.1)
 holds_by rows (Run folder) words = tt
-holds_by rows (Serve folder control receive receive_on idle is_quiet) words = (folder.now, control, receive, receive_on.now, idle, is_quiet, words)
+holds_by rows (Serve words) serving = (words, serving)
 holds_by rows (Compact folder) words = is_there (codes "folder") rows folder.now words
 holds_by rows (AskList folder read_only) words = is_there (codes "folder") rows folder.now words.0
 holds_by rows (Verify folder read_only) words = is_there (codes "folder") rows folder.now words.0
@@ -111,13 +120,7 @@ lacks_words word name rows is none command asked = none (asked_by word name rows
 pub no_history : (name : Text) (rows : List Row) → name ≡ codes "create" → ((n : ℕ) → IsSomeAnd (one_of (codes "history") rows) (IsNumber n) → ⊥) → (command : ToolCommand) → IsAsked name rows command → ⊥
 no_history name rows is none = lacks_words (codes "create") name rows is (λ holds. none holds.1 holds.2)
 
--- where the words of `serve` lack one, the rows hold no command of its name
-pub no_serve : (rows : List Row)
-    → ((folder : Text) (control receive : ℕ) (receive_on : Text) (idle : ℕ) (is_quiet : Bool) → IsServing rows folder control receive receive_on idle is_quiet → ⊥)
-    → (command : ToolCommand) → IsAsked (codes "serve") rows command → ⊥
-no_serve rows none = lacks_words (codes "serve") (codes "serve") rows refl (λ (folder, control, receive, receive_on, idle, is_quiet, words). none folder control receive receive_on idle is_quiet words)
-
--- where those of `export` do
+-- if the words of `export` lack one, the rows hold no command of its name
 pub no_export : (rows : List Row)
     → ((folder : Text) (recording : ℤ) (from to : Option ℤ) (pcap : Text) → IsExporting rows folder recording from to pcap → ⊥)
     → (command : ToolCommand) → IsAsked (codes "export") rows command → ⊥
@@ -248,7 +251,7 @@ held_alone program (Create folder history) plain = subst (λ n. IsHeld (program 
     (record { taken = create_taken program folder.now plain.0; met = create_met program folder.now folder plain.0 refl })
 held_alone program (Run None) plain = record { taken = run_alone_taken program; met = run_alone_met program }
 held_alone program (Run (Some folder)) plain = record { taken = run_taken program folder.now plain; met = run_met program folder.now folder plain refl }
-held_alone program (Serve folder control receive receive_on idle is_quiet) plain = absurd plain
+held_alone program (Serve words) plain = absurd plain
 held_alone program (Compact folder) plain = record { taken = compact_taken program folder.now plain; met = compact_met program folder.now folder plain refl }
 held_alone program (AskList folder read_only) plain = subst (λ set. IsHeld (program ∷ codes "list" ∷ folder.now ∷ []) (AskList folder set)) (sym plain.1)
     (record { taken = list_taken program folder.now plain.0; met = list_met program folder.now folder plain.0 refl })

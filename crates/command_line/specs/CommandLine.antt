@@ -11,6 +11,7 @@ use Rattle.clap.specs.declared.builder.value_parser.ValueParser.TheVariants as p
 use Rattle.clap.specs.declared.error.ErrorKind.{ErrorKind}
 use Rattle.clap.specs.declared.error.ErrorKind.TheVariants as kinds
 use Rattle.command_line.specs.declared.command.ToolCommand.{ToolCommand}
+use Rattle.command_line.specs.declared.serving.ServeWords.{ServeWords}
 use Rattle.command_line.specs.declared.command.ToolCommand.TheVariants.{Create, Run, Serve, Compact, List as AskList, Verify, Describe, Export, Frames}
 
 -- a word that has to be given
@@ -25,10 +26,6 @@ history_option = record (new_rule (codes "history")) {
   defaults = codes "1048576" ∷ [];
   parser = Some (parser.Signed (pos 0) (pos 4294967295));
 }
-
--- `--quiet`
-abbrev pub quiet_flag : Rule
-quiet_flag = record (new_rule (codes "quiet")) { long = Some (codes "quiet"); action = Some SetTrue }
 
 -- a flag, which is a word of its own
 abbrev pub flag_option : Text → Rule
@@ -60,6 +57,23 @@ idle_option = record (new_rule (codes "idle")) {
   parser = Some (parser.Signed (pos 0) (pos 4294967295));
 }
 
+-- `--settle-every`, from 0 to 1000, which is 5 if it is not given
+abbrev pub settle_option : Rule
+settle_option = record (new_rule (codes "settle-every")) {
+  long = Some (codes "settle-every");
+  value_names = 1;
+  defaults = codes "5" ∷ [];
+  parser = Some (parser.Signed (pos 0) (pos 1000));
+}
+
+-- `--window`, from 4096 to 1048576, which may be given
+abbrev pub window_option : Rule
+window_option = record (new_rule (codes "window")) {
+  long = Some (codes "window");
+  value_names = 1;
+  parser = Some (parser.Signed (pos 4096) (pos 1048576));
+}
+
 -- a command of one word, which has to be given
 abbrev pub word_app : Text → Text → App
 word_app name id = with_rule (new_app name) (required_word id)
@@ -75,7 +89,9 @@ abbrev pub run_app : App
 run_app = with_rule (new_app (codes "run")) (new_rule (codes "folder"))
 
 abbrev pub serve_app : App
-serve_app = with_rule (with_rule (with_rule (with_rule (with_rule (word_app (codes "serve") (codes "folder")) (port_option (codes "control"))) (port_option (codes "receive"))) address_option) idle_option) quiet_flag
+serve_app = with_rule (with_rule (with_rule (with_rule (with_rule (with_rule (with_rule (with_rule (word_app (codes "serve") (codes "folder"))
+    (port_option (codes "control"))) (port_option (codes "receive"))) address_option) idle_option) settle_option)
+    (flag_option (codes "aeron"))) window_option) (flag_option (codes "quiet"))
 
 -- a number of an i64 from 0 on, which has to be given
 abbrev pub number_word : Text → Rule
@@ -116,7 +132,7 @@ pub record IsCommand (app : App) (command : Command) : Type 0 where
 abbrev pub command_word : ToolCommand → Text
 command_word (Create folder history) = codes "create"
 command_word (Run folder) = codes "run"
-command_word (Serve folder control receive receive_on idle is_quiet) = codes "serve"
+command_word (Serve words) = codes "serve"
 command_word (Compact folder) = codes "compact"
 command_word (AskList folder read_only) = codes "list"
 command_word (Verify folder read_only) = codes "verify"
@@ -134,14 +150,24 @@ pub record IsFlag (text : Option Text) (flag : Bool) : Type 0 where
   pub set : text ≡ Some (codes "true") → flag ≡ true
   pub unset : text ≡ Some (codes "false") → flag ≡ false
 
+-- the number of a text that may be there; a text that is no number has none
+abbrev pub IsNumberIf : Option Text → Option ℕ → Type 0
+IsNumberIf None None = Unit {0}
+IsNumberIf None (Some n) = ⊥
+IsNumberIf (Some text) None = (n : ℕ) → IsNumber n text → ⊥
+IsNumberIf (Some text) (Some n) = IsNumber n text
+
 -- the words of `serve`
-pub record IsServing (rows : List Row) (folder : Text) (control receive : ℕ) (receive_on : Text) (idle : ℕ) (is_quiet : Bool) : Type 0 where
-  pub folder_is : first_of (codes "folder") rows ≡ Some folder
-  pub control_is : IsSomeAnd (one_of (codes "control") rows) (IsNumber control)
-  pub receive_is : IsSomeAnd (one_of (codes "receive") rows) (IsNumber receive)
-  pub address_is : first_of (codes "receive-on") rows ≡ Some receive_on
-  pub idle_is : IsSomeAnd (one_of (codes "idle") rows) (IsNumber idle)
-  pub quiet_is : IsFlag (one_of (codes "quiet") rows) is_quiet
+pub record IsServing (rows : List Row) (words : ServeWords) : Type 0 where
+  pub folder_is : first_of (codes "folder") rows ≡ Some words.folder.now
+  pub control_is : IsSomeAnd (one_of (codes "control") rows) (IsNumber words.control)
+  pub receive_is : IsSomeAnd (one_of (codes "receive") rows) (IsNumber words.receive)
+  pub address_is : first_of (codes "receive-on") rows ≡ Some words.receive_on.now
+  pub idle_is : IsSomeAnd (one_of (codes "idle") rows) (IsNumber words.idle)
+  pub settle_is : IsSomeAnd (one_of (codes "settle-every") rows) (IsNumber words.settle_every)
+  pub aeron_is : IsFlag (one_of (codes "aeron") rows) words.is_aeron
+  pub window_is : IsNumberIf (one_of (codes "window") rows) words.window
+  pub quiet_is : IsFlag (one_of (codes "quiet") rows) words.is_quiet
 
 -- the text is an i64 in decimal, and this number
 abbrev pub IsSigned : ℤ → Text → Type 0
@@ -166,7 +192,7 @@ pub record IsExporting (rows : List Row) (folder : Text) (recording : ℤ) (from
 abbrev pub HasWords : List Row → ToolCommand → Type 0
 HasWords rows (Create folder history) = (first_of (codes "folder") rows ≡ Some folder.now) × IsSomeAnd (one_of (codes "history") rows) (IsNumber history)
 HasWords rows (Run folder) = first_of (codes "folder") rows ≡ option_map (λ f. f.now) folder
-HasWords rows (Serve folder control receive receive_on idle is_quiet) = IsServing rows folder.now control receive receive_on.now idle is_quiet
+HasWords rows (Serve words) = IsServing rows words
 HasWords rows (Compact folder) = first_of (codes "folder") rows ≡ Some folder.now
 HasWords rows (AskList folder read_only) = (first_of (codes "folder") rows ≡ Some folder.now) × IsFlag (one_of (codes "read-only") rows) read_only
 HasWords rows (Verify folder read_only) = (first_of (codes "folder") rows ≡ Some folder.now) × IsFlag (one_of (codes "read-only") rows) read_only
@@ -199,7 +225,7 @@ abbrev pub IsPlain : ToolCommand → Type 0
 IsPlain (Create folder history) = IsPlainWord folder.now × (history ≡ 1048576)
 IsPlain (Run None) = Unit {0}
 IsPlain (Run (Some folder)) = IsPlainWord folder.now
-IsPlain (Serve folder control receive receive_on idle is_quiet) = ⊥
+IsPlain (Serve words) = ⊥
 IsPlain (Compact folder) = IsPlainWord folder.now
 IsPlain (AskList folder read_only) = IsPlainWord folder.now × (read_only ≡ false)
 IsPlain (Verify folder read_only) = IsPlainWord folder.now × (read_only ≡ false)
@@ -212,7 +238,7 @@ abbrev pub words_of : ToolCommand → List Text
 words_of (Create folder history) = codes "create" ∷ folder.now ∷ []
 words_of (Run None) = codes "run" ∷ []
 words_of (Run (Some folder)) = codes "run" ∷ folder.now ∷ []
-words_of (Serve folder control receive receive_on idle is_quiet) = codes "serve" ∷ folder.now ∷ []
+words_of (Serve words) = codes "serve" ∷ words.folder.now ∷ []
 words_of (Compact folder) = codes "compact" ∷ folder.now ∷ []
 words_of (AskList folder read_only) = codes "list" ∷ folder.now ∷ []
 words_of (Verify folder read_only) = codes "verify" ∷ folder.now ∷ []

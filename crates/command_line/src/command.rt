@@ -2,8 +2,9 @@
 
 ghost use Rattle.std.specs.Prelude.{◌≡◌, ◌∷◌, [], ℕ, List, Ok, IfOk, IfErr, MatchOption, codes, false, map, string_bytes};
 ghost use Rattle.clap.specs.Words.{AddsSubcommand, app_of, fault_of, found_of, kind_of, rows_of, rule_of, subcommand_rows_of};
-ghost use Rattle.command_line.specs.CommandLine.{IsAsked, IsCommand, IsHeld, IsMet, IsPlain, IsWordsFault, address_option, create_app, export_app, file_option, flag_app, flag_option, history_option, idle_option, named_tool, number_word, port_option, position_option, quiet_flag, required_word, run_app, serve_app, tool_app, word_app, words_of};
+ghost use Rattle.command_line.specs.CommandLine.{IsAsked, IsCommand, IsHeld, IsMet, IsPlain, IsWordsFault, create_app, export_app, file_option, flag_app, flag_option, history_option, named_tool, number_word, position_option, required_word, run_app, tool_app, word_app, words_of};
 
+use crate::serving::{ServeWords, serve, served};
 use crate::version::VERSION;
 use clap::builder::ValueParser;
 use clap::error::ErrorKind;
@@ -23,19 +24,7 @@ pub enum ToolCommand<'a> {
         folder: Option<&'a str>,
     },
     /// Answer control lines of connections, over the archive of a folder, and record what datagrams bring.
-    Serve {
-        folder: &'a str,
-        /// The port that control lines come to, of 127.0.0.1.
-        control: u32,
-        /// The port that datagrams come to.
-        receive: u32,
-        /// The address that datagrams come to.
-        receive_on: &'a str,
-        /// Seconds for which a client may be idle while another waits.
-        idle: u32,
-        /// Whether faults alone are told.
-        is_quiet: bool,
-    },
+    Serve(ServeWords<'a>),
     /// Write the catalogue of the archive of a folder anew, so that its history has room again.
     Compact {
         folder: &'a str,
@@ -98,17 +87,6 @@ const RUN_EXAMPLE: &str = "Example: archive_tool run /var/lib/recorder
 
 Statuses: 0 done, refused lines too, 1 refused, 2 a wrong command line, 3 a device fault or damage, or standard input \
 or output failed.";
-
-const SERVE_HELP: &str =
-    "Records the datagrams of Aeron publications that come by UDP into the archive of a folder, and asks their senders by NAK \
-frames for what is missing. Control lines come by TCP, one connection after another, and are answered as those of `run`; the \
-line `quit` ends it. What happens is told on standard error. Control lines have no authentication, so they come to \
-127.0.0.1 alone. The folder has to be on a local file system, and one process may have it open at a time.";
-
-const SERVE_EXAMPLE: &str =
-    "Example: archive_tool serve /var/lib/recorder --control 8010 --receive 40123
-
-Statuses: 0 done, refused lines too, 1 refused, 2 a wrong command line, 3 a device fault or damage, or a port failed.";
 
 const COMPACT_HELP: &str =
     "Makes room in the history of the archive in a folder, and prints `compacted`: the recordings and the next id are \
@@ -175,22 +153,16 @@ Statuses: 0 done, 1 refused, 2 a wrong command line, 3 a device fault or damage,
 const READ_ONLY_HELP: &str =
     "Only reads the folder, also while another process has it open: nothing is locked, written, synced or stopped";
 
-const CONTROL_HELP: &str = "The TCP port of 127.0.0.1 that control lines come to";
-
-const RECEIVE_HELP: &str = "The UDP port that datagrams come to";
-
-const QUIET_HELP: &str = "Tells faults alone on standard error";
-
 const JSON_HELP: &str = "Prints it as one JSON text";
 
 const FROM_HELP: &str = "Where the first frame begins, and not at the recording's start";
 
 const TO_HELP: &str = "Where the last frame ends, and not at the recorded position";
 
-const FOLDER_HELP: &str = "The archive's folder, on a local file system";
+pub(crate) const FOLDER_HELP: &str = "The archive's folder, on a local file system";
 
 /// The word `name` of a command, which has to be given.
-fn required<'a>(alloc: Global, name: &'a str, help: &'a str) -> Arg<'a>
+pub(crate) fn required<'a>(alloc: Global, name: &'a str, help: &'a str) -> Arg<'a>
     ensures rule { rule_of result ≡ required_word name.entry.now }
     ensures local { result.global ≡ false }
 {
@@ -211,7 +183,7 @@ fn history<'a>(alloc: Global) -> Arg<'a>
 }
 
 /// A flag, which is a word of its own.
-fn flag<'a>(alloc: Global, name: &'a str, help: &'a str) -> Arg<'a>
+pub(crate) fn flag<'a>(alloc: Global, name: &'a str, help: &'a str) -> Arg<'a>
     ensures rule { rule_of result ≡ flag_option name.entry.now }
     ensures local { result.global ≡ false }
 {
@@ -240,78 +212,6 @@ fn run<'a>(alloc: Global) -> Result<Command<'a>, AllocError>
         .long_about(RUN_HELP)
         .after_help(RUN_EXAMPLE)
         .arg(Arg::new(alloc, "folder").help(FOLDER_HELP))
-}
-
-/// A port of `serve`, which has to be given.
-fn port<'a>(alloc: Global, name: &'a str, help: &'a str) -> Arg<'a>
-    ensures rule { rule_of result ≡ port_option name.entry.now }
-    ensures local { result.global ≡ false }
-{
-    Arg::new(alloc, name)
-        .long(name)
-        .value_name("port")
-        .value_parser(ValueParser::signed(1, 65_535))
-        .required(true)
-        .help(help)
-}
-
-/// The option `--receive-on`, an address.
-fn receive_on<'a>(alloc: Global) -> Arg<'a>
-    ensures rule { rule_of result ≡ address_option }
-    ensures local { result.global ≡ false }
-{
-    Arg::new(alloc, "receive-on")
-        .long("receive-on")
-        .value_name("address")
-        .default_value("127.0.0.1")
-        .help("The IPv4 address that datagrams come to, for senders on other hosts")
-}
-
-/// The option `--idle`, in seconds.
-fn idle<'a>(alloc: Global) -> Arg<'a>
-    ensures rule { rule_of result ≡ idle_option }
-    ensures local { result.global ≡ false }
-{
-    Arg::new(alloc, "idle")
-        .long("idle")
-        .value_name("seconds")
-        .value_parser(value_parser!(u32))
-        .default_value("60")
-        .help("For how long a client may be idle while another one waits")
-}
-
-/// The flag `--quiet`.
-fn quiet<'a>(alloc: Global) -> Arg<'a>
-    ensures rule { rule_of result ≡ quiet_flag }
-    ensures local { result.global ≡ false }
-{
-    Arg::new(alloc, "quiet")
-        .long("quiet")
-        .action(ArgAction::SetTrue)
-        .help(QUIET_HELP)
-}
-
-/// The command `serve` with its folder.
-fn serve_folder<'a>(alloc: Global) -> Result<Command<'a>, AllocError>
-    ensures { IfOk result (IsCommand (word_app (codes "serve") (codes "folder"))) }
-{
-    Command::new(alloc, "serve")
-        .about("Records datagrams and answers control lines, until a line quits")
-        .long_about(SERVE_HELP)
-        .after_help(SERVE_EXAMPLE)
-        .arg(required(alloc, "folder", FOLDER_HELP))
-}
-
-fn serve<'a>(alloc: Global) -> Result<Command<'a>, AllocError>
-    ensures { IfOk result (IsCommand serve_app) }
-{
-    let command = serve_folder(alloc)?;
-    command
-        .arg(port(alloc, "control", CONTROL_HELP))?
-        .arg(port(alloc, "receive", RECEIVE_HELP))?
-        .arg(receive_on(alloc))?
-        .arg(idle(alloc))?
-        .arg(quiet(alloc))
 }
 
 fn compact<'a>(alloc: Global) -> Result<Command<'a>, AllocError>
@@ -461,27 +361,6 @@ fn tool<'a>(alloc: Global) -> Result<Command<'a>, AllocError>
     with(tool, export(alloc))
 }
 
-/// The command `serve` that its matches hold.
-fn served<'a>(own: &ArgMatches<'a>) -> Option<ToolCommand<'a>>
-    ensures { MatchOption result
-        ((command : ToolCommand) → IsAsked (codes "serve") (rows_of (found_of own.now)) command → ⊥)
-        (IsAsked (codes "serve") (rows_of (found_of own.now))) }
-{
-    let folder = own.get_str("folder")?;
-    let control = own.get_one::<u32>("control")?;
-    let receive = own.get_one::<u32>("receive")?;
-    let receive_on = own.get_str("receive-on")?;
-    let idle = own.get_one::<u32>("idle")?;
-    Some(ToolCommand::Serve {
-        folder,
-        control,
-        receive,
-        receive_on,
-        idle,
-        is_quiet: own.get_flag("quiet"),
-    })
-}
-
 /// The command `export` that its matches hold.
 fn exported<'a>(own: &ArgMatches<'a>) -> Option<ToolCommand<'a>>
     ensures { MatchOption result
@@ -516,7 +395,7 @@ fn asked<'a>(name: &str, own: &ArgMatches<'a>) -> Option<ToolCommand<'a>>
         "run" => Some(ToolCommand::Run {
             folder: own.get_str("folder"),
         }),
-        "serve" => served(own),
+        "serve" => Some(ToolCommand::Serve(served(own)?)),
         "export" => exported(own),
         "compact" => Some(ToolCommand::Compact {
             folder: own.get_str("folder")?,

@@ -2,6 +2,8 @@
 #![tactic(auto)]
 
 mod command;
+mod serving;
 mod version;
 
 pub use command::{ToolCommand, command_of, unreadable_words};
+pub use serving::ServeWords;

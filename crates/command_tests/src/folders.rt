@@ -3,7 +3,7 @@
 
 use command_line::ToolCommand;
 use disk_core::{Disk, FileId};
-use folder_commands::obeyed;
+use folder_commands::{Ended, obeyed};
 use host_disk::HostDisk;
 use std::io::{self, Eprint, Read, Write};
 use std::net::{Net, TcpListener, TcpStream};
@@ -18,8 +18,8 @@ use tool_core::{Unobserved, run_script};
 const SCRIPT: &str = "start 1001 7 42 65536 1408 131072 0 1000 c\n\
     block 0 2500000000c001000000000007000000e90300002a000000000000000000000068656c6c6f\n";
 
-/// Standard input where no command reads it.
-const NO_LINES: &[u8] = &[];
+/// Standard input, which no command reads.
+pub(crate) const NO_LINES: &[u8] = &[];
 
 const SEGMENT: FileId = FileId::Segment {
     recording: 0,
@@ -39,13 +39,22 @@ fn within(rt: HostRuntime, folder: &str, name: &str) -> Result<String, Fail> {
     Ok(format!(in rt.alloc(); "{folder}/{name}")?)
 }
 
-/// The status with which a command ends that reads and writes there.
+/// How a command ends that reads and writes there.
+pub(crate) fn ended<
+    R: Threads + Wait + Clock + Eprint + Net<Listener = TcpListener, Stream = TcpStream> + Sync,
+    I: Read + Drop,
+    W: Write,
+>(net: &R, rt: HostRuntime, command: ToolCommand<'_>, input: I, writer: &mut W) -> Ended {
+    obeyed(net, rt, &command, input, writer)
+}
+
+/// The status with which it ends.
 fn status_of<
     R: Threads + Wait + Clock + Eprint + Net<Listener = TcpListener, Stream = TcpStream> + Sync,
     I: Read + Drop,
     W: Write,
 >(net: &R, rt: HostRuntime, command: ToolCommand<'_>, input: I, writer: &mut W) -> u8 {
-    obeyed(net, rt, &command, input, writer).ending.status()
+    ended(net, rt, command, input, writer).ending.status()
 }
 
 /// What a command writes has to be this, and its status that.

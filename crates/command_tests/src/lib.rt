@@ -5,4 +5,6 @@
 #[cfg(test)]
 mod folders;
 #[cfg(test)]
+mod serving;
+#[cfg(test)]
 mod words;

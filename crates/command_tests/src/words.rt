@@ -23,7 +23,7 @@ fn words(alloc: Global, line: &str) -> Result<Vec<String>, Fail> {
 }
 
 /// Whether the words between blanks ask for the command.
-fn asks_for(alloc: Global, line: &str, command: ToolCommand<'_>) -> Result<bool, Fail> {
+pub(crate) fn asks_for(alloc: Global, line: &str, command: ToolCommand<'_>) -> Result<bool, Fail> {
     let words = words(alloc, line)?;
     Ok(match command_of(alloc, words.as_slice()) {
         Ok(asked) => asked == command,
@@ -39,15 +39,15 @@ fn refused(alloc: Global, line: &str) -> Result<Option<Error>, Fail> {
 
 // Counts what is told on standard error, and whether it was the text that is awaited.
 #[derive(Drop)]
-struct Streams<'a> {
+pub(crate) struct Streams<'a> {
     alloc: Global,
     awaited: &'a str,
     errors: Cell<u32>,
-    awaited_came: Cell<bool>,
+    pub(crate) awaited_came: Cell<bool>,
 }
 
 impl Streams<'_> {
-    fn new(alloc: Global, awaited: &str) -> Streams<'_> {
+    pub(crate) fn new(alloc: Global, awaited: &str) -> Streams<'_> {
         Streams {
             alloc,
             awaited,
@@ -110,7 +110,7 @@ fn check_told(
 }
 
 /// The line asks for no command: the error is of that kind and begins so, and the program ends with that status.
-fn check_refused(
+pub(crate) fn check_refused(
     rt: &impl Abort,
     alloc: Global,
     line: &str,
@@ -245,30 +245,6 @@ fn a_missing_folder_or_file(rt: HostRuntime) -> Result<(), Fail> {
 }
 
 #[test]
-fn ports_of_a_server(rt: HostRuntime) -> Result<(), Fail> {
-    for (line, kind, text) in [
-        (
-            "archive_tool serve a --control 1",
-            ErrorKind::MissingRequiredArgument,
-            "error: the following required arguments were not provided:\n  --receive <port>\n",
-        ),
-        (
-            "archive_tool serve a --control 0 --receive 1",
-            ErrorKind::ValueValidation,
-            "error: invalid value '0' for '--control <port>': ",
-        ),
-        (
-            "archive_tool serve a --control 1 --receive 65536",
-            ErrorKind::ValueValidation,
-            "error: invalid value '65536' for '--receive <port>': ",
-        ),
-    ] {
-        check_refused(&rt, rt.alloc(), line, kind, text, 2)?;
-    }
-    Ok(())
-}
-
-#[test]
 fn a_history_that_is_no_number(rt: HostRuntime) -> Result<(), Fail> {
     for (line, kind, text) in [
         (
@@ -376,28 +352,6 @@ fn each_command_has_its_words(rt: HostRuntime) -> Result<(), Fail> {
         (
             "archive_tool frames a/0-0.rec",
             ToolCommand::Frames { file: "a/0-0.rec" },
-        ),
-        (
-            "archive_tool serve a --control 1 --receive 65535",
-            ToolCommand::Serve {
-                folder: "a",
-                control: 1,
-                receive: 65_535,
-                receive_on: "127.0.0.1",
-                idle: 60,
-                is_quiet: false,
-            },
-        ),
-        (
-            "archive_tool serve a --control 1 --receive 2 --receive-on 10.0.0.1 --idle 1 --quiet",
-            ToolCommand::Serve {
-                folder: "a",
-                control: 1,
-                receive: 2,
-                receive_on: "10.0.0.1",
-                idle: 1,
-                is_quiet: true,
-            },
         ),
         (
             "archive_tool list -- -a",

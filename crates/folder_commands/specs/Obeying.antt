@@ -16,8 +16,7 @@ module _ (given : Given) (input contents written : Option (List ℕ)) where
   Obeys (Create folder history) ending = MakesArchive given history contents written ending
   Obeys (Run None) ending = RunsInMemory input contents written ending
   Obeys (Run (Some folder)) ending = RunsFolder given input contents written ending
-  Obeys (Serve folder control receive receive_on idle is_quiet) ending =
-      ServesFolder given control receive receive_on.now ending × (written ≡ contents)
+  Obeys (Serve words) ending = ServesFolder given words ending × (written ≡ contents)
   Obeys (Compact folder) ending = CompactsFolder given contents written ending
   Obeys (AskList folder false) ending = ListsFolder given contents written ending
   Obeys (AskList folder true) ending = ListsAsItStands given contents written ending

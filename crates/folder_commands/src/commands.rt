@@ -11,7 +11,7 @@ ghost use Rattle.folder_commands.specs.Status.{ending_of};
 
 use crate::outcome::Ended;
 use crate::reason::Reason;
-use crate::serving::{bound, serve};
+use crate::serving::serve;
 use crate::status::Ending;
 use crate::teller::{FaultTeller, OpeningTeller, ScriptTeller, VerifyTeller};
 use crate::{capture, looking};
@@ -65,24 +65,7 @@ fn obey<
     ensures { Obeys given (I.remaining input) (W.contents writer.old) (W.contents writer.new) command.now (ending_in result) }
 {
     match command {
-        ToolCommand::Serve {
-            folder,
-            control,
-            receive,
-            receive_on,
-            idle,
-            is_quiet,
-        } => {
-            let ports = bound(net, *control, receive_on, *receive)?;
-            serve(
-                net,
-                rt,
-                ports,
-                disk_of(rt, Path::new(folder))?,
-                *idle,
-                *is_quiet,
-            )
-        }
+        ToolCommand::Serve(words) => serve(net, rt, words),
         ToolCommand::Create { folder, history } => create(rt, Path::new(folder), *history, writer),
         ToolCommand::Compact { folder } => compact(rt, Path::new(folder), writer),
         ToolCommand::Run { folder: None } => run_in_memory(rt, input, writer),
@@ -350,7 +333,7 @@ fn frames_of<F: Read + Drop, W: Write>(
 }
 
 /// The disk of a folder, which no other process has. It begins with the files that the folder holds.
-fn disk_of(rt: HostRuntime, folder: Path<'_>) -> Result<HostDisk, Ended>
+pub(crate) fn disk_of(rt: HostRuntime, folder: Path<'_>) -> Result<HostDisk, Ended>
     ghost given: { Given }
     ensures begun { IfOk result (λ disk. host_life disk ≡ life_from given) }
     ensures unopened { IfErr result (λ ended. IsUnopenedFolder ended.ending) }

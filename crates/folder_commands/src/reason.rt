@@ -36,6 +36,10 @@ pub enum Reason {
     Port(u16, io::Error),
     /// The word of `--receive-on` is no address.
     Address,
+    /// The word of `--window` is not a multiple of 32 in its range.
+    Window,
+    /// `--window` comes without `--aeron`.
+    NeedsAeron,
     /// The listener of control lines or the socket of datagrams failed.
     Ends,
     /// Standard input could not be read on.
@@ -85,6 +89,8 @@ impl fmt::Display for Reason {
                 write!(f, "the port {port} cannot be bound: {}", SystemText(*error))
             }
             Reason::Address => write!(f, "--receive-on wants an IPv4 address"),
+            Reason::Window => write!(f, "--window wants a multiple of 32"),
+            Reason::NeedsAeron => write!(f, "--window needs --aeron"),
             Reason::Ends => write!(f, "a port failed"),
             Reason::Input => write!(f, "standard input cannot be read on"),
             Reason::Output(Some(error)) if !is_closed(error) => {

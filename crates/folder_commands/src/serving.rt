@@ -1,49 +1,126 @@
-//! The command `serve`: its ports, and the archive of a folder behind them. docs/SERVING.md.
+//! The command `serve`: its words, its ports, and the archive of its folder. docs/SERVING.md, "How to run it".
 
-ghost use Rattle.std.specs.Prelude.{◌≡◌, ◌<◌, IfErr, IfOk};
+ghost use Rattle.std.specs.Prelude.{◌≡◌, ◌≤◌, ◌<◌, ◌↔◌, IfErr, IfOk, IsTrue, MatchResult};
 ghost use Rattle.std.specs.IoError.{error_kind};
 ghost use Rattle.clap.specs.declared.error.ErrorKind.TheVariants.{ValueValidation};
+ghost use Rattle.host_disk.specs.Events.{Given};
 ghost use Rattle.host_disk.specs.HostDisk.{host_life};
 ghost use Rattle.folder_commands.specs.declared.status.Ending.TheVariants.{NoCommand, Failed};
 ghost use Rattle.folder_commands.specs.Folders.{ending_in};
-ghost use Rattle.folder_commands.specs.Serving.{IsUnbound, ServesOver};
+ghost use Rattle.folder_commands.specs.Serving.{AreOptions, HasNoEnds, HasBadWindow, HasWindow, IsUnbound, IsReceiverWindow, ServesFolder, ServesOver, window_reason};
 
+use crate::commands::disk_of;
 use crate::outcome::Ended;
 use crate::reason::Reason;
 use crate::status::Ending;
 use clap::error::ErrorKind;
+use command_line::ServeWords;
+use flow_control::{INITIAL_WINDOW, LONGEST_WINDOW, SHORTEST_WINDOW};
+use frame_core::limits::FRAME_ALIGNMENT;
 use host_disk::HostDisk;
 use serve_core::{LineTeller, ServeOptions, serve_with};
 use std::io::{self, Eprint};
 use std::net::{Ipv4Addr, Net, TcpListener, TcpStream, UdpSocket};
+use std::path::Path;
+use std::random::RandomSource;
 use std::rt::Clock;
 use std::sync::Wait;
 use std::thread::Threads;
 
 /// The listener of control lines, and the socket of datagrams.
 #[derive(Drop)]
-pub(crate) struct Ports {
+struct Ports {
     listener: TcpListener,
     socket: UdpSocket,
 }
 
-/// Binds the ports: control lines to 127.0.0.1 alone, datagrams to an address. Refused where the words name no address or no
-/// port, and where the system refuses one.
-pub(crate) fn bound<R: Net<Listener = TcpListener, Stream = TcpStream>>(
-    net: &R,
-    control: u32,
-    receive_on: &str,
-    receive: u32,
-) -> Result<Ports, Ended>
-    ensures { IfErr result (λ ended. IsUnbound control receive receive_on.now ended.ending) }
+/// Serves the archive of a folder as the words ask for, until a line quits, and reports on standard error what happens. If the
+/// words name no address, no port or a bad receiver window, no port is bound and the folder is not opened.
+pub(crate) fn serve<
+    R: Threads + Wait + Clock + Eprint + Net<Listener = TcpListener, Stream = TcpStream> + Sync,
+>(net: &R, rt: HostRuntime, words: &ServeWords<'_>) -> Result<(), Ended>
+    ghost given: { Given }
+    ensures { ServesFolder given words.now (ending_in result) }
 {
-    let Ok(address) = receive_on.parse::<Ipv4Addr>() else {
-        return Err(Ended {
-            ending: Ending::NoCommand(ErrorKind::ValueValidation),
-            reason: Reason::Address,
-        });
+    let options = options_of(words, receiver_id(&rt))?;
+    let ports = bound(net, words)?;
+    let disk = disk_of(rt, Path::new(words.folder))?;
+    serve_disk(net, rt, ports, disk, &options, words.is_quiet)
+}
+
+/// A random number for a receiver, so that no other one is likely to have it. 0 if the system gives none.
+fn receiver_id(source: &impl RandomSource) -> i64 {
+    let mut bytes = [0; 8];
+    match source.fill_bytes(&mut bytes) {
+        Ok(()) => i64::from_le_bytes(bytes),
+        Err(_) => 0,
+    }
+}
+
+/// The options of a server with this receiver's number that the words ask for. Refused if they name a bad receiver window.
+fn options_of(words: &ServeWords<'_>, receiver_id: i64) -> Result<ServeOptions, Ended>
+    ensures { MatchResult result
+        (AreOptions words.now receiver_id)
+        (λ ended. HasBadWindow words.now × (ended.ending ≡ NoCommand ValueValidation)) }
+{
+    Ok(ServeOptions {
+        idle_seconds: u64::from(words.idle),
+        settle_every: u64::from(words.settle_every),
+        window: window_of(words)?,
+        receiver_id,
+    })
+}
+
+/// The greatest receiver window that the words ask for, in bytes; None without `--aeron`. Refused if `--window` comes without
+/// `--aeron`, or is not a multiple of 32 in its range.
+fn window_of(words: &ServeWords<'_>) -> Result<Option<i32>, Ended>
+    ensures window { MatchResult result (HasWindow words.now) (λ ended.
+        HasBadWindow words.now × (ended.ending ≡ NoCommand ValueValidation)) }
+    ensures reason { IfErr result (λ ended. ended.reason ≡ window_reason words.now.is_aeron) }
+{
+    match words.window {
+        None if words.is_aeron => Ok(Some(INITIAL_WINDOW)),
+        None => Ok(None),
+        Some(_) if !words.is_aeron => Err(misworded(Reason::NeedsAeron)),
+        Some(bytes) if is_receiver_window(bytes) => Ok(Some(bytes as i32)),
+        Some(_) => Err(misworded(Reason::Window)),
+    }
+}
+
+/// Whether a server can have this receiver window, in bytes.
+fn is_receiver_window(bytes: u32) -> bool
+    ensures { IsTrue result ↔ IsReceiverWindow bytes }
+{
+    SHORTEST_WINDOW as u32 <= bytes
+        && bytes <= LONGEST_WINDOW as u32
+        && bytes % FRAME_ALIGNMENT as u32 == 0
+}
+
+/// The words are wrong, for this reason.
+fn misworded(reason: Reason) -> Ended
+    ensures ending { result.ending ≡ NoCommand ValueValidation }
+    ensures reason { result.reason ≡ reason }
+{
+    Ended {
+        ending: Ending::NoCommand(ErrorKind::ValueValidation),
+        reason,
+    }
+}
+
+/// Binds the ports: control lines to 127.0.0.1 alone, datagrams to an address. Refused if the words name no address or no
+/// port, and if the system refuses one.
+fn bound<R: Net<Listener = TcpListener, Stream = TcpStream>>(
+    net: &R,
+    words: &ServeWords<'_>,
+) -> Result<Ports, Ended>
+    ensures { MatchResult result
+        (λ _. HasNoEnds words.now → ⊥)
+        (λ ended. IsUnbound words.now ended.ending) }
+{
+    let Ok(address) = words.receive_on.parse::<Ipv4Addr>() else {
+        return Err(misworded(Reason::Address));
     };
-    let (control, receive) = (port_of(control)?, port_of(receive)?);
+    let (control, receive) = (port_of(words.control)?, port_of(words.receive)?);
     let listener = match TcpListener::bind(net, (Ipv4Addr::LOCALHOST, control)) {
         Ok(listener) => listener,
         Err(error) => return Err(unbound(control, error)),
@@ -75,23 +152,20 @@ fn unbound(port: u16, error: io::Error) -> Ended
     }
 }
 
-/// Serves the archive of a folder until a line quits, and tells on standard error what happens.
-pub(crate) fn serve<R: Threads + Wait + Clock + Eprint + Sync>(
+/// Serves the archive of a disk with these options until a line quits, and reports on standard error what happens.
+fn serve_disk<R: Threads + Wait + Clock + Eprint + Sync>(
     net: &R,
     rt: HostRuntime,
     ports: Ports,
     disk: HostDisk,
-    idle: u32,
+    options: &ServeOptions,
     is_quiet: bool,
 ) -> Result<(), Ended>
     ensures { ServesOver (host_life disk) (ending_in result) }
 {
     let Ports { listener, socket } = ports;
-    let options = ServeOptions {
-        idle_seconds: u64::from(idle),
-    };
     let teller = LineTeller::new(net, is_quiet);
-    match serve_with(net, rt.alloc(), listener, socket, disk, &options, teller) {
+    match serve_with(net, rt.alloc(), listener, socket, disk, options, teller) {
         Ok(_) => Ok(()),
         Err(fault) => Err(Ended::cut(fault.end(), Reason::Ends)),
     }

@@ -1,5 +1,6 @@
 //! A client of a server, on a thread of its own, and the server that it talks to.
 
+use crate::vectors::hello;
 use std::alloc::Global;
 use std::io::{BufRead, BufReader, Write};
 use std::net::{Net, SocketAddr, TcpListener, TcpStream, UdpSocket};
@@ -108,6 +109,16 @@ impl Client {
         self.socket.send_to(datagram, self.receive).is_ok()
     }
 
+    /// Sends the first ten messages of a stream, each in a datagram.
+    pub(crate) fn casts_ten(&self) -> bool {
+        for index in 0..10 {
+            if !self.casts(hello(index).as_slice()) {
+                return false;
+            }
+        }
+        true
+    }
+
     /// Whether the next datagram that comes is this one.
     pub(crate) fn receives(&self, datagram: &[u8]) -> bool {
         let mut buffer = [0u8; 128];
@@ -115,5 +126,54 @@ impl Client {
             Ok((count, _)) => &buffer[..count] == datagram,
             Err(_) => false,
         }
+    }
+
+    /// Whether this datagram is among the next 100 that come.
+    pub(crate) fn receives_among(&self, datagram: &[u8]) -> bool {
+        for _ in 0..100 {
+            if self.receives(datagram) {
+                return true;
+            }
+        }
+        false
+    }
+
+    /// Whether no datagram comes for a second, after at most 200 of them.
+    pub(crate) fn falls_silent(&self) -> bool {
+        let is_timed = self.waits(Duration::from_secs(1));
+        let is_silent = is_timed && self.ends();
+        self.waits(Duration::from_secs(PATIENCE)) && is_silent
+    }
+
+    fn waits(&self, patience: Duration) -> bool {
+        self.socket.set_read_timeout(Some(patience)).is_ok()
+    }
+
+    /// Whether at most 200 datagrams come, up to one that is late.
+    fn ends(&self) -> bool {
+        let mut buffer = [0u8; 128];
+        for _ in 0..200 {
+            if self.socket.recv_from(&mut buffer).is_err() {
+                return true;
+            }
+        }
+        false
+    }
+
+    /// Whether a datagram that another socket sends brings that socket no answer for a second.
+    pub(crate) fn casts_elsewhere<R: Net<Listener = TcpListener, Stream = TcpStream>>(
+        &self,
+        rt: &R,
+        datagram: &[u8],
+    ) -> bool {
+        let Ok(socket) = UdpSocket::bind(rt, "127.0.0.1:0") else {
+            return false;
+        };
+        let mut buffer = [0u8; 128];
+        socket.send_to(datagram, self.receive).is_ok()
+            && socket
+                .set_read_timeout(Some(Duration::from_secs(1)))
+                .is_ok()
+            && socket.recv_from(&mut buffer).is_err()
     }
 }

@@ -4,8 +4,12 @@
 //! name of a datagram of `vectors`, and behind a colon what has to be answered:
 //! - `asks` says a line once, `awaits` until it is answered so, `asks-alone` in a connection of its own beside this one;
 //!   `sends` sends bytes of a line;
-//! - `casts` sends a datagram, `receives` waits for one;
-//! - `pauses` waits for 300 milliseconds, `loses` until an image was lost, `ends` until the server has ended the connection.
+//! - `casts` sends a datagram, `casts-elsewhere` by another socket, which gets no answer, `casts-ten` the first ten messages of
+//!   a stream;
+//! - `receives` waits for one, `receives-among` for one among others, `silence` until none has come for a second;
+//! - `follows` waits for one line more;
+//! - `pauses` waits for 300 milliseconds, `rests` for 3 seconds, `loses` until an image was lost, `ends` until the server has
+//!   ended the connection.
 
 use crate::client::{Client, Ports};
 use crate::server::{Told, served};
@@ -71,10 +75,16 @@ fn is_met<R: Clock + Net<Listener = TcpListener, Stream = TcpStream>>(
         "asks-alone" => asks_alone(rt, alloc, ports, said, answer),
         "sends" => client.send(said.as_bytes()),
         "casts" => client.casts(datagram(said)),
+        "casts-elsewhere" => client.casts_elsewhere(rt, datagram(said)),
+        "casts-ten" => client.casts_ten(),
         "receives" => client.receives(datagram(said)),
+        "receives-among" => client.receives_among(datagram(said)),
+        "silence" => client.falls_silent(),
+        "follows" => client.hears(alloc, rest),
         "loses" => told.awaits_loss(rt),
         "ends" => !client.hears(alloc, ""),
-        "pauses" => pauses(rt),
+        "pauses" => sleeps(rt, 300),
+        "rests" => sleeps(rt, 3_000),
         _ => false,
     }
 }
@@ -87,8 +97,8 @@ fn parted<'a>(text: &'a str, mark: &str) -> (&'a str, &'a str) {
     }
 }
 
-fn pauses<R: Clock>(rt: &R) -> bool {
-    thread::sleep(rt, Duration::from_millis(300));
+fn sleeps<R: Clock>(rt: &R, milliseconds: u64) -> bool {
+    thread::sleep(rt, Duration::from_millis(milliseconds));
     true
 }
 
@@ -118,7 +128,7 @@ awaits positions 0: positions 0 192 -1
 ";
 
 /// What a script of `positions 0`, a replay and a poll of a frame is answered then.
-const RECORDED: &str = "\
+pub(crate) const RECORDED: &str = "\
 positions 0 192 192
 replay 0
 frame 0 2500000000c001000000000007000000e90300002a000000000000000000000068656c6c6f
@@ -126,7 +136,7 @@ more 64
 ";
 
 /// What such a script is answered over a disk.
-fn recorded(alloc: Global, disk: MemoryDisk) -> Result<Vec<u8>, Fail> {
+pub(crate) fn recorded(alloc: Global, disk: MemoryDisk) -> Result<Vec<u8>, Fail> {
     let script = b"positions 0\nreplay 0 -1 -1\npoll 0 1\n".as_slice();
     let mut output = Vec::new(alloc);
     match run_script(alloc, script, &mut output, disk, &mut Unobserved) {
@@ -194,6 +204,7 @@ fn a_refused_block_takes_the_image_away(rt: HostRuntime) -> Result<(), Fail> {
 const CLIENTS: &str = "\
 asks reopen: error 22 BadLine
 asks compact: error 22 BadLine
+asks images: error 22 BadLine
 sends positi
 pauses
 asks ons 0: error 1 UnknownRecording

@@ -11,11 +11,15 @@ mod client;
 #[cfg(test)]
 mod conversations;
 #[cfg(test)]
+mod receivers;
+#[cfg(test)]
 mod scenarios;
 #[cfg(test)]
 mod seat;
 #[cfg(test)]
 mod server;
+#[cfg(test)]
+mod settles;
 #[cfg(test)]
 mod sources;
 #[cfg(test)]

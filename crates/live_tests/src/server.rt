@@ -3,7 +3,7 @@
 use crate::client::{Client, Ports};
 use crate::conversations::holds;
 use disk_core::Disk;
-use serve_core::{Happening, ServeOptions, Teller, serve_with};
+use serve_core::{Happening, SETTLE_EVERY, ServeOptions, Teller, serve_with};
 use std::alloc::Global;
 use std::net::{Net, TcpListener, TcpStream, UdpSocket};
 use std::rt::Clock;
@@ -50,15 +50,33 @@ impl Teller for Counting<'_> {
     }
 }
 
-/// Serves a disk while a conversation is held, and then quits. The disk, where all was answered as it has to be.
+/// Serves a disk as `served_with`: a block waits for its settling as long as it does if no option says otherwise.
 pub(crate) fn served<
     R: Threads + Wait + Clock + Net<Listener = TcpListener, Stream = TcpStream> + Sync,
     D: Disk + Drop + Send,
 >(rt: &R, alloc: Global, disk: D, idle_seconds: u64, conversation: &str) -> Option<D> {
+    let options = options(idle_seconds, SETTLE_EVERY);
+    served_with(rt, alloc, disk, options, conversation)
+}
+
+/// Options: for how many seconds a client may be idle, and for how many milliseconds a block waits for its settling at most.
+pub(crate) fn options(idle_seconds: u64, settle_every: u64) -> ServeOptions {
+    ServeOptions {
+        idle_seconds,
+        settle_every,
+        window: None,
+        receiver_id: 0,
+    }
+}
+
+/// Serves a disk while a conversation is held, and then quits. The disk, where all was answered as it has to be.
+pub(crate) fn served_with<
+    R: Threads + Wait + Clock + Net<Listener = TcpListener, Stream = TcpStream> + Sync,
+    D: Disk + Drop + Send,
+>(rt: &R, alloc: Global, disk: D, options: ServeOptions, conversation: &str) -> Option<D> {
     let (listener, socket, ports) = bound(rt)?;
     let told = Told::new();
     let told = &told;
-    let options = ServeOptions { idle_seconds };
     let (back, is_right) = thread::join(
         rt,
         move || { serve_with(rt, alloc, listener, socket, disk, &options, Counting(told)).ok() },

@@ -1,3 +1,4 @@
 mod ImageLemmas
 mod SeatLemmas
 mod ServingLemmas
+mod SettlingLemmas

@@ -1,12 +1,13 @@
 -- How lines are answered by a part in a shared archive, and where no archive is open: docs/SERVING.md, "Control lines".
-use Rattle.std.specs.Prelude.{◌≡◌, ℤ, Bool, true, false, Result, Err, IsErrOf}
+use Rattle.std.specs.Prelude.{◌≡◌, ℤ, Bool, true, false, Option, None, Some, Result, Ok, Err, IsErrOf}
 use Rattle.frame_core.specs.declared.geometry.Geometry.{Geometry}
 use Rattle.frame_core.specs.declared.refusal.Refusal.{Refusal}
 use Rattle.frame_core.specs.declared.refusal.Refusal.TheVariants.{BadLine, Broken, NoMemory}
+use Rattle.archive_model.specs.declared.reply.Reply.{Reply}
 use Rattle.control_core.specs.declared.event.Event.{Event}
 use Rattle.control_core.specs.declared.event.Event.TheVariants.{Ask, Settle}
 use Rattle.control_core.specs.declared.request.Request.{Request}
-use Rattle.control_core.specs.declared.request.Request.TheVariants.{Find, List, Positions, Source}
+use Rattle.control_core.specs.declared.request.Request.TheVariants.{Find, List, Positions, Source, Stop}
 use Rattle.control_core.specs.Bytes.{terms_in}
 use Rattle.call_history.specs.Values.{PassView}
 use Rattle.engine_core.specs.Engine.{EngineState}
@@ -57,3 +58,20 @@ abbrev pub makes_entry : Event → Bool
 makes_entry (Ask request) = is_command request
 makes_entry (Settle session) = true
 makes_entry event = false
+
+-- ---- settlings
+
+-- the recording whose session settles before a call: that of a stop
+abbrev pub settled_before : Event → Option ℤ
+settled_before (Ask (Stop recording timestamp)) = Some recording
+settled_before event = None
+
+-- the recording whose settling a call waits for, if one is asked for: that of a question for positions
+abbrev pub awaited_before : Event → Option ℤ
+awaited_before (Ask (Positions recording)) = Some recording
+awaited_before event = None
+
+-- the recording whose session is to settle after a call that was answered so: that of positions that were given
+abbrev pub settled_after : Event → Result Reply Refusal → Option ℤ
+settled_after (Ask (Positions recording)) (Ok reply) = Some recording
+settled_after event outcome = None

@@ -1,5 +1,5 @@
 -- What becomes of a datagram, and what is asked for then: docs/PROTOCOL.md, "Stock"; docs/SERVING.md, "Who can send".
-use Rattle.std.specs.Prelude.{◌≡◌, ◌≢◌, ◌<◌, ◌⊎◌, ◌&&◌, ◌-ℤ◌, ℕ, pos, int_lt, Bool, true, false, List, [], ◌∷◌, ◌++◌, length, nat_lt, not, slice_get, slice_set, Option, Some, None, is_none, is_some, IsSomeAnd, Result, Ok, Err}
+use Rattle.std.specs.Prelude.{◌≡◌, ◌≢◌, ◌<◌, ◌≤◌, ◌⊎◌, ◌&&◌, ◌-ℤ◌, ℕ, pos, int_lt, if◌then◌else◌, Bool, true, false, List, [], ◌∷◌, ◌++◌, length, nat_lt, slice_get, slice_set, Option, Some, None, is_none, IsSomeAnd, Result, Ok, Err}
 use Rattle.std.specs.List.{position}
 use Rattle.std.specs.Ordering.{int_eq}
 use Rattle.frame_core.specs.declared.block.Block.{Block}
@@ -19,8 +19,7 @@ use Rattle.image_core.specs.Take.{GivesBlock}
 use Rattle.image_core.specs.Stock.{Asks, AsksNothing, Offers}
 use Rattle.stream_pairs.specs.declared.points.StreamPoint.{StreamPoint}
 use Rattle.serve_core.specs.declared.images.Came.{Came}
-use Rattle.serve_core.specs.declared.images.Came.TheVariants.{Frames, Joined, Nothing, Refused}
-use Rattle.serve_core.specs.declared.images.Offering.{Offering}
+use Rattle.serve_core.specs.declared.images.Came.TheVariants.{Frames, Joined, Nothing, Refused, SetUp, Unknown}
 
 -- ---- images
 
@@ -37,10 +36,6 @@ image_with publication images = position (has_publication publication) images
 abbrev pub image_of : List Frame → List Received → Option ℕ
 image_of [] images = None
 image_of (f ∷ fs) images = image_with (publication_of f) images
-
--- an image may come of a publication that has none, where there are fewer than 64
-abbrev pub may_join : Publication → List Received → Bool
-may_join publication images = nat_lt (length images) 64 && not (is_some (image_with publication images))
 
 -- something was rebuilt of the image and not taken
 abbrev pub has_block_of : Option Received → Bool
@@ -79,13 +74,21 @@ join_point image = record { publication = image.publication; geometry = image.ge
 abbrev pub BeginsImage : Setup → List Received → StreamPoint → List Received → Type 0
 BeginsImage setup olds point news = (image : Received) × IsBegun setup image × (point ≡ join_point image) × (news ≡ olds ++ image ∷ [])
 
--- A setup frame makes one image more exactly where its publication may join; else nothing comes of it. For
--- want of memory there is none.
+-- A setup frame of a publication without an image makes one image more exactly if there are fewer than 64; for want of memory
+-- there is none.
+abbrev pub BegunBy : Setup → List Received → List Received → Came → Type 0
+BegunBy setup olds news Nothing = (64 ≤ length olds) × (news ≡ olds)
+BegunBy setup olds news (Joined point) = (length olds < 64) × BeginsImage setup olds point news
+BegunBy setup olds news (Refused refusal) = (length olds < 64) × (refusal ≡ NoMemory) × (news ≡ olds)
+BegunBy setup olds news came = ⊥
+
+-- by the image of its publication, if there is one
+abbrev pub JoinsAs : Option ℕ → Setup → List Received → List Received → Came → Type 0
+JoinsAs (Some i) setup olds news came = (came ≡ SetUp i) × (news ≡ olds)
+JoinsAs None setup olds news came = BegunBy setup olds news came
+
 abbrev pub JoinsBy : Setup → List Received → List Received → Came → Type 0
-JoinsBy setup olds news Nothing = (may_join (publication_told setup) olds ≡ false) × (news ≡ olds)
-JoinsBy setup olds news (Joined point) = (may_join (publication_told setup) olds ≡ true) × BeginsImage setup olds point news
-JoinsBy setup olds news (Refused refusal) = (may_join (publication_told setup) olds ≡ true) × (refusal ≡ NoMemory) × (news ≡ olds)
-JoinsBy setup olds news (Frames image outcome) = ⊥
+JoinsBy setup olds news came = JoinsAs (image_with (publication_told setup) olds) setup olds news came
 
 -- of bytes without a frame in front: a setup frame, or nothing comes of them
 abbrev pub Joins : List ℕ → List Received → List Received → Came → Type 0
@@ -101,10 +104,45 @@ IsRefusedLater datagram NoMemory = Unit {0}
 IsRefusedLater datagram (BadFrame offset) = (0 < offset) × IsBadAt datagram offset
 IsRefusedLater datagram refusal = ⊥
 
--- what becomes of frames of an image is told beside its index
-abbrev pub came_of : ℕ → Result Offering Refusal → Came
-came_of image (Ok outcome) = Frames image outcome
+-- what happens to frames of an image, with its index
+abbrev pub came_of : ℕ → Result Bool Refusal → Came
+came_of image (Ok is_lost) = Frames image is_lost
 came_of image (Err refusal) = Refused refusal
+
+-- Frames were offered to an image, which took them, or lost them past its stock. Or there was no memory, and nothing changed.
+abbrev pub HandlesFrames : Received → List Frame → Received → Result Bool Refusal → Type 0
+HandlesFrames old fs after (Ok is_lost) = (inserted : Option Inserted) × Offers old fs inserted after × (is_lost ≡ is_none inserted)
+HandlesFrames old fs after (Err refusal) = (refusal ≡ NoMemory) × (after ≡ old)
+
+-- the image of an index handles them, and the others stay
+pub record HandledAt (i : ℕ) (olds : List Received) (fs : List Frame) (news : List Received) (came : Came) : Type 0 where
+  pub image : Received
+  pub there : slice_get olds i ≡ Some image
+  pub after : Received
+  pub outcome : Result Bool Refusal
+  pub handles : HandlesFrames image fs after outcome
+  pub others : news ≡ slice_set olds i after
+  pub came_is : came ≡ came_of i outcome
+
+-- frames whose publication has no image: it may get one while there are fewer than 64
+abbrev pub unknown_of : List Frame → List Received → Came
+unknown_of [] images = Nothing
+unknown_of (f ∷ fs) images = if nat_lt (length images) 64 then Unknown (publication_of f) else Nothing
+
+-- frames of a publication are its image's
+abbrev pub TakesFrames : Option ℕ → List Received → List Frame → List Received → Came → Type 0
+TakesFrames (Some i) olds fs news came = HandledAt i olds fs news came
+TakesFrames None olds fs news came = (came ≡ unknown_of fs olds) × (news ≡ olds)
+
+-- What happens to a datagram: frames are for the image of the publication of the first one; bytes without a frame in front may
+-- be a setup frame, which makes an image; and of what else is no datagram nothing comes.
+abbrev pub Takes : List Received → List ℕ → List Received → Came → Type 0
+Takes olds datagram news came =
+    ((fs : List Frame) × IsDatagram datagram fs × TakesFrames (image_of fs olds) olds fs news came)
+    ⊎ ((HasNoFront datagram × Joins datagram olds news came)
+    ⊎ ((refusal : Refusal) × IsRefusedLater datagram refusal × (came ≡ Refused refusal) × (news ≡ olds)))
+
+-- ---- requests
 
 module _ {E : Type 0} (sends : E → List ℕ → E → Type 0) where
   -- one request was sent for what is missing first of an image, as far as there is room for it; or nothing was, and nothing is
@@ -113,32 +151,11 @@ module _ {E : Type 0} (sends : E → List ℕ → E → Type 0) where
   SendsRequest image old new true = (nak : Nak) × Asks image nak × sends old (encoded_nak nak) new
   SendsRequest image old new false = AsksNothing image × (new ≡ old)
 
-  -- Frames were offered to an image, which took them, or lost them past its stock; then what is missing was asked for. Or there
-  -- was no memory: nothing changed, and nothing was sent.
-  abbrev pub HandlesFrames : Received → List Frame → E → Received → E → Result Offering Refusal → Type 0
-  HandlesFrames old fs end after later (Ok o) =
-      (inserted : Option Inserted) × Offers old fs inserted after × (o.is_lost ≡ is_none inserted) × SendsRequest after end later o.has_asked
-  HandlesFrames old fs end after later (Err refusal) = (refusal ≡ NoMemory) × (after ≡ old) × (later ≡ end)
+  abbrev pub AsksOf : Option Received → E → E → Bool → Type 0
+  AsksOf None old new asked = (asked ≡ false) × (new ≡ old)
+  AsksOf (Some image) old new asked = SendsRequest image old new asked
 
-  -- the image of an index handles them, and the others stay
-  pub record HandledAt (i : ℕ) (olds : List Received) (fs : List Frame) (end : E) (news : List Received) (later : E) (told : Came) : Type 0 where
-    pub image : Received
-    pub there : slice_get olds i ≡ Some image
-    pub after : Received
-    pub outcome : Result Offering Refusal
-    pub handles : HandlesFrames image fs end after later outcome
-    pub others : news ≡ slice_set olds i after
-    pub came : told ≡ came_of i outcome
-
-  -- frames of a publication are its image's; without one nothing comes of them
-  abbrev pub TakesFrames : Option ℕ → List Received → List Frame → E → List Received → E → Came → Type 0
-  TakesFrames (Some i) olds fs end news later came = HandledAt i olds fs end news later came
-  TakesFrames None olds fs end news later came = (came ≡ Nothing) × (news ≡ olds) × (later ≡ end)
-
-  -- What becomes of a datagram: frames are for the image of the publication of the first one; bytes without a frame in front may
-  -- be a setup frame, which makes an image, and nothing is sent; and of what else is no datagram nothing comes.
-  abbrev pub Takes : List Received → List ℕ → E → List Received → E → Came → Type 0
-  Takes olds datagram end news later came =
-      ((fs : List Frame) × IsDatagram datagram fs × TakesFrames (image_of fs olds) olds fs end news later came)
-      ⊎ ((HasNoFront datagram × Joins datagram olds news came × (later ≡ end))
-      ⊎ ((refusal : Refusal) × IsRefusedLater datagram refusal × (came ≡ Refused refusal) × (news ≡ olds) × (later ≡ end)))
+  -- after frames that an image took or lost it is asked for what is missing; after anything else nothing is sent
+  abbrev pub AsksAfter : List Received → Came → E → E → Bool → Type 0
+  AsksAfter images (Frames i is_lost) old new asked = AsksOf (slice_get images i) old new asked
+  AsksAfter images came old new asked = (asked ≡ false) × (new ≡ old)

@@ -1,7 +1,7 @@
 //! Who answers the lines of connections over a shared archive. docs/SERVING.md, "Control lines".
 
 ghost use Rattle.std.specs.Prelude.{◌≡◌};
-ghost use Rattle.serve_core.specs.Answering.{is_command, makes_entry, shared_ways};
+ghost use Rattle.serve_core.specs.Answering.{awaited_before, is_command, makes_entry, settled_after, settled_before, shared_ways};
 ghost use Rattle.serve_core.specs.Seats.{IsLastPass};
 
 use crate::connections::Server;
@@ -75,6 +75,17 @@ impl<'a, D: Disk, A: Naming, R: Wait, T: Teller> Controller<'a, D, A, R, T> {
         self.pass
     }
 
+    /// If a call is a stop, its recording's session settles first: what was recorded of it is kept. If it asks for positions,
+    /// a settling that was asked for before is made first, so that it shows it.
+    fn settle_first(&self, event: &Event) {
+        if let Some(recording) = settled_before(event) {
+            self.shared.settle_writer(self.rt, recording);
+        }
+        if let Some(recording) = awaited_before(event) {
+            self.shared.await_writer(self.rt, recording);
+        }
+    }
+
     /// Notes what a call was answered, beside the history.
     fn note(&mut self, event: &Event, outcome: &Result<Reply, Refusal>)
         ensures { self.new ≡ self.old }
@@ -82,6 +93,9 @@ impl<'a, D: Disk, A: Naming, R: Wait, T: Teller> Controller<'a, D, A, R, T> {
         self.note_replay(event, outcome);
         if self.shared.note(self.rt, event, outcome) {
             self.shared.look_round(self.socket);
+        }
+        if let Some(recording) = settled_after(event, outcome) {
+            self.shared.ask_writer(self.rt, recording);
         }
         if outcome.is_ok() && makes_entry(event) {
             let (counted, limit) = self.archive.counted(self.rt);
@@ -128,6 +142,44 @@ fn is_command(request: &Request) -> bool
     )
 }
 
+/// The recording whose session settles before a call: that of a stop.
+fn settled_before(event: &Event) -> Option<i64>
+    ensures { result ≡ settled_before event.now }
+{
+    match event {
+        Event::Ask(
+            Request::Stop {
+                recording,
+                timestamp,
+            },
+        ) => {
+            let _ = timestamp;
+            Some(*recording)
+        }
+        _ => None,
+    }
+}
+
+/// The recording whose settling a call waits for, if one is asked for: that of a question for positions.
+fn awaited_before(event: &Event) -> Option<i64>
+    ensures { result ≡ awaited_before event.now }
+{
+    match event {
+        Event::Ask(Request::Positions { recording }) => Some(*recording),
+        _ => None,
+    }
+}
+
+/// The recording whose session is to settle after a call that was answered so: that of positions that were given.
+fn settled_after(event: &Event, outcome: &Result<Reply, Refusal>) -> Option<i64>
+    ensures { result ≡ settled_after event.now outcome.now }
+{
+    match (event, outcome) {
+        (Event::Ask(Request::Positions { recording }), Ok(_)) => Some(*recording),
+        _ => None,
+    }
+}
+
 impl<D: Disk, A: Naming, R: Wait, T: Teller> Answerer for Controller<'_, D, A, R, T> {
     ghost ways = { shared_ways A.opening };
 
@@ -136,6 +188,7 @@ impl<D: Disk, A: Naming, R: Wait, T: Teller> Answerer for Controller<'_, D, A, R
     }
 
     fn call(&mut self, alloc: Global, event: &Event) -> Result<Reply, Refusal> {
+        self.settle_first(event);
         let outcome = self.archive.call(self.rt, alloc, &mut self.pass, event);
         self.note(event, &outcome);
         outcome

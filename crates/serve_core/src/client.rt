@@ -4,6 +4,7 @@ use crate::door::Door;
 use crate::shared::Shared;
 use crate::teller::Teller;
 use memchr::memchr;
+use std::alloc::{AllocError, Global};
 use std::cell::Cell;
 use std::io::{self, ErrorKind, Read, Write};
 use std::net::TcpStream;
@@ -50,6 +51,11 @@ impl<'a, R: Wait + Clock, T: Teller> Client<'a, R, T> {
             stream,
             last: Cell::new(Instant::now(rt).ok()),
         }
+    }
+
+    /// The answer to the line `images`.
+    pub fn images_text(&self, alloc: Global) -> Result<String, AllocError> {
+        self.shared.images_text(self.rt, alloc)
     }
 
     /// It is not idle now.

@@ -6,6 +6,7 @@ ghost use Rattle.tool_core.specs.Transcript.{WritesText};
 
 use crate::client::{Client, ClientReader, ClientWriter, is_timed};
 use crate::door::Door;
+use crate::script_reader::ScriptReader;
 use crate::shared::Shared;
 use crate::teller::Teller;
 use archive_model::Reply;
@@ -50,6 +51,7 @@ pub(crate) fn serve_connections<'x, R: Wait + Clock, T: Teller, S: Server + Drop
     shared: &'x Shared<T>,
     door: &'x Door<'x>,
     idle: Duration,
+    lists_images: bool,
     state: ScriptState<S>,
 ) -> (ScriptState<S>, Result<(), EarlyEnd>) {
     let mut state = state;
@@ -62,7 +64,7 @@ pub(crate) fn serve_connections<'x, R: Wait + Clock, T: Teller, S: Server + Drop
             continue;
         }
         let client = Client::new(rt, shared, door, idle, stream);
-        let (next, has_quit) = serve_client(alloc, &client, state);
+        let (next, has_quit) = serve_client(alloc, &client, lists_images, state);
         state = next;
         state.archive.end_connection();
         if has_quit {
@@ -76,14 +78,54 @@ pub(crate) fn serve_connections<'x, R: Wait + Clock, T: Teller, S: Server + Drop
 fn serve_client<R: Wait + Clock, T: Teller, S: Answerer>(
     alloc: Global,
     client: &Client<'_, R, T>,
+    lists_images: bool,
     state: ScriptState<S>,
 ) -> (ScriptState<S>, bool) {
     let writer = ClientWriter(client);
     let Ok(mut writer) = BufWriter::with_capacity(alloc, WRITTEN_AT_ONCE, writer) else {
         return (state, false);
     };
+    if lists_images {
+        return serve_scripts(alloc, client, &mut writer, state);
+    }
     let (state, _, has_quit) = answer_client(alloc, ClientReader(client), &mut writer, state);
     (state, has_quit)
+}
+
+/// Answers the lines of a client as `serve_client`, and a line `images` between them by the images.
+fn serve_scripts<R: Wait + Clock, T: Teller, W: Write, S: Answerer>(
+    alloc: Global,
+    client: &Client<'_, R, T>,
+    writer: &mut W,
+    state: ScriptState<S>,
+) -> (ScriptState<S>, bool) {
+    let Ok(mut reader) = ScriptReader::new(alloc, ClientReader(client)) else {
+        return (state, false);
+    };
+    let mut state = state;
+    for _ in 0..u64::MAX {
+        let (next, outcome, has_quit) = answer_client(alloc, &mut reader, writer, state);
+        state = next;
+        if has_quit || outcome.is_err() || !reader.takes_images() {
+            return (state, has_quit);
+        }
+        if !put_images(alloc, client, writer) {
+            return (state, false);
+        }
+    }
+    (state, false)
+}
+
+/// Writes the answer to the line `images`. Whether it went out.
+fn put_images<R: Wait + Clock, T: Teller, W: Write>(
+    alloc: Global,
+    client: &Client<'_, R, T>,
+    writer: &mut W,
+) -> bool {
+    match client.images_text(alloc) {
+        Ok(text) => writer.write_all(text.as_bytes()).is_ok() && writer.flush().is_ok(),
+        Err(_) => false,
+    }
 }
 
 /// Answers the lines of a reader on a writer, as `answer_lines`, and whether one quit.

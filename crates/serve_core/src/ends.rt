@@ -1,5 +1,6 @@
 //! A socket as the end that datagrams come from, and requests go to.
 
+use crate::senders::SenderEnd;
 use agents_core::DatagramEnd;
 use std::io::ErrorKind;
 use std::net::{SocketAddr, UdpSocket};
@@ -54,5 +55,16 @@ impl DatagramEnd for UdpEnd<'_> {
         if let Some(sender) = self.sender {
             let _ = self.socket.send_to(nak, sender);
         }
+    }
+}
+
+/// A frame goes out by the socket that receives. One that can't be sent may be lost on the way too.
+impl SenderEnd for UdpEnd<'_> {
+    ghost use Rattle.std.specs.Prelude.{⊤};
+
+    ghost puts = { λ old address bytes new. ⊤ };
+
+    fn put(&mut self, frame: &[u8], to: SocketAddr) {
+        let _ = self.socket.send_to(frame, to);
     }
 }

@@ -70,6 +70,13 @@ pub enum Happening<'a> {
         /// What was counted of the image.
         counted: ImageCounted,
     },
+    /// An image's publication has an MTU that is longer than its window: its sender is sent no status messages.
+    NoWindow {
+        /// The image's number.
+        image: usize,
+        /// The MTU, in bytes.
+        mtu: i32,
+    },
     /// The last of 64 images was used.
     LastImage,
     /// The last of 64 recorder sessions that images feed was used.
@@ -90,6 +97,7 @@ impl Happening<'_> {
         match self {
             Happening::Began(Beginning::Refused(_)) => true,
             Happening::Lost { .. } => true,
+            Happening::NoWindow { .. } => true,
             Happening::DeviceFault => true,
             _ => false,
         }
@@ -123,6 +131,10 @@ impl fmt::Display for Happening<'_> {
                 )?;
                 write!(f, "{}, {counted}", RefusalText(*cause))
             }
+            Happening::NoWindow { image, mtu } => write!(
+                f,
+                "image {image} is sent no status messages: its MTU of {mtu} bytes is longer than its window"
+            ),
             Happening::LastImage => f.write_str(
                 "the last of 64 images is used: further publications are ignored until a restart",
             ),

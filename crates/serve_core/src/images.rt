@@ -1,11 +1,12 @@
 //! Images by the order in which they came, and what becomes of a datagram. docs/ARCHITECTURE.md, "Serving".
 
-ghost use Rattle.std.specs.Prelude.{◌≡◌, ◌<◌, [], IfErr, IfOk, OnErr, length, map, slice_get};
+ghost use Rattle.std.specs.Prelude.{◌≡◌, ◌<◌, [], IfErr, IfOk, OnErr, length, map, nat_lt, slice_get};
+ghost use Rattle.std.specs.Option.{option_copied};
 ghost use Rattle.frame_core.specs.FrameEncoding.{frame_of};
 ghost use Rattle.frame_core.specs.Block.{AreEncodable, publication_of};
 ghost use Rattle.frame_core.specs.Setup.{IsUsable};
 ghost use Rattle.frame_core.specs.declared.refusal.Refusal.TheVariants.{NoMemory};
-ghost use Rattle.serve_core.specs.Datagrams.{BeginsImage, HandledAt, HandlesFrames, Joins, JoinsBy, LacksBlock, SendsRequest, Takes, TakesNext, TakesFrames, has_block_of, has_publication, image_of, image_with, is_full_image, is_full_of, join_point, may_join, publication_told};
+ghost use Rattle.serve_core.specs.Datagrams.{AsksAfter, AsksOf, BegunBy, HandledAt, HandlesFrames, Joins, JoinsBy, LacksBlock, SendsRequest, Takes, TakesNext, TakesFrames, has_block_of, has_publication, image_of, image_with, is_full_image, is_full_of, join_point, publication_told, unknown_of};
 
 use agents_core::DatagramEnd;
 use frame_core::limits::MAX_BLOCK_LENGTH;
@@ -34,28 +35,26 @@ impl Model for Images {
 /// What a datagram was.
 #[derive(Clone, Copy)]
 pub(crate) enum Came {
-    /// Nothing that an image takes, and no setup frame of a publication that may join.
+    /// Nothing that an image takes, and nothing of a publication that may join.
     Nothing,
     /// The setup frame of a new image, which joined at the point.
     Joined(StreamPoint),
+    /// A setup frame of a publication that has an image.
+    SetUp {
+        /// The image's index.
+        image: usize,
+    },
     /// Frames of an image.
     Frames {
         /// The image's index.
         image: usize,
-        /// What became of them.
-        outcome: Offering,
+        /// Whether they were lost past the stock.
+        is_lost: bool,
     },
+    /// Frames of a publication that has no image, while there are fewer than 64.
+    Unknown(Publication),
     /// No datagram of frames, or frames or the setup frame of an image for which there was no memory.
     Refused(Refusal),
-}
-
-/// What became of a datagram of an image.
-#[derive(Clone, Copy)]
-pub(crate) struct Offering {
-    /// Whether it was lost past the stock.
-    pub is_lost: bool,
-    /// Whether a request for what is missing was sent behind it.
-    pub has_asked: bool,
 }
 
 impl Images {
@@ -76,6 +75,13 @@ impl Images {
         self.images.len()
     }
 
+    /// The image of an index.
+    pub fn get(&self, image: usize) -> Option<&BoundedImage>
+        ensures { option_copied result ≡ slice_get self.now image }
+    {
+        self.images.as_slice().get(image)
+    }
+
     /// The index of the image of a publication.
     fn index_of(&self, publication: &Publication) -> Option<usize>
         ensures { result ≡ image_with publication.now self.now }
@@ -85,35 +91,57 @@ impl Images {
             .position(|image| is_of(image, publication))
     }
 
-    /// Whether an image of a publication may come: it has none, and there are fewer than 64.
-    fn may_join(&self, publication: &Publication) -> bool
-        ensures { result ≡ may_join publication.now self.now }
+    /// Whether one more image may come: there are fewer than 64.
+    fn has_room(&self) -> bool
+        ensures { result ≡ nat_lt (length self.now) 64 }
     {
-        self.images.len() < MAX_IMAGES && self.index_of(publication).is_none()
+        self.images.len() < MAX_IMAGES
     }
 
-    /// Takes a datagram, which is decoded here once. Its frames are offered to the image of the first one's publication, and
-    /// then it is asked for what is missing; the setup frame of a publication that has no image makes one, where there are
-    /// fewer than 64 and there is memory. For everything else, and for a datagram that is refused, nothing changes and
-    /// nothing is sent.
-    pub fn take_datagram<E: DatagramEnd>(&mut self, end: &mut E, datagram: &[u8]) -> Came
-        ensures { Takes E.sends self.old datagram.now end.old self.new end.new result }
+    /// Takes a datagram, which is decoded here once. Its frames are offered to the image of the first one's publication.
+    /// The setup frame of a publication that has no image makes one, if there are fewer than 64 and there is memory. For
+    /// everything else, and for a datagram that is refused, nothing changes.
+    pub fn take_datagram(&mut self, datagram: &[u8]) -> Came
+        ensures { Takes self.old datagram.now self.new result }
     {
         match frames_of_datagram(self.alloc, datagram) {
-            Ok(frames) => self.take_frames(end, frames.as_slice()),
+            Ok(frames) => self.take_frames(frames.as_slice()),
             Err(Refusal::BadFrame { offset: 0 }) => self.take_setup(datagram),
             Err(refusal) => Came::Refused(refusal),
         }
     }
 
-    fn take_frames<E: DatagramEnd>(&mut self, end: &mut E, frames: &[FrameRef<'_>]) -> Came
+    /// Asks once for what is missing of the image whose frames came, as far as the window and the stock have room for it.
+    /// Whether it did. After anything else nothing is sent.
+    pub fn ask_after<E: DatagramEnd>(&self, end: &mut E, came: &Came) -> bool
+        ensures { AsksAfter E.sends self.now came.now end.old end.new result }
+    {
+        match came {
+            Came::Frames { image, is_lost } => {
+                let _ = is_lost;
+                self.ask_of(end, *image)
+            }
+            _ => false,
+        }
+    }
+
+    fn ask_of<E: DatagramEnd>(&self, end: &mut E, image: usize) -> bool
+        ensures { AsksOf E.sends (slice_get self.now image) end.old end.new result }
+    {
+        match self.images.as_slice().get(image) {
+            Some(image) => request(end, image),
+            None => false,
+        }
+    }
+
+    fn take_frames(&mut self, frames: &[FrameRef<'_>]) -> Came
         requires { AreEncodable (map frame_of frames.now) }
         ensures { let fs = map frame_of frames.now in
-            TakesFrames E.sends (image_of fs self.old) self.old fs end.old self.new end.new result }
+            TakesFrames (image_of fs self.old) self.old fs self.new result }
     {
         match self.image_of(frames) {
-            Some(image) => self.offer_to(end, image, frames),
-            None => Came::Nothing,
+            Some(image) => self.offer_to(image, frames),
+            None => self.unknown(frames),
         }
     }
 
@@ -124,20 +152,27 @@ impl Images {
         self.index_of(&publication_of(frames.first()?))
     }
 
+    /// What frames are whose publication has no image.
+    fn unknown(&self, frames: &[FrameRef<'_>]) -> Came
+        ensures { result ≡ unknown_of (map frame_of frames.now) self.now }
+    {
+        if !self.has_room() {
+            return Came::Nothing;
+        }
+        match frames.first() {
+            Some(frame) => Came::Unknown(publication_of(frame)),
+            None => Came::Nothing,
+        }
+    }
+
     /// Offers frames to the image of an index.
-    fn offer_to<E: DatagramEnd>(
-        &mut self,
-        end: &mut E,
-        image: usize,
-        frames: &[FrameRef<'_>],
-    ) -> Came
+    fn offer_to(&mut self, image: usize, frames: &[FrameRef<'_>]) -> Came
         requires there { image < length self.old }
         requires encodable { AreEncodable (map frame_of frames.now) }
-        ensures { let fs = map frame_of frames.now in
-            HandledAt E.sends image self.old fs end.old self.new end.new result }
+        ensures { let fs = map frame_of frames.now in HandledAt image self.old fs self.new result }
     {
-        match offer(end, &mut self.images[image], frames) {
-            Ok(outcome) => Came::Frames { image, outcome },
+        match offer(&mut self.images[image], frames) {
+            Ok(is_lost) => Came::Frames { image, is_lost },
             Err(refusal) => Came::Refused(refusal),
         }
     }
@@ -151,35 +186,33 @@ impl Images {
         }
     }
 
-    /// Makes an image of a setup frame, where its publication has none, there are fewer than 64, and there is memory.
+    /// Makes an image of a setup frame, if its publication has none, there are fewer than 64, and there is memory.
     fn join(&mut self, setup: &Setup) -> Came
         requires { IsUsable setup.now }
         ensures { JoinsBy setup.now self.old self.new result }
     {
-        if !self.may_join(&publication_told(setup)) {
-            return Came::Nothing;
-        }
-        match self.begin(setup) {
-            Ok(point) => Came::Joined(point),
-            Err(refusal) => Came::Refused(refusal),
+        match self.index_of(&publication_told(setup)) {
+            Some(image) => Came::SetUp { image },
+            None => self.begin(setup),
         }
     }
 
-    /// One image more, behind the others: where it joined. `NoMemory`.
-    fn begin(&mut self, setup: &Setup) -> Result<StreamPoint, Refusal>
+    /// One image more, after the others, if there are fewer than 64. `NoMemory`.
+    fn begin(&mut self, setup: &Setup) -> Came
         requires { IsUsable setup.now }
-        ensures begun { IfOk result (λ point. BeginsImage setup.now self.old point self.new) }
-        ensures refusal { IfErr result (λ refusal. refusal ≡ NoMemory) }
-        ensures same { OnErr result (self.new ≡ self.old) }
+        ensures { BegunBy setup.now self.old self.new result }
     {
+        if !self.has_room() {
+            return Came::Nothing;
+        }
         let Ok(image) = BoundedImage::from_setup(self.alloc, setup) else {
             unreachable!();
         };
         let point = join_point(&image);
-        if self.images.push(image).is_err() {
-            return Err(Refusal::NoMemory);
+        match self.images.push(image) {
+            Ok(()) => Came::Joined(point),
+            Err(_) => Came::Refused(Refusal::NoMemory),
         }
-        Ok(point)
     }
 
     /// Whether an image has a block to take.
@@ -262,22 +295,13 @@ fn join_point(image: &BoundedImage) -> StreamPoint
     }
 }
 
-/// Offers frames to an image. Where there is no memory for them nothing changes and nothing is sent; else what is missing is
-/// asked for, as far as the window and the stock have room for it.
-fn offer<E: DatagramEnd>(
-    end: &mut E,
-    image: &mut BoundedImage,
-    frames: &[FrameRef<'_>],
-) -> Result<Offering, Refusal>
+/// Offers frames to an image. Whether they were lost past its stock. `NoMemory`; nothing changes then.
+fn offer(image: &mut BoundedImage, frames: &[FrameRef<'_>]) -> Result<bool, Refusal>
     requires { AreEncodable (map frame_of frames.now) }
-    ensures { let fs = map frame_of frames.now in
-        HandlesFrames E.sends image.old fs end.old image.new end.new result }
+    ensures { HandlesFrames image.old (map frame_of frames.now) image.new result }
 {
     match image.offer(frames) {
-        Ok(inserted) => Ok(Offering {
-            is_lost: inserted.is_none(),
-            has_asked: request(end, image),
-        }),
+        Ok(inserted) => Ok(inserted.is_none()),
         Err(refusal) => Err(refusal),
     }
 }

@@ -2,6 +2,7 @@
 #![tactic(auto)]
 
 mod answering;
+mod asking;
 mod client;
 mod connections;
 mod counts;
@@ -10,19 +11,24 @@ mod ends;
 mod giving;
 mod happening;
 mod images;
+mod listing;
 mod noting;
 mod options;
 mod pairing;
 mod queue;
 mod receiving;
 mod recording;
+mod script_reader;
 mod seats;
+mod senders;
 mod serving;
+mod settling;
 mod shared;
+mod stopwatch;
 mod teller;
 mod unopened;
 
 pub use happening::{Counted, Happening, ImageCounted};
-pub use options::{IDLE_SECONDS, ServeOptions};
+pub use options::{IDLE_SECONDS, SETTLE_EVERY, ServeOptions};
 pub use serving::{serve_on, serve_with};
 pub use teller::{LineTeller, Teller, Untold};

@@ -1,14 +1,20 @@
-//! Blocks on their way from the thread that receives to the one that records. docs/ARCHITECTURE.md, "Serving".
+//! Blocks on their way from the thread that receives to the one that records, and settlings that clients ask for.
+//! docs/ARCHITECTURE.md, "Serving".
 
-ghost use Rattle.std.specs.Prelude.{◌≡◌, [], ◌∷◌, ◌++◌, ◌||◌, false, length, not, true, IfErr, IfOk, OnOk};
-ghost use Rattle.serve_core.specs.Handing.{may_put};
+ghost use Rattle.std.specs.Prelude.{◌≡◌, [], ◌∷◌, ◌++◌, ◌||◌, false, length, not, replicate, true, IfErr, IfOk, OnOk};
+ghost use Rattle.serve_core.specs.Asking.{all_taken, is_any_asked};
+ghost use Rattle.serve_core.specs.Handing.{is_idle, is_over, may_put};
 
+use crate::asking::Asks;
 use frame_core::Block;
 use frame_core::limits::MAX_WAITING_BLOCKS;
 use std::alloc::{AllocError, Global};
 use std::collections::VecDeque;
 use std::mem;
-use std::sync::{Condvar, Mutex, Wait};
+use std::rt::Clock;
+use std::sync::{Condvar, CondvarTimeouts, Mutex, Wait};
+use std::time::Duration;
+use stream_pairs::FED_SESSIONS;
 
 /// A block, and the image that it is of.
 #[derive(Drop)]
@@ -19,12 +25,22 @@ pub(crate) struct FedBlock {
     pub block: Block,
 }
 
+/// What the recording thread takes from the queue, beside the blocks.
+#[derive(Clone, Copy)]
+pub(crate) struct Taken {
+    /// Of each session whether a client asked that it settles.
+    pub asked: [bool; FED_SESSIONS],
+    /// Whether no blocks came, and none come any more.
+    pub is_over: bool,
+}
+
 /// Blocks that wait, at most 16. While none is awaited a block stays in its image and grows there, unless it is full.
 #[derive(Drop)]
 pub(crate) struct Queue {
     state: Mutex<Waiting>,
     filled: Condvar,
     emptied: Condvar,
+    settled: Condvar,
 }
 
 #[derive(Drop)]
@@ -35,6 +51,7 @@ struct Waiting {
     /// Whether a block was kept back since.
     is_kept_back: bool,
     is_ended: bool,
+    asks: Asks,
 }
 
 impl Waiting {
@@ -46,6 +63,11 @@ impl Waiting {
           is_awaited = false;
           is_kept_back = false;
           is_ended = false;
+          asks = record {
+            asked = replicate 64 false;
+            taken = replicate 64 false;
+            is_closed = false;
+          };
         }) }
     {
         Ok(Waiting {
@@ -53,6 +75,7 @@ impl Waiting {
             is_awaited: false,
             is_kept_back: false,
             is_ended: false,
+            asks: Asks::new(),
         })
     }
 
@@ -91,13 +114,31 @@ impl Waiting {
         mem::replace(&mut self.is_kept_back, false)
     }
 
-    /// Gives all blocks that wait in place of those of an empty batch. None is awaited from now on.
-    fn give(&mut self, batch: &mut VecDeque<FedBlock>)
-        ensures given { batch.new ≡ self.old.blocks }
-        ensures left { self.new ≡ record self.old { blocks = batch.old; is_awaited = false } }
+    /// Whether there is nothing to do for the recording thread: no block waits, no settling is asked for, and blocks may come.
+    fn is_idle(&self) -> bool
+        ensures { result ≡ is_idle (length self.now.blocks.items) (is_any_asked self.now.asks.asked) self.now.is_ended }
     {
+        self.blocks.is_empty() && !self.asks.is_asked() && !self.is_ended
+    }
+
+    /// Gives all blocks that wait in place of those of an empty batch, and which settlings are asked for. No block is awaited
+    /// from now on.
+    fn give(&mut self, batch: &mut VecDeque<FedBlock>) -> Taken
+        ensures given { batch.new ≡ self.old.blocks }
+        ensures taken { result ≡ record {
+          asked = self.old.asks.asked;
+          is_over = is_over (length self.old.blocks.items) self.old.is_ended;
+        } }
+        ensures left { self.new ≡ record self.old
+            { blocks = batch.old; is_awaited = false; asks = all_taken self.old.asks } }
+    {
+        let is_over = self.blocks.is_empty() && self.is_ended;
         self.is_awaited = false;
         mem::swap(&mut self.blocks, batch);
+        Taken {
+            asked: self.asks.take(),
+            is_over,
+        }
     }
 }
 
@@ -108,6 +149,7 @@ impl Queue {
             state: Mutex::new(Waiting::new(alloc)?),
             filled: Condvar::new(),
             emptied: Condvar::new(),
+            settled: Condvar::new(),
         })
     }
 
@@ -136,15 +178,58 @@ impl Queue {
         self.state.lock(rt).await_blocks()
     }
 
-    /// Takes all blocks that wait, once there are some, in place of those of an empty batch. Whether there were some; none
-    /// come any more where not.
-    pub fn take<R: Wait>(&self, rt: &R, batch: &mut VecDeque<FedBlock>) -> bool {
-        let mut state = self.filled.wait_while(rt, self.state.lock(rt), |state| {
-            state.blocks.is_empty() && !state.is_ended
-        });
-        state.give(batch);
+    /// Whether a block waits.
+    pub fn has_block<R: Wait>(&self, rt: &R) -> bool {
+        !self.state.lock(rt).blocks.is_empty()
+    }
+
+    /// Takes all blocks that wait in place of those of an empty batch, and which settlings are asked for. It waits for either
+    /// one, or for the end, for so many milliseconds at most.
+    pub fn take<R: Wait + Clock>(
+        &self,
+        rt: &R,
+        batch: &mut VecDeque<FedBlock>,
+        wait: Option<u64>,
+    ) -> Taken {
+        let state = self.state.lock(rt);
+        let mut state = match wait {
+            Some(wait) => {
+                let wait = Duration::from_millis(wait);
+                self.filled
+                    .wait_timeout_while(rt, state, wait, |state| state.is_idle())
+                    .0
+            }
+            None => self.filled.wait_while(rt, state, |state| state.is_idle()),
+        };
+        let taken = state.give(batch);
         self.emptied.notify_all();
-        !batch.is_empty()
+        taken
+    }
+
+    /// Asks that a session settles at once.
+    pub fn ask<R: Wait>(&self, rt: &R, session: usize) {
+        self.state.lock(rt).asks.ask(session);
+        self.filled.notify_one();
+    }
+
+    /// Waits until a session that was asked for has settled, or the recording thread has ended.
+    pub fn wait_for_settling<R: Wait>(&self, rt: &R, session: usize) {
+        let state = self.settled.wait_while(rt, self.state.lock(rt), |state| {
+            state.asks.is_pending(session)
+        });
+        let _ = state.is_ended;
+    }
+
+    /// The sessions that were taken have settled.
+    pub fn answer<R: Wait>(&self, rt: &R) {
+        self.state.lock(rt).asks.answer();
+        self.settled.notify_all();
+    }
+
+    /// The recording thread has ended: nobody waits for it any more.
+    pub fn leave<R: Wait>(&self, rt: &R) {
+        self.state.lock(rt).asks.close();
+        self.settled.notify_all();
     }
 
     /// No more blocks come.

@@ -1,11 +1,13 @@
 //! The thread that records. docs/ARCHITECTURE.md, "Serving".
 
-ghost use Rattle.std.specs.Prelude.{◌≡◌, IfSome, None, Some, replicate, slice_index_or, slice_set};
-ghost use Rattle.serve_core.specs.Recording.{first_term, written_more};
+ghost use Rattle.std.specs.Prelude.{◌≡◌, IfSome};
+ghost use Rattle.serve_core.specs.Recording.{first_term};
 
-use crate::queue::FedBlock;
+use crate::queue::{FedBlock, Taken};
 use crate::seats::Seats;
+use crate::settling::Settling;
 use crate::shared::Shared;
+use crate::stopwatch::Stopwatch;
 use crate::teller::Teller;
 use archive_lock::{Naming, SharedArchive};
 use archive_model::Reply;
@@ -14,70 +16,9 @@ use frame_core::{Block, Items, Refusal};
 use std::alloc::Global;
 use std::collections::VecDeque;
 use std::net::UdpSocket;
+use std::rt::Clock;
 use std::sync::Wait;
 use stream_pairs::FED_SESSIONS;
-
-/// What a session wrote and did not settle in a batch.
-#[derive(Clone, Copy)]
-struct Written {
-    /// The term of its last block.
-    term_id: i32,
-    /// How many bytes of the stream it covers.
-    bytes: u64,
-    /// The image that the blocks are of.
-    image: usize,
-}
-
-/// What each session wrote and did not settle in a batch.
-#[derive(Clone, Copy)]
-struct Unsettled {
-    of_sessions: [Option<Written>; FED_SESSIONS],
-}
-
-impl Unsettled {
-    fn new() -> Unsettled
-        ensures { result.of_sessions ≡ replicate 64 None }
-    {
-        Unsettled {
-            of_sessions: [None; FED_SESSIONS],
-        }
-    }
-
-    fn of(&self, session: usize) -> Option<Written>
-        ensures { result ≡ slice_index_or self.now.of_sessions session None }
-    {
-        match self.of_sessions.get(session) {
-            Some(written) => *written,
-            None => None,
-        }
-    }
-
-    fn set(&mut self, session: usize, written: Option<Written>)
-        ensures { self.new.of_sessions ≡ slice_set self.old.of_sessions session written }
-    {
-        if session < FED_SESSIONS {
-            self.of_sessions[session] = written;
-        }
-    }
-
-    fn add(&mut self, session: usize, image: usize, term_id: i32, bytes: u64)
-        ensures { self.new.of_sessions ≡ slice_set self.old.of_sessions session
-            (Some (written_more image term_id bytes (slice_index_or self.old.of_sessions session None))) }
-    {
-        let before = match self.of(session) {
-            Some(written) => written.bytes,
-            None => 0,
-        };
-        self.set(
-            session,
-            Some(Written {
-                term_id,
-                bytes: before.saturating_add(bytes),
-                image,
-            }),
-        );
-    }
-}
 
 /// What the thread that records works with.
 #[derive(Drop)]
@@ -89,43 +30,70 @@ pub(crate) struct Recording<'a, D: Disk, A: Naming, R, T> {
     pub socket: &'a UdpSocket,
 }
 
-/// Records the blocks that wait, batch after batch, until no more come.
-pub(crate) fn record_all<D: Disk, A: Naming, R: Wait, T: Teller>(
+/// Records the blocks that wait, batch after batch, until no more come. A session settles once it is due: a block waits for
+/// `settle_every` milliseconds at most. All sessions settle at the end. Then nobody waits for a settling any more.
+pub(crate) fn record_all<D: Disk, A: Naming, R: Wait + Clock, T: Teller>(
     with: &Recording<'_, D, A, R, T>,
     seats: &mut Seats<A>,
+    settle_every: u64,
     batch: &mut VecDeque<FedBlock>,
 ) {
+    let watch = Stopwatch::new(with.rt);
+    let mut settling = Settling::new(settle_every);
     for _ in with.rt.forever() {
-        if with.shared.queue.await_blocks(with.rt) {
-            with.shared.look_round(with.socket);
+        let taken = take_batch(with, &watch, &mut settling, batch);
+        write_batch(with, seats, &mut settling, batch);
+        settle_due(with, seats, &mut settling, &taken);
+        with.shared.queue.answer(with.rt);
+        if settling.has_settled() {
+            let (counted, limit) = with.archive.counted(with.rt);
+            with.shared.note_history(counted, limit);
         }
-        if !with.shared.queue.take(with.rt, batch) {
-            return;
+        if taken.is_over {
+            break;
         }
-        record_batch(with, seats, batch);
-        let (counted, limit) = with.archive.counted(with.rt);
-        with.shared.note_history(counted, limit);
     }
+    with.shared.queue.leave(with.rt);
 }
 
-/// Writes the blocks of a batch, and then settles each session that wrote one.
-fn record_batch<D: Disk, A: Naming, R: Wait, T: Teller>(
+/// Waits for blocks, for a settling that is asked for, or until a session is due, and takes what came. Sets the time.
+fn take_batch<D: Disk, A: Naming, R: Wait + Clock, T: Teller>(
+    with: &Recording<'_, D, A, R, T>,
+    watch: &Stopwatch,
+    settling: &mut Settling,
+    batch: &mut VecDeque<FedBlock>,
+) -> Taken {
+    if with.shared.queue.await_blocks(with.rt) {
+        with.shared.look_round(with.socket);
+    }
+    settling.set_time(watch.read(with.rt));
+    let wait = settling.next_due();
+    let taken = with.shared.queue.take(with.rt, batch, wait);
+    settling.set_time(watch.read(with.rt));
+    taken
+}
+
+/// Settles each session that is due now; all of them if no more blocks come.
+fn settle_due<D: Disk, A: Naming, R: Wait, T: Teller>(
     with: &Recording<'_, D, A, R, T>,
     seats: &mut Seats<A>,
-    batch: &mut VecDeque<FedBlock>,
+    settling: &mut Settling,
+    taken: &Taken,
 ) {
-    let mut unsettled = Unsettled::new();
-    write_batch(with, seats, &mut unsettled, batch);
+    let block_waits = with.shared.queue.has_block(with.rt);
     for session in 0..FED_SESSIONS {
-        let _ = settle(with, seats, &mut unsettled, session);
+        if taken.is_over || settling.is_due(session, block_waits, taken.asked[session]) {
+            let _ = settle(with, seats, settling, session);
+        }
     }
 }
 
-/// Writes the blocks of a batch, each for the session that its image feeds then. Without one it is dropped.
+/// Writes the blocks of a batch, each for the session that its image feeds then. Without one it is dropped. A session that
+/// wrote enough settles before its next block.
 fn write_batch<D: Disk, A: Naming, R: Wait, T: Teller>(
     with: &Recording<'_, D, A, R, T>,
     seats: &mut Seats<A>,
-    unsettled: &mut Unsettled,
+    settling: &mut Settling,
     batch: &mut VecDeque<FedBlock>,
 ) {
     for _ in 0..u64::MAX {
@@ -134,7 +102,10 @@ fn write_batch<D: Disk, A: Naming, R: Wait, T: Teller>(
         };
         let session = with.shared.session_of(with.rt, fed.image);
         if let Some(session) = session {
-            write(with, seats, unsettled, session, fed);
+            write(with, seats, settling, session, fed);
+            if settling.is_full(session) {
+                let _ = settle(with, seats, settling, session);
+            }
         }
     }
 }
@@ -144,22 +115,22 @@ fn write_batch<D: Disk, A: Naming, R: Wait, T: Teller>(
 fn write<D: Disk, A: Naming, R: Wait, T: Teller>(
     with: &Recording<'_, D, A, R, T>,
     seats: &mut Seats<A>,
-    unsettled: &mut Unsettled,
+    settling: &mut Settling,
     session: usize,
     fed: FedBlock,
 ) {
     let FedBlock { image, block } = fed;
     let term_id = term_of(&block);
-    let copy = match unsettled.of(session) {
+    let copy = match settling.written(session) {
         // Only where the one before it stands in another segment has a block to wait for a settling.
         Some(written) if written.term_id != term_id => copy_of(with.alloc, &block),
         _ => None,
     };
-    let first = write_once(with, seats, unsettled, session, image, block);
+    let first = write_once(with, seats, settling, session, image, block);
     match (first, copy) {
         (Err(Refusal::NeedSettle), Some(block)) => {
-            if settle(with, seats, unsettled, session) {
-                if let Err(cause) = write_once(with, seats, unsettled, session, image, block) {
+            if settle(with, seats, settling, session) {
+                if let Err(cause) = write_once(with, seats, settling, session, image, block) {
                     with.shared.refused(with.rt, session, cause);
                 }
             }
@@ -172,7 +143,7 @@ fn write<D: Disk, A: Naming, R: Wait, T: Teller>(
 fn write_once<D: Disk, A: Naming, R: Wait, T: Teller>(
     with: &Recording<'_, D, A, R, T>,
     seats: &mut Seats<A>,
-    unsettled: &mut Unsettled,
+    settling: &mut Settling,
     session: usize,
     image: usize,
     block: Block,
@@ -182,7 +153,7 @@ fn write_once<D: Disk, A: Naming, R: Wait, T: Teller>(
     match seats.write(with.rt, with.alloc, with.archive, session, block)? {
         Reply::Written { position } => {
             let bytes = position.saturating_sub(begins).unsigned_abs();
-            unsettled.add(session, image, term_id, bytes);
+            settling.add(session, image, term_id, bytes);
         }
         _ => {}
     }
@@ -193,13 +164,12 @@ fn write_once<D: Disk, A: Naming, R: Wait, T: Teller>(
 fn settle<D: Disk, A: Naming, R: Wait, T: Teller>(
     with: &Recording<'_, D, A, R, T>,
     seats: &mut Seats<A>,
-    unsettled: &mut Unsettled,
+    settling: &mut Settling,
     session: usize,
 ) -> bool {
-    let Some(written) = unsettled.of(session) else {
+    let Some(written) = settling.take(session) else {
         return true;
     };
-    unsettled.set(session, None);
     match seats.settle(with.rt, with.alloc, with.archive, session) {
         Ok(position) => {
             with.shared.settled(with.rt, session, position);

@@ -15,9 +15,10 @@ use crate::happening::Happening;
 use crate::images::Images;
 use crate::options::ServeOptions;
 use crate::queue::FedBlock;
-use crate::receiving::receive_all;
+use crate::receiving::{Reception, TENDING};
 use crate::recording::{Recording, record_all};
 use crate::seats::{Benches, PASSES, Seats};
+use crate::senders::{Receiver, Senders};
 use crate::shared::Shared;
 use crate::teller::{Teller, Untold};
 use crate::unopened::Unopened;
@@ -48,6 +49,10 @@ struct Serving<'a, R, T> {
     socket: &'a UdpSocket,
     /// For how long a client may be idle while another waits.
     idle: Duration,
+    /// Whether the line `images` is answered.
+    lists_images: bool,
+    /// Milliseconds for which a block waits for its settling at most.
+    settle_every: u64,
     shared: &'a Shared<T>,
 }
 
@@ -55,18 +60,32 @@ struct Serving<'a, R, T> {
 #[derive(Drop)]
 struct Tools {
     images: Images,
+    senders: Option<Senders>,
     buffer: Vec<u8>,
     batch: VecDeque<FedBlock>,
 }
 
 impl Tools {
-    fn new(alloc: Global) -> Result<Tools, AllocError> {
+    fn new(alloc: Global, options: &ServeOptions) -> Result<Tools, AllocError> {
         Ok(Tools {
             images: Images::new(alloc),
+            senders: senders_for(alloc, options)?,
             buffer: vec![in alloc; 0; LONGEST_DATAGRAM]?,
             batch: VecDeque::with_capacity(alloc, MAX_WAITING_BLOCKS)?,
         })
     }
+}
+
+/// What senders are sent, if the server is a receiver of the public standard.
+fn senders_for(alloc: Global, options: &ServeOptions) -> Result<Option<Senders>, AllocError> {
+    let Some(window) = options.window else {
+        return Ok(None);
+    };
+    let receiver = Receiver {
+        window,
+        id: options.receiver_id,
+    };
+    Ok(Some(Senders::new(alloc, receiver)?))
 }
 
 /// Serves the archive of a disk as `serve_with`: a client may be idle for 60 seconds while another waits, and nobody is told
@@ -125,7 +144,7 @@ pub fn serve_with<
     let Ok(shared) = Shared::new(alloc, teller) else {
         return Err(ScriptFault::Memory(disk));
     };
-    let (Ok(tools), Ok(benches)) = (Tools::new(alloc), Benches::new(alloc)) else {
+    let (Ok(tools), Ok(benches)) = (Tools::new(alloc, options), Benches::new(alloc)) else {
         return Err(ScriptFault::Memory(disk));
     };
     let (archive, beginning) = match ScriptArchive::of_disk(alloc, disk) {
@@ -138,6 +157,8 @@ pub fn serve_with<
         listener: &listener,
         socket: &socket,
         idle: Duration::from_secs(options.idle_seconds),
+        lists_images: options.window.is_some(),
+        settle_every: options.settle_every,
         shared: &shared,
     };
     begin(&serving, beginning);
@@ -261,6 +282,7 @@ fn serve_shared<
 {
     let Tools {
         images,
+        senders,
         buffer,
         batch,
     } = tools;
@@ -286,7 +308,7 @@ fn serve_shared<
                     return (seats.into_passes(pass), Err(EarlyEnd::Memory));
                 }
             };
-            let receiver = scope.spawn(move || receive(with, images, buffer));
+            let receiver = scope.spawn(move || receive(with, images, senders, buffer));
             let Ok(receiver) = receiver else {
                 shared.queue.end(*rt);
                 return (recorder.join(*rt).into_passes(pass), Err(EarlyEnd::Memory));
@@ -309,11 +331,12 @@ fn serve_closed<R: Threads + Wait + Clock + Sync, T: Teller + Drop + Send + Sync
 ) -> Result<(), EarlyEnd> {
     let Tools {
         images,
+        senders,
         buffer,
         batch: _,
     } = tools;
     thread::scope(thread::scope_env(), with.rt, |scope| {
-        let receiver = scope.spawn(move || receive(with, images, buffer));
+        let receiver = scope.spawn(move || receive(with, images, senders, buffer));
         let Ok(receiver) = receiver else {
             return Err(EarlyEnd::Memory);
         };
@@ -324,7 +347,7 @@ fn serve_closed<R: Threads + Wait + Clock + Sync, T: Teller + Drop + Send + Sync
 }
 
 /// Records until no more blocks come. The seats.
-fn record<D: Disk, A: Naming, R: Wait, T: Teller>(
+fn record<D: Disk, A: Naming, R: Wait + Clock, T: Teller>(
     with: &Serving<'_, R, T>,
     archive: &SharedArchive<D, A>,
     mut seats: Seats<A>,
@@ -337,14 +360,15 @@ fn record<D: Disk, A: Naming, R: Wait, T: Teller>(
         shared: with.shared,
         socket: with.socket,
     };
-    record_all(&recording, &mut seats, &mut batch);
+    record_all(&recording, &mut seats, with.settle_every, &mut batch);
     seats
 }
 
-/// Receives until the server ends, and ends it where no more can be received. Whether more could be.
-fn receive<R: Wait, T: Teller>(
+/// Receives until the server ends, and ends it if no more can be received. Whether more could be.
+fn receive<R: Wait + Clock, T: Teller>(
     with: &Serving<'_, R, T>,
-    mut images: Images,
+    images: Images,
+    senders: Option<Senders>,
     mut buffer: Vec<u8>,
 ) -> bool {
     let Serving {
@@ -353,10 +377,12 @@ fn receive<R: Wait, T: Teller>(
         shared,
         ..
     } = with;
+    let doze = if senders.is_some() { TENDING } else { DOZE };
     let is_timed = socket
-        .set_read_timeout(Some(Duration::from_millis(DOZE)))
+        .set_read_timeout(Some(Duration::from_millis(doze)))
         .is_ok();
-    let is_whole = is_timed && receive_all(*rt, shared, socket, &mut images, buffer.as_mut_slice());
+    let mut reception = Reception::new(*rt, shared, socket, images, senders);
+    let is_whole = is_timed && reception.receive_all(buffer.as_mut_slice());
     if !is_whole {
         shared.end(socket);
     }
@@ -395,6 +421,7 @@ fn serve_lines<'x, R: Wait + Clock, T: Teller, S: Server + Drop>(
         with.shared,
         &door,
         with.idle,
+        with.lists_images,
         state,
     );
     (state.into_archive(), served)

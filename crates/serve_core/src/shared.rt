@@ -5,6 +5,7 @@ ghost use Rattle.serve_core.specs.Noting.{opens_session};
 
 use crate::counts::Counts;
 use crate::happening::Happening;
+use crate::listing::images_text;
 use crate::pairing::Pairing;
 use crate::queue::Queue;
 use crate::teller::Teller;
@@ -160,9 +161,44 @@ impl<T: Teller> Shared<T> {
         self.pairing.lock(rt).pairs.session_of_image(image)
     }
 
+    /// Whether an image feeds a session that is open.
+    pub fn is_recorded<R: Wait>(&self, rt: &R, image: usize) -> bool {
+        self.pairing.lock(rt).pairs.is_recorded(image)
+    }
+
+    /// A line for each image, and a line with how many there are.
+    pub fn images_text<R: Wait>(&self, rt: &R, alloc: Global) -> Result<String, AllocError> {
+        images_text(alloc, &self.pairing.lock(rt).pairs)
+    }
+
     /// A session settled, and is recorded up to a position.
     pub fn settled<R: Wait>(&self, rt: &R, session: usize, position: i64) {
         self.pairing.lock(rt).pairs.settled(session, position);
+    }
+
+    /// The open session that writes a recording is to settle at once, if there is one. Its number. Waits for nothing.
+    pub fn ask_writer<R: Wait>(&self, rt: &R, recording: i64) -> Option<usize> {
+        let session = self.pairing.lock(rt).pairs.writer_of(recording);
+        if let Some(session) = session {
+            self.queue.ask(rt, session);
+        }
+        session
+    }
+
+    /// The open session that writes a recording settles at once, if there is one. Waits until it has, or the recording thread
+    /// has ended.
+    pub fn settle_writer<R: Wait>(&self, rt: &R, recording: i64) {
+        if let Some(session) = self.ask_writer(rt, recording) {
+            self.queue.wait_for_settling(rt, session);
+        }
+    }
+
+    /// Waits for a settling of the open session that writes a recording, if one was asked for and is not made yet.
+    pub fn await_writer<R: Wait>(&self, rt: &R, recording: i64) {
+        let session = self.pairing.lock(rt).pairs.writer_of(recording);
+        if let Some(session) = session {
+            self.queue.wait_for_settling(rt, session);
+        }
     }
 
     /// A session was refused: it loses its image, if it has one.

@@ -1,7 +1,7 @@
 use Rattle.folder_commands.proofs.commands.obey.Given as goal
 
-abbrev pub ghost-disk_of : goal.ghost-disk_of
-ghost-disk_of g a = g.given
+abbrev pub ghost-serve : goal.ghost-serve
+ghost-serve g a = g.given
 
 abbrev pub ghost-create : goal.ghost-create
 ghost-create g a = g.given

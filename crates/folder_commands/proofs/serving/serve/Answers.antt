@@ -1,12 +1,15 @@
--- How the server ended.
-use Rattle.std.proofs.Common.{ap, subst, sym, ◌∙◌}
-use Rattle.host_disk.specs.HostDisk.{host_life}
-use Rattle.tool_core.specs.Archives.{disk_of}
-use Rattle.folder_commands.specs.declared.status.Ending.TheVariants.{Cut}
-use Rattle.folder_commands.specs.Serving.{ServesOver}
+-- How the command ended, by how far it came.
+use Rattle.std.proofs.Common.{◌≡◌, Err, rules}
+use Rattle.folder_commands.specs.Folders.{ending_in}
+use Rattle.folder_commands.proofs.ServingLemmas.{not_opened, served}
 use Rattle.folder_commands.proofs.serving.serve.Goals as goal
+
+pub returns-in_err-disk : goal.returns-in_err-disk
+returns-in_err-disk g c =
+    let ended = c.in_err-disk.field-0.0 in
+    let is : c.from_residual-in_err-disk.result ≡ Err ended = search rules in
+    rw is (not_opened g.given c.args.words.now _ c.in_ok-options.ensures.window c.in_ok-ports.ensures ended.ending c.in_err-disk.ensures.unopened)
 
 pub returns : goal.returns
 returns g c =
-    subst (ServesOver (host_life c.args.disk)) (sym (c.cut.ensures ∙ ap Cut c.end.ensures))
-    (host_life (disk_of c.in-Err.fault), c.in-Err.ensures.early)
+    served g.given c.args.words.now _ c.in_ok-options.ensures.window c.in_ok-ports.ensures _ (ending_in c.serve_disk.result) c.in_ok-disk.ensures.begun c.serve_disk.ensures
