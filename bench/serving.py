@@ -1,13 +1,15 @@
 #!/usr/bin/env python3
-"""Measures a served archive: frames of 1,408 bytes from a sender on this machine into a folder, beside what one thread settles
-there by the library in the same batches.
+"""Measures a served archive: frames of 1,408 bytes from a sender on this machine into a folder.
 
 Usage: bench/serving.py [--frames N] [--runs N] [program], on the file system of TRIAL_ROOM, else that of TMPDIR. First:
 cd crates/lock_trials && rt run -- memory 1 1
 
-The sender (sender.rs) sends as fast as what is recorded keeps up, at most 768 KiB ahead of it, and again what is asked for; it
-is done when every byte is recorded. The system's receive buffer should hold that much (docs/SERVING.md). Runs come in turn with
-runs of the library, whose batches are 16 blocks of 46 frames.
+Three kinds of run come in turn:
+- a sender with flow control (sender.rs --flow-control) to `serve --aeron`, with the system's default receive buffer;
+- a sender that is at most 768 KiB ahead of what `positions` shows (sender.rs), to `serve` with a receive buffer of 8 MiB;
+- what one thread settles there by the library, in batches of 16 blocks of 46 frames.
+A sender sends again what is asked for, and is done when every byte is recorded. Only root may enlarge the buffer (docs/SERVING.md):
+while a server starts, `net.core.rmem_default` of the machine is 8 MiB. If it can't be set, the first two kinds are not compared.
 """
 import argparse
 import os
@@ -15,28 +17,67 @@ import statistics
 import subprocess
 import sys
 import time
+from collections.abc import Iterator
+from contextlib import contextmanager
+from dataclasses import dataclass
 from pathlib import Path
 
 from measure import compiled
 from tool import ROOT, Fault, conclude, expect, file_system, program, room, run
 
 sys.path.insert(0, str(ROOT / "trials"))
-from serving import Server  # noqa: E402
+from serving import Server, settles  # noqa: E402
 
 LIBRARY = ROOT / "crates/lock_trials/out/lock_trials"
 FRAME = 1_408
 BLOCK = 46 * FRAME
 BATCH = 16
 LEAST, GOAL = 0.5, 0.8
+BUFFER, LARGE_BUFFER = Path("/proc/sys/net/core/rmem_default"), 8_388_608
 
 
-def dropped(port: int) -> int:
-    """Datagrams that the system dropped at a port."""
-    for line in Path("/proc/net/udp").read_text().splitlines()[1:]:
-        words = line.split()
-        if int(words[1].split(":")[1], 16) == port:
-            return int(words[12])
-    return 0
+@dataclass(frozen=True)
+class Kind:
+    """A sender and its server: their options, and how large the server's receive buffer is, if it isn't the system's default."""
+
+    name: str
+    sender: tuple[str, ...]
+    server: tuple[str, ...]
+    buffer: int | None
+
+
+@dataclass(frozen=True)
+class Found:
+    """What a run showed: frames and entries a second, microseconds of a processor for each datagram, and the rest in words."""
+
+    rate: float
+    entries: float
+    processor: float
+    rest: str
+
+
+@contextmanager
+def receive_buffer(size: int | None) -> Iterator[None]:
+    """Gives each socket that is made meanwhile a receive buffer so large; None leaves it as it is."""
+    usual = BUFFER.read_text()
+    if size is not None:
+        BUFFER.write_text(str(size))
+    try:
+        yield
+    finally:
+        if size is not None:
+            BUFFER.write_text(usual)
+
+
+def started(tool: Path, folder: Path, kind: Kind) -> Server:
+    """A server whose socket has its receive buffer."""
+    run([tool, "create", folder, "--history", "16777216"])
+    with receive_buffer(kind.buffer):
+        server = Server(tool, folder, *kind.server)
+        until = time.monotonic() + 10
+        while not server.socket_words() and time.monotonic() < until:
+            time.sleep(0.01)
+    return server
 
 
 def processor_seconds(pid: int) -> float:
@@ -44,33 +85,32 @@ def processor_seconds(pid: int) -> float:
     return (int(words[11]) + int(words[12])) / os.sysconf("SC_CLK_TCK")
 
 
-def served(tool: Path, sender: Path, folder: Path, frames: int) -> dict[str, float]:
-    """One run of the sender against a server."""
-    run([tool, "create", folder, "--history", "16777216"])
-    server = Server(tool, folder)
+def served(tool: Path, sender: Path, folder: Path, frames: int, kind: Kind) -> Found:
+    """One run of a sender against its server."""
+    server = started(tool, folder, kind)
     began = processor_seconds(server.process.pid)
-    process = subprocess.Popen(
-        [sender, str(server.control), str(server.receive), str(frames), str(FRAME)], stdout=subprocess.PIPE, text=True
-    )
+    words = [sender, str(server.control), str(server.receive), str(frames), str(FRAME), *kind.sender]
+    process = subprocess.Popen(words, stdout=subprocess.PIPE, text=True)
     lost, spent = 0, began
     while process.poll() is None:
         try:
-            lost, spent = max(lost, dropped(server.receive)), processor_seconds(server.process.pid)
+            lost, spent = max(lost, server.dropped()), processor_seconds(server.process.pid)
         except OSError:
             pass
         time.sleep(0.02)
-    words = process.stdout.read().split()
-    if process.returncode or len(words) != 4:
-        raise Fault(f"the sender ended with status {process.returncode}: {words}; {server.errors()}")
+    numbers = process.stdout.read().split()
+    if process.returncode or len(numbers) != 5:
+        raise Fault(f"the sender ended with status {process.returncode}: {numbers}; {server.errors()}")
     expect("the server's status", server.process.wait(60), 0)
-    microseconds, naks, repeats, position = map(int, words)
+    microseconds, naks, repeats, position, status_messages = map(int, numbers)
+    entries = settles(folder)
     stops = [int(line.split()[5]) for line in run([tool, "list", folder])[:-1]]
     expect("what is recorded", stops, [position])
-    past = [line for line in server.errors().splitlines() if line.startswith("ended:")]
-    expect("lines that say how the server ended", len(past), 1)
-    datagrams = int(past[0].split("datagrams ", 1)[1].split(",")[0])
-    return {"rate": frames / microseconds * 1e6, "naks": naks, "repeats": repeats, "dropped": lost,
-            "processor": (spent - began) / datagrams * 1e6, "told": past[0]}
+    counts = server.counts()
+    rest = (f"dropped by the system {lost}, NAKs {naks}, sent again {repeats}, status messages {status_messages}; the server counted "
+            + ", ".join(f"{name} {count}" for name, count in counts.items()))
+    seconds = microseconds / 1e6
+    return Found(frames / seconds, entries / seconds, (spent - began) / counts["datagrams"] * 1e6, rest)
 
 
 def library(folder: Path, frames: int) -> float:
@@ -80,6 +120,32 @@ def library(folder: Path, frames: int) -> float:
     told = subprocess.run([LIBRARY, "speed", "engine", folder, "large", str(blocks), str(BATCH)],
                           capture_output=True, text=True, check=True).stdout
     return blocks * 46 / int(told) * 1e6
+
+
+def kinds() -> list[Kind]:
+    """The kinds of run with a server: with flow control, and with a sender that paces itself."""
+    large = LARGE_BUFFER if os.access(BUFFER, os.W_OK) else None
+    print(f"the system's default receive buffer has {BUFFER.read_text().strip()} bytes"
+          + ("" if large else "; it can't be enlarged here"), flush=True)
+    return [Kind("with flow control", ("--flow-control",), ("--aeron",), None), Kind("paced by `positions`", (), (), large)]
+
+
+def medians(found: list[Found]) -> Found:
+    """The medians of some runs."""
+    return Found(*(statistics.median(getattr(it, name) for it in found) for name in ("rate", "entries", "processor")), "")
+
+
+def conclusion(served_by: dict[Kind, list[Found]], theirs: list[float]) -> int:
+    """Prints medians and ratios; the status."""
+    (flow, paced), by_library = map(medians, served_by.values()), statistics.median(theirs)
+    for kind, found in zip(served_by, (flow, paced), strict=True):
+        print(f"medians {kind.name}: {found.rate:,.0f} frames and {found.entries:,.0f} entries a second, {found.processor:.2f} "
+              "microseconds of a processor for each datagram")
+    to_paced, to_library = flow.rate / paced.rate, paced.rate / by_library
+    is_compared = all(kind.buffer or kind.server for kind in served_by)
+    print(f"with flow control {to_paced:.2f} of the paced sender" + (f" (goal {GOAL})" if is_compared else ", of the same buffer: no goal")
+          + f"; paced {to_library:.2f} of the library's {by_library:,.0f} frames a second (goal {GOAL}, at least {LEAST})", flush=True)
+    return 0 if to_library >= LEAST and (to_paced >= GOAL or not is_compared) else 1
 
 
 def main() -> int:
@@ -94,20 +160,17 @@ def main() -> int:
         alone = subprocess.run([sender, "alone", str(asked.frames), str(FRAME)], capture_output=True, text=True, check=True)
         print(f"the sender alone: {asked.frames / int(alone.stdout.split()[0]) * 1e6:,.0f} frames a second", flush=True)
         print(f"over {file_system(work)}, {asked.frames} frames of {FRAME} bytes", flush=True)
-        ours, theirs, costs = [], [], []
+        ours: dict[Kind, list[Found]] = {kind: [] for kind in kinds()}
+        theirs = []
         for index in range(asked.runs):
-            found = served(tool, sender, work / f"served-{index}", asked.frames)
-            ours.append(found["rate"])
+            for number, kind in enumerate(ours):
+                found = served(tool, sender, work / f"served-{number}-{index}", asked.frames, kind)
+                ours[kind].append(found)
+                print(f"{kind.name}: {found.rate:,.0f} frames and {found.entries:,.0f} entries a second, {found.processor:.2f} "
+                      f"microseconds of a processor for each datagram; {found.rest}", flush=True)
             theirs.append(library(work / f"library-{index}", asked.frames))
-            costs.append(found["processor"])
-            print(f"served {found['rate']:,.0f} a second, {found['processor']:.2f} microseconds of a processor for each datagram, "
-                  f"by the library {theirs[-1]:,.0f}; dropped by the system {found['dropped']}, NAKs {found['naks']}, "
-                  f"sent again {found['repeats']}; {found['told']}", flush=True)
-        ratio = statistics.median(ours) / statistics.median(theirs)
-        print(f"medians: {statistics.median(ours):,.0f} and {statistics.median(theirs):,.0f} frames a second, "
-              f"{ratio:.2f} (goal {GOAL}, at least {LEAST}); {statistics.median(costs):.2f} microseconds of a processor for each "
-              "datagram", flush=True)
-        return 0 if ratio >= LEAST else 1
+            print(f"by the library: {theirs[-1]:,.0f} frames a second", flush=True)
+        return conclusion(ours, theirs)
 
 
 if __name__ == "__main__":

@@ -4,8 +4,8 @@ docs/SERVING.md, "Control lines".
 
 Usage: examples/client.py HOST:PORT < lines
 
-A line is sent once the one before it was answered. A reply is one line, but those of `list` and `poll`: lines that begin with
-`recording` or `frame`, and one more.
+A line is sent once the one before it was answered. A reply is one line, but those of `list`, `poll` and `images`: lines that
+begin with `recording`, `frame` or `image`, and one more.
 """
 import socket
 import sys
@@ -14,6 +14,7 @@ from collections.abc import Iterator
 
 
 PATIENCE = 5  # seconds in which a server may begin to listen
+LONG_REPLIES = {"list": "recording ", "poll": "frame ", "images": "image "}  # what all lines but the last begin with
 
 
 def connected(address: tuple[str, int], seconds: float) -> socket.socket:
@@ -39,10 +40,10 @@ class Client:
     def ask(self, line: str) -> Iterator[str]:
         """The lines of a line's reply; none more where the connection was closed."""
         self.socket.sendall(line.encode("ascii") + b"\n")
-        is_long = line.startswith(("list ", "poll "))
+        beginning = LONG_REPLIES.get(line.split(" ", 1)[0])
         for reply in self.replies:
             yield reply.rstrip("\n")
-            if not (is_long and reply.startswith(("recording ", "frame "))):
+            if beginning is None or not reply.startswith(beginning):
                 return
 
     def close(self) -> None:

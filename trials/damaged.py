@@ -25,7 +25,7 @@ from random import Random
 import random_lines
 from comparison import Files, Script, ended, in_parts, look_only, verification, write
 from readers.archive import Archive, files_of, looked_at, opened
-from readers.catalogue import BANKS, Recording, Register
+from readers.catalogue import BANKS, NEWEST, Recording, Register
 from readers.segments import HEADER, PAD, segment_of
 from tool import Fault, conclude, expect, file_system, program, room, trial_words
 
@@ -37,7 +37,7 @@ FIELDS = *[(0, "<i")] * 4, (4, "<b"), (6, "<h"), (8, "<i"), (12, "<i"), (16, "<i
 
 def made(tool: Path, folder: Path, chance: Random, is_active: bool) -> Archive:
     """An archive that the program made, as the reader sees it. A recording of it is active, or none is."""
-    archive = Archive({}, Register(1))
+    archive = Archive({}, Register(NEWEST))
     script = Script(archive)
     for _ in range(STEPS):
         for line in random_lines.line(archive, chance):

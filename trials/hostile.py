@@ -29,7 +29,7 @@ import random_lines
 from comparison import Files, Script, after_an_opening, ended, in_parts, look_only, write
 from damaged import cut, damage, grow, looks, made, make_pad, move_bytes, same_state, set_field, turn_bytes
 from readers.archive import Archive, files_of, looked_at, opened
-from readers.catalogue import BANKS, Catalogue, Recording, Refused, Register, read_banks
+from readers.catalogue import BANKS, NEWEST, Catalogue, Recording, Refused, Register, read_banks
 from readers.lines import form_of
 from readers.segments import DATA, PAD, aligned, frames_of_file, segment_of, stale_files
 from tool import Fault, Stream, conclude, expect, file_system, program, room, trial_words
@@ -317,7 +317,7 @@ def datagram(archive: Archive, chance: Random) -> bytes:
 def try_datagrams(tool: Path, work: Path, seed: int, begin: int, end: int) -> Counter[str]:
     """Writes and merges some datagrams in one process."""
     chance = Random(f"{seed} datagrams {begin}")
-    script = Script(Archive({}, Register(1)))
+    script = Script(Archive({}, Register(NEWEST)))
     term_length = chance.choice((65_536, 131_072))
     script.ask(f"start 1001 7 {TERM} {term_length} 1408 {chance.choice((131_072, 262_144))} 0 1000 c")
     for count in (47, 46):  # 47 messages of the MTU's length cover more than a block may

@@ -6,6 +6,7 @@ from readers.catalogue import Recording, Refused
 from readers.segments import DATA, HEADER, PAD, aligned
 
 CHANNELS = "c", "aeron:udp?endpoint=localhost:40123", "a b", "äöü"
+SOURCES = "127.0.0.1:40123", "s", "é"
 STARTS = (0,) * 6 + (65_536, 65_408, 131_072, 2**47 - 131_072)  # the last one is two terms before the last position
 MOST_RECORDINGS = 5
 GEOMETRY = "65536 1408"  # term length and MTU
@@ -16,7 +17,8 @@ def start(chance: Random) -> str:
     term = chance.choice((42, 0, 2**31 - 1, -7))
     segment = chance.choice((65_536, 65_536, 131_072))
     ids = f"{chance.choice((1_001, 1_002))} {chance.randint(-3, 9)} {term}"
-    return f"start {ids} {GEOMETRY} {segment} {chance.choice(STARTS)} {chance.randint(0, 9_999)} {chance.choice(CHANNELS)}"
+    word = "start" if chance.random() < 0.7 else f"start-from {chance.choice(SOURCES)}"
+    return f"{word} {ids} {GEOMETRY} {segment} {chance.choice(STARTS)} {chance.randint(0, 9_999)} {chance.choice(CHANNELS)}"
 
 
 def frame(known: Recording, position: int, kind: int, length: int, payload: bytes = b"") -> bytes:
@@ -76,7 +78,8 @@ def line(archive: Archive, chance: Random) -> list[str]:
         return [f"purge-segments {known.number} {known.base(position(archive, known, chance))}"]
     if what < 0.93:
         return [f"purge {known.number}"]
-    return [chance.choice(("sweep", "sweep", "sweep", "reopen", "compact", f"verify {known.number}", f"positions {known.number}"))]
+    asked = f"{chance.choice(('verify', 'positions', 'source'))} {known.number}"
+    return [chance.choice(("sweep", "sweep", "sweep", "reopen", "compact", asked, asked, asked))]
 
 
 def extension(known: Recording, chance: Random) -> str:

@@ -24,6 +24,7 @@ from contextlib import contextmanager
 from dataclasses import replace
 from pathlib import Path
 
+from readers.catalogue import SETTLE, read_banks
 from tool import (
     INITIAL_TERM, ROOT, SESSION_ID, STREAM_ID, Fault, Stream, conclude, dissected, expect, file_system, program, replayed, room, run,
     told_of_frame, trial_words,
@@ -31,7 +32,7 @@ from tool import (
 
 sys.path.insert(0, str(ROOT / "examples"))
 from client import Client  # noqa: E402
-from sender import HEADER_LENGTH, Publication  # noqa: E402
+from sender import HEADER_LENGTH, MESSAGE, PAD, Publication, kind_of  # noqa: E402
 
 STREAM = Stream(term_length=1_048_576, segment_length=1_048_576)
 IN_FLIGHT = 262_144  # bytes that a sender lets stand past the recorded position
@@ -49,8 +50,8 @@ def free_port(kind: int) -> int:
 class Server:
     """A `serve` over a folder."""
 
-    def __init__(self, tool: Path, folder: Path, *options: str) -> None:
-        self.control, self.receive = free_port(socket.SOCK_STREAM), free_port(socket.SOCK_DGRAM)
+    def __init__(self, tool: Path, folder: Path, *options: str, receive: int = 0) -> None:
+        self.control, self.receive = free_port(socket.SOCK_STREAM), receive or free_port(socket.SOCK_DGRAM)
         self.told = tempfile.TemporaryFile("w+")
         ports = ["--control", str(self.control), "--receive", str(self.receive)]
         self.process = subprocess.Popen([tool, "serve", folder, *ports, *options], stderr=self.told)
@@ -93,10 +94,26 @@ class Server:
                 return int(line.split()[1]) // 1024
         return 0
 
+    def socket_words(self) -> list[str]:
+        """What the system says of its datagram socket; nothing if there is none."""
+        lines = map(str.split, Path("/proc/net/udp").read_text().splitlines()[1:])
+        return next((words for words in lines if int(words[1].split(":")[1], 16) == self.receive), [])
+
+    def dropped(self) -> int:
+        """How many datagrams the system has dropped at its port."""
+        return int((self.socket_words() or ["0"])[-1])
+
     def errors(self) -> str:
         """What it told on standard error."""
         self.told.seek(0)
         return self.told.read()
+
+    def counts(self) -> dict[str, int]:
+        """What it counted, by the line with which it ended."""
+        ended = [line for line in self.errors().splitlines() if line.startswith("ended: ")]
+        expect("lines that say how the server ended", len(ended), 1)
+        counts = (count.rpartition(" ") for count in ended[0].removeprefix("ended: ").split(", "))
+        return {name: int(number) for name, _, number in counts}
 
 
 @contextmanager
@@ -118,15 +135,46 @@ def publication_of(session_id: int) -> Publication:
     return Publication(session_id, STREAM_ID, INITIAL_TERM, STREAM.term_length, STREAM.mtu)
 
 
+def payload(position: int, length: int) -> bytes:
+    """The payload of a message so long, which tells its position."""
+    tail = length - HEADER_LENGTH
+    return (position.to_bytes(8, "little") * (tail // 8 + 1))[:tail]
+
+
+class Faults:
+    """Loses, doubles and swaps a share of datagrams, a third of it each."""
+
+    def __init__(self, chance: random.Random, share: float) -> None:
+        self.chance, self.share = chance, share
+        self.late: bytes | None = None  # overtaken by the next one
+        self.lost_frames = self.swapped = 0
+
+    def sent_for(self, datagram: bytes) -> list[bytes]:
+        """The datagrams that are sent in the place of one."""
+        what = self.chance.random() / self.share if self.share else 1.0
+        if what < 1 / 3:
+            self.lost_frames += kind_of(datagram) in (PAD, MESSAGE) and datagram[:4] != bytes(4)
+            return []
+        if 2 / 3 <= what < 1 and self.late is None:
+            self.late = datagram
+            self.swapped += 1
+            return []
+        return [datagram] * (2 if what < 2 / 3 else 1) + self.held_back()
+
+    def held_back(self) -> list[bytes]:
+        """The datagram that waits to be overtaken, if there is one; it waits no longer."""
+        late, self.late = self.late, None
+        return [] if late is None else [late]
+
+
 class Sender:
     """Sends a publication; of a hundred datagrams it loses, doubles and swaps some."""
 
     def __init__(self, server: Server, session_id: int, chance: random.Random, faults: float = 0.0) -> None:
         self.publication = publication_of(session_id)
-        self.address, self.chance, self.faults = server.address(), chance, faults
+        self.address, self.faults = server.address(), Faults(chance, faults)
         self.socket = socket.socket(socket.AF_INET, socket.SOCK_DGRAM)
         self.socket.setblocking(False)
-        self.late: bytes | None = None
         self.naks: list[bytes] = []
 
     def send(self, datagram: bytes) -> None:
@@ -141,18 +189,8 @@ class Sender:
 
     def risk(self, datagram: bytes) -> None:
         """Sends a datagram that may be lost, doubled, or overtaken by the next one."""
-        what = self.chance.random() / self.faults if self.faults else 1.0
-        if what < 1 / 3:
-            return
-        if what < 2 / 3:
-            self.send(datagram)
-        elif what < 1 and self.late is None:
-            self.late = datagram
-            return
-        self.send(datagram)
-        if self.late is not None:
-            self.send(self.late)
-            self.late = None
+        for sent in self.faults.sent_for(datagram):
+            self.send(sent)
 
     def repeat(self) -> None:
         """Answers the NAK frames that have come, each range once."""
@@ -170,9 +208,7 @@ class Sender:
 
     def message(self, length: int) -> None:
         """One message more, whose payload tells its position."""
-        tail = length - HEADER_LENGTH
-        position = self.publication.position
-        for frame in self.publication.add((position.to_bytes(8, "little") * (tail // 8 + 1))[:tail]):
+        for frame in self.publication.add(payload(self.publication.position, length)):
             self.risk(frame)
 
     def until(self, client: Client, recording: int, distance: int) -> int:
@@ -201,6 +237,12 @@ def recorded_position(client: Client, recording: int) -> int:
 def start_line(session_id: int) -> str:
     """The line that starts a recording of a session's stream from its beginning."""
     return replace(STREAM, session_id=session_id).start(f"c{session_id}")
+
+
+def settles(archive: Path) -> int:
+    """How many settles the history of an archive has that nobody serves."""
+    known = read_banks(lambda name: (archive / name).read_bytes() if (archive / name).exists() else None)
+    return sum(entry.kind == SETTLE for _, entry in known.entries)
 
 
 def compare(tool: Path, archive: Path, recording: int, sent: Publication, begin: int = 0) -> int:
@@ -303,7 +345,7 @@ def lossy(tool: Path, chance: random.Random, frames: int) -> None:
             sender.message(chance.choice((40, 64, 96)))
             if index % 64 == 0:
                 sender.until(client, 0, IN_FLIGHT)
-        sender.faults = 0.0
+        sender.faults.share = 0.0
         sender.until(client, 0, 0)
         took = time.monotonic() - begun
         memory = server.memory()
@@ -328,7 +370,7 @@ def read_by_wireshark(tool: Path, chance: random.Random) -> None:
             sender.message(chance.choice((40, 64, 1_000)))
             if index % 16 == 0:
                 sender.until(client, 0, IN_FLIGHT)
-        sender.faults = 0.0
+        sender.faults.share = 0.0
         sender.until(client, 0, 0)
         client.close()
         server.quit()

@@ -238,11 +238,16 @@ def go_round(tool: Path, folder: Path, history: int, work: Rounds) -> None:
         raise Fault(f"behind {work.so_far()}: {fault}") from fault
 
 
-def dissected(capture: Path, port: int) -> list[list[int]]:
-    """The numbers that Wireshark's Aeron dissector tells of each NAK, data and pad frame of a capture file to a port."""
-    parts = "session_id", "stream_id", "term_id", "term_offset"
-    fields = [f"aeron.nak.{part}" for part in (*parts, "length", "frame_length")]
-    fields += [f"aeron.{kind}.{part}" for kind in ("data", "pad") for part in (*parts, "frame_length")]
+PARTS = "session_id", "stream_id", "term_id", "term_offset"
+NAKS_AND_FRAMES = [
+    *(f"aeron.nak.{part}" for part in (*PARTS, "length", "frame_length")),
+    *(f"aeron.{kind}.{part}" for kind in ("data", "pad") for part in (*PARTS, "frame_length")),
+]
+
+
+def dissected(capture: Path, port: int, fields: Sequence[str] = NAKS_AND_FRAMES) -> list[list[int]]:
+    """The numbers that Wireshark's Aeron dissector has in these fields of each frame of a capture file to a port. Without fields
+    they are those of NAK, data and pad frames."""
     words = ["tshark", "-r", capture, "-d", f"udp.port=={port},aeron", "-T", "fields", "-E", "separator=,"]
     told = subprocess.run([*words, *(word for field in fields for word in ("-e", field))], capture_output=True, text=True, check=True)
     return [read_numbers(line) for line in told.stdout.splitlines()]
