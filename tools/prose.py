@@ -72,7 +72,8 @@ def pieces(text: str) -> Iterator[Piece]:
             yield Piece(number, without_code(bare), True)
         else:
             begin = begin if held else number
-            held.append(POINT.sub("", line, count=1) if not held else line)
+            point = POINT.match(line)
+            held.append(line[point.end() :] if point else line)
 
 
 def sentences(piece: Piece) -> Iterator[Sentence]:

@@ -99,7 +99,7 @@ def filled(command: str, folder: Path, control: int) -> list[str]:
         (r"(?<=^create )\S+", str(folder / "new")), (r"<folder>|<copy>|/var/lib/recorder", str(folder / "archive")),
         (r"(?<=--pcap )<file>", str(folder / "frames.pcap")), (r"<file>", str(folder / "archive/0-0.rec")),
         (r"(?<=--control )\S+", str(control)), (r"(?<=--receive )\S+", str(receive)), (r"<IPv4 address>", "127.0.0.1"),
-        (r"(?<=--to )<position>", "128"), (r"<recording>|<position>", "0"), (r"<seconds>|<entries>", "60"),
+        (r"(?<=--to )<position>", "128"), (r"<recording>|<position>", "0"), (r"<seconds>|<entries>|<milliseconds>", "60"), (r"<bytes>", "65536"),
         (r"<command>", "export"),
     ]
     for pattern, value in values:
