@@ -1,8 +1,8 @@
 #!/usr/bin/env python3
 """A small sender of an Aeron stream over UDP: each line of standard input is a message. docs/SERVING.md, "Who can send".
 
-Usage: examples/sender.py --to HOST:PORT [--flow-control] [--session N] [--stream N] [--term N] [--term-length N] [--mtu N]
-                          [--rate N] [--position N] [--linger SECONDS] < messages
+Usage: examples/sender.py --to HOST:PORT [--flow-control] [--control PORT] [--session N] [--stream N] [--term N]
+                          [--term-length N] [--mtu N] [--rate N] [--position N] [--linger SECONDS] < messages
 
 It begins with a setup frame, paces its frames, sends heartbeats after the last of them, and sends again what NAK frames ask
 for. It keeps all that it sent. No receiver says what it received, so the sender lingers after its last message.
@@ -14,6 +14,12 @@ With --flow-control it follows the status messages of a receiver, as an Aeron me
 - It answers no NAK frame for what it has sent again in the last 60 milliseconds.
 - It takes the receiver for gone after 5 seconds without a status message. It sends no frame until the next one comes.
 - After its last message it waits until the receiver has consumed all, or is gone, before it lingers. The status is 1 if it is gone.
+
+With --control it has its stream recorded, by that port of a server on this machine. docs/SERVING.md, "After a restart":
+- It starts a recording of its stream, or extends the last one, and sends from where that begins or ends.
+- Without --flow-control it stays within half a term, and 131,072 bytes, of what `positions` shows.
+- After a restart of the server it does the same again, and sends all frames from there once more.
+- It ends once all is recorded. The status is 1 if a line is refused, or another client stopped the recording.
 """
 import argparse
 import math
@@ -26,6 +32,8 @@ import time
 from collections.abc import Iterable, Iterator
 from typing import BinaryIO, NamedTuple
 
+from client import Client
+
 HEADER_LENGTH = 32
 UNFRAGMENTED = 0xC0
 PAD, MESSAGE, NAK, STATUS, SETUP = 0, 1, 2, 3, 5
@@ -35,6 +43,10 @@ RECEIVER_SECONDS = 5  # without a status message a receiver is gone
 RETRANSMIT_SECONDS = 0.06  # in which frames are sent again once
 CATCH_UP_SECONDS = 0.1  # of its rate, after the sender was held
 IDLE_SECONDS = 0.01
+LOOK_SECONDS = 0.05  # between two questions to the control port
+ANSWER_SECONDS = 1  # for a line's answer: another client may have the connection
+LONGEST_WINDOW = 131_072  # bytes past the recorded position, without flow control
+SEGMENT_LENGTH = 2**30
 
 
 def aligned(length: int) -> int:
@@ -109,6 +121,10 @@ class Publication:
         self.position += covers
         return frame
 
+    def has(self, position: int) -> bool:
+        """Whether all of the stream from a position on was kept."""
+        return position in self.frames or position == self.position
+
     def range_of(self, nak: bytes) -> range:
         """The positions that a NAK frame asks for, if it is one of this stream."""
         if len(nak) < 28:
@@ -178,6 +194,10 @@ class Sender:
         while time.monotonic() < until:
             self.send(self.publication.heartbeat())
             self.repeat(HEARTBEAT_SECONDS)
+
+    def is_done(self) -> bool:
+        """Whether the receiver has all, as far as the sender knows."""
+        return True
 
 
 class FlowControlled(Sender):
@@ -258,14 +278,169 @@ class FlowControlled(Sender):
                 self.tend(IDLE_SECONDS)
                 continue
             for _ in self.publication.add(message):
-                while not self.send_next():
-                    self.tend(IDLE_SECONDS)
+                self.flush()
             self.tend(0.0)
             due = max(due, time.monotonic() - CATCH_UP_SECONDS) + 1 / rate
             self.tend_until(due)
+        self.await_end()
+        self.tend_until(time.monotonic() + linger)
+
+    def flush(self) -> None:
+        """Sends all frames that were not sent, once the receiver has room for them."""
+        while self.position < self.publication.position:
+            if not self.send_next():
+                self.tend(IDLE_SECONDS)
+
+    def await_end(self) -> None:
+        """Waits until the receiver has consumed all, or is gone."""
         while self.is_connected and self.consumed < self.position:
             self.tend(IDLE_SECONDS)
-        self.tend_until(time.monotonic() + linger)
+
+    def is_done(self) -> bool:
+        return self.consumed >= self.publication.position
+
+
+class Refused(Exception):
+    """Why a stream can't be recorded."""
+
+
+class Control:
+    """The control port of a server, by which a stream is recorded. Each line has a connection of its own.
+
+    A call raises OSError if no answer comes, and Refused if a line is refused.
+    """
+
+    def __init__(self, port: int, publication: Publication, channel: str) -> None:
+        self.address, self.publication, self.channel = ("127.0.0.1", port), publication, channel
+        self.recording = -1
+
+    def ask(self, line: str) -> list[str]:
+        """The lines of a line's answer."""
+        client = Client(self.address, ANSWER_SECONDS)
+        try:
+            answer = list(client.ask(line))
+        finally:
+            client.close()
+        if not answer:
+            raise ConnectionError("the connection was closed")
+        return answer
+
+    def numbers(self, line: str) -> list[int]:
+        """The numbers of an answer of one line."""
+        word, *numbers = self.ask(line)[0].split()
+        if word == "error":
+            raise Refused(f"{line}: {word} {' '.join(numbers)}")
+        return [int(it) for it in numbers]
+
+    def recorded(self) -> tuple[int, bool]:
+        """Up to where the recording goes, and whether it is active."""
+        _, recorded, stop = self.numbers(f"positions {self.recording}")
+        return recorded, stop == -1
+
+    def was_stopped(self) -> bool:
+        """Whether a client stopped the recording: an opening leaves no timestamp."""
+        return self.ask(f"list {self.recording} 1")[0].split()[3] != "-1"
+
+    def joined(self) -> int | None:
+        """Where the stream's image joined, if the server has one and says so, as `serve --aeron` does."""
+        ids = [str(self.publication.session_id), str(self.publication.stream_id)]
+        for fields in (line.split() for line in self.ask("images")):
+            if fields[0] == "image" and fields[2:4] == ids:
+                if fields[8] != "-":
+                    raise Refused(f"session id {ids[0]} fed another recording: take another one")
+                return int(fields[7])
+        return None
+
+    def begin(self) -> int:
+        """Has the stream recorded. Gives the position from which on it has to be sent."""
+        stream = self.publication
+        ids, terms = f"{stream.stream_id} {stream.session_id}", f"{stream.initial_term_id} {stream.term_length} {stream.mtu}"
+        (last,) = self.numbers(f"find 0 {ids} {self.channel}")
+        _, end, stop = self.numbers(f"positions {last}") if last >= 0 else (0, -1, 0)
+        position = end if stop == -1 else self.joined()
+        if position is None:
+            position = end if stream.has(end) else stream.position
+        if not stream.has(position):
+            raise Refused(f"recording {last} ends at {end}, and the server waits for {position}, which is not kept")
+        self.recording = last
+        if stop == -1:
+            self.say(f"recording {last} is at {end}")
+        elif position == end:
+            self.numbers(f"extend {last} {ids} {terms} {end}")
+            self.say(f"recording {last} goes on at {end}")
+        else:
+            lengths = f"{terms} {max(SEGMENT_LENGTH, stream.term_length)}"
+            self.recording, _ = self.numbers(f"start {ids} {lengths} {position} {time.time_ns() // 10**6} {self.channel}")
+            self.say(f"recording {self.recording} begins at {position}" + (f", recording {last} ended at {end}" if last >= 0 else ""))
+        return position
+
+    def say(self, text: str) -> None:
+        print(text, file=sys.stderr, flush=True)
+
+
+class Recorded(FlowControlled):
+    """A sender that has its stream recorded by a server's control port, and goes back after a restart to where its recording ends.
+
+    Without flow control it sends a window past the recorded position, in bytes.
+    """
+
+    def __init__(self, publication: Publication, address: tuple[str, int], control: Control, window: int | None) -> None:
+        super().__init__(publication, address)
+        self.control, self.window = control, window
+        self.begun = self.recorded = publication.position
+        self.looked = -math.inf
+
+    def begin(self) -> None:
+        """Has the stream recorded, once there is a server, and goes to where it has to be sent from."""
+        while True:
+            try:
+                self.begun = self.control.begin()
+                break
+            except OSError:
+                time.sleep(LOOK_SECONDS)
+        self.position = self.consumed = self.recorded = self.begun
+        self.limit = self.begun + (self.window or 0)
+        self.was_connected = self.is_connected = self.window is not None
+        self.owes_setup, self.setup_sent = False, -math.inf
+        if self.window is not None:
+            self.status_came = math.inf  # no status message is waited for
+            self.send(self.publication.setup(self.begun))
+
+    def look(self) -> None:
+        """Asks how far the stream is recorded. Begins again if its recording is not active: the server was restarted."""
+        try:
+            self.recorded, is_active = self.control.recorded()
+            if not is_active and self.control.was_stopped():
+                raise Refused(f"a client stopped recording {self.control.recording} at {self.recorded}")
+        except OSError:
+            return
+        finally:
+            self.looked = time.monotonic()
+        if not is_active:
+            self.begin()
+        elif self.window is not None:
+            self.limit = self.recorded + self.window
+            if self.recorded == self.begun:  # its setup frame may be lost
+                self.send(self.publication.setup(self.begun))
+
+    def send_due(self, now: float) -> None:
+        """Looks before it answers a request for a setup frame: an image joins where the first one says."""
+        if self.owes_setup or now - self.looked >= LOOK_SECONDS:
+            self.look()
+        super().send_due(now)
+
+    def run(self, messages: Iterable[bytes | None], rate: float, linger: float) -> None:
+        self.begin()
+        super().run(messages, rate, linger)
+
+    def await_end(self) -> None:
+        """Waits until all is recorded."""
+        while self.recorded < self.publication.position:
+            self.flush()
+            self.tend(IDLE_SECONDS)
+
+    def is_done(self) -> bool:
+        return self.recorded >= self.publication.position
 
 
 def arriving(source: BinaryIO) -> Iterator[bytes | None]:
@@ -284,6 +459,15 @@ def arriving(source: BinaryIO) -> Iterator[bytes | None]:
         yield rest
 
 
+def sender_for(asked: argparse.Namespace, publication: Publication, address: tuple[str, int]) -> Sender:
+    """The sender that the words ask for."""
+    if asked.control is not None:
+        control = Control(asked.control, publication, f"aeron:udp?endpoint={asked.to}")
+        window = None if asked.flow_control else min(LONGEST_WINDOW, publication.term_length // 2)
+        return Recorded(publication, address, control, window)
+    return FlowControlled(publication, address) if asked.flow_control else Sender(publication, address)
+
+
 def main() -> int:
     words = argparse.ArgumentParser(description=__doc__, formatter_class=argparse.RawDescriptionHelpFormatter)
     words.add_argument("--to", required=True, metavar="HOST:PORT")
@@ -296,20 +480,20 @@ def main() -> int:
     words.add_argument("--rate", type=float, default=10_000, help="frames a second")
     words.add_argument("--linger", type=float, default=1, help="seconds of heartbeats after the last message")
     words.add_argument("--flow-control", action="store_true", help="follow the status messages of the receiver")
+    words.add_argument("--control", type=int, metavar="PORT", help="have the stream recorded, by this port of 127.0.0.1")
     asked = words.parse_args()
     host, _, port = asked.to.rpartition(":")
     publication = Publication(asked.session, asked.stream, asked.term, asked.term_length, asked.mtu, asked.position)
-    address = host, int(port)
-    if asked.flow_control:
-        sender = FlowControlled(publication, address)
-        sender.run(arriving(sys.stdin.buffer), asked.rate, asked.linger)
-        is_consumed = sender.consumed >= publication.position
-    else:
-        sender = Sender(publication, address)
-        sender.run((line.rstrip(b"\n") for line in sys.stdin.buffer), asked.rate, asked.linger)
-        is_consumed = True
+    sender = sender_for(asked, publication, (host, int(port)))
+    try:
+        if isinstance(sender, FlowControlled):
+            sender.run(arriving(sys.stdin.buffer), asked.rate, asked.linger)
+        else:
+            sender.run((line.rstrip(b"\n") for line in sys.stdin.buffer), asked.rate, asked.linger)
+    except Refused as refused:
+        sys.exit(str(refused))
     print(f"{sender.sent} frames, {publication.position} bytes of the stream, {sender.naks} NAKs, {sender.repeated} repeats")
-    return 0 if is_consumed else 1
+    return 0 if sender.is_done() else 1
 
 
 if __name__ == "__main__":
