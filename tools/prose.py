@@ -17,7 +17,7 @@ from typing import NamedTuple
 
 from repository import ROOT
 
-PAGES = ["README.md", *(f"docs/{it}.md" for it in ("SERVING", "CONTROL", "STORAGE", "ARCHITECTURE")), "CONTRIBUTING.md", "docs/GLOSSARY.md"]
+PAGES = ["README.md", *(f"docs/{it}.md" for it in ("SERVING", "CONTROL", "STORAGE", "RELIABILITY", "ARCHITECTURE")), "CONTRIBUTING.md", "docs/GLOSSARY.md"]
 LONG, LONGEST, SHARE = 25, 40, 0.05
 POINT = re.compile(r"\s*([-*+]|\d+\.)\s+")
 CODE = re.compile(r"(`+)(?!`).+?(?<!`)\1(?!`)", re.S)
