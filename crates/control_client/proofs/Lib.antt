@@ -1,0 +1,4 @@
+pub mod LineLemmas
+pub mod TallyLemmas
+pub mod PrintLemmas
+pub mod AskLemmas
