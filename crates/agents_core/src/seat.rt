@@ -92,6 +92,26 @@ impl RecorderSeat {
         archive.call(rt, alloc, &mut self.pass, &Event::Write { session, block })
     }
 
+    /// Makes another call by the pass: one call, whose answer it gives. The slot stays, also if it settles. Where the answer is
+    /// `NoMemory` the seat is as it was. Costs what the call costs, and waits for those that hold the lock. docs/CONTROL.md,
+    /// "Control state".
+    pub fn call<D: Disk, A: Naming, R: Wait>(
+        &mut self,
+        rt: &R,
+        alloc: Global,
+        archive: &SharedArchive<D, A>,
+        event: &Event,
+    ) -> Result<Reply, Refusal>
+        requires { self.old.pass.table ≡ A.table }
+        ensures answers { IsNoted result → EndsWithAnswer A.opening self.old.pass event.now result self.new.pass }
+        ensures unnoted { IsErrOf result NoMemory → self.new.pass ≡ self.old.pass }
+        ensures pass { self.new.pass.table ≡ self.old.pass.table }
+        ensures number { self.new.pass.number ≡ self.old.pass.number }
+        ensures same { self.new ≡ record self.old { pass = self.new.pass } }
+    {
+        archive.call(rt, alloc, &mut self.pass, event)
+    }
+
     /// Settles the session: one call, whose answer it gives, the position up to which the recording is then recorded, in
     /// bytes of the stream. Then it raises its slot to that position, unless this is below the slot's last; at a refusal it
     /// raises nothing. Where the answer is `NoMemory` the seat is as it was. Costs what the settling costs, and waits for
