@@ -134,8 +134,9 @@ impl Feedback {
         Some(nak)
     }
 
-    /// Whether a status message is due of an image.
-    fn is_status_due(&self, now: u64, image: &BoundedImage, most: i32) -> bool
+    /// Whether a status message is due of an image whose window has at most so many bytes: [`status`](Feedback::status) gives
+    /// one then. Does not allocate.
+    pub fn is_status_due(&self, now: u64, image: &BoundedImage, most: i32) -> bool
         ensures { result ≡ is_status_due now most image.now self.now }
     {
         let geometry = image.geometry();

@@ -20,15 +20,15 @@ fn point(session_id: i32, position: i64) -> StreamPoint {
     }
 }
 
-/// Sessions 5 and 2 stand where an image joins, one is opened before the image and one after it.
+/// The sessions at the seats 5 and 2 stand where an image joins, one is opened before the image and one after it.
 #[test]
 fn the_least_session_that_stands_there_is_fed(rt: HostRuntime) -> Result<(), Fail> {
     let mut pairs = Pairs::new(rt.alloc())?;
-    pairs.opened(5, 0, point(7, 0));
-    pairs.opened(2, 1, point(7, 0));
+    pairs.opened(5, 5, 0, point(7, 0));
+    pairs.opened(2, 2, 1, point(7, 0));
     assert!(rt; pairs.joined(point(7, 0)) == Some(0) && pairs.session_of_image(0) == Some(2));
     assert!(rt; pairs.joined(point(8, 64)) == Some(1) && pairs.session_of_image(1).is_none());
-    pairs.opened(9, 2, point(8, 64));
+    pairs.opened(9, 70, 2, point(8, 64));
     assert!(rt; pairs.session_of_image(1) == Some(9) && pairs.image_of_session(9) == Some(1));
     assert!(rt; pairs.image_of_session(5).is_none());
     Ok(())

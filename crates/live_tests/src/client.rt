@@ -1,7 +1,7 @@
 //! A client of a server, on a thread of its own, and the server that it talks to.
 
-use crate::vectors::hello;
-use std::alloc::Global;
+use crate::vectors::{hello, hello_of, setup_of};
+use std::alloc::{AllocError, Global};
 use std::io::{BufRead, BufReader, Write};
 use std::net::{Net, SocketAddr, TcpListener, TcpStream, UdpSocket};
 use std::rt::Clock;
@@ -117,6 +117,36 @@ impl Client {
             }
         }
         true
+    }
+
+    /// Whether publications of the session ids 0 to 199, one after another, are each started, recorded and stopped.
+    pub(crate) fn records_200<R: Clock>(&mut self, rt: &R, alloc: Global) -> bool {
+        for session_id in 0..200 {
+            if self.records(rt, alloc, session_id) != Ok(true) {
+                return false;
+            }
+        }
+        true
+    }
+
+    /// Whether a publication is started, recorded and stopped: the recording and its session have its session id's number.
+    fn records<R: Clock>(
+        &mut self,
+        rt: &R,
+        alloc: Global,
+        session_id: u8,
+    ) -> Result<bool, AllocError> {
+        let start = format!(in alloc; "start 1001 {session_id} 42 65536 1408 65536 0 1000 c")?;
+        let started = format!(in alloc; "started {session_id} {session_id}")?;
+        let positions = format!(in alloc; "positions {session_id}")?;
+        let stop = format!(in alloc; "stop {session_id} 5")?;
+        Ok(
+            self.casts(setup_of(session_id).as_slice())
+                && self.asks(alloc, start.as_str(), started.as_str())
+                && self.casts(hello_of(session_id).as_slice())
+                && self.awaits(rt, alloc, positions.as_str(), "positions 0 64 -1")
+                && self.asks(alloc, stop.as_str(), "stopped 64"),
+        )
     }
 
     /// Whether the next datagram that comes is this one.

@@ -77,6 +77,7 @@ fn is_met<R: Clock + Net<Listener = TcpListener, Stream = TcpStream>>(
         "casts" => client.casts(datagram(said)),
         "casts-elsewhere" => client.casts_elsewhere(rt, datagram(said)),
         "casts-ten" => client.casts_ten(),
+        "records-200" => client.records_200(rt, alloc),
         "receives" => client.receives(datagram(said)),
         "receives-among" => client.receives_among(datagram(said)),
         "silence" => client.falls_silent(),

@@ -11,7 +11,13 @@ mod client;
 #[cfg(test)]
 mod conversations;
 #[cfg(test)]
+mod crowds;
+#[cfg(test)]
+mod leaving;
+#[cfg(test)]
 mod receivers;
+#[cfg(test)]
+mod recorded;
 #[cfg(test)]
 mod scenarios;
 #[cfg(test)]

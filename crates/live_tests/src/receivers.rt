@@ -7,7 +7,7 @@ use serve_core::ServeOptions;
 use std::test::Fail;
 
 /// Aeron's initial window, and the receiver 9.
-fn receiver() -> ServeOptions {
+pub(crate) fn receiver() -> ServeOptions<'static> {
     let mut options = ServeOptions::new();
     options.window = Some(131_072);
     options.receiver_id = 9;
@@ -42,12 +42,17 @@ fn a_recorded_stream_gets_status_messages(rt: HostRuntime) -> Result<(), Fail> {
     Ok(())
 }
 
-/// A sender that was silent for ten seconds gets no status messages, until something comes.
+/// A sender that was silent for ten seconds gets no status messages. Its image leaves, and it is asked for its setup frame.
 const SILENT: &str = "\
 casts SETUP
 asks start 1001 7 42 65536 1408 65536 0 1000 c: started 0 0
 receives STATUS_AT_0
 silence
+pauses
+casts HELLO_AT_0
+receives-among SETUP_ASKED
+casts SETUP
+receives-among STATUS_AT_0
 casts HELLO_AT_0
 receives-among STATUS_AT_64
 ";

@@ -60,20 +60,18 @@ pub(crate) fn served<
 }
 
 /// Options: for how many seconds a client may be idle, and for how many milliseconds a block waits for its settling at most.
-pub(crate) fn options(idle_seconds: u64, settle_every: u64) -> ServeOptions {
-    ServeOptions {
-        idle_seconds,
-        settle_every,
-        window: None,
-        receiver_id: 0,
-    }
+pub(crate) fn options(idle_seconds: u64, settle_every: u64) -> ServeOptions<'static> {
+    let mut options = ServeOptions::new();
+    options.idle_seconds = idle_seconds;
+    options.settle_every = settle_every;
+    options
 }
 
 /// Serves a disk while a conversation is held, and then quits. The disk, where all was answered as it has to be.
 pub(crate) fn served_with<
     R: Threads + Wait + Clock + Net<Listener = TcpListener, Stream = TcpStream> + Sync,
     D: Disk + Drop + Send,
->(rt: &R, alloc: Global, disk: D, options: ServeOptions, conversation: &str) -> Option<D> {
+>(rt: &R, alloc: Global, disk: D, options: ServeOptions<'_>, conversation: &str) -> Option<D> {
     let (listener, socket, ports) = bound(rt)?;
     let told = Told::new();
     let told = &told;
@@ -101,7 +99,7 @@ fn quits<R: Net<Listener = TcpListener, Stream = TcpStream>>(
 }
 
 /// A listener and a socket on free ports.
-fn bound<R: Net<Listener = TcpListener, Stream = TcpStream>>(
+pub(crate) fn bound<R: Net<Listener = TcpListener, Stream = TcpStream>>(
     rt: &R,
 ) -> Option<(TcpListener, UdpSocket, Ports)> {
     let listener = TcpListener::bind(rt, "127.0.0.1:0").ok()?;

@@ -42,6 +42,34 @@ pub(crate) fn hello(index: u8) -> [u8; 37] {
     frame
 }
 
+/// The setup frame of term 42, joined at offset 64, and at offset 192.
+const SETUP_AT_64: &[u8] = &[
+    0x28, 0, 0, 0, 0, 0, 5, 0, 0x40, 0, 0, 0, 7, 0, 0, 0, 0xe9, 3, 0, 0, 0x2a, 0, 0, 0, 0x2a, 0, 0,
+    0, 0, 0, 1, 0, 0x80, 5, 0, 0, 0, 0, 0, 0,
+];
+
+const SETUP_AT_192: &[u8] = &[
+    0x28, 0, 0, 0, 0, 0, 5, 0, 0xc0, 0, 0, 0, 7, 0, 0, 0, 0xe9, 3, 0, 0, 0x2a, 0, 0, 0, 0x2a, 0, 0,
+    0, 0, 0, 1, 0, 0x80, 5, 0, 0, 0, 0, 0, 0,
+];
+
+/// The setup frame of a session id.
+pub(crate) fn setup_of(session_id: u8) -> [u8; 40] {
+    let mut frame = [0; 40];
+    for (to, from) in frame.iter_mut().zip(SETUP) {
+        *to = *from;
+    }
+    frame[12] = session_id;
+    frame
+}
+
+/// `hello` of a session id, term 42, offset 0.
+pub(crate) fn hello_of(session_id: u8) -> [u8; 37] {
+    let mut frame = hello(0);
+    frame[12] = session_id;
+    frame
+}
+
 /// The setup frame of terms of 131,072 bytes from term 42 on, joined at offset 65,472 of it.
 const SETUP_OF_LONG_TERM: &[u8] = &[
     0x28, 0, 0, 0, 0, 0, 5, 0, 0xc0, 0xff, 0, 0, 7, 0, 0, 0, 0xe9, 3, 0, 0, 0x2a, 0, 0, 0, 0x2a, 0,
@@ -144,7 +172,7 @@ const NAK_OF_PAD: &[u8] = &[
 ];
 
 /// The datagrams that conversations name.
-const DATAGRAMS: [(&'static str, &'static [u8]); 24] = [
+const DATAGRAMS: [(&'static str, &'static [u8]); 26] = [
     ("HELLO_AT_0", HELLO_AT_0),
     ("HELLO_AT_64", HELLO_AT_64),
     ("HELLO_AT_64_CUT_OFF", HELLO_AT_64_CUT_OFF),
@@ -155,6 +183,8 @@ const DATAGRAMS: [(&'static str, &'static [u8]); 24] = [
     ("SETUP", SETUP),
     ("SETUP_CUT_OFF", SETUP_CUT_OFF),
     ("SETUP_AT_TERM_END", SETUP_AT_TERM_END),
+    ("SETUP_AT_64", SETUP_AT_64),
+    ("SETUP_AT_192", SETUP_AT_192),
     ("SETUP_OF_LONG_TERM", SETUP_OF_LONG_TERM),
     ("PAD_OF_LONG_TERM", PAD_OF_LONG_TERM),
     ("NAK_AT_0", NAK_AT_0),

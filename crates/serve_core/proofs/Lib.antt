@@ -1,4 +1,6 @@
+mod ClientLemmas
 mod ImageLemmas
 mod SeatLemmas
 mod ServingLemmas
 mod SettlingLemmas
+pub mod StreamLemmas

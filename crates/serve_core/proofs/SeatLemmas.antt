@@ -1,5 +1,5 @@
 -- Seats and their passes.
-use Rattle.std.proofs.Common.{◌≡◌, ◌≢◌, ◌+◌, ◌++◌, ◌<◌, ◌≤◌, ◌∙◌, ℕ, zero, suc, ℤ, pos, List, [], ◌∷◌, Some, None, Result, Ok, Err, Bool, true, false, refl, sym, subst, ap, length, arith, eqb, eq-eqb}
+use Rattle.std.proofs.Common.{◌≡◌, ◌≢◌, ◌+◌, ◌++◌, ◌<◌, ◌≤◌, ◌∙◌, ℕ, zero, suc, ℤ, pos, List, [], ◌∷◌, Option, Some, None, Result, Ok, Err, Bool, true, false, refl, sym, subst, ap, length, arith, eqb, eq-eqb}
 use Rattle.std.specs.Prelude.{◌||◌, IfOk, IfErr, int_le, slice_get, slice_set, if◌then◌else◌}
 use mathlib.Core.List.{reverse}
 use mathlib.Core.Logic.{dite}
@@ -13,7 +13,7 @@ use Rattle.frame_core.specs.declared.refusal.Refusal.TheVariants.{StaleSession}
 use Rattle.call_history.specs.Passes.{AllOfTable, HasEach, has_number, new_pass, new_passes}
 use Rattle.call_history.specs.Values.{PassView}
 use Rattle.archive_lock.specs.declared.history.Made.{Made}
-use Rattle.serve_core.specs.Seats.{AreNewWriters, AreNumbered, AreSeats, CallsAt, CallsAtSeat, HasFrom, IsNewWriter, IsSeat, SeatsView}
+use Rattle.serve_core.specs.Seats.{AreNewWriters, AreNumbered, AreSeats, CallsAt, CallsAtSeat, HasFrom, IsNewWriter, IsSeat, SeatsView, reseated}
 
 -- ---- the last of a list
 
@@ -81,6 +81,13 @@ passes_last table n k all ps p is popped next =
 pub some_passes : (table : TableId) (n k : ℕ) (all : List (PassView Made)) → all ≡ made_passes table n → n ≡ suc k → 0 < length all
 some_passes table n k all is next = omega (arith, one_longer all (made_passes table k) (made_pass table k) (is ∙ ap (made_passes table) next))
 
+pub count_made : (table : TableId) (n : ℕ) (all : List (PassView Made)) → all ≡ made_passes table n → length all ≡ n
+count_made table n all is = ap length is ∙ made n
+  where
+    made : (m : ℕ) → length (made_passes table m) ≡ m
+    made zero = refl
+    made (suc m) = length-append (made_passes table m) (made_pass table m ∷ []) ∙ omega (arith, made m)
+
 pub all_push : (table : TableId) (ps : List (PassView Made)) (p : PassView Made) → AllOfTable table ps → p.table ≡ table → AllOfTable table (ps ++ p ∷ [])
 all_push table [] p all of = (of, tt)
 all_push table (q ∷ ps) p all of = (all.0, all_push table ps p all.1 of)
@@ -115,7 +122,6 @@ seats_set table board xs i new all holds = let same : i ≡ 0 + i = omega arith 
 -- a seat with the pass and the writer of a number
 pub new_seat : (table board : TableId) (n k : ℕ) (seat : SeatView) (pass : PassView Made) (writer : Published) → seat ≡ record { session = pos n; pass = pass; writer = writer } → n ≡ k → pass ≡ made_pass table k → IsNewWriter board k writer → IsSeat table board k seat
 new_seat table board n k seat pass writer is same made new = record {
-  session = ap (λ (s : SeatView). s.session) is ∙ ap (λ (m : ℕ). pos m) same;
   table = ap (λ (s : SeatView). s.pass.table) is ∙ ap (λ (p : PassView Made). p.table) made;
   number = ap (λ (s : SeatView). s.pass.number) is ∙ ap (λ (p : PassView Made). p.number) made;
   writer = ap (λ (s : SeatView). s.writer.table) is ∙ new.table;
@@ -125,7 +131,6 @@ new_seat table board n k seat pass writer is same made new = record {
 -- a seat that has written is its session's still
 pub written_seat : (table board : TableId) (n : ℕ) (old new : SeatView) → IsSeat table board n old → new ≡ record old { pass = new.pass } → new.pass.table ≡ old.pass.table → new.pass.number ≡ old.pass.number → IsSeat table board n new
 written_seat table board n old new was same of number = record {
-  session = ap (λ (s : SeatView). s.session) same ∙ was.session;
   table = of ∙ was.table;
   number = number ∙ was.number;
   writer = ap (λ (s : SeatView). s.writer.table) same ∙ was.writer;
@@ -150,31 +155,54 @@ raised_slot position writer = by (int_le (last_position writer.positions) positi
 pub settled_seat : (table board : TableId) (n : ℕ) (old new : SeatView) (result : Result ℤ Refusal) → IsSeat table board n old → IfOk result (λ position. new.writer ≡ raised_unless_below position old.writer)
     → IfErr result (λ refusal. new.writer ≡ old.writer) → new.pass.table ≡ old.pass.table → new.pass.number ≡ old.pass.number → new.session ≡ old.session → IsSeat table board n new
 settled_seat table board n old new (Ok position) was raised same of number session = record {
-  session = session ∙ was.session;
   table = of ∙ was.table;
   number = number ∙ was.number;
   writer = ap (λ (w : Published). w.table) raised ∙ (raised_table position old.writer ∙ was.writer);
   slot = ap (λ (w : Published). w.slot) raised ∙ (raised_slot position old.writer ∙ was.slot);
 }
 settled_seat table board n old new (Err refusal) was raised same of number session = record {
-  session = session ∙ was.session;
   table = of ∙ was.table;
   number = number ∙ was.number;
   writer = ap (λ (w : Published). w.table) same ∙ was.writer;
   slot = ap (λ (w : Published). w.slot) same ∙ was.slot;
 }
 
--- the seat of a session calls
-pub calls_at : {A : Type 0} (session : ℕ) (old : SeatsView) (seat after : SeatView) (result : Result A Refusal) (Calls : SeatView → Result A Refusal → SeatView → Type 0) → slice_get old.seats session ≡ Some seat → Calls seat result after
-    → CallsAt session old result (record old { seats = slice_set old.seats session after }) Calls
-calls_at session old seat after result Calls gets calls =
-    subst (λ o. CallsAtSeat o session old result (record old { seats = slice_set old.seats session after }) Calls) (sym gets) (after, calls, refl)
-
 -- there is none
 no_seat : (xs : List SeatView) (i : ℕ) → length xs ≤ i → slice_get xs i ≡ None
 no_seat [] i none = refl
 no_seat (y ∷ ys) zero none = absurd (omega arith)
 no_seat (y ∷ ys) (suc i) none = no_seat ys i (omega arith)
+
+-- a seat that writes for another session is a seat
+pub reseated_seat : (table board : TableId) (n : ℕ) (old new : SeatView) (session : ℤ) → IsSeat table board n old → new ≡ record old { session = session } → IsSeat table board n new
+reseated_seat table board n old new session was is = record {
+  table = ap (λ (s : SeatView). s.pass.table) is ∙ was.table;
+  number = ap (λ (s : SeatView). s.pass.number) is ∙ was.number;
+  writer = ap (λ (s : SeatView). s.writer.table) is ∙ was.writer;
+  slot = ap (λ (s : SeatView). s.writer.slot) is ∙ was.slot;
+}
+
+reseated_by : (session : ℤ) (o : Option SeatView) (n : ℕ) (seats : List SeatView) (old new : SeatView) → o ≡ Some old → new ≡ record old { session = session } → slice_set seats n new ≡ reseated session o n seats
+reseated_by session None n seats old new gets is = absurd cc
+reseated_by session (Some seat) n seats old new gets is =
+    let same : seat ≡ old = cc in
+    ap (slice_set seats n) (is ∙ ap (λ (s : SeatView). record s { session = session }) (sym same))
+
+pub reseated_at : (session : ℤ) (n : ℕ) (seats : List SeatView) (old new : SeatView) → slice_get seats n ≡ Some old → new ≡ record old { session = session } → slice_set seats n new ≡ reseated session (slice_get seats n) n seats
+reseated_at session n seats old new gets is = reseated_by session (slice_get seats n) n seats old new gets is
+
+unseated_by : (session : ℤ) (o : Option SeatView) (n : ℕ) (seats : List SeatView) → o ≡ None → seats ≡ reseated session o n seats
+unseated_by session None n seats none = refl
+unseated_by session (Some seat) n seats none = absurd cc
+
+pub unseated : (session : ℤ) (n : ℕ) (seats : List SeatView) → length seats ≤ n → seats ≡ reseated session (slice_get seats n) n seats
+unseated session n seats past = unseated_by session (slice_get seats n) n seats (no_seat seats n past)
+
+-- the seat of a session calls
+pub calls_at : {A : Type 0} (session : ℕ) (old : SeatsView) (seat after : SeatView) (result : Result A Refusal) (Calls : SeatView → Result A Refusal → SeatView → Type 0) → slice_get old.seats session ≡ Some seat → Calls seat result after
+    → CallsAt session old result (record old { seats = slice_set old.seats session after }) Calls
+calls_at session old seat after result Calls gets calls =
+    subst (λ o. CallsAtSeat o session old result (record old { seats = slice_set old.seats session after }) Calls) (sym gets) (after, calls, refl)
 
 pub calls_none : {A : Type 0} (session : ℕ) (old : SeatsView) (result : Result A Refusal) (Calls : SeatView → Result A Refusal → SeatView → Type 0) → length old.seats ≤ session → result ≡ Err StaleSession → CallsAt session old result old Calls
 calls_none session old result Calls none is = subst (λ o. CallsAtSeat o session old result old Calls) (sym (no_seat old.seats session none)) (is, refl)
@@ -202,7 +230,7 @@ or_true : (b c : Bool) → c ≡ true → b || c ≡ true
 or_true true c is = refl
 or_true false c is = is
 
-either : (b c d : Bool) → b || c ≡ true → (c ≡ true → d ≡ true) → b || d ≡ true
+pub either : (b c d : Bool) → b || c ≡ true → (c ≡ true → d ≡ true) → b || d ≡ true
 either true c d is more = refl
 either false c d is more = more is
 
@@ -214,13 +242,13 @@ has_still : (n : ℕ) (ps : List (PassView Made)) (p : PassView Made) → has_nu
 has_still n [] p has = absurd cc
 has_still n (q ∷ ps) p has = either (eqb q.number n) (has_number n ps) (has_number n (ps ++ p ∷ [])) has (has_still n ps p)
 
-pub has_push : (k j : ℕ) (ps : List (PassView Made)) (p : PassView Made) → HasFrom k ps → k ≡ suc j → p.number ≡ j → HasFrom j (ps ++ p ∷ [])
-has_push k j ps p has next is = λ n from below. dite (ℕ_discrete n j)
+pub has_push : (k j count : ℕ) (ps : List (PassView Made)) (p : PassView Made) → HasFrom k count ps → k ≡ suc j → p.number ≡ j → HasFrom j count (ps ++ p ∷ [])
+has_push k j count ps p has next is = λ n from below. dite (ℕ_discrete n j)
     (λ (same : n ≡ j). has_last n ps p (is ∙ sym same))
     (λ (ne : n ≢ j). has_still n ps p (has n (omega arith) below))
 
-pub last_of_all : (k : ℕ) (p : PassView Made) → k ≡ 64 → p.number ≡ 64 → HasFrom k (p ∷ [])
-last_of_all k p at is = λ n from below. has_last n [] p (omega arith)
+pub has_none : (k count : ℕ) (ps : List (PassView Made)) → count ≤ k → HasFrom k count ps
+has_none k count ps past = λ n from below. absurd (omega arith)
 
-pub all_from : (k : ℕ) (ps : List (PassView Made)) → HasFrom k ps → k ≡ 0 → HasEach 65 ps
-all_from k ps has at = λ n below. has n (omega arith) below
+pub all_from : (k count : ℕ) (ps : List (PassView Made)) → HasFrom k count ps → k ≡ 0 → HasEach count ps
+all_from k count ps has at = λ n below. has n (omega arith) below

@@ -1,6 +1,6 @@
 -- What becomes of a disk that is served.
 use Rattle.std.proofs.Common.{◌≡◌, inl, inr, Bool, true, false, List, Result, Ok, Err, subst, sym}
-use Rattle.std.specs.Prelude.{IfErr, IsOk, MatchResult}
+use Rattle.std.specs.Prelude.{IfErr, IfOk, IsOk, MatchResult}
 use Rattle.disk_core.specs.Life.{Life}
 use Rattle.engine_core.specs.Engine.{EngineState}
 use Rattle.tool_core.specs.declared.archive.ScriptArchive.{ScriptArchive}
@@ -40,6 +40,13 @@ module _ {D : Type 0} (life : D → Life) where
   served_err old (Open engine) beginning new end early begins (inl ends) is = inl (record { first = Open engine; beginning = beginning; begins = begins; ends = ends })
   served_err old (Open engine) beginning new end early begins (inr (memory, same)) is = inr (cc, inr (inr (Open engine, beginning, begins, same)))
   served_err old (Closed disk) beginning new end early begins ends is = inl (record { first = Closed disk; beginning = beginning; begins = begins; ends = ends })
+
+  pub served_back : (old : Life) (first : ScriptArchive D) (beginning : Beginning) (disk : D) (end : Result (Unit {0}) EarlyEnd) (result : Result D (ScriptFault D)) → BeginsAs life old beginning first → EndsUpTo life first (life disk) end
+      → MatchResult result (λ back. (back ≡ disk) × IsOk end) (λ fault. (disk_of fault ≡ disk) × (end ≡ Err (early_end_of fault)))
+      → IfOk result (λ back. IsServed life old (life back))
+  served_back old first beginning disk end (Ok back) begins ends handed =
+      subst (λ d. IsServed life old (life d)) (sym handed.0) (served_ok old first beginning (life disk) end begins ends handed.1)
+  served_back old first beginning disk end (Err fault) begins ends handed = tt
 
   pub served_early : (old : Life) (first : ScriptArchive D) (beginning : Beginning) (disk : D) (end : Result (Unit {0}) EarlyEnd) (result : Result D (ScriptFault D)) → BeginsAs life old beginning first → EndsUpTo life first (life disk) end
       → MatchResult result (λ back. (back ≡ disk) × IsOk end) (λ fault. (disk_of fault ≡ disk) × (end ≡ Err (early_end_of fault)))

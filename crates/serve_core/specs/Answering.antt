@@ -1,13 +1,16 @@
 -- How lines are answered by a part in a shared archive, and where no archive is open: docs/SERVING.md, "Control lines".
-use Rattle.std.specs.Prelude.{◌≡◌, ℤ, Bool, true, false, Option, None, Some, Result, Ok, Err, IsErrOf}
+use Rattle.std.specs.Prelude.{◌≡◌, ◌⊎◌, ◌++◌, ℕ, ℤ, Bool, true, false, List, [], ◌∷◌, Option, None, Some, Result, Ok, Err, IsErrOf, MatchBool, remove}
+use Rattle.std.specs.List.{position}
+use Rattle.std.specs.Ordering.{int_eq}
 use Rattle.frame_core.specs.declared.geometry.Geometry.{Geometry}
 use Rattle.frame_core.specs.declared.refusal.Refusal.{Refusal}
 use Rattle.frame_core.specs.declared.refusal.Refusal.TheVariants.{BadLine, Broken, NoMemory}
 use Rattle.archive_model.specs.declared.reply.Reply.{Reply}
+use Rattle.archive_model.specs.declared.reply.Reply.TheVariants.{ReplayOpened}
 use Rattle.control_core.specs.declared.event.Event.{Event}
-use Rattle.control_core.specs.declared.event.Event.TheVariants.{Ask, Settle}
+use Rattle.control_core.specs.declared.event.Event.TheVariants.{Ask, ReplayClose, Settle}
 use Rattle.control_core.specs.declared.request.Request.{Request}
-use Rattle.control_core.specs.declared.request.Request.TheVariants.{Find, List, Positions, Source, Stop}
+use Rattle.control_core.specs.declared.request.Request.TheVariants as requests
 use Rattle.control_core.specs.Bytes.{terms_in}
 use Rattle.call_history.specs.Values.{PassView}
 use Rattle.engine_core.specs.Engine.{EngineState}
@@ -20,18 +23,79 @@ use Rattle.tool_core.specs.Merging.{Ends}
 abbrev pub IsNoLine : {A : Type 0} → A → Ends A
 IsNoLine old outcome new = (outcome ≡ Err BadLine) × (new ≡ old)
 
+-- ---- clients of a shared archive
+
+-- a client's pass, and the replays that its connection opened and did not close, as far as they are noted
+pub record ClientView : Type 0 where
+  pub pass : PassView Made
+  pub replays : List ℤ
+
+-- no replay is noted
+abbrev pub none_noted : ClientView → ClientView
+none_noted c = record c { replays = [] }
+
+-- the replay that a call opened which was answered so
+abbrev pub opened_replay : Result Reply Refusal → Option ℤ
+opened_replay (Ok (ReplayOpened replay)) = Some replay
+opened_replay outcome = None
+
+-- the replay that a call closed which was answered so
+abbrev pub closed_replay : Event → Result Reply Refusal → Option ℤ
+closed_replay (ReplayClose replay) (Ok reply) = Some replay
+closed_replay event outcome = None
+
+-- these replays without one
+abbrev pub is_replay : ℤ → ℤ → Bool
+is_replay replay other = int_eq replay other
+
+abbrev pub without_at : Option ℕ → List ℤ → List ℤ
+without_at None replays = replays
+without_at (Some i) replays = remove replays i
+
+abbrev pub left_open : ℤ → List ℤ → List ℤ
+left_open replay replays = without_at (position (is_replay replay) replays) replays
+
+-- a replay is noted, or there is no memory for that
+abbrev pub NotesOpened : Option ℤ → List ℤ → List ℤ → Type 0
+NotesOpened None old new = new ≡ old
+NotesOpened (Some replay) old new = (new ≡ old ++ replay ∷ []) ⊎ (new ≡ old)
+
+-- one that is closed is noted no longer
+abbrev pub left_by : Option ℤ → List ℤ → List ℤ
+left_by None replays = replays
+left_by (Some replay) replays = left_open replay replays
+
+-- what is noted of a call that was answered so
+abbrev pub NotesReplay : Event → Result Reply Refusal → List ℤ → List ℤ → Type 0
+NotesReplay event outcome old new = (mid : List ℤ) × NotesOpened (opened_replay outcome) old mid × (new ≡ left_by (closed_replay event outcome) mid)
+
 module _ (opening : EngineState) where
   -- the terms of the desk that some legal history leads to
-  abbrev pub TermsAre : PassView Made → ℤ → Result Geometry Refusal → Type 0
-  TermsAre pass session terms = IsToldOfDesk opening (λ d. terms ≡ terms_in d session)
+  abbrev pub TermsAre : ClientView → ℤ → Result Geometry Refusal → Type 0
+  TermsAre client session terms = IsToldOfDesk opening (λ d. terms ≡ terms_in d session)
 
   -- What the pass has seen then is a legal history that ends with this call and its answer, and begins with all that it had
-  -- seen. Want of memory is none.
-  abbrev pub CallsShared : Event → PassView Made → Ends (PassView Made)
-  CallsShared event old outcome new = (IsNoted outcome → EndsWithAnswer opening old event outcome new) × (IsErrOf outcome NoMemory → new ≡ old)
+  -- seen. Want of memory is none. The replay that the call opened or closed is noted.
+  pub record CallsShared (event : Event) (old : ClientView) (outcome : Result Reply Refusal) (new : ClientView) : Type 0 where
+    pub answers : IsNoted outcome → EndsWithAnswer opening old.pass event outcome new.pass
+    pub unnoted : IsErrOf outcome NoMemory → new.pass ≡ old.pass
+    pub noted : NotesReplay event outcome old.replays new.replays
 
-  abbrev pub shared_ways : Ways (PassView Made)
+  abbrev pub shared_ways : Ways ClientView
   shared_ways = record { terms = TermsAre; call = CallsShared; reopen = IsNoLine; compact = IsNoLine }
+
+  -- a call that closes a replay, however it is answered
+  abbrev pub Closes : ℤ → ClientView → ClientView → Type 0
+  Closes replay old new = (outcome : Result Reply Refusal) × CallsShared (ReplayClose replay) old outcome new
+
+  -- calls that close these replays, one after another
+  abbrev pub ClosesEach : List ℤ → ClientView → ClientView → Type 0
+  ClosesEach [] old new = new ≡ old
+  ClosesEach (replay ∷ replays) old new = (mid : ClientView) × Closes replay old mid × ClosesEach replays mid new
+
+  -- a connection ends: the replays that are noted are closed, or stay open; no longer is one noted
+  abbrev pub EndsConnection : Bool → ClientView → ClientView → Type 0
+  EndsConnection closes old new = MatchBool closes (ClosesEach old.replays (none_noted old) new) (new ≡ none_noted old)
 
 -- no archive is open
 abbrev pub HasNoTerms : {A : Type 0} → A → ℤ → Result Geometry Refusal → Type 0
@@ -47,10 +111,10 @@ unopened_ways = record { terms = HasNoTerms; call = IsBroken; reopen = IsNoLine;
 
 -- the request changes the catalogue, where it is accepted
 abbrev pub is_command : Request → Bool
-is_command (List from count) = false
-is_command (Find fields) = false
-is_command (Positions recording) = false
-is_command (Source recording) = false
+is_command (requests.List from count) = false
+is_command (requests.Find fields) = false
+is_command (requests.Positions recording) = false
+is_command (requests.Source recording) = false
 is_command request = true
 
 -- a call that makes an entry of the history, where it is accepted
@@ -63,15 +127,15 @@ makes_entry event = false
 
 -- the recording whose session settles before a call: that of a stop
 abbrev pub settled_before : Event → Option ℤ
-settled_before (Ask (Stop recording timestamp)) = Some recording
+settled_before (Ask (requests.Stop recording timestamp)) = Some recording
 settled_before event = None
 
 -- the recording whose settling a call waits for, if one is asked for: that of a question for positions
 abbrev pub awaited_before : Event → Option ℤ
-awaited_before (Ask (Positions recording)) = Some recording
+awaited_before (Ask (requests.Positions recording)) = Some recording
 awaited_before event = None
 
 -- the recording whose session is to settle after a call that was answered so: that of positions that were given
 abbrev pub settled_after : Event → Result Reply Refusal → Option ℤ
-settled_after (Ask (Positions recording)) (Ok reply) = Some recording
+settled_after (Ask (requests.Positions recording)) (Ok reply) = Some recording
 settled_after event outcome = None

@@ -13,3 +13,5 @@ pub mod Asking
 pub mod Seats
 pub mod Recording
 pub mod Stopwatch
+-- What is recorded without being asked.
+pub mod Streams

@@ -4,16 +4,17 @@ use Rattle.std.specs.List.{enumerate_from, flat_map, position, starts_with}
 use Rattle.std.specs.Fmt.{signed_decimal}
 use Rattle.stream_pairs.specs.declared.points.StreamPoint.{StreamPoint}
 use Rattle.stream_pairs.specs.declared.pairs.JoinedImage.{JoinedImage}
-use Rattle.stream_pairs.specs.Pairs.{PairsState, feeds}
+use Rattle.stream_pairs.specs.declared.pairs.SessionSlot.{SessionSlot}
+use Rattle.stream_pairs.specs.Pairs.{PairsState, feeds, image_count, slot_of}
 
 -- a number after a blank, and the rest of a line
 abbrev pub with_number : ℤ → List ℕ → List ℕ
 with_number z rest = codes " " ++ (signed_decimal z ++ rest)
 
--- the recorder session that an image feeds, or that it feeds none
-abbrev pub session_text : Option ℕ → List ℕ
+-- the recorder session that an image feeds, by its number, or that it feeds none
+abbrev pub session_text : Option ℤ → List ℕ
 session_text None = codes "-"
-session_text (Some session) = decimal session
+session_text (Some session) = signed_decimal session
 
 -- an image: its number, whose it is, its terms, where it joined, and the session that it feeds
 abbrev pub image_line_with : ℕ → StreamPoint → List ℕ → List ℕ
@@ -22,12 +23,24 @@ image_line_with i p session =
     with_number p.geometry.initial_term_id (with_number p.geometry.term_length (with_number p.geometry.mtu (
     with_number p.position (codes " " ++ (session ++ codes "\n"))))))))
 
-abbrev pub image_line : ℕ → StreamPoint → Option ℕ → List ℕ
+abbrev pub image_line : ℕ → StreamPoint → Option ℤ → List ℕ
 image_line i p session = image_line_with i p (session_text session)
 
--- the line of an image with its number
+abbrev pub number_of_slot : Option SessionSlot → Option ℤ
+number_of_slot None = None
+number_of_slot (Some slot) = Some slot.session
+
+abbrev pub number_at : Option ℕ → PairsState → Option ℤ
+number_at None s = None
+number_at (Some n) s = number_of_slot (slot_of n s)
+
+-- the number of the session that the image at a place feeds
+abbrev pub fed_number : ℕ → PairsState → Option ℤ
+fed_number i s = number_at (position (feeds i) s.slots) s
+
+-- the line of an image, with its number; none of one whose place was given back
 abbrev pub numbered_line : PairsState → ℕ × JoinedImage → List ℕ
-numbered_line s numbered = image_line numbered.0 numbered.1.join (position (feeds numbered.0) s.slots)
+numbered_line s placed = if placed.1.has_left then [] else image_line placed.1.number placed.1.join (fed_number placed.0 s)
 
 -- a line for each image
 abbrev pub image_lines : PairsState → List ℕ
@@ -35,7 +48,7 @@ image_lines s = flat_map (numbered_line s) (enumerate_from 0 s.images)
 
 -- the answer to the line `images`
 abbrev pub images_text : PairsState → List ℕ
-images_text s = image_lines s ++ (codes "end " ++ (decimal (length s.images) ++ codes "\n"))
+images_text s = image_lines s ++ (codes "end " ++ (decimal (image_count s) ++ codes "\n"))
 
 -- ---- what a client sends
 

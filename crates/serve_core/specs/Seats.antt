@@ -1,10 +1,11 @@
 -- The seats of the recorder sessions that images feed, and the passes: docs/ARCHITECTURE.md, "Followers".
-use Rattle.std.specs.Prelude.{◌≡◌, ◌+◌, ◌<◌, ◌≤◌, ℕ, ℤ, pos, true, List, [], ◌∷◌, Option, Some, None, slice_get, slice_set, Result, Err, IfOk, IfErr, IsErrOf}
+use Rattle.std.specs.Prelude.{◌≡◌, ◌+◌, ◌<◌, ◌≤◌, ℕ, ℤ, max, min, pos, true, List, [], ◌∷◌, Option, Some, None, slice_get, slice_set, Result, Err, IfOk, IfErr, IsErrOf}
 use Rattle.atomic_table.specs.Seated.{TableId}
 use Rattle.frame_core.specs.declared.block.Block.{Block}
 use Rattle.frame_core.specs.declared.refusal.Refusal.{Refusal}
 use Rattle.frame_core.specs.declared.refusal.Refusal.TheVariants.{NoMemory, StaleSession}
 use Rattle.archive_model.specs.declared.reply.Reply.{Reply}
+use Rattle.control_core.specs.declared.event.Event.{Event}
 use Rattle.control_core.specs.declared.event.Event.TheVariants.{Settle, Write}
 use Rattle.engine_core.specs.Engine.{EngineState}
 use Rattle.call_history.specs.Passes.{AllOfTable, HasEach, has_number}
@@ -16,7 +17,7 @@ use Rattle.agents_core.specs.Seat.{SeatView, raised_positions, raised_unless_bel
 
 -- ---- seats
 
--- a board, and seats by the numbers of their sessions
+-- a board, and seats by their numbers
 pub record SeatsView : Type 0 where
   pub board : TableId
   pub seats : List SeatView
@@ -32,16 +33,15 @@ abbrev pub AreNewWriters : TableId → ℕ → List Published → Type 0
 AreNewWriters board n [] = Unit {0}
 AreNewWriters board n (writer ∷ writers) = IsNewWriter board n writer × AreNewWriters board (n + 1) writers
 
--- the seat of the session of a number: its pass is of this history and has that number, and its writer is of that slot of this
--- board
+-- the seat of a number: its pass is of this history and has that number, and its writer is of that slot of this board. It writes
+-- for any session.
 pub record IsSeat (history board : TableId) (n : ℕ) (seat : SeatView) : Type 0 where
-  pub session : seat.session ≡ pos n
   pub table : seat.pass.table ≡ history
   pub number : seat.pass.number ≡ n
   pub writer : seat.writer.table ≡ board
   pub slot : seat.writer.slot ≡ n
 
--- the seats of the sessions from a number on, one after another
+-- the seats from a number on, one after another
 abbrev pub AreSeats : TableId → TableId → ℕ → List SeatView → Type 0
 AreSeats table board n [] = Unit {0}
 AreSeats table board n (seat ∷ seats) = IsSeat table board n seat × AreSeats table board (n + 1) seats
@@ -55,9 +55,20 @@ CallsAtSeat (Some seat) session old result new Calls =
 abbrev pub CallsAt : {A : Type 0} → ℕ → SeatsView → Result A Refusal → SeatsView → (SeatView → Result A Refusal → SeatView → Type 0) → Type 0
 CallsAt session old result new Calls = CallsAtSeat (slice_get old.seats session) session old result new Calls
 
+-- the seat of a number writes for another session from now on
+abbrev pub reseated : ℤ → Option SeatView → ℕ → List SeatView → List SeatView
+reseated session None n seats = seats
+reseated session (Some seat) n seats = slice_set seats n (record seat { session = session })
+
 -- it writes a block for its session
 pub record WritesBlock (opening : EngineState) (block : Block) (seat : SeatView) (result : Result Reply Refusal) (after : SeatView) : Type 0 where
   pub answers : IsNoted result → EndsWithAnswer opening seat.pass (Write seat.session block) result after.pass
+  pub unnoted : IsErrOf result NoMemory → after.pass ≡ seat.pass
+  pub same : after ≡ record seat { pass = after.pass }
+
+-- it makes another call
+pub record MakesCall (opening : EngineState) (event : Event) (seat : SeatView) (result : Result Reply Refusal) (after : SeatView) : Type 0 where
+  pub answers : IsNoted result → EndsWithAnswer opening seat.pass event result after.pass
   pub unnoted : IsErrOf result NoMemory → after.pass ≡ seat.pass
   pub same : after ≡ record seat { pass = after.pass }
 
@@ -76,14 +87,30 @@ abbrev pub AreNumbered : TableId → ℕ → List SeatView → Type 0
 AreNumbered table n [] = Unit {0}
 AreNumbered table n (seat ∷ seats) = (seat.pass.table ≡ table) × (seat.pass.number ≡ n) × AreNumbered table (n + 1) seats
 
--- passes with each number from one on, below 65, are among them
-abbrev pub HasFrom : ℕ → List (PassView Made) → Type 0
-HasFrom k passes = (n : ℕ) → k ≤ n → n < 65 → has_number n passes ≡ true
+-- how many clients are served at a time, by an option that asks for so many
+abbrev pub places_of : Option ℕ → ℕ
+places_of None = 1
+places_of (Some clients) = max 1 (min clients 64)
 
--- the last of 65 passes of this history, which the control thread has
-abbrev pub IsLastPass : TableId → PassView Made → Type 0
-IsLastPass table pass = (pass.table ≡ table) × (pass.number ≡ 64)
+-- passes with each number from one on, below a count, are among them
+abbrev pub HasFrom : ℕ → ℕ → List (PassView Made) → Type 0
+HasFrom k count passes = (n : ℕ) → k ≤ n → n < count → has_number n passes ≡ true
 
--- passes of this history, each of its 65 among them
-abbrev pub AreAllPasses : TableId → List (PassView Made) → Type 0
-AreAllPasses table passes = AllOfTable table passes × HasEach 65 passes
+-- passes of this history that clients have: each from 64 on, of so many, is among them
+abbrev pub AreClientPasses : TableId → ℕ → List (PassView Made) → Type 0
+AreClientPasses table count passes = AllOfTable table passes × HasFrom 64 count passes
+
+-- passes of this history, each of so many among them
+abbrev pub AreAllPasses : TableId → ℕ → List (PassView Made) → Type 0
+AreAllPasses table count passes = AllOfTable table passes × HasEach count passes
+
+-- a pass that was lent and comes back: it may have made calls
+pub record IsBack (old new : PassView Made) : Type 0 where
+  pub table : new.table ≡ old.table
+  pub number : new.number ≡ old.number
+
+-- passes that were lent come back, in their order
+abbrev pub AreBack : List (PassView Made) → List (PassView Made) → Type 0
+AreBack [] [] = Unit {0}
+AreBack (old ∷ olds) (new ∷ news) = IsBack old new × AreBack olds news
+AreBack olds news = ⊥

@@ -1,6 +1,6 @@
 -- What the senders of images are sent by a receiver of the public standard: docs/PROTOCOL.md, "Status messages and NAKs of a
 -- receiver".
-use Rattle.std.specs.Prelude.{◌≡◌, ℕ, Bool, false, if◌then◌else◌, MatchBool, List, [], ◌∷◌, ◌++◌, length, nat_lt, slice_get, slice_set, Option, None, Some, is_some}
+use Rattle.std.specs.Prelude.{◌≡◌, ℕ, ℤ, Bool, false, if◌then◌else◌, MatchBool, List, [], ◌∷◌, ◌++◌, length, nat_lt, not, slice_get, slice_set, Option, None, Some, is_some}
 use Rattle.std.specs.declared.net.socket_addr.SocketAddr.{SocketAddr}
 use Rattle.frame_core.specs.declared.block.Publication.{Publication}
 use Rattle.frame_core.specs.declared.nak.Nak.{Nak}
@@ -10,14 +10,14 @@ use Rattle.frame_core.specs.Status.{encoded_status}
 use Rattle.image_core.specs.Received.{Received}
 use Rattle.flow_control.specs.declared.feedback.Feedback.{Feedback}
 use Rattle.flow_control.specs.declared.setups.SetupRequest.{SetupRequest}
-use Rattle.flow_control.specs.Feedback.{GivesRequest, GivesStatus, has_passed}
+use Rattle.flow_control.specs.Feedback.{GivesRequest, GivesStatus, has_passed, is_live, is_status_due}
 use Rattle.flow_control.specs.Setups.{after_asking, may_ask, setup_request_of}
 use Rattle.serve_core.specs.declared.senders.Receiver.{Receiver}
 use Rattle.serve_core.specs.declared.senders.ImageSender.{ImageSender}
 use Rattle.serve_core.specs.declared.images.Came.{Came}
 use Rattle.serve_core.specs.declared.images.Came.TheVariants.{Frames, Joined, SetUp, Unknown}
 
--- the receiver, the senders of its images by the images' indices, and the publications that were asked for a setup frame
+-- the receiver, the senders of its images by the images' places, and the publications that were asked for a setup frame
 pub record SendersState : Type 0 where
   pub receiver : Receiver
   pub senders : List ImageSender
@@ -29,9 +29,11 @@ pub record SendersState : Type 0 where
 abbrev pub new_sender : Option SocketAddr → ℕ → ImageSender
 new_sender from now = record { address = from; seen = now; feedback = record { heard = now; status = None; request = None } }
 
--- one more, if there are fewer than 64
-abbrev pub with_sender : Option SocketAddr → ℕ → List ImageSender → List ImageSender
-with_sender from now senders = if nat_lt (length senders) 64 then senders ++ new_sender from now ∷ [] else senders
+-- that of a new image at a place, in place of the one before it; or one more, if there are fewer than 64
+abbrev pub with_sender : ℕ → Option SocketAddr → ℕ → List ImageSender → List ImageSender
+with_sender i from now senders =
+    if nat_lt i (length senders) then slice_set senders i (new_sender from now)
+    else if nat_lt (length senders) 64 then senders ++ new_sender from now ∷ [] else senders
 
 -- a datagram of the publication came from an address
 pub record Hears (from : Option SocketAddr) (now : ℕ) (old new : ImageSender) : Type 0 where
@@ -49,14 +51,14 @@ abbrev pub SetsUp : Option SocketAddr → ℕ → ImageSender → ImageSender �
 SetsUp from now old new =
     MatchBool (is_silent now old) (new ≡ record { address = from; seen = now; feedback = record old.feedback { heard = now } }) (Hears from now old new)
 
--- the sender of the image of an index changes so, and all others stay
+-- the sender of the image at a place changes so, and all others stay
 abbrev pub ChangesAt : ℕ → Option ImageSender → List ImageSender → List ImageSender → (ImageSender → ImageSender → Type 0) → Type 0
 ChangesAt i None olds news Changes = news ≡ olds
 ChangesAt i (Some sender) olds news Changes = (after : ImageSender) × Changes sender after × (news ≡ slice_set olds i after)
 
 -- a datagram came from an address
 abbrev pub Notes : Came → Option SocketAddr → ℕ → List ImageSender → List ImageSender → Type 0
-Notes (Joined point) from now olds news = news ≡ with_sender from now olds
+Notes (Joined i point) from now olds news = news ≡ with_sender i from now olds
 Notes (SetUp i) from now olds news = ChangesAt i (slice_get olds i) olds news (SetsUp from now)
 Notes (Frames i is_lost) from now olds news = ChangesAt i (slice_get olds i) olds news (Hears from now)
 Notes came from now olds news = news ≡ olds
@@ -97,7 +99,7 @@ module _ {E : Type 0} (puts : E → SocketAddr → List ℕ → E → Type 0) wh
   TendsIf is_recorded now receiver image None old end new later asked = (new ≡ old) × (later ≡ end) × (asked ≡ false)
   TendsIf is_recorded now receiver image (Some to) old end new later asked = TendsTo is_recorded now receiver image to old end new later asked
 
-  -- to the sender of the image of an index; all others stay
+  -- to the sender of the image at a place; all others stay
   abbrev pub TendsAt : Option ImageSender → ℕ → Bool → ℕ → Received → SendersState → E → SendersState → E → Bool → Type 0
   TendsAt None i is_recorded now image old end new later asked = (new ≡ old) × (later ≡ end) × (asked ≡ false)
   TendsAt (Some sender) i is_recorded now image old end new later asked =
@@ -120,3 +122,15 @@ module _ {E : Type 0} (puts : E → SocketAddr → List ℕ → E → Type 0) wh
   abbrev pub AsksForSetup : Came → Option SocketAddr → ℕ → SendersState → E → SendersState → E → Type 0
   AsksForSetup (Unknown publication) (Some to) now old end new later = AsksPublication publication to now old end new later
   AsksForSetup came from now old end new later = (new ≡ old) × (later ≡ end)
+
+-- a status message is due to the sender of an image, if it is recorded
+abbrev pub is_status_due_to : Option ImageSender → ℕ → ℤ → Received → Bool
+is_status_due_to None now window image = false
+is_status_due_to (Some sender) now window image = is_status_due now window image sender.feedback
+
+-- ---- what is given back
+
+-- the image at a place is not live: no datagram of its publication came for 10,000 milliseconds
+abbrev pub is_gone : ℕ → Option ImageSender → Bool
+is_gone now None = false
+is_gone now (Some sender) = not (is_live now sender.feedback)

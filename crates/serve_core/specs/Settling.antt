@@ -2,11 +2,12 @@
 -- thread began; there is none for a moment at which the clock could not be read.
 use Rattle.std.specs.Prelude.{◌≡◌, ◌&&◌, ◌||◌, ◌+◌, ◌-◌, ◌^◌, ◌<◌, ℕ, ℤ, nat_le, min, not, if◌then◌else◌, Bool, true, false, List, Option, None, Some, is_some, slice_index_or, slice_set}
 use Rattle.std.specs.List.{list_any}
+use Rattle.std.specs.Ordering.{int_eq}
 use Rattle.serve_core.specs.declared.settling.SessionState.{SessionState}
 use Rattle.serve_core.specs.declared.settling.Settling.{Settling}
 use Rattle.serve_core.specs.declared.settling.Written.{Written}
 
--- ---- what sessions wrote and did not settle
+-- ---- what sessions wrote and did not settle, by their seats
 
 abbrev pub nothing_written : SessionState
 nothing_written = record { written = None; settled_at = None }
@@ -15,13 +16,21 @@ nothing_written = record { written = None; settled_at = None }
 abbrev pub session_at : ℕ → List SessionState → SessionState
 session_at n sessions = slice_index_or sessions n nothing_written
 
--- a block more, of an image: the term is its own, the bytes are the sum, short of the largest `u64`, and the oldest block stays
-abbrev pub written_more : Option ℕ → ℕ → ℤ → ℕ → Option Written → Written
-written_more time image term bytes None = record { image = image; term_id = term; bytes = bytes; since = time }
-written_more time image term bytes (Some w) = record { image = image; term_id = term; bytes = min (w.bytes + bytes) (2 ^ 64 - 1); since = w.since }
+-- a block of a session's, of an image, before which nothing waits
+abbrev pub written_first : Option ℕ → ℤ → ℕ → ℤ → ℕ → Written
+written_first time session image term bytes = record { session = session; image = image; term_id = term; bytes = bytes; since = time }
 
-abbrev pub after_block : Option ℕ → ℕ → ℤ → ℕ → SessionState → SessionState
-after_block time image term bytes s = record s { written = Some (written_more time image term bytes s.written) }
+-- a block more of a session's, of an image: the term is its own, the bytes are the sum, short of the largest `u64`, and the
+-- oldest block stays. What another session wrote, which had the seat before, does not count.
+abbrev pub written_more : Option ℕ → ℤ → ℕ → ℤ → ℕ → Option Written → Written
+written_more time session image term bytes None = written_first time session image term bytes
+written_more time session image term bytes (Some w) =
+    if int_eq w.session session
+    then record { session = session; image = image; term_id = term; bytes = min (w.bytes + bytes) (2 ^ 64 - 1); since = w.since }
+    else written_first time session image term bytes
+
+abbrev pub after_block : Option ℕ → ℤ → ℕ → ℤ → ℕ → SessionState → SessionState
+after_block time session image term bytes s = record s { written = Some (written_more time session image term bytes s.written) }
 
 -- a session settles all that it wrote; one that wrote nothing stays
 abbrev pub session_settled : ℕ → Settling → Settling

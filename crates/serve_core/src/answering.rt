@@ -1,12 +1,14 @@
 //! Who answers the lines of connections over a shared archive. docs/SERVING.md, "Control lines".
 
-ghost use Rattle.std.specs.Prelude.{◌≡◌};
-ghost use Rattle.serve_core.specs.Answering.{awaited_before, is_command, makes_entry, settled_after, settled_before, shared_ways};
-ghost use Rattle.serve_core.specs.Seats.{IsLastPass};
+ghost use Rattle.std.specs.Prelude.{◌≡◌, [], IsErrOf, MatchBool};
+ghost use Rattle.std.specs.List.{position};
+ghost use Rattle.frame_core.specs.declared.refusal.Refusal.TheVariants.{NoMemory};
+ghost use Rattle.archive_lock.specs.History.{EndsWithAnswer, IsNoted};
+ghost use Rattle.serve_core.specs.Answering.{Closes, ClosesEach, EndsConnection, NotesOpened, NotesReplay, awaited_before, closed_replay, is_command, is_replay, left_by, left_open, makes_entry, opened_replay, settled_after, settled_before, shared_ways};
 
-use crate::connections::Server;
+use crate::connections::{Connections, Server};
 use crate::happening::Happening;
-use crate::shared::Shared;
+use crate::place::Place;
 use crate::teller::Teller;
 use archive_lock::{Made, Naming, SharedArchive};
 use archive_model::Reply;
@@ -15,109 +17,233 @@ use control_core::{Event, Request};
 use disk_core::Disk;
 use frame_core::{Geometry, Refusal};
 use std::alloc::Global;
-use std::marker::Model;
-use std::net::UdpSocket;
+use std::marker::{Model, PhantomData};
+use std::mem;
 use std::sync::Wait;
 use tool_core::Answerer;
 
-/// The control thread's part in a shared archive. To a contract it is its pass.
+/// A shared archive, and what clients' calls on it are noted in.
 #[derive(Drop)]
-pub(crate) struct Controller<'a, D: Disk, A: Naming, R, T> {
-    rt: &'a R,
-    archive: &'a SharedArchive<D, A>,
-    shared: &'a Shared<T>,
-    socket: &'a UdpSocket,
-    pass: Pass<Made>,
-    /// Replays that the connection opened, and did not close.
-    replays: Vec<i64>,
+pub(crate) struct NotedArchive<'a, D: Disk, A: Naming, R, T> {
+    pub rt: &'a R,
+    pub archive: &'a SharedArchive<D, A>,
+    pub with: &'a Connections<T>,
 }
 
-impl<'a, D: Disk, A: Naming, R, T> Model for Controller<'a, D, A, R, T> {
-    ghost use Rattle.call_history.specs.Values.{PassView};
-    ghost use Rattle.archive_lock.specs.declared.history.Made.{Made};
-    ghost use Rattle.serve_core.specs.Seats.{IsLastPass};
-
-    ghost Value = { PassView Made };
-
-    ghost view = { λ c. c.pass };
-
-    ghost invariant = { λ c. IsLastPass A.table c.pass };
-}
-
-impl<'a, D: Disk, A: Naming, R: Wait, T: Teller> Controller<'a, D, A, R, T> {
-    /// The part that calls with a pass.
-    pub fn new(
-        rt: &'a R,
-        alloc: Global,
-        archive: &'a SharedArchive<D, A>,
-        shared: &'a Shared<T>,
-        socket: &'a UdpSocket,
-        pass: Pass<Made>,
-    ) -> Controller<'a, D, A, R, T>
-        requires { IsLastPass A.table pass }
-        ensures { result ≡ pass }
+impl<'a, D: Disk, A: Naming, R: Wait, T: Teller> NotedArchive<'a, D, A, R, T> {
+    /// Makes a call, as `SharedArchive::call`, and notes its answer.
+    fn call(&self, alloc: Global, pass: &mut Pass<Made>, event: &Event) -> Result<Reply, Refusal>
+        requires { pass.old.table ≡ A.table }
+        ensures answers { IsNoted result →
+            EndsWithAnswer A.opening pass.old event.now result pass.new }
+        ensures unnoted { IsErrOf result NoMemory → pass.new ≡ pass.old }
+        ensures pass { (pass.new.table ≡ pass.old.table) × (pass.new.number ≡ pass.old.number) }
     {
-        Controller {
-            rt,
-            archive,
-            shared,
-            socket,
-            pass,
-            replays: Vec::new(alloc),
+        self.settle_first(event);
+        if makes_entry(event) {
+            self.call_in_turn(alloc, pass, event)
+        } else {
+            self.call_now(alloc, pass, event)
         }
     }
 
-    /// The pass.
-    pub fn into_pass(self) -> Pass<Made>
-        ensures same { result ≡ self.entry }
-        ensures last { IsLastPass A.table result }
+    /// Makes a call and notes it, before or after each other call by this function.
+    fn call_in_turn(
+        &self,
+        alloc: Global,
+        pass: &mut Pass<Made>,
+        event: &Event,
+    ) -> Result<Reply, Refusal>
+        requires { pass.old.table ≡ A.table }
+        ensures answers { IsNoted result →
+            EndsWithAnswer A.opening pass.old event.now result pass.new }
+        ensures unnoted { IsErrOf result NoMemory → pass.new ≡ pass.old }
+        ensures pass { (pass.new.table ≡ pass.old.table) × (pass.new.number ≡ pass.old.number) }
     {
-        self.pass
+        let _turn = self.with.shared.turn.lock(self.rt);
+        self.call_now(alloc, pass, event)
+    }
+
+    fn call_now(
+        &self,
+        alloc: Global,
+        pass: &mut Pass<Made>,
+        event: &Event,
+    ) -> Result<Reply, Refusal>
+        requires { pass.old.table ≡ A.table }
+        ensures answers { IsNoted result →
+            EndsWithAnswer A.opening pass.old event.now result pass.new }
+        ensures unnoted { IsErrOf result NoMemory → pass.new ≡ pass.old }
+        ensures pass { (pass.new.table ≡ pass.old.table) × (pass.new.number ≡ pass.old.number) }
+    {
+        let outcome = self.archive.call(self.rt, alloc, pass, event);
+        self.note(event, &outcome);
+        outcome
     }
 
     /// If a call is a stop, its recording's session settles first: what was recorded of it is kept. If it asks for positions,
     /// a settling that was asked for before is made first, so that it shows it.
     fn settle_first(&self, event: &Event) {
         if let Some(recording) = settled_before(event) {
-            self.shared.settle_writer(self.rt, recording);
+            self.with.shared.settle_writer(self.rt, recording);
         }
         if let Some(recording) = awaited_before(event) {
-            self.shared.await_writer(self.rt, recording);
+            self.with.shared.await_writer(self.rt, recording);
         }
     }
 
     /// Notes what a call was answered, beside the history.
-    fn note(&mut self, event: &Event, outcome: &Result<Reply, Refusal>)
-        ensures { self.new ≡ self.old }
-    {
-        self.note_replay(event, outcome);
-        if self.shared.note(self.rt, event, outcome) {
-            self.shared.look_round(self.socket);
+    fn note(&self, event: &Event, outcome: &Result<Reply, Refusal>) {
+        if self.with.shared.note(self.rt, event, outcome) {
+            self.with.shared.look_round(&self.with.socket);
         }
         if let Some(recording) = settled_after(event, outcome) {
-            self.shared.ask_writer(self.rt, recording);
+            self.with.shared.ask_writer(self.rt, recording);
         }
         if outcome.is_ok() && makes_entry(event) {
             let (counted, limit) = self.archive.counted(self.rt);
-            self.shared.note_history(counted, limit);
+            self.with.shared.note_history(counted, limit);
+        }
+    }
+}
+
+/// A client thread's part in a shared archive. To a contract it is its pass, which has the number that names its place, and
+/// the replays that its connection opened and did not close.
+#[derive(Drop)]
+pub(crate) struct Controller<'a, D: Disk, A: Naming, P: Place, R, T> {
+    noted: NotedArchive<'a, D, A, R, T>,
+    pass: Pass<Made>,
+    replays: Vec<i64>,
+    of: PhantomData<P>,
+}
+
+impl<'a, D: Disk, A: Naming, P: Place, R, T> Model for Controller<'a, D, A, P, R, T> {
+    ghost use Rattle.std.specs.Prelude.{◌≡◌};
+    ghost use Rattle.serve_core.specs.Answering.{ClientView};
+
+    ghost Value = { ClientView };
+
+    ghost view = { λ c. record { pass = c.pass; replays = c.replays.items } };
+
+    ghost invariant = { λ c. (c.pass.table ≡ A.table) × (c.pass.number ≡ P.number) };
+}
+
+impl<'a, D: Disk, A: Naming, P: Place, R: Wait, T: Teller> Controller<'a, D, A, P, R, T> {
+    /// The part that calls with a pass.
+    pub fn new(
+        alloc: Global,
+        noted: NotedArchive<'a, D, A, R, T>,
+        pass: Pass<Made>,
+    ) -> Controller<'a, D, A, P, R, T>
+        requires table { pass.table ≡ A.table }
+        requires number { pass.number ≡ P.number }
+        ensures { result ≡ record { pass = pass; replays = [] } }
+    {
+        Controller {
+            noted,
+            pass,
+            replays: Vec::new(alloc),
+            of: PhantomData,
         }
     }
 
-    /// Notes a replay that was opened or closed. Where there is no memory for it, it is not told of.
-    fn note_replay(&mut self, event: &Event, outcome: &Result<Reply, Refusal>)
-        ensures { self.new ≡ self.old }
+    /// The pass.
+    pub fn into_pass(self) -> Pass<Made>
+        ensures same { result ≡ self.entry.pass }
+        ensures table { result.table ≡ A.table }
+        ensures number { result.number ≡ P.number }
     {
-        match (event, outcome) {
-            (_, Ok(Reply::ReplayOpened { replay })) => {
-                let _ = self.replays.push(*replay);
-            }
-            (Event::ReplayClose { replay }, Ok(_)) => {
-                if let Some(index) = self.replays.iter().position(|open| *open == *replay) {
-                    self.replays.swap_remove(index);
-                }
-            }
-            _ => {}
+        self.pass
+    }
+
+    /// Closes replays, each by a call.
+    fn close_each(&mut self, alloc: Global, replays: &[i64])
+        ensures { ClosesEach A.opening replays.now self.old self.new }
+    {
+        for (index, replay) in replays.iter().enumerate() {
+            let _ = index;
+            self.close(alloc, replay);
         }
+    }
+
+    /// Closes a replay by a call.
+    fn close(&mut self, alloc: Global, replay: &i64)
+        ensures { Closes A.opening replay.now self.old self.new }
+    {
+        let _ = self.call(alloc, &Event::ReplayClose { replay: *replay });
+    }
+}
+
+/// Notes a replay that was opened or closed among those that a connection opened and did not close. If there is no memory for
+/// one, it is not noted.
+fn note_replay(replays: &mut Vec<i64>, event: &Event, outcome: &Result<Reply, Refusal>)
+    ensures { NotesReplay event.now outcome.now replays.old.items replays.new.items }
+{
+    note_opened(replays, opened_replay(outcome));
+    forget_closed(replays, &closed_replay(event, outcome));
+}
+
+/// Notes a replay, if there is memory for it.
+fn note_opened(replays: &mut Vec<i64>, opened: Option<i64>)
+    ensures { NotesOpened opened replays.old.items replays.new.items }
+{
+    if let Some(replay) = opened {
+        let _ = replays.push(replay);
+    }
+}
+
+/// Removes a replay from those that are noted.
+fn forget_closed(replays: &mut Vec<i64>, closed: &Option<i64>)
+    ensures { replays.new.items ≡ left_by closed.now replays.old.items }
+{
+    match closed {
+        Some(replay) => forget_replay(replays, replay),
+        None => {}
+    }
+}
+
+fn forget_replay(replays: &mut Vec<i64>, replay: &i64)
+    ensures { replays.new.items ≡ left_open replay.now replays.old.items }
+{
+    match index_of(replays.as_slice(), replay) {
+        Some(index) => {
+            replays.remove(index);
+        }
+        None => {}
+    }
+}
+
+/// Where a replay is among those that are noted.
+fn index_of(replays: &[i64], replay: &i64) -> Option<usize>
+    ensures { result ≡ position (is_replay replay.now) replays.now }
+{
+    replays.iter().position(|other| is_replay(replay, other))
+}
+
+/// Whether an open replay is this one.
+fn is_replay(replay: &i64, other: &i64) -> bool
+    ensures { result ≡ is_replay replay.now other.now }
+{
+    *replay == *other
+}
+
+/// The replay that an answer opens.
+fn opened_replay(outcome: &Result<Reply, Refusal>) -> Option<i64>
+    ensures { result ≡ opened_replay outcome.now }
+{
+    match outcome {
+        Ok(Reply::ReplayOpened { replay }) => Some(*replay),
+        _ => None,
+    }
+}
+
+/// The replay that a call closes which was answered so.
+fn closed_replay(event: &Event, outcome: &Result<Reply, Refusal>) -> Option<i64>
+    ensures { result ≡ closed_replay event.now outcome.now }
+{
+    match (event, outcome) {
+        (Event::ReplayClose { replay }, Ok(_)) => Some(*replay),
+        _ => None,
     }
 }
 
@@ -180,17 +306,16 @@ fn settled_after(event: &Event, outcome: &Result<Reply, Refusal>) -> Option<i64>
     }
 }
 
-impl<D: Disk, A: Naming, R: Wait, T: Teller> Answerer for Controller<'_, D, A, R, T> {
+impl<D: Disk, A: Naming, P: Place, R: Wait, T: Teller> Answerer for Controller<'_, D, A, P, R, T> {
     ghost ways = { shared_ways A.opening };
 
     fn terms(&self, session: &i64) -> Result<Geometry, Refusal> {
-        self.archive.terms(self.rt, session)
+        self.noted.archive.terms(self.noted.rt, session)
     }
 
     fn call(&mut self, alloc: Global, event: &Event) -> Result<Reply, Refusal> {
-        self.settle_first(event);
-        let outcome = self.archive.call(self.rt, alloc, &mut self.pass, event);
-        self.note(event, &outcome);
+        let outcome = self.noted.call(alloc, &mut self.pass, event);
+        note_replay(&mut self.replays, event, &outcome);
         outcome
     }
 
@@ -203,12 +328,16 @@ impl<D: Disk, A: Naming, R: Wait, T: Teller> Answerer for Controller<'_, D, A, R
     }
 }
 
-impl<D: Disk, A: Naming, R: Wait, T: Teller> Server for Controller<'_, D, A, R, T> {
-    fn end_connection(&mut self) {
-        if !self.replays.is_empty() {
-            self.shared
-                .tell(&Happening::LeftReplays(self.replays.as_slice()));
+impl<D: Disk, A: Naming, P: Place, R: Wait, T: Teller> Server for Controller<'_, D, A, P, R, T> {
+    ghost ended = { EndsConnection A.opening };
+
+    fn end_connection(&mut self, alloc: Global, closes_replays: bool) {
+        let replays = mem::replace(&mut self.replays, Vec::new(alloc));
+        if closes_replays {
+            self.close_each(alloc, replays.as_slice());
+        } else if !replays.is_empty() {
+            let left = Happening::LeftReplays(replays.as_slice());
+            self.noted.with.shared.tell(&left);
         }
-        self.replays.clear();
     }
 }

@@ -1,4 +1,5 @@
-//! Settlings that clients ask for. docs/ARCHITECTURE.md, "Serving".
+//! What other threads ask of the recording thread: settlings of sessions, by their seats, and the leaving of images, by their
+//! places. docs/ARCHITECTURE.md, "Serving".
 
 ghost use Rattle.std.specs.Prelude.{◌≡◌, false, replicate, slice_set, true};
 ghost use Rattle.serve_core.specs.Asking.{all_taken, is_any_asked, is_pending};
@@ -6,8 +7,8 @@ ghost use Rattle.serve_core.specs.Asking.{all_taken, is_any_asked, is_pending};
 use std::mem;
 use stream_pairs::FED_SESSIONS;
 
-/// Sessions that clients ask to settle at once: those that the recording thread has not taken yet, and those that it took and
-/// settles.
+/// Seats or places that something is asked for: those that the recording thread has not taken yet, and those that it took and is
+/// not done with.
 #[derive(Clone, Copy)]
 pub(crate) struct Asks {
     asked: [bool; FED_SESSIONS],
@@ -17,7 +18,7 @@ pub(crate) struct Asks {
 }
 
 impl Asks {
-    /// No session.
+    /// Nothing is asked for.
     pub fn new() -> Asks
         ensures { result ≡ record {
           asked = replicate 64 false;
@@ -32,23 +33,23 @@ impl Asks {
         }
     }
 
-    /// Asks for a session. A number from 64 on changes nothing.
-    pub fn ask(&mut self, session: usize)
-        ensures { self.new ≡ record self.old { asked = slice_set self.old.asked session true } }
+    /// Asks for a seat or a place. One from 64 on changes nothing.
+    pub fn ask(&mut self, index: usize)
+        ensures { self.new ≡ record self.old { asked = slice_set self.old.asked index true } }
     {
-        if session < FED_SESSIONS {
-            self.asked[session] = true;
+        if index < FED_SESSIONS {
+            self.asked[index] = true;
         }
     }
 
-    /// Whether a session was asked for and not taken.
+    /// Whether one was asked for and not taken.
     pub fn is_asked(&self) -> bool
         ensures { result ≡ is_any_asked self.now.asked }
     {
         self.asked.iter().any(|asked| *asked)
     }
 
-    /// Takes the sessions that were asked for.
+    /// Takes those that were asked for.
     pub fn take(&mut self) -> [bool; FED_SESSIONS]
         ensures asked { result ≡ self.old.asked }
         ensures taken { self.new ≡ all_taken self.old }
@@ -57,7 +58,7 @@ impl Asks {
         self.taken
     }
 
-    /// The sessions that were taken have settled.
+    /// The recording thread is done with those that were taken.
     pub fn answer(&mut self)
         ensures { self.new ≡ record self.old { taken = replicate 64 false } }
     {
@@ -71,10 +72,10 @@ impl Asks {
         self.is_closed = true;
     }
 
-    /// Whether a session was asked for and has not settled since, and may still.
-    pub fn is_pending(&self, session: usize) -> bool
-        ensures { result ≡ is_pending session self.now }
+    /// Whether one was asked for and is not done, and may be still.
+    pub fn is_pending(&self, index: usize) -> bool
+        ensures { result ≡ is_pending index self.now }
     {
-        session < FED_SESSIONS && !self.is_closed && (self.asked[session] || self.taken[session])
+        index < FED_SESSIONS && !self.is_closed && (self.asked[index] || self.taken[index])
     }
 }

@@ -1,4 +1,4 @@
-//! A client's connection, whose reads and writes end where it is idle for too long and another waits.
+//! A client's connection, whose reads and writes end if it is idle for too long and another waits.
 
 use crate::door::Door;
 use crate::shared::Shared;
@@ -9,7 +9,7 @@ use std::cell::Cell;
 use std::io::{self, ErrorKind, Read, Write};
 use std::net::TcpStream;
 use std::rt::Clock;
-use std::sync::Wait;
+use std::sync::{Mutex, Wait};
 use std::time::{Duration, Instant};
 
 /// Milliseconds that a read or a write waits at once at most.
@@ -28,10 +28,12 @@ pub(crate) fn is_timed(stream: &TcpStream) -> bool {
 pub(crate) struct Client<'a, R, T> {
     rt: &'a R,
     shared: &'a Shared<T>,
-    door: &'a Door<'a>,
+    door: &'a Door,
     idle: Duration,
     stream: TcpStream,
     last: Cell<Option<Instant>>,
+    /// The connection that it leaves its place to.
+    next: Mutex<Option<TcpStream>>,
 }
 
 impl<'a, R: Wait + Clock, T: Teller> Client<'a, R, T> {
@@ -39,7 +41,7 @@ impl<'a, R: Wait + Clock, T: Teller> Client<'a, R, T> {
     pub fn new(
         rt: &'a R,
         shared: &'a Shared<T>,
-        door: &'a Door<'a>,
+        door: &'a Door,
         idle: Duration,
         stream: TcpStream,
     ) -> Client<'a, R, T> {
@@ -50,7 +52,18 @@ impl<'a, R: Wait + Clock, T: Teller> Client<'a, R, T> {
             idle,
             stream,
             last: Cell::new(Instant::now(rt).ok()),
+            next: Mutex::new(None),
         }
+    }
+
+    /// The connection that it left its place to.
+    pub fn take_next(&self) -> Option<TcpStream> {
+        self.next.lock(self.rt).take()
+    }
+
+    /// Whether its next line is read: it is served further, and no client has quit.
+    pub fn reads_on(&self) -> bool {
+        !self.door.is_closed() && self.goes_on()
     }
 
     /// The answer to the line `images`.
@@ -63,9 +76,18 @@ impl<'a, R: Wait + Clock, T: Teller> Client<'a, R, T> {
         self.last.set(Instant::now(self.rt).ok());
     }
 
-    /// Whether it is served further: the server does not end, and it was not idle for too long, or nobody waits.
+    /// Whether it is served further: the server does not end, and it does not leave its place.
     fn goes_on(&self) -> bool {
-        !self.shared.has_ended() && !(self.is_idle() && self.door.another_waits(self.rt))
+        !self.shared.has_ended() && !self.leaves_place()
+    }
+
+    /// Whether it leaves its place to a connection that waits: it was idle for too long, and all places are taken.
+    fn leaves_place(&self) -> bool {
+        let mut next = self.next.lock(self.rt);
+        if next.is_none() && self.is_idle() {
+            *next = self.door.take_waiting();
+        }
+        next.is_some()
     }
 
     /// Whether it was idle for too long. Where the clock can't be read it was not.
@@ -85,7 +107,7 @@ impl<R: Wait + Clock, T: Teller> Read for ClientReader<'_, R, T> {
     fn read(&mut self, buf: &mut [u8]) -> io::Result<usize> {
         let client = self.0;
         for _ in client.rt.forever() {
-            if !client.goes_on() {
+            if !client.reads_on() {
                 return Err(io::Error::from(ErrorKind::TimedOut));
             }
             match (&client.stream).read(buf) {
@@ -103,7 +125,7 @@ impl<R: Wait + Clock, T: Teller> Read for ClientReader<'_, R, T> {
     }
 }
 
-/// What a client is answered.
+/// What a client is answered. Once another client has quit, no more is written if a write has to wait.
 #[derive(Drop)]
 pub(crate) struct ClientWriter<'a, R, T>(pub &'a Client<'a, R, T>);
 
@@ -119,7 +141,7 @@ impl<R: Wait + Clock, T: Teller> Write for ClientWriter<'_, R, T> {
                     client.touch();
                     return Ok(count);
                 }
-                Err(error) if is_late(&error) => {}
+                Err(error) if is_late(&error) && !client.door.is_closed() => {}
                 Err(error) => return Err(error),
             }
         }

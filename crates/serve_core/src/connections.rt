@@ -1,11 +1,14 @@
 //! Connections, one after another, and their lines. docs/SERVING.md, "Control lines".
 
-ghost use Rattle.std.specs.Prelude.{◌≡◌, IfErr, OnOk};
+ghost use Rattle.std.specs.Prelude.{◌≡◌, ◌↔◌, IfErr, IsSome, IsTrue, OnOk};
 ghost use Rattle.tool_core.specs.Answering.{AnswersFirstLines, AnswersLines, EndsEarly};
 ghost use Rattle.tool_core.specs.Transcript.{WritesText};
 
 use crate::client::{Client, ClientReader, ClientWriter, is_timed};
 use crate::door::Door;
+use crate::line_reader::LineReader;
+use crate::options::ServeOptions;
+use crate::place::Places;
 use crate::script_reader::ScriptReader;
 use crate::shared::Shared;
 use crate::teller::Teller;
@@ -13,7 +16,7 @@ use archive_model::Reply;
 use frame_core::Refusal;
 use std::alloc::Global;
 use std::io::{BufWriter, Read, Write};
-use std::net::TcpStream;
+use std::net::{TcpStream, UdpSocket};
 use std::rt::Clock;
 use std::sync::Wait;
 use std::time::Duration;
@@ -24,9 +27,54 @@ const WRITTEN_AT_ONCE: usize = 65_536;
 
 /// Who answers the lines of connections.
 pub(crate) trait Server: Answerer {
-    /// A connection has ended.
-    fn end_connection(&mut self)
-        ensures { self.new ≡ self.old };
+    ghost use Rattle.std.specs.Prelude.{Bool};
+
+    /// What the end of a connection makes of it, if the connection's replays are closed and if they are not.
+    ghost ended: { Bool → Self → Self → Type 0 };
+
+    /// A connection has ended. Its replays are closed if `closes_replays`.
+    fn end_connection(&mut self, alloc: Global, closes_replays: bool)
+        ensures { ended closes_replays self.old self.new };
+}
+
+/// How clients are served.
+#[derive(Clone, Copy)]
+pub(crate) struct Manner {
+    /// For how long a client may be idle while another waits.
+    pub idle: Duration,
+    /// Whether the line `images` is answered.
+    pub lists_images: bool,
+    /// Whether the replays that a connection leaves open are closed.
+    pub closes_replays: bool,
+    /// Whether one client is served at a time. Its merge goes on in the next connection.
+    pub is_single: bool,
+}
+
+impl Manner {
+    /// That of these options, for so many clients.
+    pub fn of(options: &ServeOptions<'_>, places: &Places) -> Manner
+        ensures closes { IsTrue result.closes_replays ↔ IsSome options.now.clients }
+        ensures single { IsTrue result.is_single ↔ (places.now.count ≡ 1) }
+        ensures images { IsTrue result.lists_images ↔ IsSome options.now.window }
+    {
+        Manner {
+            idle: Duration::from_secs(options.idle_seconds),
+            lists_images: options.window.is_some(),
+            closes_replays: options.clients.is_some(),
+            is_single: places.count == 1,
+        }
+    }
+}
+
+/// What the threads that serve connections share.
+#[derive(Drop)]
+pub(crate) struct Connections<T> {
+    pub alloc: Global,
+    pub shared: Shared<T>,
+    /// Where datagrams come to.
+    pub socket: UdpSocket,
+    pub door: Door,
+    pub manner: Manner,
 }
 
 /// Sees whether a line quits.
@@ -43,52 +91,71 @@ impl Observer for QuitObserver {
     }
 }
 
-/// Serves connections, one after another, until a line quits: the lines of each go on from the merge that those before it
-/// left. `Read` where the server ends otherwise, or the listener fails.
-pub(crate) fn serve_connections<'x, R: Wait + Clock, T: Teller, S: Server + Drop>(
-    rt: &'x R,
-    alloc: Global,
-    shared: &'x Shared<T>,
-    door: &'x Door<'x>,
-    idle: Duration,
-    lists_images: bool,
-    state: ScriptState<S>,
-) -> (ScriptState<S>, Result<(), EarlyEnd>) {
-    let mut state = state;
+/// Serves connections, one after another, until the server ends. It ends if a line quits. If one client is served at a time,
+/// the lines of each go on from the merge that those before it left.
+pub(crate) fn serve_connections<R: Wait + Clock, T: Teller, S: Server + Drop>(
+    rt: &R,
+    with: &Connections<T>,
+    server: S,
+) -> S {
+    let mut state = ScriptState::new(server);
+    let mut waiting = None;
     for _ in rt.forever() {
-        let Some(stream) = door.next(rt, shared) else {
-            return (state, Err(EarlyEnd::Read));
+        let Some(stream) = with.door.next(rt, &with.shared, waiting) else {
+            return state.into_archive();
         };
-        shared.counts.connections.add(1);
-        if !is_timed(&stream) {
-            continue;
-        }
-        let client = Client::new(rt, shared, door, idle, stream);
-        let (next, has_quit) = serve_client(alloc, &client, lists_images, state);
-        state = next;
-        state.archive.end_connection();
-        if has_quit {
-            return (state, Ok(()));
+        let (after, next) = serve_stream(rt, with, stream, state);
+        state = after;
+        waiting = next;
+        if waiting.is_none() {
+            with.door.leave();
         }
     }
     unreachable!()
 }
 
-/// Answers the lines of a client until one quits, the client ends or fails, or is idle for too long. Whether one quit.
+/// Serves a connection that was taken, and closes the door if a line quits. The connection that its place goes to, if it was
+/// idle for too long and that one waits.
+fn serve_stream<R: Wait + Clock, T: Teller, S: Server + Drop>(
+    rt: &R,
+    with: &Connections<T>,
+    stream: TcpStream,
+    state: ScriptState<S>,
+) -> (ScriptState<S>, Option<TcpStream>) {
+    with.shared.counts.connections.add(1);
+    if !is_timed(&stream) {
+        return (state, None);
+    }
+    let client = Client::new(rt, &with.shared, &with.door, with.manner.idle, stream);
+    let (mut state, has_quit) = serve_client(with.alloc, &client, &with.manner, state);
+    if has_quit {
+        with.door.close(rt, Ok(()));
+    }
+    state
+        .archive
+        .end_connection(with.alloc, with.manner.closes_replays);
+    if !with.manner.is_single {
+        state.merge = None;
+    }
+    (state, client.take_next())
+}
+
+/// Answers the lines of a client until one quits, the client ends or fails, or is served no further. Whether one quit.
 fn serve_client<R: Wait + Clock, T: Teller, S: Answerer>(
     alloc: Global,
     client: &Client<'_, R, T>,
-    lists_images: bool,
+    manner: &Manner,
     state: ScriptState<S>,
 ) -> (ScriptState<S>, bool) {
     let writer = ClientWriter(client);
     let Ok(mut writer) = BufWriter::with_capacity(alloc, WRITTEN_AT_ONCE, writer) else {
         return (state, false);
     };
-    if lists_images {
-        return serve_scripts(alloc, client, &mut writer, state);
+    if manner.lists_images {
+        return serve_scripts(alloc, client, manner, &mut writer, state);
     }
-    let (state, _, has_quit) = answer_client(alloc, ClientReader(client), &mut writer, state);
+    let reader = ClientReader(client);
+    let (state, _, has_quit) = answer_script(alloc, client, manner, reader, &mut writer, state);
     (state, has_quit)
 }
 
@@ -96,6 +163,7 @@ fn serve_client<R: Wait + Clock, T: Teller, S: Answerer>(
 fn serve_scripts<R: Wait + Clock, T: Teller, W: Write, S: Answerer>(
     alloc: Global,
     client: &Client<'_, R, T>,
+    manner: &Manner,
     writer: &mut W,
     state: ScriptState<S>,
 ) -> (ScriptState<S>, bool) {
@@ -104,9 +172,16 @@ fn serve_scripts<R: Wait + Clock, T: Teller, W: Write, S: Answerer>(
     };
     let mut state = state;
     for _ in 0..u64::MAX {
-        let (next, outcome, has_quit) = answer_client(alloc, &mut reader, writer, state);
+        let (next, goes_on, has_quit) = answer_script(
+            alloc,
+            client,
+            manner,
+            &mut reader,
+            writer,
+            state,
+        );
         state = next;
-        if has_quit || outcome.is_err() || !reader.takes_images() {
+        if has_quit || !goes_on || !client.reads_on() || !reader.takes_images() {
             return (state, has_quit);
         }
         if !put_images(alloc, client, writer) {
@@ -114,6 +189,27 @@ fn serve_scripts<R: Wait + Clock, T: Teller, W: Write, S: Answerer>(
         }
     }
     (state, false)
+}
+
+/// Answers the lines that a reader gives of a client, a line at a time if others are served meanwhile. Whether all were
+/// answered, and whether one quit.
+fn answer_script<R: Wait + Clock, T: Teller, I: Read + Drop, W: Write, S: Answerer>(
+    alloc: Global,
+    client: &Client<'_, R, T>,
+    manner: &Manner,
+    reader: I,
+    writer: &mut W,
+    state: ScriptState<S>,
+) -> (ScriptState<S>, bool, bool) {
+    if manner.is_single {
+        let (state, outcome, has_quit) = answer_client(alloc, reader, writer, state);
+        return (state, outcome.is_ok(), has_quit);
+    }
+    let Ok(reader) = LineReader::new(alloc, client, reader) else {
+        return (state, false, false);
+    };
+    let (state, outcome, has_quit) = answer_client(alloc, reader, writer, state);
+    (state, outcome.is_ok(), has_quit)
 }
 
 /// Writes the answer to the line `images`. Whether it went out.

@@ -7,7 +7,7 @@ use std::alloc::{AllocError, Global};
 use std::sync::atomic::{AtomicU64, Ordering};
 use stream_pairs::MAX_IMAGES;
 
-/// A number that threads add to. It wraps around behind the last `u64`.
+/// A number that threads add to. It wraps around after the last `u64`.
 #[derive(Drop)]
 pub(crate) struct Count(AtomicU64);
 
@@ -23,6 +23,10 @@ impl Count {
 
     fn get(&self) -> u64 {
         self.0.load(Ordering::SeqCst)
+    }
+
+    fn set(&self, value: u64) {
+        self.0.store(value, Ordering::SeqCst);
     }
 }
 
@@ -46,6 +50,13 @@ impl ImageCounts {
         }
     }
 
+    /// Nothing was counted.
+    fn clear(&self) {
+        self.recorded.set(0);
+        self.lost.set(0);
+        self.requests.set(0);
+    }
+
     fn counted(&self) -> ImageCounted {
         ImageCounted {
             recorded: self.recorded.get(),
@@ -64,6 +75,9 @@ pub(crate) struct Counts {
     pub datagrams: Count,
     /// Images that joined.
     pub images: Count,
+    /// What was counted of images that left.
+    left: ImageCounts,
+    /// By the images' places.
     of_images: Vec<ImageCounts>,
     ghost all_images: { vec_len of_images ≡ 64 },
 }
@@ -79,18 +93,19 @@ impl Counts {
             connections: Count::new(),
             datagrams: Count::new(),
             images: Count::new(),
+            left: ImageCounts::new(),
             of_images,
         })
     }
 
-    /// What is counted of an image, of each of 64.
+    /// What is counted of the image at a place, of each of 64.
     pub fn of(&self, image: usize) -> Option<&ImageCounts>
         ensures { IsSome result ↔ (image < 64) }
     {
         self.of_images.as_slice().get(image)
     }
 
-    /// What was counted of an image.
+    /// What was counted of the image at a place.
     pub fn counted(&self, image: usize) -> ImageCounted {
         match self.of(image) {
             Some(counts) => counts.counted(),
@@ -98,9 +113,20 @@ impl Counts {
         }
     }
 
+    /// The image at a place has left: what was counted of it counts for the whole alone from now on.
+    pub fn leave(&self, image: usize) {
+        if let Some(counts) = self.of(image) {
+            let counted = counts.counted();
+            self.left.recorded.add(counted.recorded);
+            self.left.lost.add(counted.lost);
+            self.left.requests.add(counted.requests);
+            counts.clear();
+        }
+    }
+
     /// What was counted of all.
     pub fn all(&self) -> Counted {
-        let mut all = NOTHING;
+        let mut all = self.left.counted();
         for counts in self.of_images.as_slice() {
             let counted = counts.counted();
             all.recorded = all.recorded.saturating_add(counted.recorded);

@@ -1,22 +1,31 @@
-//! The listener, and the connection that waits.
+//! The listener, the connections that wait there, and the end of serving.
 
+use crate::place::Places;
 use crate::shared::Shared;
 use crate::teller::Teller;
-use std::io::ErrorKind;
-use std::net::{TcpListener, TcpStream};
+use std::io::{self, ErrorKind};
+use std::net::{SocketAddr, TcpListener, TcpStream};
 use std::rt::Clock;
+use std::sync::atomic::{AtomicBool, AtomicU64, Ordering};
 use std::sync::{Mutex, Wait};
 use std::thread;
 use std::time::Duration;
+use tool_core::EarlyEnd;
 
-/// Milliseconds between two looks for a connection while none is served.
+/// Milliseconds between two looks for a connection.
 const LOOK: u64 = 10;
 
-/// A listener that does not wait, and a connection that it has taken before its turn.
+/// A listener that does not wait, which the threads that serve clients share.
 #[derive(Drop)]
-pub(crate) struct Door<'a> {
-    listener: &'a TcpListener,
-    next: Mutex<Option<TcpStream>>,
+pub(crate) struct Door {
+    listener: TcpListener,
+    /// How many more clients can be served now.
+    free: AtomicU64,
+    /// Of the threads that have no client one looks for a connection, and the others wait for it.
+    turn: Mutex<()>,
+    is_closed: AtomicBool,
+    /// How serving ended.
+    end: Mutex<Option<Result<(), EarlyEnd>>>,
 }
 
 /// What a look for a connection found.
@@ -27,50 +36,100 @@ enum Found {
     Failed,
 }
 
-impl<'a> Door<'a> {
-    /// A door of this listener, which does not wait.
-    pub fn new(listener: &'a TcpListener) -> Door<'a> {
-        Door {
+impl Door {
+    /// A door of this listener for so many clients. It is closed by `Read` if the listener can't be asked without waiting.
+    pub fn new<R: Wait>(rt: &R, listener: TcpListener, places: &Places) -> Door {
+        let is_ready = listener.set_nonblocking(true).is_ok();
+        let door = Door {
             listener,
-            next: Mutex::new(None),
+            free: AtomicU64::new(places.count as u64),
+            turn: Mutex::new(()),
+            is_closed: AtomicBool::new(false),
+            end: Mutex::new(None),
+        };
+        if !is_ready {
+            door.close(rt, Err(EarlyEnd::Read));
         }
+        door
     }
 
-    /// The next connection. None where the server ends, or the listener fails.
+    /// Where connections come to.
+    pub fn address(&self) -> io::Result<SocketAddr> {
+        self.listener.local_addr()
+    }
+
+    /// The next connection, which takes a place: `waiting` if there is one, whose place is taken. None if the server ends.
     pub fn next<R: Wait + Clock, T: Teller>(
         &self,
         rt: &R,
         shared: &Shared<T>,
+        waiting: Option<TcpStream>,
     ) -> Option<TcpStream> {
+        if waiting.is_some() && !self.has_ended(shared) {
+            return waiting;
+        }
+        let stream = self.watch(rt, shared)?;
+        self.free.fetch_sub(1, Ordering::SeqCst);
+        Some(stream)
+    }
+
+    /// A client has left, and its place is free.
+    pub fn leave(&self) {
+        self.free.fetch_add(1, Ordering::SeqCst);
+    }
+
+    /// The connection that waits, if there is one and all places are taken. The caller's client leaves it its place.
+    pub fn take_waiting(&self) -> Option<TcpStream> {
+        if self.free.load(Ordering::SeqCst) > 0 {
+            return None;
+        }
+        match self.look() {
+            Found::Came(stream) => Some(stream),
+            _ => None,
+        }
+    }
+
+    /// Serving ends so, unless it has ended before. No client's next line is read.
+    pub fn close<R: Wait>(&self, rt: &R, end: Result<(), EarlyEnd>) {
+        self.end.lock(rt).get_or_insert(end);
+        self.is_closed.store(true, Ordering::SeqCst);
+    }
+
+    /// Whether serving has ended.
+    pub fn is_closed(&self) -> bool {
+        self.is_closed.load(Ordering::SeqCst)
+    }
+
+    /// How serving ended: `Read` if the server ended otherwise.
+    pub fn end<R: Wait>(&self, rt: &R) -> Result<(), EarlyEnd> {
+        let end = *self.end.lock(rt);
+        end.unwrap_or(Err(EarlyEnd::Read))
+    }
+
+    fn has_ended<T: Teller>(&self, shared: &Shared<T>) -> bool {
+        self.is_closed() || shared.has_ended()
+    }
+
+    /// Looks for a connection until one comes. None if the server ends, or the listener fails, which ends it.
+    fn watch<R: Wait + Clock, T: Teller>(&self, rt: &R, shared: &Shared<T>) -> Option<TcpStream> {
+        let _turn = self.turn.lock(rt);
         for _ in rt.forever() {
-            if shared.has_ended() {
+            if self.has_ended(shared) {
                 return None;
             }
-            match self.look(rt) {
+            match self.look() {
                 Found::Came(stream) => return Some(stream),
                 Found::Nobody => thread::sleep(rt, Duration::from_millis(LOOK)),
-                Found::Failed => return None,
+                Found::Failed => {
+                    self.close(rt, Err(EarlyEnd::Read));
+                    return None;
+                }
             }
         }
         unreachable!()
     }
 
-    /// Whether another connection waits, which is then the next one.
-    pub fn another_waits<R: Wait>(&self, rt: &R) -> bool {
-        match self.look(rt) {
-            Found::Came(stream) => {
-                *self.next.lock(rt) = Some(stream);
-                true
-            }
-            _ => false,
-        }
-    }
-
-    fn look<R: Wait>(&self, rt: &R) -> Found {
-        let waiting = self.next.lock(rt).take();
-        if let Some(stream) = waiting {
-            return Found::Came(stream);
-        }
+    fn look(&self) -> Found {
         match self.listener.accept() {
             Ok((stream, _)) => Found::Came(stream),
             Err(error) => match error.kind() {

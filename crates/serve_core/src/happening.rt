@@ -1,4 +1,4 @@
-//! What is told of a server: docs/SERVING.md, "What is told".
+//! What a server reports: docs/SERVING.md, "What is told".
 
 use control_lines::print_refusal;
 use frame_core::Refusal;
@@ -46,7 +46,7 @@ pub enum Happening<'a> {
     /// An image joined.
     Joined {
         /// Its number, counted from 0.
-        image: usize,
+        image: u64,
         /// Where it joined.
         point: StreamPoint,
         /// Who sent the setup frame.
@@ -55,16 +55,16 @@ pub enum Happening<'a> {
     /// An image feeds a recorder session.
     Paired {
         /// The image's number.
-        image: usize,
+        image: u64,
         /// The session's number.
-        session: usize,
+        session: i64,
     },
     /// A recorder session lost its image.
     Lost {
         /// The image's number.
-        image: usize,
+        image: u64,
         /// The session's number.
-        session: usize,
+        session: i64,
         /// Why: what the session's `Write` or `Settle` was refused by.
         cause: Refusal,
         /// What was counted of the image.
@@ -73,14 +73,42 @@ pub enum Happening<'a> {
     /// An image's publication has an MTU that is longer than its window: its sender is sent no status messages.
     NoWindow {
         /// The image's number.
-        image: usize,
+        image: u64,
         /// The MTU, in bytes.
         mtu: i32,
     },
+    /// The place of an image is given back: it is not live any more, was lost, or its session has ended.
+    Left {
+        /// The image's number.
+        image: u64,
+        /// What was counted of the image.
+        counted: ImageCounted,
+    },
+    /// The server records an image by itself.
+    Recorded {
+        /// The image's number.
+        image: u64,
+        /// The recording's id.
+        recording: i64,
+    },
+    /// The server can't record an image by itself.
+    NotRecorded {
+        /// The image's number.
+        image: u64,
+        /// Why.
+        cause: Refusal,
+    },
     /// The last of 64 images was used.
     LastImage,
+    /// All 64 places of images are taken, until one is given back.
+    AllPlacesTaken,
     /// The last of 64 recorder sessions that images feed was used.
     LastSession,
+    /// A recorder session was opened while 64 others have seats: no image feeds it.
+    NoSeat {
+        /// The session's number.
+        session: i64,
+    },
     /// A connection ended, and replays that it opened are open.
     LeftReplays(&'a [i64]),
     /// A call was answered by a device fault, the first time.
@@ -98,6 +126,8 @@ impl Happening<'_> {
             Happening::Began(Beginning::Refused(_)) => true,
             Happening::Lost { .. } => true,
             Happening::NoWindow { .. } => true,
+            Happening::NoSeat { .. } => true,
+            Happening::NotRecorded { .. } => true,
             Happening::DeviceFault => true,
             _ => false,
         }
@@ -134,6 +164,22 @@ impl fmt::Display for Happening<'_> {
             Happening::NoWindow { image, mtu } => write!(
                 f,
                 "image {image} is sent no status messages: its MTU of {mtu} bytes is longer than its window"
+            ),
+            Happening::Left { image, counted } => write!(f, "image {image} has left: {counted}"),
+            Happening::Recorded { image, recording } => {
+                write!(f, "image {image} is recorded by recording {recording}")
+            }
+            Happening::NotRecorded { image, cause } => write!(
+                f,
+                "image {image} is not recorded: {}",
+                RefusalText(*cause)
+            ),
+            Happening::AllPlacesTaken => f.write_str(
+                "all 64 places of images are taken: further publications are ignored until one is given back",
+            ),
+            Happening::NoSeat { session } => write!(
+                f,
+                "session {session} gets no datagrams: 64 other sessions are open"
             ),
             Happening::LastImage => f.write_str(
                 "the last of 64 images is used: further publications are ignored until a restart",
@@ -197,7 +243,7 @@ fn write_beginning<W: fmt::Write>(f: &mut fmt::Formatter<W>, beginning: &Beginni
 
 fn write_joined<W: fmt::Write>(
     f: &mut fmt::Formatter<W>,
-    image: &usize,
+    image: &u64,
     point: &StreamPoint,
     sender: &Option<SocketAddr>,
 ) -> fmt::Result {

@@ -1,15 +1,18 @@
 //! What a server can be asked for: docs/SERVING.md, "How to run it".
 
-ghost use Rattle.std.specs.Prelude.{◌≡◌, None, pos};
+ghost use Rattle.std.specs.Prelude.{◌≡◌, [], None, pos};
 
 /// Seconds for which a client may be idle while another waits, unless an option says otherwise.
 pub const IDLE_SECONDS: u64 = 60;
 /// Milliseconds for which a block waits for its settling at most, unless an option says otherwise.
 pub const SETTLE_EVERY: u64 = 5;
 
+/// Bytes of a segment of a recording that nobody asked for, unless an option says otherwise.
+pub const SEGMENT_LENGTH: i32 = 134_217_728;
+
 /// Options of a server.
 #[derive(Clone, Copy, Debug, PartialEq, Eq)]
-pub struct ServeOptions {
+pub struct ServeOptions<'a> {
     /// Seconds for which a client may be idle while another waits: no whole line came, and no byte of a reply went out.
     pub idle_seconds: u64,
     /// Milliseconds for which a block waits for its settling at most. 0: each batch is settled at once.
@@ -19,19 +22,32 @@ pub struct ServeOptions {
     pub window: Option<i32>,
     /// The receiver's number, which its status messages have.
     pub receiver_id: i64,
+    /// How many clients are served at a time, from 1 to 64: less is 1, and more is 64. A replay that a connection leaves open
+    /// is closed, and with more than one client the merge is the connection's. None: one client, and both stay for the next.
+    pub clients: Option<u32>,
+    /// The streams whose publications are recorded without being asked; with a receiver window alone.
+    pub streams: &'a [i32],
+    /// Bytes of a segment of such a recording: a power of two from 65,536 to 1,073,741,824. It is a term if that is longer.
+    pub segment_length: i32,
 }
 
-impl ServeOptions {
-    /// A client may be idle for 60 seconds while another waits, a block waits for 5 milliseconds at most, and no status
-    /// message is sent.
-    pub fn new() -> ServeOptions
-        ensures { result ≡ record { idle_seconds = 60; settle_every = 5; window = None; receiver_id = pos 0 } }
+impl<'a> ServeOptions<'a> {
+    /// A client may be idle for 60 seconds while another waits, a block waits for 5 milliseconds at most, no status message is
+    /// sent, one client is served at a time, and nothing is recorded without being asked.
+    pub fn new() -> ServeOptions<'a>
+        ensures times { (result.idle_seconds ≡ 60) × (result.settle_every ≡ 5) }
+        ensures receiver { (result.window ≡ None) × (result.receiver_id ≡ pos 0) }
+        ensures clients { result.clients ≡ None }
+        ensures streams { (result.streams.now ≡ []) × (result.segment_length ≡ pos 134217728) }
     {
         ServeOptions {
             idle_seconds: IDLE_SECONDS,
             settle_every: SETTLE_EVERY,
             window: None,
             receiver_id: 0,
+            clients: None,
+            streams: &[],
+            segment_length: SEGMENT_LENGTH,
         }
     }
 }

@@ -1,73 +1,205 @@
-//! Pairs of images and recorder sessions, and which of them were told of.
+//! Pairs of images and recorder sessions, and which of them were reported.
 
 ghost use Rattle.std.specs.Prelude.{◌≡◌, ◌<◌, None, replicate};
-ghost use Rattle.stream_pairs.specs.Pairs.{after_refused, image_at};
-ghost use Rattle.serve_core.specs.Noting.{TellsNext, after_noted, untold_image};
+ghost use Rattle.std.specs.List.{position};
+ghost use Rattle.stream_pairs.specs.Pairs.{feeds, seat_of};
+ghost use Rattle.serve_core.specs.Noting.{TellsNext, after_noted, after_refusing, fed_key, fed_session, has_key, image_key, is_over, key_at, lost_key, waiting_image, waits, seated_session, fed_at, untold_image};
 
 use crate::noting::note;
 use archive_model::Reply;
 use control_core::Event;
-use stream_pairs::{FED_SESSIONS, Pairs};
+use stream_pairs::{FED_SESSIONS, JoinedImage, Pairs};
 
-/// Which image feeds which recorder session, and of which pairs was told.
+/// An image: its place, and its number, which no other image has.
+#[derive(Clone, Copy, PartialEq, Eq)]
+pub(crate) struct ImageKey {
+    /// The place.
+    pub place: usize,
+    /// How many images came before it.
+    pub number: u64,
+}
+
+/// A recorder session that an image feeds.
+#[derive(Clone, Copy)]
+pub(crate) struct FedSession {
+    /// Its seat.
+    pub seat: usize,
+    /// Its number.
+    pub session: i64,
+}
+
+/// Which image feeds which recorder session, and which pairs were reported.
 #[derive(Drop)]
 pub(crate) struct Pairing {
     /// The pairs.
     pub pairs: Pairs,
-    /// Of each session the image of which it was told that it feeds it.
-    told: [Option<usize>; FED_SESSIONS],
+    /// Of each seat the number of the image that was reported to feed its session.
+    told: [Option<u64>; FED_SESSIONS],
+    /// Whether the seat of a session is given back once its recording was stopped.
+    gives_back: bool,
 }
 
 impl Pairing {
-    /// These pairs, of which nothing was told.
-    pub fn new(pairs: Pairs) -> Pairing
-        ensures { result ≡ record { pairs = pairs; told = replicate 64 None } }
+    /// These pairs, of which nothing was reported.
+    pub fn new(pairs: Pairs, gives_back: bool) -> Pairing
+        ensures { result ≡ record { pairs = pairs; told = replicate 64 None; gives_back = gives_back } }
     {
         Pairing {
             pairs,
             told: [None; FED_SESSIONS],
+            gives_back,
         }
     }
 
     /// A call was answered so.
     pub fn note(&mut self, event: &Event, reply: &Reply)
-        ensures { self.new ≡ record self.old { pairs = after_noted event.now reply.now self.old.pairs } }
+        ensures { self.new ≡ record self.old
+            { pairs = after_noted self.old.gives_back event.now reply.now self.old.pairs } }
     {
-        note(&mut self.pairs, event, reply);
+        note(&mut self.pairs, self.gives_back, event, reply);
     }
 
-    /// The least session with an image of which was not told before, and that image. From now on it was.
-    pub fn next_untold(&mut self) -> Option<(usize, usize)>
+    /// The least seat whose session has an image that was not reported before, and that image's number. From now on it was.
+    pub fn next_untold(&mut self) -> Option<(usize, u64)>
         ensures told { TellsNext self.old.pairs self.old.told result self.new.told }
-        ensures same { self.new.pairs ≡ self.old.pairs }
+        ensures same { self.new ≡ record self.old { told = self.new.told } }
     {
-        for session in 0..FED_SESSIONS {
-            if let Some(image) = self.untold_image(session) {
-                self.told[session] = Some(image);
-                return Some((session, image));
+        for seat in 0..FED_SESSIONS {
+            if let Some(number) = self.untold_image(seat) {
+                self.told[seat] = Some(number);
+                return Some((seat, number));
             }
         }
         None
     }
 
-    /// The image that feeds a session, unless it was told of.
-    fn untold_image(&self, session: usize) -> Option<usize>
-        requires { session < 64 }
-        ensures { result ≡ untold_image session self.now.pairs self.now.told }
+    /// The number of the image that feeds a session, unless it was reported.
+    fn untold_image(&self, seat: usize) -> Option<u64>
+        requires { seat < 64 }
+        ensures { result ≡ untold_image seat self.now.pairs self.now.told }
     {
-        match self.pairs.image_of_session(session) {
-            Some(image) if self.told[session] != Some(image) => Some(image),
+        match self.fed_key(seat) {
+            Some(key) if self.told[seat] != Some(key.number) => Some(key.number),
             _ => None,
         }
     }
 
-    /// A session was refused: the image that it loses, if it has one.
-    pub fn refused(&mut self, session: usize) -> Option<usize>
-        ensures image { result ≡ image_at session self.old.pairs }
-        ensures pairs { self.new ≡ record self.old { pairs = after_refused session self.old.pairs } }
+    /// The image at a place.
+    pub fn key_at(&self, place: usize) -> Option<ImageKey>
+        ensures { result ≡ key_at place self.now.pairs }
     {
-        let image = self.pairs.image_of_session(session);
-        self.pairs.refused(session);
-        image
+        image_key(place, self.pairs.image(place))
+    }
+
+    /// The image that feeds the session at a seat.
+    fn fed_key(&self, seat: usize) -> Option<ImageKey>
+        ensures { result ≡ fed_key seat self.now.pairs }
+    {
+        match self.pairs.image_of_session(seat) {
+            Some(place) => self.key_at(place),
+            None => None,
+        }
+    }
+
+    /// The session that an image feeds. None if it feeds none, or its place was given back.
+    pub fn session_of(&self, key: &ImageKey) -> Option<FedSession>
+        ensures { result ≡ fed_session key.now self.now.pairs }
+    {
+        if self.has_key(key) {
+            self.session_fed(key.place)
+        } else {
+            None
+        }
+    }
+
+    /// Whether the image is at its place.
+    fn has_key(&self, key: &ImageKey) -> bool
+        ensures { result ≡ has_key key.now self.now.pairs }
+    {
+        match self.pairs.image(key.place) {
+            Some(image) => image.number == key.number,
+            None => false,
+        }
+    }
+
+    /// The session that the image at a place feeds.
+    fn session_fed(&self, place: usize) -> Option<FedSession>
+        ensures { result ≡ fed_at (position (feeds place) self.now.pairs.slots) self.now.pairs }
+    {
+        match self.pairs.session_of_image(place) {
+            Some(seat) => self.seated_session(seat),
+            None => None,
+        }
+    }
+
+    /// The session at a seat.
+    pub fn seated_session(&self, seat: usize) -> Option<FedSession>
+        ensures { result ≡ seated_session seat self.now.pairs }
+    {
+        match self.pairs.slot(seat) {
+            Some(slot) => Some(FedSession {
+                seat,
+                session: slot.session,
+            }),
+            None => None,
+        }
+    }
+
+    /// Whether the place of an image may be given back, whether it is live or not: it was lost, or its session has ended.
+    pub fn is_over(&self, place: usize) -> bool
+        ensures { result ≡ is_over place self.now.pairs }
+    {
+        match self.pairs.image(place) {
+            Some(image) => image.is_lost,
+            None => false,
+        }
+    }
+
+    /// The image at a place, if it waits for a session: it feeds none, and was not lost.
+    pub fn waiting(&self, place: usize) -> Option<JoinedImage>
+        ensures { result ≡ waiting_image place self.now.pairs }
+    {
+        match self.pairs.image(place) {
+            Some(image) => self.waits(place, image),
+            None => None,
+        }
+    }
+
+    fn waits(&self, place: usize, image: JoinedImage) -> Option<JoinedImage>
+        ensures { result ≡ waits place image self.now.pairs }
+    {
+        if image.is_lost || self.pairs.session_of_image(place).is_some() {
+            None
+        } else {
+            Some(image)
+        }
+    }
+
+    /// The session of a number was refused: the image that it loses, if it has one.
+    pub fn refused(&mut self, session: i64) -> Option<ImageKey>
+        ensures image { result ≡ lost_key (seat_of session self.old.pairs) self.old.pairs }
+        ensures pairs { self.new ≡ record self.old { pairs = after_refusing (seat_of session self.old.pairs) self.old.pairs } }
+    {
+        match self.pairs.seat_of(session) {
+            Some(seat) => {
+                let key = self.fed_key(seat);
+                self.pairs.refused(seat);
+                key
+            }
+            None => None,
+        }
+    }
+}
+
+/// The image at a place, by what is known of it.
+fn image_key(place: usize, image: Option<JoinedImage>) -> Option<ImageKey>
+    ensures { result ≡ image_key place image }
+{
+    match image {
+        Some(image) => Some(ImageKey {
+            place,
+            number: image.number,
+        }),
+        None => None,
     }
 }

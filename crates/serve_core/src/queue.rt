@@ -1,4 +1,5 @@
-//! Blocks on their way from the thread that receives to the one that records, and settlings that clients ask for.
+//! Blocks on their way from the thread that receives to the one that records, settlings that clients ask for, and images that
+//! leave.
 //! docs/ARCHITECTURE.md, "Serving".
 
 ghost use Rattle.std.specs.Prelude.{◌≡◌, [], ◌∷◌, ◌++◌, ◌||◌, false, length, not, replicate, true, IfErr, IfOk, OnOk};
@@ -6,6 +7,7 @@ ghost use Rattle.serve_core.specs.Asking.{all_taken, is_any_asked};
 ghost use Rattle.serve_core.specs.Handing.{is_idle, is_over, may_put};
 
 use crate::asking::Asks;
+use crate::pairing::ImageKey;
 use frame_core::Block;
 use frame_core::limits::MAX_WAITING_BLOCKS;
 use std::alloc::{AllocError, Global};
@@ -19,8 +21,8 @@ use stream_pairs::FED_SESSIONS;
 /// A block, and the image that it is of.
 #[derive(Drop)]
 pub(crate) struct FedBlock {
-    /// The image's number.
-    pub image: usize,
+    /// The image.
+    pub image: ImageKey,
     /// The block.
     pub block: Block,
 }
@@ -28,8 +30,12 @@ pub(crate) struct FedBlock {
 /// What the recording thread takes from the queue, beside the blocks.
 #[derive(Clone, Copy)]
 pub(crate) struct Taken {
-    /// Of each session whether a client asked that it settles.
+    /// Of each seat whether a client asked that its session settles.
     pub asked: [bool; FED_SESSIONS],
+    /// Of each place whether its image leaves: no block of it comes any more.
+    pub leaving: [bool; FED_SESSIONS],
+    /// Of each place whether its image is to be recorded without being asked.
+    pub records: [bool; FED_SESSIONS],
     /// Whether no blocks came, and none come any more.
     pub is_over: bool,
 }
@@ -51,7 +57,12 @@ struct Waiting {
     /// Whether a block was kept back since.
     is_kept_back: bool,
     is_ended: bool,
+    /// Seats whose sessions are to settle.
     asks: Asks,
+    /// Places whose images leave.
+    leaves: Asks,
+    /// Places whose images are to be recorded without being asked.
+    records: Asks,
 }
 
 impl Waiting {
@@ -68,6 +79,16 @@ impl Waiting {
             taken = replicate 64 false;
             is_closed = false;
           };
+          leaves = record {
+            asked = replicate 64 false;
+            taken = replicate 64 false;
+            is_closed = false;
+          };
+          records = record {
+            asked = replicate 64 false;
+            taken = replicate 64 false;
+            is_closed = false;
+          };
         }) }
     {
         Ok(Waiting {
@@ -76,6 +97,8 @@ impl Waiting {
             is_kept_back: false,
             is_ended: false,
             asks: Asks::new(),
+            leaves: Asks::new(),
+            records: Asks::new(),
         })
     }
 
@@ -114,31 +137,61 @@ impl Waiting {
         mem::replace(&mut self.is_kept_back, false)
     }
 
-    /// Whether there is nothing to do for the recording thread: no block waits, no settling is asked for, and blocks may come.
+    /// Whether there is nothing to do for the recording thread: no block waits, no settling is asked for, no image leaves, and
+    /// blocks may come.
     fn is_idle(&self) -> bool
-        ensures { result ≡ is_idle (length self.now.blocks.items) (is_any_asked self.now.asks.asked) self.now.is_ended }
+        ensures { result ≡ is_idle (length self.now.blocks.items)
+            (is_any_asked self.now.asks.asked || is_any_asked self.now.leaves.asked || is_any_asked self.now.records.asked)
+            self.now.is_ended }
     {
-        self.blocks.is_empty() && !self.asks.is_asked() && !self.is_ended
+        let is_asked = self.asks.is_asked() || self.leaves.is_asked() || self.records.is_asked();
+        self.blocks.is_empty() && !is_asked && !self.is_ended
     }
 
-    /// Gives all blocks that wait in place of those of an empty batch, and which settlings are asked for. No block is awaited
-    /// from now on.
+    /// Gives all blocks that wait in place of those of an empty batch, which settlings are asked for, and which images leave. No
+    /// block is awaited from now on.
     fn give(&mut self, batch: &mut VecDeque<FedBlock>) -> Taken
         ensures given { batch.new ≡ self.old.blocks }
         ensures taken { result ≡ record {
           asked = self.old.asks.asked;
+          leaving = self.old.leaves.asked;
+          records = self.old.records.asked;
           is_over = is_over (length self.old.blocks.items) self.old.is_ended;
         } }
         ensures left { self.new ≡ record self.old
-            { blocks = batch.old; is_awaited = false; asks = all_taken self.old.asks } }
+            { blocks = batch.old; is_awaited = false; asks = all_taken self.old.asks; leaves = all_taken self.old.leaves; records = all_taken self.old.records } }
     {
         let is_over = self.blocks.is_empty() && self.is_ended;
         self.is_awaited = false;
         mem::swap(&mut self.blocks, batch);
         Taken {
             asked: self.asks.take(),
+            leaving: self.leaves.take(),
+            records: self.records.take(),
             is_over,
         }
+    }
+
+    /// The sessions that were taken have settled, and those of images that were taken, too.
+    fn answer(&mut self)
+        ensures { self.new ≡ record self.old {
+          asks = record self.old.asks { taken = replicate 64 false };
+          leaves = record self.old.leaves { taken = replicate 64 false };
+        } }
+    {
+        self.asks.answer();
+        self.leaves.answer();
+    }
+
+    /// The recording thread has ended.
+    fn close(&mut self)
+        ensures { self.new ≡ record self.old {
+          asks = record self.old.asks { is_closed = true };
+          leaves = record self.old.leaves { is_closed = true };
+        } }
+    {
+        self.asks.close();
+        self.leaves.close();
     }
 }
 
@@ -183,8 +236,8 @@ impl Queue {
         !self.state.lock(rt).blocks.is_empty()
     }
 
-    /// Takes all blocks that wait in place of those of an empty batch, and which settlings are asked for. It waits for either
-    /// one, or for the end, for so many milliseconds at most.
+    /// Takes all blocks that wait in place of those of an empty batch, which settlings are asked for, and which images leave. It
+    /// waits for one of these, or for the end, for so many milliseconds at most.
     pub fn take<R: Wait + Clock>(
         &self,
         rt: &R,
@@ -206,29 +259,46 @@ impl Queue {
         taken
     }
 
-    /// Asks that a session settles at once.
-    pub fn ask<R: Wait>(&self, rt: &R, session: usize) {
-        self.state.lock(rt).asks.ask(session);
+    /// Asks that the session at a seat settles at once.
+    pub fn ask<R: Wait>(&self, rt: &R, seat: usize) {
+        self.state.lock(rt).asks.ask(seat);
         self.filled.notify_one();
     }
 
     /// Waits until a session that was asked for has settled, or the recording thread has ended.
-    pub fn wait_for_settling<R: Wait>(&self, rt: &R, session: usize) {
+    pub fn wait_for_settling<R: Wait>(&self, rt: &R, seat: usize) {
         let state = self.settled.wait_while(rt, self.state.lock(rt), |state| {
-            state.asks.is_pending(session)
+            state.asks.is_pending(seat)
         });
         let _ = state.is_ended;
     }
 
-    /// The sessions that were taken have settled.
+    /// The image at a place leaves: no block of it is put any more.
+    pub fn ask_to_leave<R: Wait>(&self, rt: &R, place: usize) {
+        self.state.lock(rt).leaves.ask(place);
+        self.filled.notify_one();
+    }
+
+    /// The image at a place is to be recorded without being asked.
+    pub fn ask_to_record<R: Wait>(&self, rt: &R, place: usize) {
+        self.state.lock(rt).records.ask(place);
+        self.filled.notify_one();
+    }
+
+    /// Whether the recording thread has not done yet with all blocks of an image that leaves.
+    pub fn is_leaving<R: Wait>(&self, rt: &R, place: usize) -> bool {
+        self.state.lock(rt).leaves.is_pending(place)
+    }
+
+    /// The sessions that were taken have settled, and those of images that were taken, too.
     pub fn answer<R: Wait>(&self, rt: &R) {
-        self.state.lock(rt).asks.answer();
+        self.state.lock(rt).answer();
         self.settled.notify_all();
     }
 
     /// The recording thread has ended: nobody waits for it any more.
     pub fn leave<R: Wait>(&self, rt: &R) {
-        self.state.lock(rt).asks.close();
+        self.state.lock(rt).close();
         self.settled.notify_all();
     }
 

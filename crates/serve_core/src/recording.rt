@@ -3,6 +3,8 @@
 ghost use Rattle.std.specs.Prelude.{◌≡◌, IfSome};
 ghost use Rattle.serve_core.specs.Recording.{first_term};
 
+use crate::own_recordings::OwnRecordings;
+use crate::pairing::FedSession;
 use crate::queue::{FedBlock, Taken};
 use crate::seats::Seats;
 use crate::settling::Settling;
@@ -18,7 +20,7 @@ use std::collections::VecDeque;
 use std::net::UdpSocket;
 use std::rt::Clock;
 use std::sync::Wait;
-use stream_pairs::FED_SESSIONS;
+use stream_pairs::{FED_SESSIONS, MAX_IMAGES};
 
 /// What the thread that records works with.
 #[derive(Drop)]
@@ -30,11 +32,12 @@ pub(crate) struct Recording<'a, D: Disk, A: Naming, R, T> {
     pub socket: &'a UdpSocket,
 }
 
-/// Records the blocks that wait, batch after batch, until no more come. A session settles once it is due: a block waits for
+/// Records the blocks that wait, batch after batch, until no more come, and the images that are recorded without being asked. A session settles once it is due: a block waits for
 /// `settle_every` milliseconds at most. All sessions settle at the end. Then nobody waits for a settling any more.
 pub(crate) fn record_all<D: Disk, A: Naming, R: Wait + Clock, T: Teller>(
     with: &Recording<'_, D, A, R, T>,
     seats: &mut Seats<A>,
+    mut own: OwnRecordings,
     settle_every: u64,
     batch: &mut VecDeque<FedBlock>,
 ) {
@@ -44,6 +47,8 @@ pub(crate) fn record_all<D: Disk, A: Naming, R: Wait + Clock, T: Teller>(
         let taken = take_batch(with, &watch, &mut settling, batch);
         write_batch(with, seats, &mut settling, batch);
         settle_due(with, seats, &mut settling, &taken);
+        settle_leaving(with, seats, &mut settling, &taken);
+        own.follow(with, seats, &taken, watch.read(with.rt));
         with.shared.queue.answer(with.rt);
         if settling.has_settled() {
             let (counted, limit) = with.archive.counted(with.rt);
@@ -81,15 +86,31 @@ fn settle_due<D: Disk, A: Naming, R: Wait, T: Teller>(
     taken: &Taken,
 ) {
     let block_waits = with.shared.queue.has_block(with.rt);
-    for session in 0..FED_SESSIONS {
-        if taken.is_over || settling.is_due(session, block_waits, taken.asked[session]) {
-            let _ = settle(with, seats, settling, session);
+    for seat in 0..FED_SESSIONS {
+        if taken.is_over || settling.is_due(seat, block_waits, taken.asked[seat]) {
+            let _ = settle(with, seats, settling, seat);
         }
     }
 }
 
-/// Writes the blocks of a batch, each for the session that its image feeds then. Without one it is dropped. A session that
-/// wrote enough settles before its next block.
+/// Settles the sessions of images that leave: no block of theirs waits any more.
+fn settle_leaving<D: Disk, A: Naming, R: Wait, T: Teller>(
+    with: &Recording<'_, D, A, R, T>,
+    seats: &mut Seats<A>,
+    settling: &mut Settling,
+    taken: &Taken,
+) {
+    for place in 0..MAX_IMAGES {
+        if taken.leaving[place] {
+            if let Some(seat) = with.shared.seat_of(with.rt, place) {
+                let _ = settle(with, seats, settling, seat);
+            }
+        }
+    }
+}
+
+/// Writes the blocks of a batch, each for the session that its image feeds then. A block of an image that feeds none, or that is
+/// not at its place any more, is dropped. A session that wrote enough settles before its next block.
 fn write_batch<D: Disk, A: Naming, R: Wait, T: Teller>(
     with: &Recording<'_, D, A, R, T>,
     seats: &mut Seats<A>,
@@ -100,11 +121,11 @@ fn write_batch<D: Disk, A: Naming, R: Wait, T: Teller>(
         let Some(fed) = batch.pop_front() else {
             return;
         };
-        let session = with.shared.session_of(with.rt, fed.image);
+        let session = with.shared.session_of(with.rt, &fed.image);
         if let Some(session) = session {
-            write(with, seats, settling, session, fed);
-            if settling.is_full(session) {
-                let _ = settle(with, seats, settling, session);
+            write(with, seats, settling, &session, fed);
+            if settling.is_full(session.seat) {
+                let _ = settle(with, seats, settling, session.seat);
             }
         }
     }
@@ -116,26 +137,28 @@ fn write<D: Disk, A: Naming, R: Wait, T: Teller>(
     with: &Recording<'_, D, A, R, T>,
     seats: &mut Seats<A>,
     settling: &mut Settling,
-    session: usize,
+    session: &FedSession,
     fed: FedBlock,
 ) {
     let FedBlock { image, block } = fed;
     let term_id = term_of(&block);
-    let copy = match settling.written(session) {
+    let copy = match settling.written(session.seat) {
         // Only where the one before it stands in another segment has a block to wait for a settling.
-        Some(written) if written.term_id != term_id => copy_of(with.alloc, &block),
+        Some(written) if written.session == session.session && written.term_id != term_id => {
+            copy_of(with.alloc, &block)
+        }
         _ => None,
     };
-    let first = write_once(with, seats, settling, session, image, block);
+    let first = write_once(with, seats, settling, session, image.place, block);
     match (first, copy) {
         (Err(Refusal::NeedSettle), Some(block)) => {
-            if settle(with, seats, settling, session) {
-                if let Err(cause) = write_once(with, seats, settling, session, image, block) {
-                    with.shared.refused(with.rt, session, cause);
+            if settle(with, seats, settling, session.seat) {
+                if let Err(cause) = write_once(with, seats, settling, session, image.place, block) {
+                    with.shared.refused(with.rt, session.session, cause);
                 }
             }
         }
-        (Err(cause), _) => with.shared.refused(with.rt, session, cause),
+        (Err(cause), _) => with.shared.refused(with.rt, session.session, cause),
         (Ok(()), _) => {}
     }
 }
@@ -144,42 +167,44 @@ fn write_once<D: Disk, A: Naming, R: Wait, T: Teller>(
     with: &Recording<'_, D, A, R, T>,
     seats: &mut Seats<A>,
     settling: &mut Settling,
-    session: usize,
+    session: &FedSession,
     image: usize,
     block: Block,
 ) -> Result<(), Refusal> {
     let term_id = term_of(&block);
     let begins = block.position;
-    match seats.write(with.rt, with.alloc, with.archive, session, block)? {
+    seats.set_session(session.seat, session.session);
+    match seats.write(with.rt, with.alloc, with.archive, session.seat, block)? {
         Reply::Written { position } => {
             let bytes = position.saturating_sub(begins).unsigned_abs();
-            settling.add(session, image, term_id, bytes);
+            settling.add(session.seat, session.session, image, term_id, bytes);
         }
         _ => {}
     }
     Ok(())
 }
 
-/// Settles a session, if it wrote something. False where that is refused, which takes its image away.
+/// Settles the session at a seat, if it wrote something. False if that is refused, which takes its image away.
 fn settle<D: Disk, A: Naming, R: Wait, T: Teller>(
     with: &Recording<'_, D, A, R, T>,
     seats: &mut Seats<A>,
     settling: &mut Settling,
-    session: usize,
+    seat: usize,
 ) -> bool {
-    let Some(written) = settling.take(session) else {
+    let Some(written) = settling.take(seat) else {
         return true;
     };
-    match seats.settle(with.rt, with.alloc, with.archive, session) {
+    seats.set_session(seat, written.session);
+    match seats.settle(with.rt, with.alloc, with.archive, seat) {
         Ok(position) => {
-            with.shared.settled(with.rt, session, position);
+            with.shared.settled(with.rt, written.session, position);
             if let Some(counts) = with.shared.counts.of(written.image) {
                 counts.recorded.add(written.bytes);
             }
             true
         }
         Err(cause) => {
-            with.shared.refused(with.rt, session, cause);
+            with.shared.refused(with.rt, written.session, cause);
             false
         }
     }

@@ -1,15 +1,16 @@
 //! The seats of the recorder sessions that images feed. docs/ARCHITECTURE.md, "Followers".
 
-ghost use Rattle.std.specs.Prelude.{◌≡◌, ◌≤◌, ◌<◌, ◌+◌, [], pos, vec_capacity, vec_len};
+ghost use Rattle.std.specs.Prelude.{◌≡◌, ◌≤◌, ◌<◌, ◌+◌, [], pos, slice_get, vec_capacity, vec_len};
 ghost use Rattle.agents_core.specs.Seat.{raised_positions};
 ghost use Rattle.call_history.specs.Passes.{AllOfTable, new_passes};
 ghost use Rattle.position_board.specs.Positions.{new_writers};
-ghost use Rattle.serve_core.specs.Seats.{AreAllPasses, AreNewWriters, AreNumbered, CallsAt, HasFrom, IsLastPass, SettlesSession, WritesBlock};
+ghost use Rattle.serve_core.specs.Seats.{AreAllPasses, AreClientPasses, AreNewWriters, AreNumbered, CallsAt, HasFrom, MakesCall, SettlesSession, WritesBlock, reseated};
 
 use agents_core::RecorderSeat;
 use archive_lock::{Made, Naming, SharedArchive};
 use archive_model::Reply;
 use call_history::Pass;
+use control_core::Event;
 use disk_core::Disk;
 use frame_core::{Block, Refusal};
 use position_board::{Board, Writer};
@@ -18,39 +19,32 @@ use std::marker::{Model, PhantomData};
 use std::sync::Wait;
 use stream_pairs::FED_SESSIONS;
 
-/// Passes that a served archive has: one for control lines, and one for each recorder session that images feed.
-pub(crate) const PASSES: usize = 65;
-
-/// A board, and a seat for each recorder session that images feed, by its number, which is its pass's number too. To a
+/// A board, and a seat for each of 64 recorder sessions that images feed, by its number, which is its pass's number too. To a
 /// contract it is the board and the seats; their passes are the archive's.
 #[derive(Drop)]
 pub(crate) struct Seats<A: Naming> {
     board: Board,
     seats: Vec<RecorderSeat>,
-    /// Room for the passes of all seats and of the control thread, where they are given back.
-    room: Vec<Pass<Made>>,
     of: PhantomData<A>,
 }
 
 impl<A: Naming> Model for Seats<A> {
-    ghost use Rattle.std.specs.Prelude.{◌≡◌, ◌≤◌, [], vec_capacity, vec_len};
+    ghost use Rattle.std.specs.Prelude.{◌≡◌, vec_len};
     ghost use Rattle.serve_core.specs.Seats.{AreSeats, SeatsView};
 
     ghost Value = { SeatsView };
 
     ghost view = { λ s. record { board = s.board; seats = s.seats.items } };
 
-    ghost invariant = { λ s. AreSeats A.table s.board 0 s.seats.items × (vec_len s.seats ≡ 64)
-        × (s.room.items ≡ []) × (65 ≤ vec_capacity s.room) };
+    ghost invariant = { λ s. AreSeats A.table s.board 0 s.seats.items × (vec_len s.seats ≡ 64) };
 }
 
-/// A board with its writers, and room for seats and passes: all that seats take memory for. To a contract it is the board.
+/// A board with its writers, and room for seats: all that seats take memory for. To a contract it is the board.
 #[derive(Drop)]
 pub(crate) struct Benches {
     board: Board,
     writers: Vec<Writer>,
     seats: Vec<RecorderSeat>,
-    room: Vec<Pass<Made>>,
 }
 
 impl Model for Benches {
@@ -63,8 +57,7 @@ impl Model for Benches {
     ghost view = { λ b. b.board };
 
     ghost invariant = { λ b. AreNewWriters b.board 0 b.writers.items
-        × (vec_len b.writers ≡ 64) × (b.seats.items ≡ []) × (64 ≤ vec_capacity b.seats)
-        × (b.room.items ≡ []) × (65 ≤ vec_capacity b.room) };
+        × (vec_len b.writers ≡ 64) × (b.seats.items ≡ []) × (64 ≤ vec_capacity b.seats) };
 }
 
 impl Benches {
@@ -74,8 +67,7 @@ impl Benches {
         let starts = [0; FED_SESSIONS];
         let (board, writers, _) = Board::new(alloc, &starts, 0)?;
         let seats = Vec::with_capacity(alloc, FED_SESSIONS)?;
-        let room = Vec::with_capacity(alloc, PASSES)?;
-        Ok(Benches::of_board(board, writers, seats, room, &starts))
+        Ok(Benches::of_board(board, writers, seats, &starts))
     }
 
     /// Benches of a new board with these starts.
@@ -83,34 +75,25 @@ impl Benches {
         board: Board,
         writers: Vec<Writer>,
         seats: Vec<RecorderSeat>,
-        room: Vec<Pass<Made>>,
         starts: &[i64],
     ) -> Benches
         requires writers { writers.items ≡ new_writers board 0 starts.now }
         requires count { vec_len writers ≡ 64 }
         requires seats { (seats.items ≡ []) × (64 ≤ vec_capacity seats) }
-        requires room { (room.items ≡ []) × (65 ≤ vec_capacity room) }
     {
         let _ = starts;
-        Benches::of_parts(board, writers, seats, room)
+        Benches::of_parts(board, writers, seats)
     }
 
-    fn of_parts(
-        board: Board,
-        writers: Vec<Writer>,
-        seats: Vec<RecorderSeat>,
-        room: Vec<Pass<Made>>,
-    ) -> Benches
+    fn of_parts(board: Board, writers: Vec<Writer>, seats: Vec<RecorderSeat>) -> Benches
         requires writers { AreNewWriters board 0 writers.items }
         requires count { vec_len writers ≡ 64 }
         requires seats { (seats.items ≡ []) × (64 ≤ vec_capacity seats) }
-        requires room { (room.items ≡ []) × (65 ≤ vec_capacity room) }
     {
         Benches {
             board,
             writers,
             seats,
-            room,
         }
     }
 
@@ -123,7 +106,6 @@ impl Benches {
             board,
             mut writers,
             mut seats,
-            room,
         } = self;
         while let Some(writer) = writers.pop() {
             let Some(pass) = passes.pop() else {
@@ -136,7 +118,6 @@ impl Benches {
         Seats {
             board,
             seats,
-            room,
             of: PhantomData,
         }
     }
@@ -152,7 +133,16 @@ fn seat_of(number: usize, pass: Pass<Made>, writer: Writer) -> RecorderSeat
 }
 
 impl<A: Naming> Seats<A> {
-    /// Writes a block for a session, as `RecorderSeat::write`. `StaleSession` where it has no seat.
+    /// A seat writes and settles for the session of a number from now on. One from 64 on changes nothing.
+    pub fn set_session(&mut self, seat: usize, session: i64)
+        ensures { self.new ≡ record self.old { seats = reseated session (slice_get self.old.seats seat) seat self.old.seats } }
+    {
+        if seat < self.seats.len() {
+            self.seats[seat].set_session(session);
+        }
+    }
+
+    /// Writes a block for the session of a seat, as `RecorderSeat::write`. `StaleSession` where it has no seat.
     pub fn write<D: Disk, R: Wait>(
         &mut self,
         rt: &R,
@@ -169,7 +159,24 @@ impl<A: Naming> Seats<A> {
         self.seats[session].write(rt, alloc, archive, block)
     }
 
-    /// Settles a session, and raises its slot, as `RecorderSeat::settle`. `StaleSession` where it has no seat.
+    /// Makes another call by the pass of a seat, as `RecorderSeat::call`. `StaleSession` if there is no such seat.
+    pub fn call<D: Disk, R: Wait>(
+        &mut self,
+        rt: &R,
+        alloc: Global,
+        archive: &SharedArchive<D, A>,
+        seat: usize,
+        event: &Event,
+    ) -> Result<Reply, Refusal>
+        ensures { CallsAt seat self.old result self.new (MakesCall A.opening event.now) }
+    {
+        if seat >= self.seats.len() {
+            return Err(Refusal::StaleSession);
+        }
+        self.seats[seat].call(rt, alloc, archive, event)
+    }
+
+    /// Settles the session of a seat, and raises its slot, as `RecorderSeat::settle`. `StaleSession` where it has no seat.
     pub fn settle<D: Disk, R: Wait>(
         &mut self,
         rt: &R,
@@ -185,35 +192,57 @@ impl<A: Naming> Seats<A> {
         self.seats[session].settle(rt, alloc, archive, &self.board)
     }
 
-    /// The passes of all seats, and the control thread's: all of the archive's. Does not allocate.
-    #[tactic(auto, using(crate::proofs::SeatLemmas::are_numbered, crate::proofs::SeatLemmas::last_of_all))]
-    pub fn into_passes(self, pass: Pass<Made>) -> Vec<Pass<Made>>
-        requires { IsLastPass A.table pass }
-        ensures { AreAllPasses A.table result.items }
+    /// The passes of clients, and of all seats: all of the archive's. Does not allocate.
+    #[tactic(auto, using(crate::proofs::SeatLemmas::are_numbered))]
+    pub fn into_passes(self, clients: Vec<Pass<Made>>) -> Vec<Pass<Made>>
+        requires clients { AreClientPasses A.table A.passes clients.items }
+        requires room { 64 + vec_len clients ≤ vec_capacity clients }
+        ensures { AreAllPasses A.table A.passes result.items }
     {
         let Seats {
             board: _,
             seats,
-            mut room,
             of: _,
         } = self;
-        room.push_reserved(pass);
-        passes_of::<A>(seats, room)
+        passes_of::<A>(seats, clients)
     }
 }
 
-/// Passes, and those of seats behind them, for which there is room.
+/// Passes, and those of seats after them, for which there is room.
 #[tactic(auto, using(crate::proofs::SeatLemmas::all_from))]
 fn passes_of<A: Naming>(mut seats: Vec<RecorderSeat>, mut room: Vec<Pass<Made>>) -> Vec<Pass<Made>>
     requires seats { AreNumbered A.table 0 seats.items }
     requires passes { AllOfTable A.table room.items }
-    requires others { HasFrom (vec_len seats) room.items }
+    requires others { HasFrom (vec_len seats) A.passes room.items }
     requires fits { vec_len seats + vec_len room ≤ vec_capacity room }
-    ensures { AreAllPasses A.table result.items }
+    ensures { AreAllPasses A.table A.passes result.items }
 {
     while let Some(seat) = seats.pop() {
         let (pass, _) = seat.into_parts();
         room.push_reserved(pass);
     }
     room
+}
+
+/// The passes of seats, and those of clients, which come from the passes of an archive. For all of them there is room next to
+/// the latter.
+pub(crate) fn parted<A: Naming>(
+    mut passes: Vec<Pass<Made>>,
+    mut room: Vec<Pass<Made>>,
+) -> (Vec<Pass<Made>>, Vec<Pass<Made>>)
+    requires made { passes.items ≡ new_passes A.table A.passes }
+    requires some { 64 ≤ A.passes }
+    requires empty { room.items ≡ [] }
+    requires room { A.passes ≤ vec_capacity room }
+    ensures seats { result.0.items ≡ new_passes A.table 64 }
+    ensures clients { AreClientPasses A.table A.passes result.1.items }
+    ensures room { 64 + vec_len result.1 ≤ vec_capacity result.1 }
+{
+    while passes.len() > FED_SESSIONS {
+        let Some(pass) = passes.pop() else {
+            unreachable!();
+        };
+        room.push_reserved(pass);
+    }
+    (passes, room)
 }

@@ -3,7 +3,7 @@
 
 ghost use Rattle.std.specs.Prelude.{◌≡◌, [], IfOk, slice_get};
 ghost use Rattle.flow_control.specs.Windows.{has_window};
-ghost use Rattle.serve_core.specs.Senders.{AsksForSetup, AsksPublication, ChangesAt, Hears, Notes, SetsUp, TellsRequest, TellsStatus, Tends, TendsIf, TendsTo, is_silent, new_sender, with_sender};
+ghost use Rattle.serve_core.specs.Senders.{AsksForSetup, AsksPublication, ChangesAt, Hears, Notes, SetsUp, TellsRequest, TellsStatus, Tends, TendsIf, TendsTo, is_gone, is_silent, is_status_due_to, new_sender, with_sender};
 
 use crate::images::Came;
 use flow_control::{Feedback, SetupRequests, setup_request, window_of};
@@ -158,7 +158,7 @@ fn tell_request<E: SenderEnd>(
     }
 }
 
-/// The senders of all images, by the images' indices, and the publications that were asked for a setup frame.
+/// The senders of all images, by the images' places, and the publications that were asked for a setup frame.
 #[derive(Drop)]
 pub(crate) struct Senders {
     receiver: Receiver,
@@ -202,7 +202,10 @@ impl Senders {
         ensures same { self.new ≡ record self.old { senders = self.new.senders } }
     {
         match came {
-            Came::Joined(_) => self.add(from, now),
+            Came::Joined { image, point } => {
+                let _ = point;
+                self.add(*image, from, now);
+            }
             Came::SetUp { image } => self.set_up(*image, from, now),
             Came::Frames { image, is_lost } => {
                 let _ = is_lost;
@@ -212,12 +215,38 @@ impl Senders {
         }
     }
 
-    /// The sender of one image more.
-    fn add(&mut self, from: Option<SocketAddr>, now: u64)
-        ensures { self.new ≡ record self.old { senders = with_sender from now self.old.senders } }
+    /// The sender of a new image at a place.
+    fn add(&mut self, image: usize, from: Option<SocketAddr>, now: u64)
+        ensures { self.new ≡ record self.old { senders = with_sender image from now self.old.senders } }
     {
-        if self.senders.len() < MAX_IMAGES {
-            self.senders.push_reserved(ImageSender::new(from, now));
+        let sender = ImageSender::new(from, now);
+        if image < self.senders.len() {
+            self.senders[image] = sender;
+        } else if self.senders.len() < MAX_IMAGES {
+            self.senders.push_reserved(sender);
+        }
+    }
+
+    /// Whether a status message is due to the sender of an image, if the image is recorded. If not, [`tend`](Senders::tend)
+    /// does the same for one that is recorded and one that is not.
+    pub fn is_status_due(&self, index: usize, image: &BoundedImage, now: u64) -> bool
+        ensures { result ≡ is_status_due_to (slice_get self.now.senders index) now self.now.receiver.window image.now }
+    {
+        match self.senders.as_slice().get(index) {
+            Some(sender) => sender
+                .feedback
+                .is_status_due(now, image, self.receiver.window),
+            None => false,
+        }
+    }
+
+    /// Whether the image at a place is not live: nothing of its publication came for 10,000 milliseconds.
+    pub fn is_gone(&self, image: usize, now: u64) -> bool
+        ensures { result ≡ is_gone now (slice_get self.now.senders image) }
+    {
+        match self.senders.as_slice().get(image) {
+            Some(sender) => !sender.feedback.is_live(now),
+            None => false,
         }
     }
 

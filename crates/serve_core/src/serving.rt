@@ -1,27 +1,28 @@
 //! The archive of a disk behind a control listener and a socket of datagrams. docs/SERVING.md.
 
-ghost use Rattle.std.specs.Prelude.{◌≡◌, [], Err, false, if◌then◌else◌, IfErr, IfOk, IsOk, MatchResult};
+ghost use Rattle.std.specs.Prelude.{◌≡◌, ◌+◌, ◌≤◌, [], Err, false, if◌then◌else◌, IfErr, IfOk, IsOk, MatchResult, vec_capacity, vec_len};
 ghost use Rattle.archive_lock.specs.Held.{engine_seen, view_of};
 ghost use Rattle.engine_core.specs.Seen.{seen};
 ghost use Rattle.tool_core.specs.Archives.{disk_of, early_end_of};
 ghost use Rattle.tool_core.specs.declared.fault.EarlyEnd.TheVariants.{Read};
-ghost use Rattle.serve_core.specs.Seats.{AreAllPasses, IsLastPass};
+ghost use Rattle.serve_core.specs.Seats.{AreAllPasses, AreClientPasses};
 ghost use Rattle.serve_core.specs.Serving.{EndsHistory, EndsOrLacks, EndsUpTo, IsServed, IsServedUpTo};
 
-use crate::answering::Controller;
-use crate::connections::{Server, serve_connections};
+use crate::clients::{serve_clients, serve_unopened};
+use crate::connections::{Connections, Manner};
 use crate::door::Door;
 use crate::happening::Happening;
 use crate::images::Images;
 use crate::options::ServeOptions;
+use crate::own_recordings::OwnRecordings;
+use crate::place::Places;
 use crate::queue::FedBlock;
 use crate::receiving::{Reception, TENDING};
 use crate::recording::{Recording, record_all};
-use crate::seats::{Benches, PASSES, Seats};
+use crate::seats::{Benches, Seats, parted};
 use crate::senders::{Receiver, Senders};
 use crate::shared::Shared;
 use crate::teller::{Teller, Untold};
-use crate::unopened::Unopened;
 use archive_lock::{Closed, Made, Naming, SharedArchive};
 use call_history::{Opened, Pass};
 use disk_core::Disk;
@@ -35,25 +36,28 @@ use std::rt::Clock;
 use std::sync::Wait;
 use std::thread::{self, Threads};
 use std::time::Duration;
-use tool_core::{Beginning, EarlyEnd, ScriptArchive, ScriptFault, ScriptState};
+use stream_pairs::FED_SESSIONS;
+use tool_core::{Beginning, EarlyEnd, ScriptArchive, ScriptFault};
 
 /// Milliseconds for which the thread that receives sleeps at most.
 const DOZE: u64 = 100;
 
-/// What all of a server works with: the end that lines come by, the one that datagrams come by, and what its threads share.
+/// What all of a server works with: where datagrams come to, and what its threads share.
 #[derive(Drop)]
 struct Serving<'a, R, T> {
     rt: &'a R,
     alloc: Global,
-    listener: &'a TcpListener,
     socket: &'a UdpSocket,
-    /// For how long a client may be idle while another waits.
-    idle: Duration,
-    /// Whether the line `images` is answered.
-    lists_images: bool,
+    /// How many clients are served at a time.
+    places: Places,
     /// Milliseconds for which a block waits for its settling at most.
     settle_every: u64,
+    /// Streams whose publications are recorded without being asked, and how.
+    streams: &'a [i32],
+    segment_length: i32,
     shared: &'a Shared<T>,
+    /// What the threads that serve clients share.
+    lines: &'a Connections<T>,
 }
 
 /// What threads work with, beside what they share.
@@ -66,7 +70,7 @@ struct Tools {
 }
 
 impl Tools {
-    fn new(alloc: Global, options: &ServeOptions) -> Result<Tools, AllocError> {
+    fn new(alloc: Global, options: &ServeOptions<'_>) -> Result<Tools, AllocError> {
         Ok(Tools {
             images: Images::new(alloc),
             senders: senders_for(alloc, options)?,
@@ -77,7 +81,7 @@ impl Tools {
 }
 
 /// What senders are sent, if the server is a receiver of the public standard.
-fn senders_for(alloc: Global, options: &ServeOptions) -> Result<Option<Senders>, AllocError> {
+fn senders_for(alloc: Global, options: &ServeOptions<'_>) -> Result<Option<Senders>, AllocError> {
     let Some(window) = options.window else {
         return Ok(None);
     };
@@ -112,18 +116,18 @@ pub fn serve_on<R: Threads + Wait + Clock + Sync, D: Disk + Drop + Send>(
     )
 }
 
-/// Serves the archive of a disk until a line quits. Where no file is there it is made, with a history of 1,048,576 entries;
-/// else it is opened, and where that is refused every line is `Broken` but those that need no archive. The disk comes back,
-/// as the last of the calls left it, which are one legal history of the passes of the control thread and of 64 seats.
+/// Serves the archive of a disk until a line quits. If there is no file it is made, with a history of 1,048,576 entries;
+/// else it is opened, and if that is refused every line is `Broken` but those that need no archive. The disk comes back, as
+/// the last of the calls left it, which are one legal history of the passes of 64 seats and of the clients that are served at
+/// a time.
 ///
-/// Three threads: the caller's answers the lines of connections, one after another; one receives datagrams, and sends a NAK
-/// frame behind each that its image doesn't refuse while something is missing; one writes and settles blocks of images that
-/// recorder sessions have. docs/SERVING.md.
+/// Three threads and one for each further client: the caller's answers the lines of connections, one after another, and so
+/// does each of those; one receives datagrams, and sends a NAK frame after each that its image doesn't refuse while something
+/// is missing; one writes and settles blocks of images that recorder sessions have. docs/SERVING.md.
 ///
-/// `Memory` where the opening finds none, or a thread; `Read` where the listener or the socket fails. A reply that finds no
-/// memory ends its connection. Costs memory for 64 images, each of which holds 1,048,576 bytes of its stream at most, and for
-/// 32 blocks.
-#[tactic(auto, using(crate::proofs::ServingLemmas::served_ok))]
+/// `Memory` if the opening finds none, or a thread can't be made; `Read` if the listener or the socket fails. A reply that
+/// finds no memory ends its connection. Costs memory for 64 images, each of which holds 1,048,576 bytes of its stream at
+/// most, for 32 blocks, and for 131,072 bytes of each client's lines and replies.
 pub fn serve_with<
     R: Threads + Wait + Clock + Sync,
     D: Disk + Drop + Send,
@@ -134,14 +138,14 @@ pub fn serve_with<
     listener: TcpListener,
     socket: UdpSocket,
     disk: D,
-    options: &ServeOptions,
+    options: &ServeOptions<'_>,
     teller: T,
 ) -> Result<D, ScriptFault<D>>
     ensures served { IfOk result (λ back. IsServed D.life (D.life disk) (D.life back)) }
     ensures early { IfErr result (λ fault.
         IsServedUpTo D.life (D.life disk) (D.life (disk_of fault)) (early_end_of fault)) }
 {
-    let Ok(shared) = Shared::new(alloc, teller) else {
+    let Ok(shared) = Shared::new(alloc, options.window.is_some(), teller) else {
         return Err(ScriptFault::Memory(disk));
     };
     let (Ok(tools), Ok(benches)) = (Tools::new(alloc, options), Benches::new(alloc)) else {
@@ -151,19 +155,28 @@ pub fn serve_with<
         Ok(found) => found,
         Err(disk) => return Err(ScriptFault::Memory(disk)),
     };
+    let places = Places::of(options.clients);
+    let lines = Connections {
+        alloc,
+        shared,
+        socket,
+        door: Door::new(rt, listener, &places),
+        manner: Manner::of(options, &places),
+    };
     let serving = Serving {
         rt,
         alloc,
-        listener: &listener,
-        socket: &socket,
-        idle: Duration::from_secs(options.idle_seconds),
-        lists_images: options.window.is_some(),
+        socket: &lines.socket,
+        places,
         settle_every: options.settle_every,
-        shared: &shared,
+        streams: options.streams,
+        segment_length: options.segment_length,
+        shared: &lines.shared,
+        lines: &lines,
     };
     begin(&serving, beginning);
     let (disk, end) = serve_archive(&serving, tools, benches, archive);
-    shared.tell_end();
+    lines.shared.tell_end();
     handed_back(disk, end)
 }
 
@@ -203,7 +216,7 @@ fn handed_back<D>(disk: D, end: Result<(), EarlyEnd>) -> Result<D, ScriptFault<D
 
 /// Tells where the server is, and how its archive began.
 fn begin<R, T: Teller>(with: &Serving<'_, R, T>, beginning: Beginning) {
-    let ends = (with.listener.local_addr(), with.socket.local_addr());
+    let ends = (with.lines.door.address(), with.socket.local_addr());
     if let (Ok(control), Ok(receive)) = ends {
         with.shared.tell(&Happening::Bound { control, receive });
     }
@@ -230,7 +243,7 @@ fn serve_open<
     serve_named::<D, Brand, R, T>(with, tools, benches, opened, engine)
 }
 
-#[tactic(auto, using(crate::proofs::SeatLemmas::passes_last, crate::proofs::SeatLemmas::some_passes))]
+/// Serves an archive that has a pass for each seat and for each client.
 fn serve_named<
     D: Disk + Drop + Send,
     A: Naming + Send + Sync,
@@ -244,27 +257,30 @@ fn serve_named<
     engine: Engine<D>,
 ) -> (D, Result<(), EarlyEnd>)
     requires named { opened.table ≡ A.table }
-    requires counts { A.passes ≡ 65 }
+    requires counts { A.passes ≡ 64 + with.now.places.count }
     requires stores { opened.keeps ≡ A.keeps }
     requires opens { engine_seen D.life (view_of engine []) ≡ A.opening }
     ensures { EndsOrLacks (D.life engine.storage.disk) A.opening A.keeps (D.life result.0) result.1 }
 {
-    let made = SharedArchive::<D, A>::new(with.alloc, opened, engine, PASSES as u64);
-    let (archive, mut passes) = match made {
+    let places = with.places;
+    let count = FED_SESSIONS + places.count;
+    let Ok(room) = Vec::with_capacity(with.alloc, count) else {
+        return (engine.into_disk(), Err(EarlyEnd::Memory));
+    };
+    let made = SharedArchive::<D, A>::new(with.alloc, opened, engine, count as u64);
+    let (archive, passes) = match made {
         Ok(made) => made,
         Err(refused) => return (refused.engine.into_disk(), Err(EarlyEnd::Memory)),
     };
-    let Some(pass) = passes.pop() else {
-        unreachable!();
-    };
     let (counted, limit) = archive.counted(with.rt);
     with.shared.note_history(counted, limit);
+    let (passes, clients) = parted::<A>(passes, room);
     let seats = benches.seated::<A>(passes);
-    let (passes, end) = serve_shared(with, tools, &archive, pass, seats);
+    let (passes, end) = serve_shared(with, tools, &archive, clients, seats);
     (closed(archive, passes), end)
 }
 
-/// Serves an archive by three threads: all its passes, and how that ended.
+/// Serves an archive by a thread that receives, one that records, and one for each client: all its passes, and how that ended.
 fn serve_shared<
     D: Disk + Drop + Send,
     A: Naming + Send + Sync,
@@ -274,11 +290,12 @@ fn serve_shared<
     with: &Serving<'_, R, T>,
     tools: Tools,
     archive: &SharedArchive<D, A>,
-    pass: Pass<Made>,
+    clients: Vec<Pass<Made>>,
     seats: Seats<A>,
 ) -> (Vec<Pass<Made>>, Result<(), EarlyEnd>)
-    requires { IsLastPass A.table pass }
-    ensures { AreAllPasses A.table result.0.items }
+    requires clients { AreClientPasses A.table A.passes clients.items }
+    requires room { 64 + vec_len clients ≤ vec_capacity clients }
+    ensures { AreAllPasses A.table A.passes result.0.items }
 {
     let Tools {
         images,
@@ -290,14 +307,16 @@ fn serve_shared<
         rt,
         socket,
         shared,
+        lines,
         ..
     } = with;
     thread::scope(
         thread::scope_env(),
         *rt,
         |scope| -> (Vec<Pass<Made>>, Result<(), EarlyEnd>)
-            requires { IsLastPass A.table pass }
-            ensures { AreAllPasses A.table result.0.items }
+            requires clients { AreClientPasses A.table A.passes clients.items }
+            requires room { 64 + vec_len clients ≤ vec_capacity clients }
+            ensures { AreAllPasses A.table A.passes result.0.items }
         {
             let recorder = match scope.spawn(move || record(with, archive, seats, batch)) {
                 Ok(recorder) => recorder,
@@ -305,20 +324,23 @@ fn serve_shared<
                     // It has nothing to record, and gives back the seats.
                     shared.queue.end(*rt);
                     let seats = (refused.value)();
-                    return (seats.into_passes(pass), Err(EarlyEnd::Memory));
+                    return (seats.into_passes(clients), Err(EarlyEnd::Memory));
                 }
             };
             let receiver = scope.spawn(move || receive(with, images, senders, buffer));
             let Ok(receiver) = receiver else {
                 shared.queue.end(*rt);
-                return (recorder.join(*rt).into_passes(pass), Err(EarlyEnd::Memory));
+                return (
+                    recorder.join(*rt).into_passes(clients),
+                    Err(EarlyEnd::Memory),
+                );
             };
-            let (pass, served) = control(with, archive, pass);
+            let clients = serve_clients(*rt, lines, archive, clients);
             shared.end(socket);
             let is_whole = receiver.join(*rt);
             (
-                recorder.join(*rt).into_passes(pass),
-                ended_by(served, is_whole),
+                recorder.join(*rt).into_passes(clients),
+                ended_by(lines.door.end(*rt), is_whole),
             )
         },
     )
@@ -335,14 +357,16 @@ fn serve_closed<R: Threads + Wait + Clock + Sync, T: Teller + Drop + Send + Sync
         buffer,
         batch: _,
     } = tools;
+    // No thread records: nobody waits for one.
+    with.shared.queue.leave(with.rt);
     thread::scope(thread::scope_env(), with.rt, |scope| {
         let receiver = scope.spawn(move || receive(with, images, senders, buffer));
         let Ok(receiver) = receiver else {
             return Err(EarlyEnd::Memory);
         };
-        let (_, served) = serve_lines(with, Unopened);
+        serve_unopened(with.rt, with.lines, &with.places);
         with.shared.end(with.socket);
-        ended_by(served, receiver.join(with.rt))
+        ended_by(with.lines.door.end(with.rt), receiver.join(with.rt))
     })
 }
 
@@ -360,7 +384,8 @@ fn record<D: Disk, A: Naming, R: Wait + Clock, T: Teller>(
         shared: with.shared,
         socket: with.socket,
     };
-    record_all(&recording, &mut seats, with.settle_every, &mut batch);
+    let own = OwnRecordings::new(with.segment_length);
+    record_all(&recording, &mut seats, own, with.settle_every, &mut batch);
     seats
 }
 
@@ -381,7 +406,7 @@ fn receive<R: Wait + Clock, T: Teller>(
     let is_timed = socket
         .set_read_timeout(Some(Duration::from_millis(doze)))
         .is_ok();
-    let mut reception = Reception::new(*rt, shared, socket, images, senders);
+    let mut reception = Reception::new(*rt, shared, socket, images, senders, with.streams);
     let is_whole = is_timed && reception.receive_all(buffer.as_mut_slice());
     if !is_whole {
         shared.end(socket);
@@ -390,43 +415,7 @@ fn receive<R: Wait + Clock, T: Teller>(
     is_whole
 }
 
-/// Answers lines by a pass of the archive, until one quits: the pass, and how that ended.
-fn control<'x, D: Disk + Drop, A: Naming, R: Wait + Clock, T: Teller>(
-    with: &'x Serving<'x, R, T>,
-    archive: &'x SharedArchive<D, A>,
-    pass: Pass<Made>,
-) -> (Pass<Made>, Result<(), EarlyEnd>)
-    requires { IsLastPass A.table pass }
-    ensures { IsLastPass A.table result.0 }
-{
-    let controller = Controller::new(with.rt, with.alloc, archive, with.shared, with.socket, pass);
-    let (controller, served) = serve_lines(with, controller);
-    (controller.into_pass(), served)
-}
-
-/// Serves connections, one after another, until a line quits: with no merge at first, and with one for all of them behind
-/// that. `Read` where the listener fails, or the server ends otherwise.
-fn serve_lines<'x, R: Wait + Clock, T: Teller, S: Server + Drop>(
-    with: &'x Serving<'x, R, T>,
-    server: S,
-) -> (S, Result<(), EarlyEnd>) {
-    if with.listener.set_nonblocking(true).is_err() {
-        return (server, Err(EarlyEnd::Read));
-    }
-    let door = Door::new(with.listener);
-    let state = ScriptState::new(server);
-    let (state, served) = serve_connections(
-        with.rt,
-        with.alloc,
-        with.shared,
-        &door,
-        with.idle,
-        with.lists_images,
-        state,
-    );
-    (state.into_archive(), served)
-}
-
+/// How a server ended whose serving of lines ended so, if no more could be received and if more could be.
 fn ended_by(served: Result<(), EarlyEnd>, is_whole: bool) -> Result<(), EarlyEnd>
     ensures { result ≡ (if is_whole then served else Err Read) }
 {
@@ -440,8 +429,7 @@ fn ended_by(served: Result<(), EarlyEnd>, is_whole: bool) -> Result<(), EarlyEnd
 /// The disk of an archive that is closed with all its passes.
 #[tactic(auto, using(crate::proofs::ServingLemmas::ends_history))]
 fn closed<D: Disk + Drop, A: Naming>(archive: SharedArchive<D, A>, passes: Vec<Pass<Made>>) -> D
-    requires counts { A.passes ≡ 65 }
-    requires all { AreAllPasses A.table passes.items }
+    requires { AreAllPasses A.table A.passes passes.items }
     ensures { EndsHistory A.opening A.keeps (D.life result) }
 {
     match archive.close(passes) {

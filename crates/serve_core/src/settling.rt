@@ -15,7 +15,9 @@ const SETTLED_ALWAYS: u64 = 1_048_576;
 /// What a session wrote and did not settle.
 #[derive(Clone, Copy)]
 pub(crate) struct Written {
-    /// The image that the last block is of.
+    /// The session's number.
+    pub session: i64,
+    /// The place of the image that the last block is of.
     pub image: usize,
     /// The term of the last block.
     pub term_id: i32,
@@ -34,7 +36,7 @@ pub(crate) struct SessionState {
     pub settled_at: Option<u64>,
 }
 
-/// What each session wrote and did not settle, over batches, and what time it is.
+/// What the session at each seat wrote and did not settle, over batches, and what time it is.
 #[derive(Clone, Copy)]
 pub(crate) struct Settling {
     /// Milliseconds for which a block waits for its settling at most.
@@ -78,33 +80,34 @@ impl Settling {
         self.has_settled
     }
 
-    /// What a session wrote and did not settle. None if it wrote nothing.
-    pub fn written(&self, session: usize) -> Option<Written>
-        ensures { result ≡ (session_at session self.now.sessions).written }
+    /// What the session at a seat wrote and did not settle. None if it wrote nothing.
+    pub fn written(&self, seat: usize) -> Option<Written>
+        ensures { result ≡ (session_at seat self.now.sessions).written }
     {
-        self.session(session).written
+        self.session(seat).written
     }
 
-    /// A session wrote a block of an image: its term, and how many bytes of the stream it covers.
-    pub fn add(&mut self, session: usize, image: usize, term_id: i32, bytes: u64)
+    /// The session of a number, at a seat, wrote a block of an image: its term, and how many bytes of the stream it covers.
+    pub fn add(&mut self, seat: usize, session: i64, image: usize, term_id: i32, bytes: u64)
         ensures { self.new ≡ record self.old {
-          sessions = slice_set self.old.sessions session
-              (after_block self.old.time image term_id bytes (session_at session self.old.sessions));
+          sessions = slice_set self.old.sessions seat
+              (after_block self.old.time session image term_id bytes (session_at seat self.old.sessions));
         } }
     {
-        let state = self.session(session);
+        let state = self.session(seat);
         let (before, since) = match state.written {
-            Some(written) => (written.bytes, written.since),
-            None => (0, self.time),
+            Some(written) if written.session == session => (written.bytes, written.since),
+            _ => (0, self.time),
         };
         let written = Written {
+            session,
             image,
             term_id,
             bytes: before.saturating_add(bytes),
             since,
         };
         self.set_session(
-            session,
+            seat,
             SessionState {
                 written: Some(written),
                 settled_at: state.settled_at,
@@ -112,16 +115,16 @@ impl Settling {
         );
     }
 
-    /// What a session wrote, which it settles now. None if it wrote nothing.
-    pub fn take(&mut self, session: usize) -> Option<Written>
-        ensures written { result ≡ (session_at session self.old.sessions).written }
-        ensures settled { self.new ≡ session_settled session self.old }
+    /// What the session at a seat wrote, which it settles now. None if it wrote nothing.
+    pub fn take(&mut self, seat: usize) -> Option<Written>
+        ensures written { result ≡ (session_at seat self.old.sessions).written }
+        ensures settled { self.new ≡ session_settled seat self.old }
     {
-        let written = self.written(session)?;
+        let written = self.written(seat)?;
         self.has_settled = true;
         let settled_at = self.time;
         self.set_session(
-            session,
+            seat,
             SessionState {
                 written: None,
                 settled_at,
@@ -130,12 +133,12 @@ impl Settling {
         Some(written)
     }
 
-    /// Whether a session has to settle now. `block_waits`: a further block waits. `is_asked`: a client asked for it.
-    pub fn is_due(&self, session: usize, block_waits: bool, is_asked: bool) -> bool
+    /// Whether the session at a seat has to settle now. `block_waits`: a further block waits. `is_asked`: a client asked for it.
+    pub fn is_due(&self, seat: usize, block_waits: bool, is_asked: bool) -> bool
         ensures { result ≡ is_due self.now.every self.now.time block_waits is_asked
-            (session_at session self.now.sessions) }
+            (session_at seat self.now.sessions) }
     {
-        let state = self.session(session);
+        let state = self.session(seat);
         let Some(written) = state.written else {
             return false;
         };
@@ -144,11 +147,11 @@ impl Settling {
             || is_enough(written.bytes, block_waits)
     }
 
-    /// Whether a session wrote so much that it has to settle before its next block is written.
-    pub fn is_full(&self, session: usize) -> bool
-        ensures { result ≡ is_full (session_at session self.now.sessions) }
+    /// Whether the session at a seat wrote so much that it has to settle before its next block is written.
+    pub fn is_full(&self, seat: usize) -> bool
+        ensures { result ≡ is_full (session_at seat self.now.sessions) }
     {
-        match self.written(session) {
+        match self.written(seat) {
             Some(written) => is_enough(written.bytes, true),
             None => false,
         }
@@ -165,20 +168,20 @@ impl Settling {
         next
     }
 
-    fn session(&self, session: usize) -> SessionState
-        ensures { result ≡ session_at session self.now.sessions }
+    fn session(&self, seat: usize) -> SessionState
+        ensures { result ≡ session_at seat self.now.sessions }
     {
-        match self.sessions.get(session) {
+        match self.sessions.get(seat) {
             Some(state) => *state,
             None => NOTHING_WRITTEN,
         }
     }
 
-    fn set_session(&mut self, session: usize, state: SessionState)
-        ensures { self.new ≡ record self.old { sessions = slice_set self.old.sessions session state } }
+    fn set_session(&mut self, seat: usize, state: SessionState)
+        ensures { self.new ≡ record self.old { sessions = slice_set self.old.sessions seat state } }
     {
-        if session < FED_SESSIONS {
-            self.sessions[session] = state;
+        if seat < FED_SESSIONS {
+            self.sessions[seat] = state;
         }
     }
 }

@@ -6,37 +6,56 @@ ghost use Rattle.serve_core.specs.Noting.{opens_session};
 use crate::counts::Counts;
 use crate::happening::Happening;
 use crate::listing::images_text;
-use crate::pairing::Pairing;
+use crate::noting::settle;
+use crate::pairing::{FedSession, ImageKey, Pairing};
 use crate::queue::Queue;
 use crate::teller::Teller;
 use archive_model::Reply;
 use control_core::Event;
 use frame_core::Refusal;
 use std::alloc::{AllocError, Global};
-use std::net::UdpSocket;
+use std::net::{SocketAddr, UdpSocket};
 use std::sync::atomic::{AtomicBool, AtomicU8, Ordering};
 use std::sync::{Mutex, Wait};
 use stream_pairs::{FED_SESSIONS, MAX_IMAGES, Pairs, StreamPoint};
 use tool_core::HistoryUse;
 
+/// An image that waits for a session.
+#[derive(Clone, Copy)]
+pub(crate) struct WaitingImage {
+    /// Its number.
+    pub number: u64,
+    /// Where it joined.
+    pub point: StreamPoint,
+    /// Who sent its setup frame.
+    pub sender: Option<SocketAddr>,
+}
+
 /// What the threads share. A method takes one lock at most, and tells what happened when it has none.
 #[derive(Drop)]
 pub(crate) struct Shared<T> {
     pairing: Mutex<Pairing>,
+    /// Who sent the setup frames of images, by their places.
+    senders: Mutex<[Option<SocketAddr>; MAX_IMAGES]>,
     /// Blocks on their way.
     pub queue: Queue,
     /// What is counted.
     pub counts: Counts,
     ends: AtomicBool,
     looks_round: AtomicBool,
+    /// Calls that make entries are made and noted one after another.
+    pub turn: Mutex<()>,
     has_faulted: AtomicBool,
     history: AtomicU8,
+    /// Whether places of images and seats of sessions are given back.
+    gives_back: bool,
     teller: T,
 }
 
 impl<T: Teller> Shared<T> {
-    /// Nothing came yet. Costs memory for tables and for 16 blocks.
-    pub fn new(alloc: Global, teller: T) -> Result<Shared<T>, AllocError>
+    /// Nothing came yet. Places of images and seats of sessions are given back, or not. Costs memory for tables and for 16
+    /// blocks.
+    pub fn new(alloc: Global, gives_back: bool, teller: T) -> Result<Shared<T>, AllocError>
     where
         T: Drop,
     {
@@ -44,13 +63,16 @@ impl<T: Teller> Shared<T> {
             return Err(AllocError);
         };
         Ok(Shared {
-            pairing: Mutex::new(Pairing::new(pairs)),
+            pairing: Mutex::new(Pairing::new(pairs, gives_back)),
+            senders: Mutex::new([None; MAX_IMAGES]),
             queue: Queue::new(alloc)?,
             counts: Counts::new(alloc)?,
             ends: AtomicBool::new(false),
             looks_round: AtomicBool::new(false),
+            turn: Mutex::new(()),
             has_faulted: AtomicBool::new(false),
             history: AtomicU8::new(0),
+            gives_back,
             teller,
         })
     }
@@ -112,8 +134,18 @@ impl<T: Teller> Shared<T> {
 
     fn tell_session<R: Wait>(&self, rt: &R, session: i64) {
         self.tell_pairs(rt);
-        if session == FED_SESSIONS as i64 - 1 {
+        if self.gives_back {
+            self.tell_seat(rt, session);
+        } else if session == FED_SESSIONS as i64 - 1 {
             self.tell(&Happening::LastSession);
+        }
+    }
+
+    /// Reports a session that has no seat.
+    fn tell_seat<R: Wait>(&self, rt: &R, session: i64) {
+        let seat = self.pairing.lock(rt).pairs.seat_of(session);
+        if seat.is_none() {
+            self.tell(&Happening::NoSeat { session });
         }
     }
 
@@ -133,37 +165,96 @@ impl<T: Teller> Shared<T> {
         }
     }
 
-    /// An image joined.
-    pub fn joined<R: Wait>(&self, rt: &R, point: StreamPoint) -> Option<usize> {
-        let image = self.pairing.lock(rt).pairs.joined(point);
-        if let Some(image) = image {
-            self.counts.images.add(1);
-            if image == MAX_IMAGES - 1 {
-                self.tell(&Happening::LastImage);
-            }
+    /// An image joined, whose setup frame came from there. Its place and its number.
+    pub fn joined<R: Wait>(
+        &self,
+        rt: &R,
+        point: StreamPoint,
+        sender: Option<SocketAddr>,
+    ) -> Option<ImageKey> {
+        let place = self.pairing.lock(rt).pairs.joined(point)?;
+        if place < MAX_IMAGES {
+            self.senders.lock(rt)[place] = sender;
         }
-        image
+        let count = self.pairing.lock(rt).pairs.image_count();
+        self.counts.images.add(1);
+        if count == MAX_IMAGES {
+            self.tell(if self.gives_back {
+                &Happening::AllPlacesTaken
+            } else {
+                &Happening::LastImage
+            });
+        }
+        self.pairing.lock(rt).key_at(place)
     }
 
-    /// Tells the pairs of which was not told.
+    /// The place of an image is given back.
+    pub fn left<R: Wait>(&self, rt: &R, place: usize) {
+        let key = self.pairing.lock(rt).key_at(place);
+        self.pairing.lock(rt).pairs.left(place);
+        if let Some(key) = key {
+            let counted = self.counts.counted(place);
+            self.counts.leave(place);
+            self.tell(&Happening::Left {
+                image: key.number,
+                counted,
+            });
+        }
+    }
+
+    /// The image at a place, if it waits for a session.
+    pub fn waiting<R: Wait>(&self, rt: &R, place: usize) -> Option<WaitingImage> {
+        let image = self.pairing.lock(rt).waiting(place)?;
+        let sender = match self.senders.lock(rt).get(place) {
+            Some(sender) => *sender,
+            None => None,
+        };
+        Some(WaitingImage {
+            number: image.number,
+            point: image.join,
+            sender,
+        })
+    }
+
+    /// Whether the place of an image may be given back, whether it is live or not: it was lost, or its session has ended.
+    pub fn is_over<R: Wait>(&self, rt: &R, place: usize) -> bool {
+        self.pairing.lock(rt).is_over(place)
+    }
+
+    /// Reports the pairs that were not reported.
     pub fn tell_pairs<R: Wait>(&self, rt: &R) {
         for _ in 0..FED_SESSIONS {
-            let untold = self.pairing.lock(rt).next_untold();
-            match untold {
-                Some((session, image)) => self.tell(&Happening::Paired { image, session }),
-                None => return,
+            let Some((seat, image)) = self.pairing.lock(rt).next_untold() else {
+                return;
+            };
+            let fed = self.pairing.lock(rt).seated_session(seat);
+            if let Some(fed) = fed {
+                let session = fed.session;
+                self.tell(&Happening::Paired { image, session });
             }
         }
+    }
+
+    /// The image at a place, if it feeds a session.
+    pub fn feeding<R: Wait>(&self, rt: &R, place: usize) -> Option<ImageKey> {
+        let pairing = self.pairing.lock(rt);
+        pairing.pairs.session_of_image(place)?;
+        pairing.key_at(place)
     }
 
     /// The session that an image feeds.
-    pub fn session_of<R: Wait>(&self, rt: &R, image: usize) -> Option<usize> {
-        self.pairing.lock(rt).pairs.session_of_image(image)
+    pub fn session_of<R: Wait>(&self, rt: &R, image: &ImageKey) -> Option<FedSession> {
+        self.pairing.lock(rt).session_of(image)
     }
 
-    /// Whether an image feeds a session that is open.
-    pub fn is_recorded<R: Wait>(&self, rt: &R, image: usize) -> bool {
-        self.pairing.lock(rt).pairs.is_recorded(image)
+    /// The seat of the session that the image at a place feeds.
+    pub fn seat_of<R: Wait>(&self, rt: &R, place: usize) -> Option<usize> {
+        self.pairing.lock(rt).pairs.session_of_image(place)
+    }
+
+    /// Whether the image at a place feeds a session that is open.
+    pub fn is_recorded<R: Wait>(&self, rt: &R, place: usize) -> bool {
+        self.pairing.lock(rt).pairs.is_recorded(place)
     }
 
     /// A line for each image, and a line with how many there are.
@@ -172,11 +263,11 @@ impl<T: Teller> Shared<T> {
     }
 
     /// A session settled, and is recorded up to a position.
-    pub fn settled<R: Wait>(&self, rt: &R, session: usize, position: i64) {
-        self.pairing.lock(rt).pairs.settled(session, position);
+    pub fn settled<R: Wait>(&self, rt: &R, session: i64, position: i64) {
+        settle(&mut self.pairing.lock(rt).pairs, session, position);
     }
 
-    /// The open session that writes a recording is to settle at once, if there is one. Its number. Waits for nothing.
+    /// The open session that writes a recording is to settle at once, if there is one. Its seat. Waits for nothing.
     pub fn ask_writer<R: Wait>(&self, rt: &R, recording: i64) -> Option<usize> {
         let session = self.pairing.lock(rt).pairs.writer_of(recording);
         if let Some(session) = session {
@@ -202,15 +293,15 @@ impl<T: Teller> Shared<T> {
     }
 
     /// A session was refused: it loses its image, if it has one.
-    pub fn refused<R: Wait>(&self, rt: &R, session: usize, cause: Refusal) {
+    pub fn refused<R: Wait>(&self, rt: &R, session: i64, cause: Refusal) {
         self.note_refusal(&cause);
         let lost = self.pairing.lock(rt).refused(session);
-        if let Some(image) = lost {
+        if let Some(lost) = lost {
             self.tell(&Happening::Lost {
-                image,
+                image: lost.number,
                 session,
                 cause,
-                counted: self.counts.counted(image),
+                counted: self.counts.counted(lost.place),
             });
         }
     }

@@ -36,5 +36,11 @@ impl Answerer for Unopened {
 }
 
 impl Server for Unopened {
-    fn end_connection(&mut self) {}
+    ghost use Rattle.std.specs.Prelude.{◌≡◌};
+
+    ghost ended = { λ closes old new. new ≡ old };
+
+    fn end_connection(&mut self, _alloc: Global, closes_replays: bool) {
+        let _ = closes_replays;
+    }
 }

@@ -1,3 +1,4 @@
 pub mod SlotLemmas
 pub mod PairLemmas
 pub mod RunLemmas
+pub mod GivingLemmas

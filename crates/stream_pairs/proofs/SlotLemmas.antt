@@ -87,7 +87,7 @@ taker_feeds i join (Some slot) e = refl
 
 -- ---- an image that feeds a session
 
-index_is : (i : ℕ) (o : Option ℕ) → is_index i o ≡ true → o ≡ Some i
+pub index_is : (i : ℕ) (o : Option ℕ) → is_index i o ≡ true → o ≡ Some i
 index_is i None e = cc
 index_is i (Some j) e = ap (λ (k : ℕ). Some k) (eqb-true j i e)
 

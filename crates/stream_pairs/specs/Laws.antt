@@ -1,20 +1,20 @@
 -- What follows of the pairs over all runs: docs/ARCHITECTURE.md, "Images and recorder sessions".
-use Rattle.std.specs.Prelude.{◌≡◌, ◌<◌, ◌⊎◌, ℕ, ℤ, List, [], ◌∷◌, Some, true, false, slice_get}
+use Rattle.std.specs.Prelude.{◌≡◌, ◌≢◌, ◌<◌, ◌⊎◌, ℕ, ℤ, List, [], ◌∷◌, Some, true, false, slice_get}
 use Rattle.stream_pairs.specs.declared.pairs.JoinedImage.{JoinedImage}
 use Rattle.stream_pairs.specs.declared.points.StreamPoint.{StreamPoint}
-use Rattle.stream_pairs.specs.Pairs.{PairsState, after_joined, after_opened, after_refused, after_settled, after_stopped, image_at, is_fed, slot_of, takes}
+use Rattle.stream_pairs.specs.Pairs.{PairsState, after_joined, after_left, after_opened, after_refused, after_released, after_settled, after_stopped, image_at, is_fed, slot_of, takes, writes}
 
--- what may come: a session of a number is opened for a recording that stands at a point; an image joins at one; a
--- session is settled up to a position; a recording is stopped; a session is refused
+-- what may come if nothing is given back: a session is opened at a seat, by its number, for a recording that stands at a point;
+-- an image joins at one; the session at a seat is settled up to a position; a recording is stopped; a session is refused
 pub data Coming : Type 0 where
-  opens : ℕ → ℤ → StreamPoint → Coming
+  opens : ℕ → ℤ → ℤ → StreamPoint → Coming
   joins : StreamPoint → Coming
   settles : ℕ → ℤ → Coming
   stops : ℤ → Coming
   refuses : ℕ → Coming
 
 abbrev pub after_coming : PairsState → Coming → PairsState
-after_coming s (opens n recording point) = after_opened n recording point s
+after_coming s (opens n session recording point) = after_opened n session recording point s
 after_coming s (joins join) = after_joined join s
 after_coming s (settles n position) = after_settled n position s
 after_coming s (stops recording) = after_stopped recording s
@@ -55,3 +55,34 @@ abbrev pub NoneWaits : PairsState → Type 0
 NoneWaits s =
     (i n : ℕ) (image : JoinedImage) → slice_get s.images i ≡ Some image → image.is_lost ≡ false
     → is_fed i s ≡ false → takes image.join (slot_of n s) ≡ false
+
+-- ---- where places and seats are given back
+
+-- what may happen: something comes, the seat of a recording that was stopped is given back, or the place of an image is
+pub data Happening : Type 0 where
+  comes : Coming → Happening
+  releases : ℤ → Happening
+  leaves : ℕ → Happening
+
+abbrev pub after_happening : PairsState → Happening → PairsState
+after_happening s (comes e) = after_coming s e
+after_happening s (releases recording) = after_released recording s
+after_happening s (leaves i) = after_left i s
+
+abbrev pub after_happenings : PairsState → List Happening → PairsState
+after_happenings s [] = s
+after_happenings s (h ∷ hs) = after_happenings (after_happening s h) hs
+
+-- the place of an image is given back, and all other images stay, and so do the sessions that it doesn't feed
+pub record LeavesTheRest (i : ℕ) (s : PairsState) : Type 0 where
+  pub images : (j : ℕ) → j ≢ i → slice_get (after_left i s).images j ≡ slice_get s.images j
+  pub slots : (n : ℕ) → image_at n s ≢ Some i → slot_of n (after_left i s) ≡ slot_of n s
+
+-- the seat of a recording's session is given back, and all others stay, and so do the images that don't feed it
+pub record ReleasesNoOther (recording : ℤ) (s : PairsState) : Type 0 where
+  pub slots : (n : ℕ) → writes recording (slot_of n s) ≡ false → slot_of n (after_released recording s) ≡ slot_of n s
+  pub images : (j : ℕ) → ((n : ℕ) → writes recording (slot_of n s) ≡ true → image_at n s ≢ Some j) → slice_get (after_released recording s).images j ≡ slice_get s.images j
+
+-- an image of the same number joined at the same place of the same stream: it is the same one
+abbrev pub IsSameImage : JoinedImage → JoinedImage → Type 0
+IsSameImage image later = later.number ≡ image.number → later.join ≡ image.join

@@ -1,48 +1,57 @@
 //! Pairs of images and recorder sessions.
 
-ghost use Rattle.std.specs.Prelude.{◌≡◌, ◌<◌, ◌≤◌, IfOk, IfErr, length, slice_get};
+ghost use Rattle.std.specs.Prelude.{◌≡◌, ◌<◌, ◌≤◌, ◌-◌, ◌^◌, IfOk, IfErr, MatchOption, None, is_some, length, slice_get, true};
 ghost use Rattle.std.specs.List.{position};
 ghost use Rattle.frame_core.specs.declared.refusal.Refusal.TheVariants.{NoMemory};
-ghost use Rattle.stream_pairs.specs.Pairs.{after_joined, after_opened, after_refused, after_settled, after_stopped, ended, fed_by, feeds, image_at, image_with, is_recorded, is_recorded_by, joined, joined_index, may_join, no_pairs, with_new_session, pair_all, pair_one, slot_of, takes, with_lost_image, with_slot, writes};
+ghost use Rattle.stream_pairs.specs.Pairs.{after_joined, after_left, after_opened, after_refused, after_released, after_settled, after_stopped, ended, fed_by, feeds, has_own_seat, has_session, image_at, image_count, image_in, image_with, is_free, is_image_of, is_recorded, is_recorded_by, is_vacant, joined, joined_index, kept_image, may_join, no_pairs, pair_all, pair_one, place_for_next, put_image, released_at, seat_for, seat_of, slot_of, takes, unfed_at, vacated, with_lost_image, with_new_session, with_slot, writes};
 
 use crate::points::StreamPoint;
 use frame_core::{Publication, Refusal};
 use std::alloc::Global;
 use std::marker::Model;
 
-/// Recorder sessions that images feed: those of the numbers below it.
+/// Seats of recorder sessions that images feed, counted from 0.
 pub const FED_SESSIONS: usize = 64;
-/// Images that come at most.
+/// Images that there may be at a time.
 pub const MAX_IMAGES: usize = 64;
 
 /// What is known of a recorder session.
 #[derive(Clone, Copy, Debug, PartialEq, Eq)]
 pub struct SessionSlot {
+    /// The session's number.
+    pub session: i64,
     /// The id of the recording that it writes.
     pub recording: i64,
     /// What the recording records, and up to which position it is recorded.
     pub point: StreamPoint,
     /// Whether the recording was not stopped since.
     pub is_open: bool,
-    /// The index of the image that feeds it.
+    /// The place of the image that feeds it.
     pub image: Option<usize>,
 }
 
 /// What is known of an image.
 #[derive(Clone, Copy, Debug, PartialEq, Eq)]
 pub struct JoinedImage {
+    /// How many images came before it: its number, which no other image has.
+    pub number: u64,
     /// Where it joined.
     pub join: StreamPoint,
-    /// Whether a session that it fed was refused.
+    /// Whether a session that it fed was refused, or has ended and gave its seat back.
     pub is_lost: bool,
+    /// Whether its place was given back.
+    pub has_left: bool,
 }
 
-/// Which image feeds which recorder session: images by the order in which they came, sessions by their numbers.
+/// Which image feeds which recorder session: images by their places, sessions by their seats. An image's place is its number
+/// until a place is given back.
 /// docs/ARCHITECTURE.md, "Images and recorder sessions".
 #[derive(Drop)]
 pub struct Pairs {
     slots: [Option<SessionSlot>; FED_SESSIONS],
     images: Vec<JoinedImage>,
+    /// How many images came.
+    came: u64,
 }
 
 impl Model for Pairs {
@@ -52,7 +61,7 @@ impl Model for Pairs {
 
     ghost Value = { PairsState };
 
-    ghost view = { λ p. record { slots = p.slots; images = p.images.items } };
+    ghost view = { λ p. record { slots = p.slots; images = p.images.items; came = p.came } };
 
     ghost invariant = { λ p. (vec_len p.images ≤ 64) × (64 ≤ vec_capacity p.images) };
 }
@@ -66,18 +75,20 @@ impl Pairs {
         Ok(Pairs {
             slots: [None; FED_SESSIONS],
             images: Vec::with_capacity(alloc, MAX_IMAGES)?,
+            came: 0,
         })
     }
 
-    /// A recorder session of this number was opened, by a start or an extension: the id of the recording that it writes,
-    /// and where that stands. Then each image without a session is paired, in their order. A number from 64 on is not
-    /// noted, nor one that was there. Costs a step for each session for each image.
-    pub fn opened(&mut self, number: usize, recording: i64, point: StreamPoint)
-        ensures { self.new ≡ after_opened number recording point self.old }
+    /// A recorder session of this number was opened at a seat, by a start or an extension: the id of the recording that it
+    /// writes, and where that stands. Then each image without a session is paired, by their places. A seat from 64 on is not
+    /// noted, nor one that has a session. Costs a step for each session for each image.
+    pub fn opened(&mut self, seat: usize, session: i64, recording: i64, point: StreamPoint)
+        ensures { self.new ≡ after_opened seat session recording point self.old }
     {
         self.note(
-            number,
+            seat,
             SessionSlot {
+                session,
                 recording,
                 point,
                 is_open: true,
@@ -87,9 +98,9 @@ impl Pairs {
         self.pair_all();
     }
 
-    /// An image came: where it joined. None where its publication has one, or 64 images came, and nothing changes then;
-    /// else its index, and each image without a session is paired, in their order. Costs a step for each session for each
-    /// image.
+    /// An image came: where it joined. Its place: the least that was given back, or the next one. Then each image without a
+    /// session is paired, by their places. None if its publication has an image, or all 64 places have one; nothing changes
+    /// then. Costs a step for each session for each image.
     pub fn joined(&mut self, join: StreamPoint) -> Option<usize>
         ensures state { self.new ≡ after_joined join self.old }
         ensures index { result ≡ joined_index join.publication self.old }
@@ -97,13 +108,13 @@ impl Pairs {
         if !self.may_join(&join.publication) {
             return None;
         }
-        let index = self.images.len();
+        let place = self.place_for_next();
         self.add(join);
         self.pair_all();
-        Some(index)
+        place
     }
 
-    /// The recording of the session of a number is recorded up to another position. Nothing is paired by it. Costs a
+    /// The recording of the session at a seat is recorded up to another position. Nothing is paired by it. Costs a
     /// constant time.
     pub fn settled(&mut self, number: usize, position: i64)
         ensures { self.new ≡ after_settled number position self.old }
@@ -125,7 +136,52 @@ impl Pairs {
         }
     }
 
-    /// The session of a number was refused: it loses its image, which is not paired again. Costs a constant time.
+    /// A recording was stopped, and the seat of the session that wrote it is given back: it has no session from now on. The
+    /// image that fed it is not paired again. Costs a step for each session.
+    pub fn released(&mut self, recording: i64)
+        ensures { self.new ≡ after_released recording self.old }
+    {
+        if let Some(seat) = self.writer_of(recording) {
+            self.release(seat);
+        }
+    }
+
+    fn release(&mut self, seat: usize)
+        ensures { self.new ≡ with_slot seat None (after_refused seat self.old) }
+    {
+        self.refused(seat);
+        self.put(seat, None);
+    }
+
+    /// The place of an image is given back, to the next one that comes. A session that it fed stays, without an image. Costs
+    /// a step for each session.
+    pub fn left(&mut self, place: usize)
+        ensures { self.new ≡ after_left place self.old }
+    {
+        let fed = self.session_of_image(place);
+        self.unfeed(fed);
+        self.vacate(place);
+    }
+
+    fn unfeed(&mut self, seat: Option<usize>)
+        ensures { self.new ≡ unfed_at seat self.old }
+    {
+        if let Some(seat) = seat {
+            self.feed(seat, None);
+        }
+    }
+
+    fn vacate(&mut self, place: usize)
+        ensures { self.new ≡ record self.old
+            { images = vacated (slice_get self.old.images place) place self.old.images } }
+    {
+        if let Some(image) = self.images.get_mut(place) {
+            image.is_lost = true;
+            image.has_left = true;
+        }
+    }
+
+    /// The session at a seat was refused: it loses its image, which is not paired again. Costs a constant time.
     pub fn refused(&mut self, number: usize)
         ensures { self.new ≡ after_refused number self.old }
     {
@@ -136,16 +192,71 @@ impl Pairs {
         self.lose(index);
     }
 
-    /// The index of the image of a publication. Costs a step for each image.
+    /// The place of the image of a publication. Costs a step for each image.
     pub fn image_of(&self, publication: &Publication) -> Option<usize>
         ensures { result ≡ image_with publication.now self.now }
     {
         self.images
             .iter()
-            .position(|image| image.join.is_of(publication))
+            .position(|image| is_image_of(image, publication))
     }
 
-    /// The index of the image that feeds the session of a number. Costs a constant time.
+    /// The session at a seat, if it has one. Costs a constant time.
+    pub fn slot(&self, seat: usize) -> Option<SessionSlot>
+        ensures { result ≡ slot_of seat self.now }
+    {
+        match self.slots.get(seat) {
+            Some(slot) => *slot,
+            None => None,
+        }
+    }
+
+    /// The seat of the session of a number, if it has one. Costs a step for each session.
+    pub fn seat_of(&self, session: i64) -> Option<usize>
+        ensures { result ≡ seat_of session self.now }
+    {
+        self.slots
+            .iter()
+            .position(|slot| has_session(slot, session))
+    }
+
+    /// A seat for the session of a number: that of its own number if it is free, else the least that is free. None if none is.
+    /// Costs a step for each session.
+    pub fn seat_for(&self, session: i64) -> Option<usize>
+        ensures { result ≡ seat_for session self.now }
+    {
+        if self.has_own_seat(session) {
+            Some(session.unsigned_abs() as usize)
+        } else {
+            self.free_seat()
+        }
+    }
+
+    /// Whether the seat of a session's own number is free.
+    fn has_own_seat(&self, session: i64) -> bool
+        ensures { result ≡ has_own_seat session self.now }
+    {
+        0 <= session
+            && session.unsigned_abs() < FED_SESSIONS as u64
+            && self.slot(session.unsigned_abs() as usize).is_none()
+    }
+
+    /// The least seat that is free.
+    fn free_seat(&self) -> Option<usize>
+        ensures { result ≡ position is_free self.now.slots }
+    {
+        self.slots.iter().position(|slot| slot.is_none())
+    }
+
+    /// The image at a place, unless the place was given back. Costs a constant time.
+    pub fn image(&self, place: usize) -> Option<JoinedImage>
+        ensures { result ≡ image_in place self.now }
+    {
+        let image = self.joined_image(place)?;
+        if image.has_left { None } else { Some(image) }
+    }
+
+    /// The place of the image that feeds the session at a seat. Costs a constant time.
     pub fn image_of_session(&self, number: usize) -> Option<usize>
         ensures { result ≡ image_at number self.now }
     {
@@ -155,14 +266,14 @@ impl Pairs {
         }
     }
 
-    /// The number of the session that the image of an index feeds. Costs a step for each session.
+    /// The seat of the session that the image at a place feeds. Costs a step for each session.
     pub fn session_of_image(&self, index: usize) -> Option<usize>
         ensures { result ≡ position (feeds index) self.now.slots }
     {
         self.slots.iter().position(|slot| feeds(slot, index))
     }
 
-    /// The number of the open session that writes a recording, the least of them. None where no open session does. Costs a
+    /// The seat of the open session that writes a recording, the least of them. None where no open session does. Costs a
     /// step for each session. Does not allocate.
     pub fn writer_of(&self, recording: i64) -> Option<usize>
         ensures { result ≡ position (writes recording) self.now.slots }
@@ -170,26 +281,26 @@ impl Pairs {
         self.slots.iter().position(|slot| writes(slot, &recording))
     }
 
-    /// Whether the image of an index feeds a session that is open. Costs a step for each session. Does not allocate.
+    /// Whether the image at a place feeds a session that is open. Costs a step for each session. Does not allocate.
     pub fn is_recorded(&self, index: usize) -> bool
         ensures { result ≡ is_recorded index self.now }
     {
         self.slots.iter().any(|slot| is_recorded_by(slot, index))
     }
 
-    /// The images, by the order in which they came. Costs a constant time.
+    /// The images by their places, those that were given back too. Costs a constant time.
     pub fn images(&self) -> &[JoinedImage]
         ensures { result.now ≡ self.now.images }
     {
         self.images.as_slice()
     }
 
-    /// How many images came.
+    /// How many places have an image. Costs a step for each.
     pub fn image_count(&self) -> usize
-        ensures count { result ≡ length self.now.images }
+        ensures count { result ≡ image_count self.now }
         ensures few { result ≤ 64 }
     {
-        self.images.len()
+        self.images.iter().filter(|image| !image.has_left).count()
     }
 
     fn note(&mut self, number: usize, slot: SessionSlot)
@@ -200,21 +311,58 @@ impl Pairs {
         }
     }
 
-    /// Whether an image of a publication may come: it has none, and there are fewer than 64.
+    /// Whether an image of a publication may come: it has none, there is a place, and fewer than 2^64 - 1 came.
     fn may_join(&self, publication: &Publication) -> bool
         ensures { result ≡ may_join publication.now self.now }
     {
-        self.images.len() < MAX_IMAGES && self.image_of(publication).is_none()
+        self.place_for_next().is_some()
+            && self.image_of(publication).is_none()
+            && self.came < u64::MAX
+    }
+
+    /// The place of one image more: the least that was given back, or the next one, of 64.
+    fn place_for_next(&self) -> Option<usize>
+        ensures { result ≡ place_for_next self.now }
+    {
+        match self.vacant() {
+            Some(place) => Some(place),
+            None if self.images.len() < MAX_IMAGES => Some(self.images.len()),
+            None => None,
+        }
+    }
+
+    /// The least place that was given back.
+    fn vacant(&self) -> Option<usize>
+        ensures { result ≡ position is_vacant self.now.images }
+    {
+        self.images.iter().position(|image| image.has_left)
     }
 
     fn add(&mut self, join: StreamPoint)
-        requires { length self.old.images < 64 }
+        requires place { is_some (place_for_next self.old) ≡ true }
+        requires few { self.old.came < 2 ^ 64 - 1 }
         ensures { self.new ≡ joined join self.old }
     {
-        self.images.push_reserved(JoinedImage {
+        let image = JoinedImage {
+            number: self.came,
             join,
             is_lost: false,
-        });
+            has_left: false,
+        };
+        let place = self.vacant();
+        self.came += 1;
+        self.put_image(place, image);
+    }
+
+    /// Puts an image at a place that was given back, or at the next one.
+    fn put_image(&mut self, place: Option<usize>, image: JoinedImage)
+        requires inside { MatchOption place (length self.old.images < 64) (λ i. i < length self.old.images) }
+        ensures { self.new ≡ record self.old { images = put_image place image self.old.images } }
+    {
+        match place {
+            Some(place) => self.images[place] = image,
+            None => self.images.push_reserved(image),
+        }
     }
 
     fn put(&mut self, number: usize, slot: Option<SessionSlot>)
@@ -243,7 +391,7 @@ impl Pairs {
         }
     }
 
-    /// The session of a number has ended.
+    /// The session at a seat has ended.
     fn end(&mut self, number: usize)
         ensures { self.new ≡ with_slot number (ended (slot_of number self.old)) self.old }
     {
@@ -254,7 +402,7 @@ impl Pairs {
         }
     }
 
-    /// Pairs each image without a session, in their order.
+    /// Pairs each image without a session, by their places.
     fn pair_all(&mut self)
         ensures { self.new ≡ pair_all self.old }
     {
@@ -268,7 +416,7 @@ impl Pairs {
     fn pair(&mut self, index: usize)
         ensures { self.new ≡ pair_one index self.old }
     {
-        let Some(image) = self.image(index) else {
+        let Some(image) = self.joined_image(index) else {
             return;
         };
         if image.is_lost || self.session_of_image(index).is_some() {
@@ -279,8 +427,8 @@ impl Pairs {
         }
     }
 
-    /// The image of an index.
-    fn image(&self, index: usize) -> Option<JoinedImage>
+    /// What is known of the image at a place.
+    fn joined_image(&self, index: usize) -> Option<JoinedImage>
         ensures { result ≡ slice_get self.now.images index }
     {
         self.images.get(index).copied()
@@ -291,6 +439,23 @@ impl Pairs {
         ensures { result ≡ position (takes join.now) self.now.slots }
     {
         self.slots.iter().position(|slot| takes(slot, join))
+    }
+}
+
+/// Whether an image is of a publication, and its place was not given back.
+fn is_image_of(image: &JoinedImage, publication: &Publication) -> bool
+    ensures { result ≡ is_image_of publication.now image.now }
+{
+    !image.has_left && image.join.is_of(publication)
+}
+
+/// Whether the session at a seat is that of a number.
+fn has_session(slot: &Option<SessionSlot>, session: i64) -> bool
+    ensures { result ≡ has_session session slot.now }
+{
+    match slot {
+        Some(slot) => slot.session == session,
+        None => false,
     }
 }
 

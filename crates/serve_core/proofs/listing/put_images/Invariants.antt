@@ -4,5 +4,5 @@ use Rattle.std.specs.List.{enumerate_from, flat_map}
 use Rattle.serve_core.specs.Listing.{image_lines, numbered_line}
 use Rattle.serve_core.proofs.listing.put_images.Given as goal
 
-abbrev pub invariant-loop-number : goal.invariant-loop-number
-invariant-loop-number l = string_bytes l.out ++ flat_map (numbered_line l.pairs) (enumerate_from l.number (drop l.number l.pairs.images)) ≡ string_bytes l.fn.out ++ image_lines l.pairs
+abbrev pub invariant-loop-place : goal.invariant-loop-place
+invariant-loop-place l = string_bytes l.out ++ flat_map (numbered_line l.pairs) (enumerate_from l.place (drop l.place l.pairs.images)) ≡ string_bytes l.fn.out ++ image_lines l.pairs

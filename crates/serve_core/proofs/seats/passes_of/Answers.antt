@@ -25,6 +25,6 @@ loop-seat-preserved g c =
     record {
       passes = subst (AllOfTable table) (sym c.push_reserved.ensures.items) (all_push table l.room.items pass l.invariant.passes of);
       seats = numbered_front table 0 c.pop.new.self.items c.in-Some.seat left;
-      others = subst (HasFrom k) (sym c.push_reserved.ensures.items) (has_push (vec_len l.seats) k l.room.items pass l.invariant.others next number);
+      others = subst (HasFrom k g.A.Naming.passes) (sym c.push_reserved.ensures.items) (has_push (vec_len l.seats) k g.A.Naming.passes l.room.items pass l.invariant.others next number);
       room = omega (arith, l.invariant.room, next, c.push_reserved.ensures.len, c.push_reserved.ensures.capacity);
     }

@@ -9,7 +9,7 @@ abbrev pub invariant-loop-seat : goal.invariant-loop-seat
 invariant-loop-seat g l = record {
   passes : AllOfTable g.A.Naming.table l.room.items;
   seats : AreNumbered g.A.Naming.table 0 l.seats.items;
-  others : HasFrom (vec_len l.seats) l.room.items;
+  others : HasFrom (vec_len l.seats) g.A.Naming.passes l.room.items;
   room : vec_len l.seats + vec_len l.room ≤ vec_capacity l.room;
 }
 

@@ -37,7 +37,7 @@ invariant_of-self g c =
     let board = c.self.inside.board in
     let was = seat_at table board items n c.index_mut.result.now c.self.invariant.0 gets in
     let inside = c.self.invariant in
-    (seats_set table board items n c.settle.new.self inside.0 (settled_seat table board n c.index_mut.result.now c.settle.new.self c.settle.result was c.settle.ensures.raised c.settle.ensures.refused c.settle.ensures.pass c.settle.ensures.number c.settle.ensures.session), inside.1, inside.2, inside.3)
+    (seats_set table board items n c.settle.new.self inside.0 (settled_seat table board n c.index_mut.result.now c.settle.new.self c.settle.result was c.settle.ensures.raised c.settle.ensures.refused c.settle.ensures.pass c.settle.ensures.number c.settle.ensures.session), inside.1)
 
 pub returns : goal.returns
 returns g c =

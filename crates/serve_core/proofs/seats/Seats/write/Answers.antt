@@ -26,7 +26,7 @@ invariant_of-self g c =
     let board = c.self.inside.board in
     let was = seat_at table board items n c.index_mut.result.now c.self.invariant.0 gets in
     let inside = c.self.invariant in
-    (seats_set table board items n c.write.new.self inside.0 (written_seat table board n c.index_mut.result.now c.write.new.self was c.write.ensures.same c.write.ensures.pass c.write.ensures.number), inside.1, inside.2, inside.3)
+    (seats_set table board items n c.write.new.self inside.0 (written_seat table board n c.index_mut.result.now c.write.new.self was c.write.ensures.same c.write.ensures.pass c.write.ensures.number), inside.1)
 
 pub returns : goal.returns
 returns g c =
