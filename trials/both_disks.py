@@ -300,13 +300,14 @@ def try_words(trial: Trial) -> None:
     with trial.folder() as folder:
         path = str(folder)
         wrong = [(), ("play",), ("create",), ("compact",), ("list",), ("verify",), ("frames",), ("create", path, path), ("run", path, path)]
+        wrong += [("ask",), ("ask", "1"), ("ask", "0", "sweep"), ("ask", "x", "sweep"), ("ask", "1", "a\nb"), ("ask", "1", "a", "--until", "b\n")]
         wrong += [("describe",), ("export", path, "0"), ("export", path, "-1", "--pcap", "f"), ("export", path, "x", "--pcap", "f")]
         wrong += [("list", path, path), ("create", path, "--history"), ("create", path, "--history", "x")]
         wrong += [("create", path, "--history", "4294967296"), ("create", path, "--history", "-1"), ("list", path, "--history", "1")]
         for words in wrong:
             status, told, fault = trial.streams(*words)
             trial.expect(f"wrong words {words}", (status, told, fault != ""), (2, "", True))
-        for words in [("--help",), *((word, "--help") for word in ("create", "run", "compact", "list", "verify", "describe", "export", "frames"))]:
+        for words in [("--help",), *((word, "--help") for word in ("create", "run", "compact", "list", "verify", "describe", "export", "frames", "ask"))]:
             status, told, fault = trial.streams(*words)
             trial.expect(f"help {words}", (status, told != "", fault), (0, True, ""))
         trial.expect("nothing is made", list(folder.iterdir()), [])

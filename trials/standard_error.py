@@ -151,6 +151,8 @@ def rows(tool: Program) -> list[Row]:
     export = ["export", ".", "0", "--pcap", "./../frames.pcap"]
     summary = "recordings {}, frames {}, bytes {}, damaged {}, not read {}\n".format
     return [
+        # ask
+        Row("ask where nobody listens", ["ask", "1", "sweep"], 3, "", FAULT + "no server on port 1: Connection refused\n"),
         # run
         Row("run in an empty folder", ["run", "."], 0, "started 0 0\nsettled 64\n", MADE, lines=RECORDED),
         Row("run on an archive", ["run", "."], 0, "verified 1\n", "", [recorded], ["verify 0"]),

@@ -1,9 +1,9 @@
 -- Which command the words ask for.
-use Rattle.std.proofs.Common.{◌≡◌, ◌≢◌, ◌∙◌, inl, inr, refl, sym, ap, ap₂, subst, arith, ℕ, ℤ, Bool, true, false, List, [], ◌∷◌, Option, Some, None, Result, Ok, Err, option_map, codes, Bor, slice_index, rules, ne_eqb}
+use Rattle.std.proofs.Common.{◌≡◌, ◌≢◌, ◌∙◌, inl, inr, refl, sym, ap, ap₂, subst, arith, ℕ, ℤ, Bool, true, false, List, [], ◌∷◌, Option, Some, None, Result, Ok, Err, option_map, codes, map, Bor, slice_index, rules, ne_eqb}
 use Rattle.std.specs.Prelude.{◌||◌, bytes_eq, IfErr, IfOk, IsSomeAnd, unwrap_or}
 use Rattle.std.specs.Str.Parse.{ParsesSigned, ParsesUnsigned}
 use Rattle.std.specs.Int.{w64}
-use Rattle.clap.specs.Words.{AddsArg, AddsSubcommand, App, FailsBy, HasKind, HasMatchesOf, Kinds, ReadsOne, Row, Text, app_of, fault_of, first_of, first_value, is_simple, is_simple_and_free, kind_of, one_of, one_text, rows_of, rule_of, Rule, subcommand_of, subcommand_rows_of, with_rule, with_subcommand}
+use Rattle.clap.specs.Words.{AddsArg, AddsSubcommand, App, FailsBy, HasKind, HasMatchesOf, Kinds, ReadsOne, Row, Text, all_of, app_of, fault_of, first_of, first_value, is_simple, is_simple_and_free, kind_of, matched_of, one_of, one_text, raw_values, rows_of, rule_of, Rule, subcommand_of, subcommand_rows_of, with_rule, with_subcommand}
 use Rattle.clap.specs.declared.builder.arg.Arg.{Arg}
 use Rattle.clap.specs.declared.builder.command.Command.{Command}
 use Rattle.clap.specs.declared.error.Error.{Error}
@@ -11,11 +11,12 @@ use Rattle.clap.specs.declared.error.ErrorKind.TheVariants.{MissingSubcommand, O
 use Rattle.clap.specs.declared.parser.matches.ArgMatches.{ArgMatches}
 use Rattle.clap.proofs.OnLiterals.{clap_on_literals}
 use Rattle.clap.specs.declared.parser.matches.Found.{Found}
-use Rattle.clap.proofs.WalkLemmas.{first_value-rows, one_text-rows}
+use Rattle.clap.proofs.WalkLemmas.{first_value-rows, one_text-rows, raw_values-rows}
 use Rattle.command_line.specs.declared.command.ToolCommand.{ToolCommand}
+use Rattle.command_line.specs.declared.asking.AskWords.{AskWords}
 use Rattle.command_line.specs.declared.serving.ServeWords.{ServeWords}
-use Rattle.command_line.specs.declared.command.ToolCommand.TheVariants.{Create, Run, Serve, Compact, List as AskList, Verify, Describe, Export, Frames}
-use Rattle.command_line.specs.CommandLine.{HasWords, IsAsked, IsCommand, IsExporting, IsFlag, IsHeld, IsMet, IsNumber, IsNumberIf, IsSigned, IsSignedIf, IsPlain, IsPlainWord, IsServing, IsWordsFault, command_word, tool_app, words_of}
+use Rattle.command_line.specs.declared.command.ToolCommand.TheVariants.{Create, Run, Serve, Compact, List as AskList, Verify, Describe, Export, Frames, Ask}
+use Rattle.command_line.specs.CommandLine.{HasWords, IsAsked, IsAsking, IsCommand, IsExporting, IsFlag, IsHeld, IsMet, IsNumber, IsNumberIf, IsSigned, IsSignedIf, IsPlain, IsPlainWord, IsServing, IsWordsFault, command_word, tool_app, words_of}
 
 -- what a getter gave is what the rows hold
 pub text_given : (f : Found) (id : Text) (given got : Option (Bor Text)) → option_map (λ s. s.now) given ≡ first_value f id → given ≡ got → first_of id (rows_of f) ≡ option_map (λ s. s.now) got
@@ -83,18 +84,21 @@ module _ {E : Type 0} (gives : List ℕ → Result ℤ E → Type 0) (reads : (t
   pub signed_if : (f : Found) (id : Text) (got : Option ℤ) → (one_text f id ≡ None → got ≡ None) → ((t : List ℕ) → one_text f id ≡ Some t → ReadsOne gives t got) → IsSignedIf (one_of id (rows_of f)) got
   signed_if f id got none value = subst (λ text. IsSignedIf text got) (one_text-rows f id) (may_be (one_text f id) got none value)
 
--- What the rows of a command hold, told by its word: `create`, `serve`, `export`, `run`, `frames`, or another, which has a folder.
-abbrev Holds : Bool → Bool → Bool → Bool → Bool → List Row → Type 0
-Holds true serve export run frames rows = (first_of (codes "folder") rows ≢ None) × (n : ℕ) × IsSomeAnd (one_of (codes "history") rows) (IsNumber n)
-Holds false true export run frames rows = (words : ServeWords) × IsServing rows words
-Holds false false true run frames rows =
+-- What the rows of a command hold, told by its word: `create`, `serve`, `export`, `run`, `frames`, `ask`, or another, which has a
+-- folder.
+abbrev Holds : Bool → Bool → Bool → Bool → Bool → Bool → List Row → Type 0
+Holds true serve export run frames ask rows = (first_of (codes "folder") rows ≢ None) × (n : ℕ) × IsSomeAnd (one_of (codes "history") rows) (IsNumber n)
+Holds false true export run frames ask rows = (words : ServeWords) × IsServing rows words
+Holds false false true run frames ask rows =
     (folder : Text) × (recording : ℤ) × (from : Option ℤ) × (to : Option ℤ) × (pcap : Text) × IsExporting rows folder recording from to pcap
-Holds false false false true frames rows = Unit {0}
-Holds false false false false true rows = first_of (codes "file") rows ≢ None
-Holds false false false false false rows = first_of (codes "folder") rows ≢ None
+Holds false false false true frames ask rows = Unit {0}
+Holds false false false false true ask rows = first_of (codes "file") rows ≢ None
+Holds false false false false false true rows = (words : AskWords) × IsAsking rows words
+Holds false false false false false false rows = first_of (codes "folder") rows ≢ None
 
 abbrev HoldsBy : Text → List Row → Type 0
-HoldsBy word rows = Holds (bytes_eq word (codes "create")) (bytes_eq word (codes "serve")) (bytes_eq word (codes "export")) (bytes_eq word (codes "run")) (bytes_eq word (codes "frames")) rows
+HoldsBy word rows = Holds (bytes_eq word (codes "create")) (bytes_eq word (codes "serve")) (bytes_eq word (codes "export")) (bytes_eq word (codes "run")) (bytes_eq word (codes "frames"))
+    (bytes_eq word (codes "ask")) rows
 
 is_there : (id : Text) (rows : List Row) (text : Text) → first_of id rows ≡ Some text → first_of id rows ≢ None
 is_there id rows text is none = let bad = sym none ∙ is in cc
@@ -109,6 +113,7 @@ holds_by rows (Verify folder read_only) words = is_there (codes "folder") rows f
 holds_by rows (Describe folder json) words = is_there (codes "folder") rows folder.now words.0
 holds_by rows (Export folder recording from to pcap) words = (folder.now, recording, from, to, pcap.now, words)
 holds_by rows (Frames file) words = is_there (codes "file") rows file.now words
+holds_by rows (Ask words) asking = (words, asking)
 
 asked_by : (word name : Text) (rows : List Row) (command : ToolCommand) → name ≡ word → IsAsked name rows command → HoldsBy word rows
 asked_by word name rows command is asked = subst (λ w. HoldsBy w rows) (sym asked.named ∙ is) (holds_by rows command asked.words)
@@ -125,6 +130,15 @@ pub no_export : (rows : List Row)
     → ((folder : Text) (recording : ℤ) (from to : Option ℤ) (pcap : Text) → IsExporting rows folder recording from to pcap → ⊥)
     → (command : ToolCommand) → IsAsked (codes "export") rows command → ⊥
 no_export rows none = lacks_words (codes "export") (codes "export") rows refl (λ (folder, recording, from, to, pcap, words). none folder recording from to pcap words)
+
+-- if the words of `ask` lack one, the rows hold no command of its name
+pub no_ask : (name : Text) (rows : List Row) → name ≡ codes "ask" → ((words : AskWords) → IsAsking rows words → ⊥) → (command : ToolCommand) → IsAsked name rows command → ⊥
+no_ask name rows is none = lacks_words (codes "ask") name rows is (λ (words, asking). none words asking)
+
+-- the values that were given are those that the rows hold
+pub texts_given : (f : Found) (id : Text) (given got : Option (Bor (List (Bor Text)))) → option_map (λ s. map (λ v. v.now) s.now) given ≡ option_map raw_values (matched_of f id) → given ≡ got
+    → all_of id (rows_of f) ≡ option_map (λ s. map (λ v. v.now) s.now) got
+texts_given f id given got is same = sym (raw_values-rows f id) ∙ sym is ∙ ap (option_map (λ s. map (λ v. v.now) s.now)) same
 
 -- texts that begin with different letters are two
 differ : (a b : Text) → slice_index a 0 ≢ slice_index b 0 → a ≢ b
@@ -260,6 +274,7 @@ held_alone program (Verify folder read_only) plain = subst (λ set. IsHeld (prog
 held_alone program (Describe folder json) plain = subst (λ set. IsHeld (program ∷ codes "describe" ∷ folder.now ∷ []) (Describe folder set)) (sym plain.1)
     (record { taken = describe_taken program folder.now plain.0; met = describe_met program folder.now folder plain.0 refl })
 held_alone program (Export folder recording from to pcap) plain = absurd plain
+held_alone program (Ask words) plain = absurd plain
 held_alone program (Frames file) plain = record { taken = frames_taken program file.now plain; met = frames_met program file.now file plain refl }
 
 pub plain_is_held : (words : List Text) (program : Text) (command : ToolCommand) → IsPlain command → words ≡ program ∷ words_of command → IsHeld words command

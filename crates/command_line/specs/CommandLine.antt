@@ -1,18 +1,20 @@
 -- The program's command line: docs/CONTROL.md, "The program".
-use Rattle.std.specs.Prelude.{◌≡◌, ◌≢◌, ◌⊎◌, ◌<◌, ◌^◌, ℕ, ℤ, pos, Bool, true, false, List, [], ◌∷◌, Option, Some, None, IsSomeAnd, codes, option_map, FitsSigned}
+use Rattle.std.specs.Prelude.{◌≡◌, ◌≢◌, ◌⊎◌, ◌<◌, ◌^◌, ℕ, ℤ, pos, negsuc, Bool, true, false, List, [], ◌∷◌, Option, Some, None, IsSomeAnd, codes, map, option_map, unwrap_or, FitsSigned}
 use Rattle.std.specs.Str.Parse.{IsNumeral, digits_value, signed_digits_value, without_leading_plus, without_leading_sign}
-use Rattle.std.specs.Int.{w64}
+use Rattle.std.specs.Int.{w32, w64}
+use Rattle.clap.specs.Lexer.{usize_max}
 use Rattle.clap.specs.Simple.{on_top}
-use Rattle.clap.specs.Words.{App, IsAmong, Kinds, Row, Rule, Text, app_of, fault_of, first_of, new_app, new_rule, one_of, subcommand_of, with_rule, with_subcommand}
-use Rattle.clap.specs.declared.builder.action.ArgAction.TheVariants.{SetTrue}
+use Rattle.clap.specs.Words.{App, IsAmong, Kinds, Row, Rule, Text, all_of, app_of, fault_of, first_of, new_app, new_rule, one_of, subcommand_of, with_rule, with_subcommand}
+use Rattle.clap.specs.declared.builder.action.ArgAction.TheVariants.{Append, SetTrue}
 use Rattle.clap.specs.declared.builder.command.Command.{Command}
 use Rattle.clap.specs.declared.builder.command.Command.TheViews.{out-Command as fields_of}
 use Rattle.clap.specs.declared.builder.value_parser.ValueParser.TheVariants as parser
 use Rattle.clap.specs.declared.error.ErrorKind.{ErrorKind}
 use Rattle.clap.specs.declared.error.ErrorKind.TheVariants as kinds
 use Rattle.command_line.specs.declared.command.ToolCommand.{ToolCommand}
+use Rattle.command_line.specs.declared.asking.AskWords.{AskWords}
 use Rattle.command_line.specs.declared.serving.ServeWords.{ServeWords}
-use Rattle.command_line.specs.declared.command.ToolCommand.TheVariants.{Create, Run, Serve, Compact, List as AskList, Verify, Describe, Export, Frames}
+use Rattle.command_line.specs.declared.command.ToolCommand.TheVariants.{Create, Run, Serve, Compact, List as AskList, Verify, Describe, Export, Frames, Ask}
 
 -- a word that has to be given
 abbrev pub required_word : Text → Rule
@@ -74,6 +76,31 @@ window_option = record (new_rule (codes "window")) {
   parser = Some (parser.Signed (pos 4096) (pos 1048576));
 }
 
+-- `--clients`, from 1 to 64, which may be given
+abbrev pub clients_option : Rule
+clients_option = record (new_rule (codes "clients")) {
+  long = Some (codes "clients");
+  value_names = 1;
+  parser = Some (parser.Signed (pos 1) (pos 64));
+}
+
+-- `--record`, an i32, which may be given several times
+abbrev pub stream_option : Rule
+stream_option = record (new_rule (codes "record")) {
+  long = Some (codes "record");
+  value_names = 1;
+  action = Some Append;
+  parser = Some (parser.Signed (negsuc 2147483647) (pos 2147483647));
+}
+
+-- `--segment-length`, from 65536 to 1073741824, which may be given
+abbrev pub segment_option : Rule
+segment_option = record (new_rule (codes "segment-length")) {
+  long = Some (codes "segment-length");
+  value_names = 1;
+  parser = Some (parser.Signed (pos 65536) (pos 1073741824));
+}
+
 -- a command of one word, which has to be given
 abbrev pub word_app : Text → Text → App
 word_app name id = with_rule (new_app name) (required_word id)
@@ -89,9 +116,9 @@ abbrev pub run_app : App
 run_app = with_rule (new_app (codes "run")) (new_rule (codes "folder"))
 
 abbrev pub serve_app : App
-serve_app = with_rule (with_rule (with_rule (with_rule (with_rule (with_rule (with_rule (with_rule (word_app (codes "serve") (codes "folder"))
+serve_app = with_rule (with_rule (with_rule (with_rule (with_rule (with_rule (with_rule (with_rule (with_rule (with_rule (with_rule (word_app (codes "serve") (codes "folder"))
     (port_option (codes "control"))) (port_option (codes "receive"))) address_option) idle_option) settle_option)
-    (flag_option (codes "aeron"))) window_option) (flag_option (codes "quiet"))
+    (flag_option (codes "aeron"))) window_option) clients_option) stream_option) segment_option) (flag_option (codes "quiet"))
 
 -- a number of an i64 from 0 on, which has to be given
 abbrev pub number_word : Text → Rule
@@ -112,16 +139,40 @@ file_option id = record (new_rule id) { long = Some id; value_names = 1; require
 abbrev pub export_app : App
 export_app = with_rule (with_rule (with_rule (with_rule (word_app (codes "export") (codes "folder")) (number_word (codes "recording"))) (position_option (codes "from"))) (position_option (codes "to"))) (file_option (codes "pcap"))
 
+-- `line`, which has to be given, once or more often
+abbrev pub lines_word : Rule
+lines_word = record (required_word (codes "line")) { range = Some (record { start_inclusive = 1; end_inclusive = usize_max }) }
+
+-- a port, which has to be given as a word, from 1 to 65535
+abbrev pub port_word : Rule
+port_word = record (required_word (codes "port")) { parser = Some (parser.Signed (pos 1) (pos 65535)) }
+
+-- `--until`, a reply, which may be given
+abbrev pub until_option : Rule
+until_option = record (new_rule (codes "until")) { long = Some (codes "until"); value_names = 1 }
+
+-- `--wait`, from 1 to 86400, which is 60 if it is not given
+abbrev pub wait_option : Rule
+wait_option = record (new_rule (codes "wait")) {
+  long = Some (codes "wait");
+  value_names = 1;
+  defaults = codes "60" ∷ [];
+  parser = Some (parser.Signed (pos 1) (pos 86400));
+}
+
+abbrev pub ask_app : App
+ask_app = with_rule (with_rule (with_rule (with_rule (new_app (codes "ask")) port_word) lines_word) until_option) wait_option
+
 -- the program, which tells its version, and of which one command has to be asked for
 abbrev pub named_tool : App
 named_tool = on_top (λ s. record s { has_version = true; subcommand_required = true; arg_required_else_help = true }) (new_app (codes "archive_tool"))
 
 -- and its commands
 abbrev pub tool_app : App
-tool_app = with_subcommand (with_subcommand (with_subcommand (with_subcommand (with_subcommand (with_subcommand (with_subcommand (with_subcommand (with_subcommand named_tool create_app.top) run_app.top)
+tool_app = with_subcommand (with_subcommand (with_subcommand (with_subcommand (with_subcommand (with_subcommand (with_subcommand (with_subcommand (with_subcommand (with_subcommand named_tool create_app.top) run_app.top)
     (flag_app (codes "list") (codes "read-only")).top) (flag_app (codes "verify") (codes "read-only")).top)
     (word_app (codes "frames") (codes "file")).top) (flag_app (codes "describe") (codes "json")).top) serve_app.top)
-    (word_app (codes "compact") (codes "folder")).top) export_app.top
+    (word_app (codes "compact") (codes "folder")).top) export_app.top) ask_app.top
 
 -- the command is that one, and has no argument that its subcommands have too
 pub record IsCommand (app : App) (command : Command) : Type 0 where
@@ -139,6 +190,7 @@ command_word (Verify folder read_only) = codes "verify"
 command_word (Describe folder json) = codes "describe"
 command_word (Export folder recording from to pcap) = codes "export"
 command_word (Frames file) = codes "frames"
+command_word (Ask words) = codes "ask"
 
 -- the text is a u32 in decimal, and this number
 abbrev pub IsNumber : ℕ → Text → Type 0
@@ -157,6 +209,21 @@ IsNumberIf None (Some n) = ⊥
 IsNumberIf (Some text) None = (n : ℕ) → IsNumber n text → ⊥
 IsNumberIf (Some text) (Some n) = IsNumber n text
 
+-- the text is an i32 in decimal, and this number
+abbrev pub IsStream : ℤ → Text → Type 0
+IsStream z text = IsNumeral 10 (without_leading_sign text) × FitsSigned w32 (signed_digits_value 10 text) × (z ≡ signed_digits_value 10 text)
+
+-- the texts are the numbers, each its own
+abbrev pub AreNumbers : List Text → List ℤ → Type 0
+AreNumbers [] [] = Unit {0}
+AreNumbers [] (z ∷ zs) = ⊥
+AreNumbers (text ∷ texts) [] = ⊥
+AreNumbers (text ∷ texts) (z ∷ zs) = IsStream z text × AreNumbers texts zs
+
+-- the streams of `--record`, in the order of the words
+abbrev pub AreStreams : List Row → List ℤ → Type 0
+AreStreams rows streams = AreNumbers (unwrap_or (all_of (codes "record") rows) []) streams
+
 -- the words of `serve`
 pub record IsServing (rows : List Row) (words : ServeWords) : Type 0 where
   pub folder_is : first_of (codes "folder") rows ≡ Some words.folder.now
@@ -167,6 +234,9 @@ pub record IsServing (rows : List Row) (words : ServeWords) : Type 0 where
   pub settle_is : IsSomeAnd (one_of (codes "settle-every") rows) (IsNumber words.settle_every)
   pub aeron_is : IsFlag (one_of (codes "aeron") rows) words.is_aeron
   pub window_is : IsNumberIf (one_of (codes "window") rows) words.window
+  pub clients_is : IsNumberIf (one_of (codes "clients") rows) words.clients
+  pub streams_are : AreStreams rows words.streams.items
+  pub segment_is : IsNumberIf (one_of (codes "segment-length") rows) words.segment_length
   pub quiet_is : IsFlag (one_of (codes "quiet") rows) words.is_quiet
 
 -- the text is an i64 in decimal, and this number
@@ -188,6 +258,13 @@ pub record IsExporting (rows : List Row) (folder : Text) (recording : ℤ) (from
   pub to_is : IsSignedIf (one_of (codes "to") rows) to
   pub pcap_is : first_of (codes "pcap") rows ≡ Some pcap
 
+-- the words of `ask`
+pub record IsAsking (rows : List Row) (words : AskWords) : Type 0 where
+  pub port_is : IsSomeAnd (one_of (codes "port") rows) (IsNumber words.port)
+  pub lines_are : all_of (codes "line") rows ≡ Some (map (λ line. line.now) words.lines.items)
+  pub until_is : first_of (codes "until") rows ≡ option_map (λ reply. reply.now) words.until
+  pub wait_is : IsSomeAnd (one_of (codes "wait") rows) (IsNumber words.wait)
+
 -- the words of a command are those that its subcommand's entries hold
 abbrev pub HasWords : List Row → ToolCommand → Type 0
 HasWords rows (Create folder history) = (first_of (codes "folder") rows ≡ Some folder.now) × IsSomeAnd (one_of (codes "history") rows) (IsNumber history)
@@ -199,6 +276,7 @@ HasWords rows (Verify folder read_only) = (first_of (codes "folder") rows ≡ So
 HasWords rows (Describe folder json) = (first_of (codes "folder") rows ≡ Some folder.now) × IsFlag (one_of (codes "json") rows) json
 HasWords rows (Export folder recording from to pcap) = IsExporting rows folder.now recording from to pcap.now
 HasWords rows (Frames file) = first_of (codes "file") rows ≡ Some file.now
+HasWords rows (Ask words) = IsAsking rows words
 
 -- a subcommand of that name, with those entries, is the command
 pub record IsAsked (name : Text) (rows : List Row) (command : ToolCommand) : Type 0 where
@@ -219,8 +297,8 @@ abbrev pub IsPlainWord : Text → Type 0
 IsPlainWord [] = ⊥
 IsPlainWord (byte ∷ bytes) = byte ≢ 45
 
--- the folder or file of a command is such a word, its history is the one of which no word is said, and no flag is set; `serve`
--- and `export` have more words
+-- the folder or file of a command is such a word, its history is the one of which no word is said, and no flag is set; `serve`,
+-- `export` and `ask` have more words
 abbrev pub IsPlain : ToolCommand → Type 0
 IsPlain (Create folder history) = IsPlainWord folder.now × (history ≡ 1048576)
 IsPlain (Run None) = Unit {0}
@@ -232,6 +310,7 @@ IsPlain (Verify folder read_only) = IsPlainWord folder.now × (read_only ≡ fal
 IsPlain (Describe folder json) = IsPlainWord folder.now × (json ≡ false)
 IsPlain (Export folder recording from to pcap) = ⊥
 IsPlain (Frames file) = IsPlainWord file.now
+IsPlain (Ask words) = ⊥
 
 -- the word of a command, and its folder or file where it has one
 abbrev pub words_of : ToolCommand → List Text
@@ -245,6 +324,7 @@ words_of (Verify folder read_only) = codes "verify" ∷ folder.now ∷ []
 words_of (Describe folder json) = codes "describe" ∷ folder.now ∷ []
 words_of (Export folder recording from to pcap) = codes "export" ∷ folder.now ∷ []
 words_of (Frames file) = codes "frames" ∷ file.now ∷ []
+words_of (Ask words) = codes "ask" ∷ []
 
 -- The kind of the error: one of those that clap gives to the words, or none that a command is missing where it takes
 -- them; else memory ran out.

@@ -1,9 +1,10 @@
 //! The program's command line: docs/CONTROL.md, "The program".
 
-ghost use Rattle.std.specs.Prelude.{◌≡◌, ◌∷◌, [], ℕ, List, Ok, IfOk, IfErr, MatchOption, codes, false, map, string_bytes};
+ghost use Rattle.std.specs.Prelude.{◌≡◌, ◌≢◌, ◌∷◌, [], ℕ, List, Ok, IfOk, IfErr, MatchOption, codes, false, map, string_bytes};
 ghost use Rattle.clap.specs.Words.{AddsSubcommand, app_of, fault_of, found_of, kind_of, rows_of, rule_of, subcommand_rows_of};
 ghost use Rattle.command_line.specs.CommandLine.{IsAsked, IsCommand, IsHeld, IsMet, IsPlain, IsWordsFault, create_app, export_app, file_option, flag_app, flag_option, history_option, named_tool, number_word, position_option, required_word, run_app, tool_app, word_app, words_of};
 
+use crate::asking::{AskWords, ask, asking};
 use crate::serving::{ServeWords, serve, served};
 use crate::version::VERSION;
 use clap::builder::ValueParser;
@@ -12,7 +13,7 @@ use clap::{Arg, ArgAction, ArgMatches, Command, Error, value_parser};
 use std::alloc::{AllocError, Global};
 
 /// What the program is asked to do. Folders and files are words of the command line, as they were given.
-#[derive(Clone, Copy, Debug, PartialEq, Eq)]
+#[derive(Debug, PartialEq, Eq, Drop)]
 pub enum ToolCommand<'a> {
     /// Make an empty archive in a folder, with a history of at most so many entries.
     Create {
@@ -59,6 +60,8 @@ pub enum ToolCommand<'a> {
     Frames {
         file: &'a str,
     },
+    /// Send control lines to a server, and print what it answers.
+    Ask(AskWords<'a>),
 }
 
 const TOOL_HELP: &str =
@@ -358,7 +361,8 @@ fn tool<'a>(alloc: Global) -> Result<Command<'a>, AllocError>
     let tool = with(tool, describe(alloc))?;
     let tool = with(tool, serve(alloc))?;
     let tool = with(tool, compact(alloc))?;
-    with(tool, export(alloc))
+    let tool = with(tool, export(alloc))?;
+    with(tool, ask(alloc))
 }
 
 /// The command `export` that its matches hold.
@@ -381,8 +385,10 @@ fn exported<'a>(own: &ArgMatches<'a>) -> Option<ToolCommand<'a>>
     })
 }
 
-/// The command that a subcommand's name and matches hold, if it is one of the program's.
+/// The command that a subcommand's name and matches hold, if it is one of the program's other than `ask` and `serve`.
 fn asked<'a>(name: &str, own: &ArgMatches<'a>) -> Option<ToolCommand<'a>>
+    requires ask { name.now ≢ codes "ask" }
+    requires serve { name.now ≢ codes "serve" }
     ensures { MatchOption result
         ((command : ToolCommand) → IsAsked name.now (rows_of (found_of own.now)) command → ⊥)
         (IsAsked name.now (rows_of (found_of own.now))) }
@@ -395,7 +401,6 @@ fn asked<'a>(name: &str, own: &ArgMatches<'a>) -> Option<ToolCommand<'a>>
         "run" => Some(ToolCommand::Run {
             folder: own.get_str("folder"),
         }),
-        "serve" => Some(ToolCommand::Serve(served(own)?)),
         "export" => exported(own),
         "compact" => Some(ToolCommand::Compact {
             folder: own.get_str("folder")?,
@@ -419,14 +424,55 @@ fn asked<'a>(name: &str, own: &ArgMatches<'a>) -> Option<ToolCommand<'a>>
     }
 }
 
-/// The command that matches hold, if it is one of the program's.
-fn held<'a>(matches: &ArgMatches<'a>) -> Option<ToolCommand<'a>>
-    ensures { MatchOption result
-        ((command : ToolCommand) → IsMet (subcommand_rows_of matches.now) command → ⊥)
-        (IsMet (subcommand_rows_of matches.now)) }
+/// The command that a subcommand's name and matches hold, if it is one of the program's. Only `ask` and `serve` take memory.
+fn named_command<'a>(
+    alloc: Global,
+    name: &str,
+    own: &ArgMatches<'a>,
+) -> Result<Option<ToolCommand<'a>>, AllocError>
+    ensures { IfOk result (λ found. MatchOption found
+        ((command : ToolCommand) → IsAsked name.now (rows_of (found_of own.now)) command → ⊥)
+        (IsAsked name.now (rows_of (found_of own.now)))) }
 {
-    let (name, own) = matches.subcommand()?;
-    asked(name, own)
+    if name != "ask" {
+        return other_command(alloc, name, own);
+    }
+    match asking(alloc, own)? {
+        Some(words) => Ok(Some(ToolCommand::Ask(words))),
+        None => Ok(None),
+    }
+}
+
+/// The command that a subcommand's name and matches hold, if it is one of the program's other than `ask`.
+fn other_command<'a>(
+    alloc: Global,
+    name: &str,
+    own: &ArgMatches<'a>,
+) -> Result<Option<ToolCommand<'a>>, AllocError>
+    requires { name.now ≢ codes "ask" }
+    ensures { IfOk result (λ found. MatchOption found
+        ((command : ToolCommand) → IsAsked name.now (rows_of (found_of own.now)) command → ⊥)
+        (IsAsked name.now (rows_of (found_of own.now)))) }
+{
+    if name != "serve" {
+        return Ok(asked(name, own));
+    }
+    match served(alloc, own)? {
+        Some(words) => Ok(Some(ToolCommand::Serve(words))),
+        None => Ok(None),
+    }
+}
+
+/// The command that matches hold, if it is one of the program's.
+fn held<'a>(alloc: Global, matches: &ArgMatches<'a>) -> Result<Option<ToolCommand<'a>>, AllocError>
+    ensures { IfOk result (λ found. MatchOption found
+        ((command : ToolCommand) → IsMet (subcommand_rows_of matches.now) command → ⊥)
+        (IsMet (subcommand_rows_of matches.now))) }
+{
+    match matches.subcommand() {
+        Some((name, own)) => named_command(alloc, name, own),
+        None => Ok(None),
+    }
 }
 
 /// What the words of a command line ask for, the program's name first.
@@ -449,7 +495,7 @@ pub fn command_of<'a>(alloc: Global, words: &'a [String]) -> Result<ToolCommand<
         Ok(matches) => matches,
         Err(error) => return Err(error),
     };
-    match held(&matches) {
+    match held(alloc, &matches)? {
         Some(command) => Ok(command),
         None => Err(tool.error(ErrorKind::MissingSubcommand, "a command is missing")?),
     }

@@ -1,9 +1,11 @@
 //! The program's command line.
 #![tactic(auto)]
 
+mod asking;
 mod command;
 mod serving;
 mod version;
 
+pub use asking::AskWords;
 pub use command::{ToolCommand, command_of, unreadable_words};
 pub use serving::ServeWords;

@@ -27,7 +27,7 @@ const SEGMENT: FileId = FileId::Segment {
 };
 
 /// The path of a folder that is not there.
-fn unused(rt: HostRuntime, test: &str) -> Result<String, Fail> {
+pub(crate) fn unused(rt: HostRuntime, test: &str) -> Result<String, Fail> {
     let path = format!(in rt.alloc(); "{}/archive_tool-{test}", env::temp_dir(&rt)?.display())?;
     if fs::exists(&rt, path.as_str())? {
         fs::remove_dir_all(&rt, path.as_str())?;

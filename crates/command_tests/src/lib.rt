@@ -3,6 +3,10 @@
 #![tactic(auto)]
 
 #[cfg(test)]
+mod asking;
+#[cfg(test)]
+mod client;
+#[cfg(test)]
 mod folders;
 #[cfg(test)]
 mod serving;

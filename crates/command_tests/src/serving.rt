@@ -5,11 +5,12 @@ use crate::words::{Streams, asks_for, check_refused};
 use clap::error::ErrorKind;
 use command_line::{ServeWords, ToolCommand};
 use folder_commands::concluded;
+use std::alloc::{AllocError, Global};
 use std::env;
 use std::test::*;
 
 /// What `serve a --control 1 --receive 2` asks for.
-fn usual<'a>() -> ServeWords<'a> {
+pub(crate) fn usual<'a>(alloc: Global) -> ServeWords<'a> {
     ServeWords {
         folder: "a",
         control: 1,
@@ -19,6 +20,9 @@ fn usual<'a>() -> ServeWords<'a> {
         settle_every: 5,
         is_aeron: false,
         window: None,
+        clients: None,
+        streams: Vec::new(alloc),
+        segment_length: None,
         is_quiet: false,
     }
 }
@@ -41,7 +45,7 @@ fn serve_has_its_words(rt: HostRuntime) -> Result<(), Fail> {
             true,
         ),
     ] {
-        let mut words = usual();
+        let mut words = usual(rt.alloc());
         words.receive = receive;
         words.receive_on = receive_on;
         words.idle = idle;
@@ -58,21 +62,77 @@ fn serve_has_its_words(rt: HostRuntime) -> Result<(), Fail> {
 /// that, and not the command line.
 #[test]
 fn serve_has_its_options(rt: HostRuntime) -> Result<(), Fail> {
-    for (options, settle_every, is_aeron, window) in [
-        ("--settle-every 0", 0, false, None),
-        ("--settle-every 1000", 1_000, false, None),
-        ("--aeron", 5, true, None),
-        ("--aeron --window 4096", 5, true, Some(4_096)),
-        ("--window=1048576 --aeron", 5, true, Some(1_048_576)),
-        ("--window 4100 --settle-every=1", 1, false, Some(4_100)),
+    for (options, settle_every, is_aeron, window, clients) in [
+        ("--settle-every 0", 0, false, None, None),
+        ("--settle-every 1000", 1_000, false, None, None),
+        ("--aeron", 5, true, None, None),
+        ("--aeron --window 4096", 5, true, Some(4_096), None),
+        ("--window=1048576 --aeron", 5, true, Some(1_048_576), None),
+        (
+            "--window 4100 --settle-every=1",
+            1,
+            false,
+            Some(4_100),
+            None,
+        ),
+        ("--clients 1", 5, false, None, Some(1)),
+        ("--clients=64 --aeron", 5, true, None, Some(64)),
     ] {
         let line = format!(in rt.alloc();
             "archive_tool serve a --control 1 --receive 2 {options}"
         )?;
-        let mut words = usual();
+        let mut words = usual(rt.alloc());
         words.settle_every = settle_every;
         words.is_aeron = is_aeron;
         words.window = window;
+        words.clients = clients;
+        assert!(rt;
+            asks_for(rt.alloc(), line.as_str(), ToolCommand::Serve(words))?,
+            "{line}"
+        );
+    }
+    Ok(())
+}
+
+/// Streams in the order of the words, and the length of their segments. `serve` refuses those that do not go together, and not
+/// the command line.
+#[test]
+fn serve_has_its_streams(rt: HostRuntime) -> Result<(), Fail> {
+    let rows: [(&str, bool, &[i32], Option<u32>); 5] = [
+        ("--aeron --record 1001", true, &[1_001], None),
+        (
+            "--record 7 --record=-5 --aeron --record 7",
+            true,
+            &[7, -5, 7],
+            None,
+        ),
+        (
+            "--record=-2147483648 --record 2147483647",
+            false,
+            &[i32::MIN, i32::MAX],
+            None,
+        ),
+        (
+            "--record=0 --segment-length 65536",
+            false,
+            &[0],
+            Some(65_536),
+        ),
+        (
+            "--segment-length=1073741824",
+            false,
+            &[],
+            Some(1_073_741_824),
+        ),
+    ];
+    for (options, is_aeron, streams, segment_length) in rows {
+        let line = format!(in rt.alloc();
+            "archive_tool serve a --control 1 --receive 2 {options}"
+        )?;
+        let mut words = usual(rt.alloc());
+        words.is_aeron = is_aeron;
+        words.streams.extend_from_slice(streams)?;
+        words.segment_length = segment_length;
         assert!(rt;
             asks_for(rt.alloc(), line.as_str(), ToolCommand::Serve(words))?,
             "{line}"
@@ -108,6 +168,25 @@ fn options_of_a_server_out_of_range(rt: HostRuntime) -> Result<(), Fail> {
             "'1048608' for '--window <bytes>'",
         ),
         ("--aeron --window x", "'x' for '--window <bytes>'"),
+        ("--clients 0", "'0' for '--clients <count>'"),
+        ("--clients 65", "'65' for '--clients <count>'"),
+        ("--record x", "'x' for '--record <stream id>'"),
+        (
+            "--record 1 --record 2147483648",
+            "'2147483648' for '--record <stream id>'",
+        ),
+        (
+            "--record=-2147483649",
+            "'-2147483649' for '--record <stream id>'",
+        ),
+        (
+            "--segment-length 65535",
+            "'65535' for '--segment-length <bytes>'",
+        ),
+        (
+            "--segment-length 1073741825",
+            "'1073741825' for '--segment-length <bytes>'",
+        ),
     ] {
         let line = format!(in rt.alloc(); "archive_tool serve a {options}")?;
         let text = format!(in rt.alloc(); "error: invalid value {value}: ")?;
@@ -127,6 +206,7 @@ fn a_missing_port(rt: HostRuntime) -> Result<(), Fail> {
 
 /// Words of `serve` over a folder that is not there, on ports that the system chooses.
 fn unserved<'a>(
+    alloc: Global,
     folder: &'a str,
     receive_on: &'a str,
     is_aeron: bool,
@@ -141,6 +221,9 @@ fn unserved<'a>(
         settle_every: 5,
         is_aeron,
         window,
+        clients: None,
+        streams: Vec::new(alloc),
+        segment_length: None,
         is_quiet: true,
     }
 }
@@ -166,7 +249,49 @@ fn wrong_words_of_a_server(rt: HostRuntime) -> Result<(), Fail> {
         (any, true, None, absent, 3),
         (any, false, None, absent, 3),
     ] {
-        let words = unserved(folder.as_str(), receive_on, is_aeron, window);
+        let words = unserved(rt.alloc(), folder.as_str(), receive_on, is_aeron, window);
+        let ended = ended(&rt, rt, ToolCommand::Serve(words), NO_LINES, &mut out);
+        let streams = Streams::new(rt.alloc(), reason);
+        assert!(rt; concluded(&streams, ended) == status, "{reason} {status}");
+        assert!(rt; streams.awaited_came.get(), "{reason} {status}");
+    }
+    Ok(())
+}
+
+/// So many streams.
+fn streams_of(alloc: Global, count: i32) -> Result<Vec<i32>, AllocError> {
+    let mut streams = Vec::new(alloc);
+    for stream in 0..count {
+        streams.push(stream)?;
+    }
+    Ok(streams)
+}
+
+/// Streams without `--aeron`, too many of them, and a bad length of their segments are usage errors too.
+#[test]
+fn wrong_streams_of_a_server(rt: HostRuntime) -> Result<(), Fail> {
+    let (absent, length) = (
+        "the folder is not there",
+        "--segment-length wants a power of two",
+    );
+    let folder = format!(in rt.alloc();
+        "{}/archive_tool-unrecorded",
+        env::temp_dir(&rt)?.display()
+    )?;
+    let mut out = Vec::new(rt.alloc());
+    for (is_aeron, count, segment_length, reason, status) in [
+        (false, 1, None, "--record needs --aeron", 2),
+        (true, 65, None, "--record may be given at most 64 times", 2),
+        (true, 64, None, absent, 3),
+        (true, 0, Some(65_536), "--segment-length needs --record", 2),
+        (true, 1, Some(65_537), length, 2),
+        (true, 1, Some(1_073_741_823), length, 2),
+        (true, 1, Some(65_536), absent, 3),
+        (true, 1, Some(1_073_741_824), absent, 3),
+    ] {
+        let mut words = unserved(rt.alloc(), folder.as_str(), "127.0.0.1", is_aeron, None);
+        words.streams = streams_of(rt.alloc(), count)?;
+        words.segment_length = segment_length;
         let ended = ended(&rt, rt, ToolCommand::Serve(words), NO_LINES, &mut out);
         let streams = Streams::new(rt.alloc(), reason);
         assert!(rt; concluded(&streams, ended) == status, "{reason} {status}");

@@ -73,7 +73,7 @@ impl Eprint for Streams<'_> {
 
 /// Takes nothing.
 #[derive(Drop)]
-struct Full;
+pub(crate) struct Full;
 
 impl Write for Full {
     fn write(&mut self, _buf: &[u8]) -> io::Result<usize> {
@@ -176,6 +176,11 @@ fn help(rt: HostRuntime) -> Result<(), Fail> {
             "archive_tool export --help",
             ErrorKind::DisplayHelp,
             "Writes the recorded frames of a recording of the archive in a folder",
+        ),
+        (
+            "archive_tool ask --help",
+            ErrorKind::DisplayHelp,
+            "Sends control lines to a server on this machine (`serve`), and prints what it answers,",
         ),
         (
             "archive_tool --version",

@@ -6,3 +6,4 @@ mod ViewLemmas
 mod LookingLemmas
 mod ExportLemmas
 mod ServingLemmas
+mod AskingLemmas

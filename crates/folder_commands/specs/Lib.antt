@@ -5,5 +5,6 @@ pub mod Status
 pub mod Folders
 pub mod Looking
 pub mod Serving
+pub mod Asking
 pub mod Obeying
 pub mod Answering

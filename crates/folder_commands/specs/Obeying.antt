@@ -3,8 +3,9 @@ use Rattle.std.specs.Prelude.{◌≡◌, ℕ, Bool, true, false, List, Option, S
 use Rattle.std.specs.Io.KnownBytes.{Keeps}
 use Rattle.host_disk.specs.Events.{Given}
 use Rattle.command_line.specs.declared.command.ToolCommand.{ToolCommand}
-use Rattle.command_line.specs.declared.command.ToolCommand.TheVariants.{Create, Run, Serve, Compact, List as AskList, Verify, Describe, Export, Frames}
+use Rattle.command_line.specs.declared.command.ToolCommand.TheVariants.{Create, Run, Serve, Compact, List as AskList, Verify, Describe, Export, Frames, Ask}
 use Rattle.folder_commands.specs.declared.status.Ending.{Ending}
+use Rattle.folder_commands.specs.Asking.{AsksServer}
 use Rattle.folder_commands.specs.Folders.{CompactsFolder, ListsFile, ListsFolder, MakesArchive, RunsFolder, RunsInMemory, VerifiesFolder}
 use Rattle.folder_commands.specs.Looking.{DescribesFolder, ExportsFolder, ListsAsItStands, VerifiesAsItStands}
 use Rattle.folder_commands.specs.Serving.{ServesFolder}
@@ -26,6 +27,7 @@ module _ (given : Given) (input contents written : Option (List ℕ)) where
   Obeys (Export folder recording from to pcap) ending =
       ExportsFolder given recording (record { from = from; to = to }) contents written ending
   Obeys (Frames file) ending = ListsFile contents written ending
+  Obeys (Ask words) ending = AsksServer words contents written ending
 
 -- It does, and what it wrote was handed on, or could not be; the writer keeps it.
 pub record HasObeyed (given : Given) (input contents written : Option (List ℕ)) (command : ToolCommand) (ending : Ending) : Type 0 where

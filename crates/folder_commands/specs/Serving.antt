@@ -1,5 +1,6 @@
 -- What `serve` does over the archive of a folder, and how it ends: docs/SERVING.md.
-use Rattle.std.specs.Prelude.{◌≡◌, ◌⊎◌, ◌<◌, ◌≤◌, ◌%◌, ℕ, ℤ, pos, Bool, true, false, List, Option, None, Some}
+use Rattle.std.specs.Prelude.{◌≡◌, ◌⊎◌, ◌<◌, ◌≤◌, ◌%◌, ℕ, ℤ, pos, Bool, true, false, List, [], ◌∷◌, length, Option, None, Some}
+use Rattle.std.specs.Int.{is_power_of_two}
 use Rattle.std.specs.Net.Grammar.{IsIpv4Text}
 use Rattle.std.specs.declared.net.ipv4_addr.Ipv4Addr.{Ipv4Addr}
 use Rattle.clap.specs.declared.error.ErrorKind.TheVariants.{ValueValidation}
@@ -11,7 +12,7 @@ use Rattle.command_line.specs.declared.serving.ServeWords.{ServeWords}
 use Rattle.serve_core.specs.declared.options.ServeOptions.{ServeOptions}
 use Rattle.serve_core.specs.Serving.{IsServed, IsServedUpTo}
 use Rattle.folder_commands.specs.declared.reason.Reason.{Reason}
-use Rattle.folder_commands.specs.declared.reason.Reason.TheVariants.{Window, NeedsAeron}
+use Rattle.folder_commands.specs.declared.reason.Reason.TheVariants.{Window, NeedsAeron, RecordNeedsAeron, Streams, NeedsRecord, SegmentLength}
 use Rattle.folder_commands.specs.declared.status.Ending.{Ending}
 use Rattle.folder_commands.specs.declared.status.Ending.TheVariants.{Done, Cut, Unopened, NoCommand, Failed}
 
@@ -33,6 +34,22 @@ AsksForWindow false (Some bytes) window = ⊥
 AsksForWindow true None window = window ≡ Some (pos 131072)
 AsksForWindow true (Some bytes) window = IsReceiverWindow bytes × (window ≡ Some (pos bytes))
 
+-- a segment length that a recording can have, in bytes: a power of two from 65,536 to 1,073,741,824
+abbrev pub IsSegmentLength : ℕ → Type 0
+IsSegmentLength bytes = (65536 ≤ bytes) × (bytes ≤ 1073741824) × (is_power_of_two bytes ≡ true)
+
+-- `--aeron` (set or not) and these streams of `--record` go together: with it at most 64 streams, without it none
+abbrev pub MayRecord : Bool → List ℤ → Type 0
+MayRecord true streams = length streams ≤ 64
+MayRecord false streams = streams ≡ []
+
+-- the segment length, in bytes, that the streams of `--record` and `--segment-length` (given or not) ask for: that of
+-- `--segment-length`, which needs a stream, or 134,217,728
+abbrev pub AsksForSegments : List ℤ → Option ℕ → ℤ → Type 0
+AsksForSegments streams None bytes = bytes ≡ pos 134217728
+AsksForSegments [] (Some asked) bytes = ⊥
+AsksForSegments (stream ∷ streams) (Some asked) bytes = IsSegmentLength asked × (bytes ≡ pos asked)
+
 module _ (words : ServeWords) where
   -- the words ask for this receiver window, or for none
   abbrev pub HasWindow : Option ℤ → Type 0
@@ -42,12 +59,36 @@ module _ (words : ServeWords) where
   abbrev pub HasBadWindow : Type 0
   HasBadWindow = (window : Option ℤ) → HasWindow window → ⊥
 
+  -- the server may record the streams that the words name
+  abbrev pub RecordsStreams : Type 0
+  RecordsStreams = MayRecord words.is_aeron words.streams.items
+
+  -- it may not
+  abbrev pub HasBadStreams : Type 0
+  HasBadStreams = RecordsStreams → ⊥
+
+  -- the words ask for segments of this length, in bytes
+  abbrev pub HasSegments : ℤ → Type 0
+  HasSegments bytes = AsksForSegments words.streams.items words.segment_length bytes
+
+  -- what they say of a segment length is wrong
+  abbrev pub HasBadSegments : Type 0
+  HasBadSegments = (bytes : ℤ) → HasSegments bytes → ⊥
+
+  -- what they say of a receiver window, of streams or of segments is wrong
+  abbrev pub HasBadOptions : Type 0
+  HasBadOptions = HasBadWindow ⊎ HasBadStreams ⊎ HasBadSegments
+
   -- the options of a server are those of the words, with this receiver's number
   pub record AreOptions (receiver : ℤ) (options : ServeOptions) : Type 0 where
     pub idle : options.idle_seconds ≡ words.idle
     pub settle : options.settle_every ≡ words.settle_every
     pub window : HasWindow options.window
     pub id : options.receiver_id ≡ receiver
+    pub clients : options.clients ≡ words.clients
+    pub may_record : RecordsStreams
+    pub streams : options.streams.now ≡ words.streams.items
+    pub segments : HasSegments options.segment_length
 
   -- the words name no address, or no ports
   abbrev pub HasNoEnds : Type 0
@@ -55,7 +96,7 @@ module _ (words : ServeWords) where
 
   -- they are wrong: a usage error
   abbrev pub AreWrong : Type 0
-  AreWrong = HasNoEnds ⊎ HasBadWindow
+  AreWrong = HasNoEnds ⊎ HasBadOptions
 
   -- why the ports of a server are not bound: the words name none, or the system refuses one
   abbrev pub IsUnbound : Ending → Type 0
@@ -67,6 +108,16 @@ module _ (words : ServeWords) where
 abbrev pub window_reason : Bool → Reason
 window_reason false = NeedsAeron
 window_reason true = Window
+
+-- of bad streams
+abbrev pub streams_reason : Bool → Reason
+streams_reason false = RecordNeedsAeron
+streams_reason true = Streams
+
+-- and of bad segments, if the words name these streams
+abbrev pub segment_reason : List ℤ → Reason
+segment_reason [] = NeedsRecord
+segment_reason (stream ∷ streams) = SegmentLength
 
 -- ---- the server
 

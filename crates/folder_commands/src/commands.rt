@@ -9,6 +9,7 @@ ghost use Rattle.folder_commands.specs.Folders.{CompactsFolder, IsUnopenedFolder
 ghost use Rattle.folder_commands.specs.Obeying.{HasObeyed, Obeys};
 ghost use Rattle.folder_commands.specs.Status.{ending_of};
 
+use crate::asking::ask;
 use crate::outcome::Ended;
 use crate::reason::Reason;
 use crate::serving::serve;
@@ -115,6 +116,7 @@ fn obey<
             )
         }
         ToolCommand::Frames { file } => frames(rt, file, writer),
+        ToolCommand::Ask(words) => ask(net, rt, words, writer),
     }
 }
 

@@ -40,6 +40,26 @@ pub enum Reason {
     Window,
     /// `--window` comes without `--aeron`.
     NeedsAeron,
+    /// Lines may not be sent at once.
+    Lines,
+    /// The word of `--until` is more than one line.
+    Until,
+    /// The server of a port was not reached.
+    Unreachable(u32, io::Error),
+    /// A connection to a server failed.
+    Lost(io::Error),
+    /// A server sent nothing for so many seconds.
+    Silent(u32),
+    /// A server ended the connection when it had answered the first number of lines, of the second.
+    Unanswered(usize, usize),
+    /// `--record` comes without `--aeron`.
+    RecordNeedsAeron,
+    /// `--record` comes too often.
+    Streams,
+    /// `--segment-length` comes without `--record`.
+    NeedsRecord,
+    /// The word of `--segment-length` is not a power of two in its range.
+    SegmentLength,
     /// The listener of control lines or the socket of datagrams failed.
     Ends,
     /// Standard input could not be read on.
@@ -91,6 +111,23 @@ impl fmt::Display for Reason {
             Reason::Address => write!(f, "--receive-on wants an IPv4 address"),
             Reason::Window => write!(f, "--window wants a multiple of 32"),
             Reason::NeedsAeron => write!(f, "--window needs --aeron"),
+            Reason::Lines => write!(
+                f,
+                "lines have no line feed, and with their ends at most 65536 bytes"
+            ),
+            Reason::Until => write!(f, "--until wants a line without a line feed"),
+            Reason::Unreachable(port, error) => {
+                write!(f, "no server on port {port}: {}", SystemText(*error))
+            }
+            Reason::Lost(error) => write!(f, "the connection failed: {}", SystemText(*error)),
+            Reason::Silent(seconds) => write!(f, "nothing came for {seconds} seconds"),
+            Reason::Unanswered(answered, lines) => {
+                write!(f, "the server answered {answered} of {lines} lines")
+            }
+            Reason::RecordNeedsAeron => write!(f, "--record needs --aeron"),
+            Reason::Streams => write!(f, "--record may be given at most 64 times"),
+            Reason::NeedsRecord => write!(f, "--segment-length needs --record"),
+            Reason::SegmentLength => write!(f, "--segment-length wants a power of two"),
             Reason::Ends => write!(f, "a port failed"),
             Reason::Input => write!(f, "standard input cannot be read on"),
             Reason::Output(Some(error)) if !is_closed(error) => {

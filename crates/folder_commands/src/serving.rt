@@ -7,7 +7,7 @@ ghost use Rattle.host_disk.specs.Events.{Given};
 ghost use Rattle.host_disk.specs.HostDisk.{host_life};
 ghost use Rattle.folder_commands.specs.declared.status.Ending.TheVariants.{NoCommand, Failed};
 ghost use Rattle.folder_commands.specs.Folders.{ending_in};
-ghost use Rattle.folder_commands.specs.Serving.{AreOptions, HasNoEnds, HasBadWindow, HasWindow, IsUnbound, IsReceiverWindow, ServesFolder, ServesOver, window_reason};
+ghost use Rattle.folder_commands.specs.Serving.{AreOptions, HasBadOptions, HasBadSegments, HasBadStreams, HasBadWindow, HasNoEnds, HasSegments, HasWindow, IsReceiverWindow, IsSegmentLength, IsUnbound, RecordsStreams, ServesFolder, ServesOver, segment_reason, streams_reason, window_reason};
 
 use crate::commands::disk_of;
 use crate::outcome::Ended;
@@ -16,9 +16,9 @@ use crate::status::Ending;
 use clap::error::ErrorKind;
 use command_line::ServeWords;
 use flow_control::{INITIAL_WINDOW, LONGEST_WINDOW, SHORTEST_WINDOW};
-use frame_core::limits::FRAME_ALIGNMENT;
+use frame_core::limits::{FRAME_ALIGNMENT, MAX_TERM_LENGTH, MIN_TERM_LENGTH};
 use host_disk::HostDisk;
-use serve_core::{LineTeller, ServeOptions, serve_with};
+use serve_core::{LineTeller, SEGMENT_LENGTH, ServeOptions, serve_with};
 use std::io::{self, Eprint};
 use std::net::{Ipv4Addr, Net, TcpListener, TcpStream, UdpSocket};
 use std::path::Path;
@@ -26,6 +26,9 @@ use std::random::RandomSource;
 use std::rt::Clock;
 use std::sync::Wait;
 use std::thread::Threads;
+
+/// Streams that `--record` may name at most.
+const MOST_STREAMS: usize = 64;
 
 /// The listener of control lines, and the socket of datagrams.
 #[derive(Drop)]
@@ -35,7 +38,7 @@ struct Ports {
 }
 
 /// Serves the archive of a folder as the words ask for, until a line quits, and reports on standard error what happens. If the
-/// words name no address, no port or a bad receiver window, no port is bound and the folder is not opened.
+/// words are wrong, no port is bound and the folder is not opened.
 pub(crate) fn serve<
     R: Threads + Wait + Clock + Eprint + Net<Listener = TcpListener, Stream = TcpStream> + Sync,
 >(net: &R, rt: HostRuntime, words: &ServeWords<'_>) -> Result<(), Ended>
@@ -57,17 +60,21 @@ fn receiver_id(source: &impl RandomSource) -> i64 {
     }
 }
 
-/// The options of a server with this receiver's number that the words ask for. Refused if they name a bad receiver window.
-fn options_of(words: &ServeWords<'_>, receiver_id: i64) -> Result<ServeOptions, Ended>
+/// The options of a server with this receiver's number that the words ask for. Refused if they name a bad receiver window, or bad
+/// streams or segments.
+fn options_of<'a>(words: &'a ServeWords<'_>, receiver_id: i64) -> Result<ServeOptions<'a>, Ended>
     ensures { MatchResult result
         (AreOptions words.now receiver_id)
-        (λ ended. HasBadWindow words.now × (ended.ending ≡ NoCommand ValueValidation)) }
+        (λ ended. HasBadOptions words.now × (ended.ending ≡ NoCommand ValueValidation)) }
 {
     Ok(ServeOptions {
         idle_seconds: u64::from(words.idle),
         settle_every: u64::from(words.settle_every),
         window: window_of(words)?,
         receiver_id,
+        clients: words.clients,
+        streams: streams_of(words)?,
+        segment_length: segment_length_of(words)?,
     })
 }
 
@@ -96,8 +103,47 @@ fn is_receiver_window(bytes: u32) -> bool
         && bytes % FRAME_ALIGNMENT as u32 == 0
 }
 
+/// The streams that the words name, in their order. Refused without `--aeron`, and if there are more than 64.
+fn streams_of<'a>(words: &'a ServeWords<'_>) -> Result<&'a [i32], Ended>
+    ensures streams { MatchResult result
+        (λ streams. RecordsStreams words.now × (streams.now ≡ words.now.streams.items))
+        (λ ended. HasBadStreams words.now × (ended.ending ≡ NoCommand ValueValidation)) }
+    ensures reason { IfErr result (λ ended. ended.reason ≡ streams_reason words.now.is_aeron) }
+{
+    let streams = words.streams.as_slice();
+    if !words.is_aeron && !streams.is_empty() {
+        return Err(misworded(Reason::RecordNeedsAeron));
+    }
+    if streams.len() > MOST_STREAMS {
+        return Err(misworded(Reason::Streams));
+    }
+    Ok(streams)
+}
+
+/// The length of a segment file that the words ask for, in bytes. Refused if `--segment-length` comes without `--record`, or is
+/// not a power of two in its range.
+fn segment_length_of(words: &ServeWords<'_>) -> Result<i32, Ended>
+    ensures length { MatchResult result (HasSegments words.now) (λ ended.
+        HasBadSegments words.now × (ended.ending ≡ NoCommand ValueValidation)) }
+    ensures reason { IfErr result (λ ended. ended.reason ≡ segment_reason words.now.streams.items) }
+{
+    match words.segment_length {
+        None => Ok(SEGMENT_LENGTH),
+        Some(_) if words.streams.is_empty() => Err(misworded(Reason::NeedsRecord)),
+        Some(bytes) if is_segment_length(bytes) => Ok(bytes as i32),
+        Some(_) => Err(misworded(Reason::SegmentLength)),
+    }
+}
+
+/// Whether a segment file can have so many bytes.
+fn is_segment_length(bytes: u32) -> bool
+    ensures { IsTrue result ↔ IsSegmentLength bytes }
+{
+    MIN_TERM_LENGTH as u32 <= bytes && bytes <= MAX_TERM_LENGTH as u32 && bytes.is_power_of_two()
+}
+
 /// The words are wrong, for this reason.
-fn misworded(reason: Reason) -> Ended
+pub(crate) fn misworded(reason: Reason) -> Ended
     ensures ending { result.ending ≡ NoCommand ValueValidation }
     ensures reason { result.reason ≡ reason }
 {
@@ -132,7 +178,7 @@ fn bound<R: Net<Listener = TcpListener, Stream = TcpStream>>(
 }
 
 /// A port's number.
-fn port_of(port: u32) -> Result<u16, Ended>
+pub(crate) fn port_of(port: u32) -> Result<u16, Ended>
     ensures number { IfOk result (λ number. number ≡ port) }
     ensures wide { IfErr result (λ ended. (65535 < port) × (ended.ending ≡ NoCommand ValueValidation)) }
 {
@@ -158,7 +204,7 @@ fn serve_disk<R: Threads + Wait + Clock + Eprint + Sync>(
     rt: HostRuntime,
     ports: Ports,
     disk: HostDisk,
-    options: &ServeOptions,
+    options: &ServeOptions<'_>,
     is_quiet: bool,
 ) -> Result<(), Ended>
     ensures { ServesOver (host_life disk) (ending_in result) }

@@ -30,6 +30,8 @@ pub enum Ending {
     Unopened(OpenFault),
     /// It found damage, and its output says what.
     FoundDamage,
+    /// A server refused a line, and its output says which and why.
+    LineRefused,
     /// The words of the command line asked for no command; what is wrong with them, or the help, was told.
     NoCommand(ErrorKind),
     /// The words could not be read, or nothing could be told of them.
@@ -53,6 +55,7 @@ impl Ending {
     {
         match self {
             Ending::FoundDamage => DEVICE,
+            Ending::LineRefused => REFUSED,
             Ending::NoCommand(kind) => words_status(kind),
             _ => DONE,
         }
@@ -63,7 +66,7 @@ impl Ending {
         ensures { result ≡ refusal_of self }
     {
         match self {
-            Ending::Done | Ending::FoundDamage => None,
+            Ending::Done | Ending::FoundDamage | Ending::LineRefused => None,
             Ending::Cut(EarlyEnd::Memory) => Some(Refusal::NoMemory),
             Ending::Cut(EarlyEnd::Read | EarlyEnd::Write) => Some(Refusal::DeviceFault),
             Ending::Refused(refusal) => Some(refusal),

@@ -3,7 +3,7 @@ use Rattle.std.proofs.Common.{◌∙◌, sym, codes}
 use Rattle.std.specs.Str.Parse.{ParsesUnsigned, ExplainsUnsignedError, HasUnsignedDigitsIfOk}
 use Rattle.clap.specs.Words.{found_of}
 use Rattle.command_line.proofs.CommandLineLemmas.{flag_given, number_given, number_if, number_lacks, text_given}
-use Rattle.command_line.proofs.serving.served.Goals as goal
+use Rattle.command_line.proofs.serving.words_of.Goals as goal
 
 pub returns-in_err-folder : goal.returns-in_err-folder
 returns-in_err-folder c = rw c.from_residual.ensures
@@ -56,5 +56,10 @@ returns c = record {
   aeron_is = flag_given (found_of c.args.own.now) (codes "aeron") _ c.get_flag-is_aeron.ensures.none c.get_flag-is_aeron.ensures.value c.get_flag-is_aeron.ensures.other;
   window_is = number_if (λ text x. ParsesUnsigned 32 10 text x × ExplainsUnsignedError 10 text x × HasUnsignedDigitsIfOk text x) (λ text x read. read.0)
       (found_of c.args.own.now) (codes "window") _ c.get_one-window.ensures.none c.get_one-window.ensures.value;
+  clients_is = number_if (λ text x. ParsesUnsigned 32 10 text x × ExplainsUnsignedError 10 text x × HasUnsignedDigitsIfOk text x) (λ text x read. read.0)
+      (found_of c.args.own.now) (codes "clients") _ c.get_one-clients.ensures.none c.get_one-clients.ensures.value;
+  streams_are = c.requires;
+  segment_is = number_if (λ text x. ParsesUnsigned 32 10 text x × ExplainsUnsignedError 10 text x × HasUnsignedDigitsIfOk text x) (λ text x read. read.0)
+      (found_of c.args.own.now) (codes "segment-length") _ c.get_one-segment_length.ensures.none c.get_one-segment_length.ensures.value;
   quiet_is = flag_given (found_of c.args.own.now) (codes "quiet") _ c.get_flag-is_quiet.ensures.none c.get_flag-is_quiet.ensures.value c.get_flag-is_quiet.ensures.other;
 }

@@ -1,0 +1,473 @@
+//! The command `ask`: its words, and what it comes to over scripted servers, and over a served archive.
+//! docs/SERVING.md, "Control lines".
+
+use crate::folders::{NO_LINES, ended, unused};
+use crate::serving::usual;
+use crate::words::{Full, Streams, asks_for, check_refused};
+use clap::error::ErrorKind;
+use command_line::{AskWords, ToolCommand};
+use folder_commands::concluded;
+use std::alloc::{AllocError, Global};
+use std::io::{Eprint, Read, Write};
+use std::net::{Net, TcpListener, TcpStream, UdpSocket};
+use std::rt::Clock;
+use std::sync::Wait;
+use std::test::*;
+use std::thread::{self, Threads};
+use std::time::Duration;
+use std::{fs, io};
+
+/// Words of `ask`, with lines between bars.
+fn words_of<'a>(
+    alloc: Global,
+    port: u32,
+    lines: &'a str,
+    until: Option<&'a str>,
+    wait: u32,
+) -> Result<AskWords<'a>, AllocError> {
+    let mut all = Vec::new(alloc);
+    for line in lines.split('|') {
+        all.push(line)?;
+    }
+    Ok(AskWords {
+        port,
+        lines: all,
+        until,
+        wait,
+    })
+}
+
+/// Each option at its limits, and lines before and after options. Words after `--` are lines, whatever they begin with.
+#[test]
+fn ask_has_its_words(rt: HostRuntime) -> Result<(), Fail> {
+    for (line, port, lines, until, wait) in [
+        ("archive_tool ask 8010 sweep", 8_010, "sweep", None, 60),
+        ("archive_tool ask 1 a b c", 1, "a|b|c", None, 60),
+        (
+            "archive_tool ask 65535 sweep --until swept",
+            65_535,
+            "sweep",
+            Some("swept"),
+            60,
+        ),
+        (
+            "archive_tool ask --wait 1 8010 a b --until=c",
+            8_010,
+            "a|b",
+            Some("c"),
+            1,
+        ),
+        (
+            "archive_tool ask 8010 a --wait=86400 b",
+            8_010,
+            "a|b",
+            None,
+            86_400,
+        ),
+        (
+            "archive_tool ask 8010 -- -a --until",
+            8_010,
+            "-a|--until",
+            None,
+            60,
+        ),
+    ] {
+        let words = words_of(rt.alloc(), port, lines, until, wait)?;
+        assert!(rt;
+            asks_for(rt.alloc(), line, ToolCommand::Ask(words))?,
+            "{line}"
+        );
+    }
+    Ok(())
+}
+
+/// A value that is out of its range, or not a number.
+#[test]
+fn words_of_ask_out_of_range(rt: HostRuntime) -> Result<(), Fail> {
+    for (words, value) in [
+        ("0 a", "'0' for '<port>'"),
+        ("65536 a", "'65536' for '<port>'"),
+        ("a b", "'a' for '<port>'"),
+        ("1 a --wait 0", "'0' for '--wait <seconds>'"),
+        ("1 a --wait 86401", "'86401' for '--wait <seconds>'"),
+        ("1 a --wait x", "'x' for '--wait <seconds>'"),
+    ] {
+        let line = format!(in rt.alloc(); "archive_tool ask {words}")?;
+        let text = format!(in rt.alloc(); "error: invalid value {value}: ")?;
+        let kind = ErrorKind::ValueValidation;
+        check_refused(&rt, rt.alloc(), line.as_str(), kind, text.as_str(), 2)?;
+    }
+    Ok(())
+}
+
+#[test]
+fn a_missing_line(rt: HostRuntime) -> Result<(), Fail> {
+    let line = "archive_tool ask 8010";
+    let text = "error: the following required arguments were not provided:\n  <line>...\n";
+    let kind = ErrorKind::MissingRequiredArgument;
+    check_refused(&rt, rt.alloc(), line, kind, text, 2)
+}
+
+/// Lines that are sent, the reply that is awaited, what a server answers on each connection, between bars, and how `ask` ends:
+/// its line on standard error, if there is one, and its status.
+#[derive(Clone, Copy)]
+struct Exchange {
+    lines: &'static str,
+    until: Option<&'static str>,
+    replies: &'static str,
+    told: &'static str,
+    status: u8,
+}
+
+/// Whether the bytes are these pieces, between bars.
+fn are_pieces(bytes: &[u8], pieces: &str) -> bool {
+    let mut rest = bytes;
+    for piece in pieces.split('|') {
+        match rest.strip_prefix(piece.as_bytes()) {
+            Some(more) => rest = more,
+            None => return false,
+        }
+    }
+    rest.is_empty()
+}
+
+/// Whether the bytes are these lines, between bars, each with its end.
+fn are_lines(bytes: &[u8], lines: &str) -> bool {
+    let mut rest = bytes;
+    for line in lines.split('|') {
+        match rest.strip_prefix(line.as_bytes()) {
+            Some([b'\n', more @ ..]) => rest = more,
+            _ => return false,
+        }
+    }
+    rest.is_empty()
+}
+
+/// Reads a connection to its end, and answers it. Whether these lines came.
+fn answers(stream: &TcpStream, alloc: Global, lines: &str, reply: &str) -> bool {
+    let mut came = Vec::new(alloc);
+    let mut connection = stream;
+    connection.read_to_end(&mut came).is_ok()
+        && are_lines(came.as_slice(), lines)
+        && connection.write_all(reply.as_bytes()).is_ok()
+}
+
+/// Answers a connection for each reply. Whether the lines came on each.
+fn answers_each(listener: &TcpListener, alloc: Global, exchange: Exchange) -> bool {
+    for reply in exchange.replies.split('|') {
+        match listener.accept() {
+            Ok((stream, _)) if answers(&stream, alloc, exchange.lines, reply) => {}
+            _ => return false,
+        }
+    }
+    true
+}
+
+/// Whether `ask` prints all replies of the server of a port, and ends as it has to.
+fn ends_so<
+    R: Threads + Wait + Clock + Eprint + Net<Listener = TcpListener, Stream = TcpStream> + Sync,
+>(net: &R, rt: HostRuntime, port: u32, exchange: Exchange) -> bool {
+    let Ok(words) = words_of(rt.alloc(), port, exchange.lines, exchange.until, 10) else {
+        return false;
+    };
+    let mut out = Vec::new(rt.alloc());
+    let ended = ended(net, rt, ToolCommand::Ask(words), NO_LINES, &mut out);
+    let streams = Streams::new(rt.alloc(), exchange.told);
+    concluded(&streams, ended) == exchange.status
+        && streams.awaited_came.get() == !exchange.told.is_empty()
+        && are_pieces(out.as_slice(), exchange.replies)
+}
+
+/// Whether a server that answers so is asked so.
+fn goes_so<
+    R: Threads + Wait + Clock + Eprint + Net<Listener = TcpListener, Stream = TcpStream> + Sync,
+>(net: &R, rt: HostRuntime, exchange: Exchange) -> Option<bool> {
+    let listener = TcpListener::bind(net, "127.0.0.1:0").ok()?;
+    let port = u32::from(listener.local_addr().ok()?.port());
+    let alloc = rt.alloc();
+    let (is_heard, is_right) = thread::join(
+        net,
+        move || answers_each(&listener, alloc, exchange),
+        move || ends_so(net, rt, port, exchange),
+    );
+    Some(is_heard && is_right)
+}
+
+/// Replies of one line and of several, a refusal, a connection that ends early or within a line, and an awaited reply.
+#[test]
+fn what_a_server_answers(rt: HostRuntime) {
+    for (lines, until, replies, told, status) in [
+        ("sweep", None, "swept 0\n", "", 0),
+        (
+            "list 0 9|poll 0 2|images|merge-take|merge-take|sweep",
+            None,
+            "recording 0\nend 1\nframe 0 00\nmore 64\nimage 0\nend 1\nframe 0 00\nnone\nswept 0\n",
+            "",
+            0,
+        ),
+        ("a|sweep", None, "error 22 BadLine\nswept 0\n", "", 1),
+        (
+            "sweep|sweep",
+            None,
+            "swept 0\nswept 0",
+            "the server answered 1 of 2 lines",
+            3,
+        ),
+        (
+            "poll 0 9",
+            None,
+            "frame 0 00\nframe 64 00\n",
+            "the server answered 0 of 1 lines",
+            3,
+        ),
+        (
+            "a|sweep",
+            None,
+            "error 22 BadLine\n",
+            "the server answered 1 of 2 lines",
+            3,
+        ),
+        (
+            "sweep",
+            Some("swept 0"),
+            "swept 1\n|swept 1\n|swept 0\n",
+            "",
+            0,
+        ),
+        (
+            "sweep",
+            Some("swept 0"),
+            "swept 1\n|error 17 DeviceFault\n",
+            "",
+            1,
+        ),
+        (
+            "sweep|sweep",
+            Some("swept 0"),
+            "swept 0\nswept 1\n|swept 1\nswept 0\n",
+            "",
+            0,
+        ),
+    ] {
+        let exchange = Exchange {
+            lines,
+            until,
+            replies,
+            told,
+            status,
+        };
+        assert!(rt;
+            goes_so(&rt, rt, exchange) == Some(true),
+            "{lines} {replies}"
+        );
+    }
+}
+
+/// Whether `ask` ends with status 3 over a server that answers, if its output takes nothing.
+fn fails_to_print<
+    R: Threads + Wait + Clock + Eprint + Net<Listener = TcpListener, Stream = TcpStream> + Sync,
+>(net: &R, rt: HostRuntime, port: u32) -> bool {
+    let Ok(words) = words_of(rt.alloc(), port, "sweep", None, 10) else {
+        return false;
+    };
+    let ended = ended(net, rt, ToolCommand::Ask(words), NO_LINES, &mut Full);
+    ended.ending.status() == 3
+}
+
+#[test]
+fn an_output_that_takes_nothing(rt: HostRuntime) -> Result<(), Fail> {
+    let listener = TcpListener::bind(&rt, "127.0.0.1:0")?;
+    let port = u32::from(listener.local_addr()?.port());
+    let (net, alloc) = (&rt, rt.alloc());
+    let exchange = Exchange {
+        lines: "sweep",
+        until: None,
+        replies: "swept 0\n",
+        told: "",
+        status: 3,
+    };
+    let (is_heard, is_right) = thread::join(
+        net,
+        move || answers_each(&listener, alloc, exchange),
+        move || fails_to_print(net, rt, port),
+    );
+    assert!(rt; is_heard && is_right);
+    Ok(())
+}
+
+/// Whether `ask` prints nothing, and ends by this line and this status.
+fn is_unanswered<
+    R: Threads + Wait + Clock + Eprint + Net<Listener = TcpListener, Stream = TcpStream> + Sync,
+>(net: &R, rt: HostRuntime, words: AskWords<'_>, told: &str, status: u8) -> bool {
+    let mut out = Vec::new(rt.alloc());
+    let ended = ended(net, rt, ToolCommand::Ask(words), NO_LINES, &mut out);
+    let streams = Streams::new(rt.alloc(), told);
+    concluded(&streams, ended) == status
+        && streams.awaited_came.get() == !told.is_empty()
+        && out.is_empty()
+}
+
+/// A server that takes a connection and sends nothing, and a port that nobody listens on.
+#[test]
+fn nobody_answers(rt: HostRuntime) -> Result<(), Fail> {
+    let listener = TcpListener::bind(&rt, "127.0.0.1:0")?;
+    let port = u32::from(listener.local_addr()?.port());
+    let words = words_of(rt.alloc(), port, "sweep", None, 1)?;
+    assert!(rt; is_unanswered(&rt, rt, words, "nothing came for 1 seconds", 3));
+    drop(listener);
+    let told = format!(in rt.alloc(); "no server on port {port}: Connection refused")?;
+    let words = words_of(rt.alloc(), port, "sweep", None, 1)?;
+    assert!(rt; is_unanswered(&rt, rt, words, told.as_str(), 3));
+    Ok(())
+}
+
+/// Wrong words are a usage error, and nothing is sent: nobody listens on the port.
+#[test]
+fn wrong_words_of_ask(rt: HostRuntime) -> Result<(), Fail> {
+    let lines = "lines have no line feed, and with their ends at most 65536 bytes";
+    for (port, line, until, told) in [
+        (65_536, "sweep", None, ""),
+        (1, "sweep\n", None, lines),
+        (1, "a|\n|b", None, lines),
+        (
+            1,
+            "sweep",
+            Some("swept 0\n"),
+            "--until wants a line without a line feed",
+        ),
+    ] {
+        let words = words_of(rt.alloc(), port, line, until, 1)?;
+        assert!(rt; is_unanswered(&rt, rt, words, told, 2), "{line}");
+    }
+    Ok(())
+}
+
+/// A line of so many bytes.
+fn long_line(alloc: Global, length: usize) -> Result<String, AllocError> {
+    let mut line = String::new(alloc);
+    for _ in 0..length {
+        line.push('a')?;
+    }
+    Ok(line)
+}
+
+/// With their ends lines have at most 65,536 bytes.
+#[test]
+fn the_longest_lines(rt: HostRuntime) -> Result<(), Fail> {
+    let refused = "no server on port 1: Connection refused";
+    let lines = "lines have no line feed, and with their ends at most 65536 bytes";
+    for (length, told, status) in [(65_535, refused, 3), (65_536, lines, 2)] {
+        let line = long_line(rt.alloc(), length)?;
+        let words = words_of(rt.alloc(), 1, line.as_str(), None, 1)?;
+        assert!(rt; is_unanswered(&rt, rt, words, told, status), "{length}");
+    }
+    Ok(())
+}
+
+/// Serves the archive of a folder on these ports until a line quits. The status.
+fn serves<
+    R: Threads + Wait + Clock + Eprint + Net<Listener = TcpListener, Stream = TcpStream> + Sync,
+>(net: &R, rt: HostRuntime, folder: &str, control: u32, receive: u32) -> u8 {
+    let mut words = usual(rt.alloc());
+    words.folder = folder;
+    words.control = control;
+    words.receive = receive;
+    words.is_quiet = true;
+    let mut out = Vec::new(rt.alloc());
+    let ended = ended(net, rt, ToolCommand::Serve(words), NO_LINES, &mut out);
+    ended.ending.status()
+}
+
+/// Whether a server begins to answer on a port within about 10 seconds.
+fn comes_up<
+    R: Threads + Wait + Clock + Eprint + Net<Listener = TcpListener, Stream = TcpStream> + Sync,
+>(net: &R, rt: HostRuntime, port: u32) -> bool {
+    let exchange = Exchange {
+        lines: "find 0 1 1 a",
+        until: None,
+        replies: "found -1\n",
+        told: "",
+        status: 0,
+    };
+    for _ in 0..1_000 {
+        if ends_so(net, rt, port, exchange) {
+            return true;
+        }
+        thread::sleep(net, Duration::from_millis(10));
+    }
+    false
+}
+
+/// Whether a served archive answers as it has to, and then quits.
+fn is_asked<
+    R: Threads + Wait + Clock + Eprint + Net<Listener = TcpListener, Stream = TcpStream> + Sync,
+>(net: &R, rt: HostRuntime, port: u32) -> bool {
+    let mut is_right = comes_up(net, rt, port);
+    for (lines, until, replies, told, status) in [
+        (
+            "start 1001 7 42 65536 1408 131072 0 1000 live|positions 0",
+            None,
+            "started 0 0\npositions 0 0 -1\n",
+            "",
+            0,
+        ),
+        (
+            "list 0 9|find 0 1001 7 live",
+            None,
+            "recording 0 1000 -1 0 -1 42 131072 65536 1408 7 1001 live\nend 1\nfound 0\n",
+            "",
+            0,
+        ),
+        (
+            "positions 9|positions 0",
+            None,
+            "error 1 UnknownRecording\npositions 0 0 -1\n",
+            "",
+            1,
+        ),
+        ("sweep", Some("swept 0"), "swept 0\n", "", 0),
+        (
+            "quit|sweep",
+            None,
+            "bye\n",
+            "the server answered 1 of 2 lines",
+            3,
+        ),
+    ] {
+        let exchange = Exchange {
+            lines,
+            until,
+            replies,
+            told,
+            status,
+        };
+        is_right = ends_so(net, rt, port, exchange) && is_right;
+    }
+    is_right
+}
+
+/// Ports that were free a moment ago: of control lines, and of datagrams.
+fn free_ports(rt: HostRuntime) -> io::Result<(u32, u32)> {
+    let listener = TcpListener::bind(&rt, "127.0.0.1:0")?;
+    let socket = UdpSocket::bind(&rt, "127.0.0.1:0")?;
+    let (control, receive) = (listener.local_addr()?, socket.local_addr()?);
+    Ok((u32::from(control.port()), u32::from(receive.port())))
+}
+
+/// A served archive in one process: two lines, a reply of several lines, a refusal, an awaited reply, and a line after `quit`.
+#[test]
+fn a_served_archive(rt: HostRuntime) -> Result<(), Fail> {
+    let folder = unused(rt, "asked")?;
+    fs::create_dir(&rt, folder.as_str())?;
+    let (control, receive) = free_ports(rt)?;
+    let net = &rt;
+    let path = folder.as_str();
+    let (status, is_right) = thread::join(
+        net,
+        move || serves(net, rt, path, control, receive),
+        move || is_asked(net, rt, control),
+    );
+    assert!(rt; status == 0 && is_right);
+    fs::remove_dir_all(&rt, folder.as_str())?;
+    Ok(())
+}

@@ -1,0 +1,152 @@
+//! The command `ask`: its words, and the server that its lines are sent to. docs/SERVING.md, "Control lines".
+
+ghost use Rattle.std.specs.Prelude.{◌≡◌, ◌↔◌, IsTrue, MatchResult};
+ghost use Rattle.clap.specs.declared.error.ErrorKind.TheVariants.{ValueValidation};
+ghost use Rattle.folder_commands.specs.declared.status.Ending.TheVariants.{NoCommand};
+ghost use Rattle.folder_commands.specs.Asking.{IsUnaskable, AsksServer, EndsAsking, FailsAsking, IsOneLine};
+ghost use Rattle.folder_commands.specs.Folders.{ending_in};
+
+use crate::outcome::Ended;
+use crate::reason::Reason;
+use crate::serving::{misworded, port_of};
+use crate::status::Ending;
+use command_line::AskWords;
+use control_client::{AskFault, ConnectionFault, Question, Server, Verdict, are_sendable, is_line};
+use std::io::{self, ErrorKind, Write};
+use std::net::{Ipv4Addr, Net, Shutdown, SocketAddr, TcpListener, TcpStream};
+use std::rt::Clock;
+use std::sync::Wait;
+use std::time::Duration;
+use tool_core::EarlyEnd;
+
+/// A server of control lines on this machine.
+#[derive(Drop)]
+struct LocalServer<'a, R> {
+    net: &'a R,
+    port: u16,
+    /// For how long it may send nothing.
+    patience: Duration,
+}
+
+impl<R: Net<Listener = TcpListener, Stream = TcpStream>> Server for LocalServer<'_, R> {
+    /// Nothing is known of what it answers.
+    ghost answers = { λ _ _ _. Unit {0} };
+
+    type Replies = TcpStream;
+
+    fn send(&self, text: &[u8]) -> Result<TcpStream, ConnectionFault> {
+        let address = SocketAddr::from((Ipv4Addr::LOCALHOST, self.port));
+        let stream = match TcpStream::connect_timeout(self.net, &address, self.patience) {
+            Ok(stream) => stream,
+            Err(error) => return Err(ConnectionFault::Unreachable(error)),
+        };
+        match send_over(&stream, text, self.patience) {
+            Ok(()) => Ok(stream),
+            Err(error) => Err(ConnectionFault::Lost(error)),
+        }
+    }
+}
+
+/// Sends bytes on a connection, and ends its sending side. A read or a write of it waits so long at most from then on.
+fn send_over(stream: &TcpStream, text: &[u8], patience: Duration) -> io::Result<()> {
+    stream.set_read_timeout(Some(patience))?;
+    stream.set_write_timeout(Some(patience))?;
+    let mut sending = stream;
+    sending.write_all(text)?;
+    stream.shutdown(Shutdown::Write)
+}
+
+/// Sends the lines of the words to the server of a port of this machine, and prints what it answers, until asking ends. If the
+/// words are wrong, nothing is sent.
+pub(crate) fn ask<R: Wait + Clock + Net<Listener = TcpListener, Stream = TcpStream>, W: Write>(
+    net: &R,
+    rt: HostRuntime,
+    words: &AskWords<'_>,
+    writer: &mut W,
+) -> Result<(), Ended>
+    ensures { AsksServer words.now (W.contents writer.old) (W.contents writer.new) (ending_in result) }
+{
+    let server = LocalServer {
+        net,
+        port: port_to_ask(words)?,
+        patience: Duration::from_secs(u64::from(words.wait)),
+    };
+    let question = Question {
+        lines: words.lines.as_slice(),
+        until: words.until,
+    };
+    match control_client::ask(net, rt.alloc(), &server, &question, writer) {
+        Ok(verdict) => answered_by(verdict, words),
+        Err(fault) => Err(unanswered_by(fault, words)),
+    }
+}
+
+/// The port that the words name. Refused if it is none, if the lines may not be sent at once, or if the reply that has to come last
+/// is more than one line.
+fn port_to_ask(words: &AskWords<'_>) -> Result<u16, Ended>
+    ensures { MatchResult result
+        (λ _. IsUnaskable words.now → ⊥)
+        (λ ended. IsUnaskable words.now × (ended.ending ≡ NoCommand ValueValidation)) }
+{
+    if !are_sendable(words.lines.as_slice()) {
+        return Err(misworded(Reason::Lines));
+    }
+    if !is_one_line(words.until) {
+        return Err(misworded(Reason::Until));
+    }
+    port_of(words.port)
+}
+
+/// Whether a text, if there is one, is one line.
+fn is_one_line(text: Option<&str>) -> bool
+    ensures { IsTrue result ↔ IsOneLine text.entry }
+{
+    match text {
+        None => true,
+        Some(text) => is_line(text),
+    }
+}
+
+/// How the command ends by a verdict.
+fn answered_by(verdict: Verdict, words: &AskWords<'_>) -> Result<(), Ended>
+    ensures { EndsAsking verdict (ending_in result) }
+{
+    match verdict {
+        Verdict::Answered => Ok(()),
+        Verdict::Refused => Err(Ended::told(Ending::LineRefused)),
+        Verdict::Unanswered(left) => {
+            let lines = words.lines.len();
+            Err(Ended {
+                ending: Ending::Failed(ErrorKind::UnexpectedEof),
+                reason: Reason::Unanswered(lines.saturating_sub(left), lines),
+            })
+        }
+    }
+}
+
+/// How the command ends by a fault.
+fn unanswered_by(fault: AskFault, words: &AskWords<'_>) -> Ended
+    ensures { FailsAsking fault result.ending }
+{
+    match fault {
+        AskFault::Output => Ended::cut(EarlyEnd::Write, Reason::Told),
+        AskFault::Memory => Ended::cut(EarlyEnd::Memory, Reason::Told),
+        AskFault::Connection(ConnectionFault::Unreachable(error)) => Ended {
+            ending: Ending::Failed(error.kind()),
+            reason: Reason::Unreachable(words.port, error),
+        },
+        AskFault::Connection(ConnectionFault::Lost(error)) => Ended {
+            ending: Ending::Failed(error.kind()),
+            reason: if is_late(error) {
+                Reason::Silent(words.wait)
+            } else {
+                Reason::Lost(error)
+            },
+        },
+    }
+}
+
+/// Whether a read or a write has only waited for too long.
+fn is_late(error: io::Error) -> bool {
+    error.kind() == ErrorKind::WouldBlock || error.kind() == ErrorKind::TimedOut
+}
