@@ -14,7 +14,7 @@ asks start 1001 7 42 65536 1408 65536 0 1000 c: started 0 0
 casts HELLO_AT_0
 awaits positions 0: positions 0 64 -1
 asks stop 0 5: stopped 64
-pauses
+rests
 asks images: end 0
 asks extend 0 1001 7 42 65536 1408 64: extended 1
 casts SETUP_AT_64
@@ -23,9 +23,9 @@ awaits positions 0: positions 0 128 -1
 asks images: image 1 7 1001 42 65536 1408 64 1
 follows end 1
 asks stop 0 6: stopped 128
-pauses
+rests
 casts SETUP_AT_192
-pauses
+rests
 asks images: image 2 7 1001 42 65536 1408 192 -
 follows end 1
 ";
@@ -46,10 +46,11 @@ casts HELLO_AT_0
 awaits positions 0: positions 0 64 -1
 rests
 rests
-rests
 asks images: image 0 7 1001 42 65536 1408 0 0
 follows end 1
 rests
+rests
+pauses
 asks images: end 0
 casts SETUP_AT_64
 casts HELLO_AT_64
@@ -68,7 +69,7 @@ fn a_silent_image_leaves(rt: HostRuntime) -> Result<(), Fail> {
 /// More publications than there are places and seats.
 const MANY: &str = "\
 records-200
-pauses
+rests
 asks images: end 0
 ";
 

@@ -48,7 +48,7 @@ casts SETUP
 asks start 1001 7 42 65536 1408 65536 0 1000 c: started 0 0
 receives STATUS_AT_0
 silence
-pauses
+rests
 casts HELLO_AT_0
 receives-among SETUP_ASKED
 casts SETUP

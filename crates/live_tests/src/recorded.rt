@@ -27,7 +27,7 @@ awaits positions 0: positions 0 64 -1
 asks images: image 0 7 1001 42 65536 1408 0 0
 follows end 1
 asks stop 0 5: stopped 64
-pauses
+rests
 asks images: end 0
 casts SETUP_AT_64
 casts HELLO_AT_64
@@ -36,7 +36,8 @@ rests
 rests
 rests
 rests
-asks positions 0: positions 0 128 128
+awaits positions 0: positions 0 128 128
+rests
 asks images: end 0
 casts SETUP_AT_192
 awaits positions 1: positions 192 192 -1
