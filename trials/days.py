@@ -12,17 +12,13 @@ with a new session id takes its place; at random moments the server is killed, a
 - The server stays below its bound of memory.
 """
 import random
-import signal
 import socket
-import sys
 import time
-from contextlib import contextmanager
-from collections.abc import Iterator
 from dataclasses import dataclass
 from pathlib import Path
 
-from flow_control import FaultySender
-from serving import MOST_MEMORY, PATIENCE, Client, Faults, Server, compare, free_port
+from flow_control import FaultySender, receiver
+from serving import MOST_MEMORY, PATIENCE, Client, Faults, compare, free_port
 from tool import STREAM_ID, Fault, conclude, expect, file_system, program, room, run, trial_words
 
 
@@ -47,14 +43,14 @@ class Days:
     def __init__(self, tool: Path, chance: random.Random, archive: Path, count: int) -> None:
         self.tool, self.chance, self.archive = tool, chance, archive
         self.port = free_port(socket.SOCK_DGRAM)
+        self.session_ids = chance.sample(range(-(2**31), 2**31), 1_000)
         self.ended: list[FaultySender] = []
         self.senders = [self.sender() for _ in range(count)]
         self.shown: dict[int, int] = {}  # by session id the greatest position that was shown
 
     def sender(self) -> FaultySender:
         """A sender with a session id that no other one had."""
-        used = {it.publication.session_id for it in self.ended}
-        session_id = next(it for it in iter(lambda: self.chance.randrange(-(2**31), 2**31), None) if it not in used)
+        session_id = self.session_ids.pop()
         return FaultySender(("127.0.0.1", self.port), session_id, Faults(self.chance, 0.0))
 
     def replace_one(self) -> None:
@@ -62,18 +58,6 @@ class Days:
         index = self.chance.randrange(len(self.senders))
         self.ended.append(self.senders[index])
         self.senders[index] = self.sender()
-
-    @contextmanager
-    def served(self) -> Iterator[tuple[Server, Client]]:
-        """A server that records the stream. It is killed at the end, if it has not ended."""
-        server = Server(self.tool, self.archive, "--aeron", "--record", str(STREAM_ID), receive=self.port)
-        client = server.client()
-        try:
-            yield server, client
-        finally:
-            client.close()
-            if server.process.poll() is None:
-                server.kill(signal.SIGKILL)
 
     def go_on(self, seconds: float) -> None:
         """The senders send for so many seconds, each in its turn."""
@@ -91,7 +75,7 @@ class Days:
 
     def day(self, is_last: bool) -> int:
         """A life of the server, which ends by a kill, or by `quit` once all is recorded; the memory that it took."""
-        with self.served() as (server, client):
+        with receiver(self.tool, self.archive, self.port, "--record", str(STREAM_ID)) as (server, client):
             for _ in range(self.chance.randrange(1, 4)):
                 self.go_on(self.chance.uniform(0.2, 1))
                 self.look(client)
@@ -100,10 +84,11 @@ class Days:
             self.go_on(self.chance.uniform(0, 0.3))
             if is_last:
                 self.await_all(client)
+            memory = server.memory()
+            if is_last:
                 client.close()
                 server.quit()
-                return server_memory(server)
-            return server_memory(server)
+            return memory
 
     def await_all(self, client: Client) -> None:
         """Waits until all that the living senders sent is recorded."""
@@ -118,11 +103,6 @@ class Days:
                     other.tend(0.001)
         time.sleep(1.2)  # the longest wait for a settle
         self.look(client)
-
-
-def server_memory(server: Server) -> int:
-    """The memory that it took at most, in megabytes; 0 of one that has ended."""
-    return server.memory() if server.process.poll() is None else 0
 
 
 def compare_all(days: Days) -> tuple[int, int, int]:
@@ -164,5 +144,4 @@ def main() -> int:
 
 
 if __name__ == "__main__":
-    sys.path.insert(0, str(Path(__file__).resolve().parent))
     conclude(main)

@@ -35,7 +35,7 @@ from serving import (
 )
 from tool import (
     INITIAL_TERM, ROOT, SESSION_ID, STREAM_ID, Fault, conclude, dissected, expect, file_system, program, read_numbers, room, run,
-    trial_words,
+    run_trials, trial_words,
 )
 
 sys.path.insert(0, str(ROOT / "examples"))
@@ -201,9 +201,9 @@ def start_at_image(client: Client, publication: Publication, recording: int) -> 
 
 
 @contextmanager
-def receiver(tool: Path, archive: Path, port: int) -> Iterator[tuple[Server, Client]]:
+def receiver(tool: Path, archive: Path, port: int, *options: str) -> Iterator[tuple[Server, Client]]:
     """A server over an archive, at a port that a sender knows. It is killed at the end, if it has not ended."""
-    server = Server(tool, archive, "--aeron", receive=port)
+    server = Server(tool, archive, "--aeron", *options, receive=port)
     client = server.client()
     try:
         yield server, client
@@ -513,9 +513,7 @@ def main() -> int:
         "dissector": lambda: read_by_wireshark(tool, chance, asked.messages),
         "rates": lambda: rates(tool, chance, asked.seconds),
     }
-    for name, trial in all_trials.items():
-        if asked.only in (None, name):
-            trial()
+    run_trials(all_trials, asked.only)
     return 0
 
 

@@ -27,7 +27,7 @@ from pathlib import Path
 from readers.catalogue import SETTLE, read_banks
 from tool import (
     INITIAL_TERM, ROOT, SESSION_ID, STREAM_ID, Fault, Stream, conclude, dissected, expect, file_system, program, replayed, room, run,
-    told_of_frame, trial_words,
+    run_trials, told_of_frame, trial_words,
 )
 
 sys.path.insert(0, str(ROOT / "examples"))
@@ -597,9 +597,7 @@ def main() -> int:
         "hostile": lambda: hostile(tool, chance, asked.datagrams, asked.connections),
         "losses": lambda: lossy(tool, chance, asked.frames),
     }
-    for name, trial in all_trials.items():
-        if asked.only in (None, name):
-            trial()
+    run_trials(all_trials, asked.only)
     return 0
 
 

@@ -54,6 +54,13 @@ def trial_words(doc: str | None) -> argparse.ArgumentParser:
     return words
 
 
+def run_trials(trials: dict[str, Callable[[], None]], only: str | None) -> None:
+    """Runs trials in their order, or the one that was named."""
+    for name, trial in trials.items():
+        if only in (None, name):
+            trial()
+
+
 def conclude(main: Callable[[], int]) -> NoReturn:
     """Runs a script, and ends it with its status; what it found wrong is its last word, with status 1."""
     try:
