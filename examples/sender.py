@@ -205,11 +205,16 @@ class FlowControlled(Sender):
 
     def __init__(self, publication: Publication, address: tuple[str, int]) -> None:
         super().__init__(publication, address)
-        self.position = publication.position  # up to here the stream was sent: it may have come further
-        self.consumed = self.limit = publication.position
-        self.was_connected = self.is_connected = self.owes_setup = False
-        self.setup_sent = self.status_came = self.last_sent = -math.inf
+        self.status_came = self.last_sent = -math.inf
         self.answered: list[tuple[float, range]] = []  # what was sent again, and when
+        self.go_to(publication.position)
+
+    def go_to(self, position: int) -> None:
+        """Sends the stream from there on, to a receiver that knows nothing of it."""
+        self.position = position  # up to here the stream was sent: it may have come further
+        self.consumed = self.limit = position
+        self.was_connected = self.is_connected = self.owes_setup = False
+        self.setup_sent = -math.inf
 
     def take(self, datagram: bytes) -> None:
         """Follows a status message, and answers a NAK frame."""
@@ -398,11 +403,11 @@ class Recorded(FlowControlled):
                 break
             except OSError:
                 time.sleep(LOOK_SECONDS)
-        self.position = self.consumed = self.recorded = self.begun
-        self.limit = self.begun + (self.window or 0)
-        self.was_connected = self.is_connected = self.window is not None
-        self.owes_setup, self.setup_sent = False, -math.inf
+        self.recorded = self.begun
+        self.go_to(self.begun)
         if self.window is not None:
+            self.limit = self.begun + self.window
+            self.was_connected = self.is_connected = True
             self.status_came = math.inf  # no status message is waited for
             self.send(self.publication.setup(self.begun))
 

@@ -1,6 +1,7 @@
 """Compares the program with the readers of the documents, over many folders in parallel."""
 import resource
 import shutil
+import struct
 import subprocess
 from collections import Counter
 from collections.abc import Callable, Iterable
@@ -10,11 +11,14 @@ from pathlib import Path
 from random import Random
 
 from readers.archive import Archive, looked_at
-from readers.catalogue import Refused, read_banks
+from readers.blocks import BAD_POSITION
+from readers.catalogue import Recording, Refused, asks, damaged, read_banks
+from readers.segments import PAD, aligned
 from tool import Fault, expect, is_calm
 
 MOST_POLLS = 6  # of a replay
 HANGS = 300  # seconds after which a command counts as hung
+LONGEST_MESSAGE = 65_504  # bytes of a message in a datagram
 RESTART = b"\x01\x08\x00\x00\x00"  # its open gate, kind and length, and the next gate
 
 Files = dict[str, bytes]
@@ -109,6 +113,49 @@ def look_only(tool: Path, folder: Path, files: Files, what: str) -> None:
         right = [(3 if " 15 " in str(refused) else 1, "", f"{refused}\n")] * 2
     expect(f"{what}: list --read-only", told[0], right[0])
     expect(f"{what}: verify --read-only", told[1], right[1])
+
+
+def try_export(tool: Path, folder: Path, archive: Archive, known: Recording, begin: int | None = None, end: int | None = None) -> bool:
+    """Compares `export` of a recording, between two positions where they are given. Returns whether it exports."""
+    capture = folder.with_suffix(".pcap")
+    given = ("--from", begin), ("--to", end)
+    words = [text for word, position in given if position is not None for text in (word, str(position))]
+    done = ended(tool, "export", folder, str(known.number), *words, "--pcap", capture)
+    told = done.returncode, done.stdout.decode(), done.stderr.decode(), capture.exists()
+    what = " ".join(["export", str(known.number), *words])
+    try:
+        right = sent(archive, known, known.start if begin is None else begin, known.recorded if end is None else end)
+    except Refused as refused:
+        expect(what, told, (3 if " 15 " in str(refused) else 1, "", f"{refused}\n", False))
+        return False
+    expect(what, told, (0, "exported\n", "", True))
+    expect(f"{what}: its packets", packets(capture.read_bytes()), right)
+    capture.unlink()
+    return True
+
+
+def sent(archive: Archive, known: Recording, begin: int, end: int) -> list[bytes]:
+    """What a capture holds of each frame between two positions: docs/PROTOCOL.md, "Captures"; docs/CONTROL.md, "Exporting frames"."""
+    asks(known.start <= begin <= end <= known.recorded, BAD_POSITION)
+    asks(archive.reader().is_boundary(known, begin), BAD_POSITION)
+    found, last = [], begin
+    for at, frame in archive.reader().frames(known, begin, end):
+        asks(frame.kind == PAD or frame.length <= LONGEST_MESSAGE, damaged(known.number, at))
+        text = frame.encoding()
+        found.append(text if frame.kind == PAD else text.ljust(aligned(len(text)), b"\x00"))
+        last = at + aligned(frame.length)
+    asks(last == end, BAD_POSITION)
+    return found
+
+
+def packets(text: bytes) -> list[bytes]:
+    """The frames in the packets of a capture file."""
+    found, at = [], 24
+    while at < len(text):
+        length = struct.unpack_from("<I", text, at + 8)[0]
+        found.append(text[at + 16 + 28 : at + 16 + length])
+        at += 16 + length
+    return found
 
 
 def after_an_opening(files: Files) -> Files:

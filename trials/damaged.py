@@ -4,9 +4,11 @@
 The program makes each archive by random lines. In every other one a recording is active at the end. The trial damages one to three
 segment files: it changes bytes and header fields, cuts, grows, swaps and removes files. The catalogue stays whole. Then:
 
-1. `list` and `verify` look at the folder with `--read-only`; in half of the folders `verify` also opens it.
-2. `run` reads each recording, replays it from each boundary that it had, and answers 20 commands.
-3. A second `run` lists, verifies and replays the recordings again.
+1. `list` and `verify` look at the folder with `--read-only`, and `export` writes a damaged recording from a boundary that it had. In half
+   of the folders `verify` also opens it.
+2. `run` reads each recording, and replays it from boundaries that it had, in each term. Where a recording was active, one is again, and
+   blocks are recorded in between. Then it answers 20 commands.
+3. A second `run` lists, verifies and replays the recordings again. In every fourth folder `compact` comes before it.
 
 The trial fails at the first line that differs from the answer of `readers/`, which knows docs/STORAGE.md, docs/PROTOCOL.md and
 docs/CONTROL.md and nothing of the program. After the commands it also compares the bytes of all segment files, and the state that
@@ -23,7 +25,7 @@ from pathlib import Path
 from random import Random
 
 import random_lines
-from comparison import Files, Script, ended, in_parts, look_only, verification, write
+from comparison import Files, Script, ended, in_parts, look_only, try_export, verification, write
 from readers.archive import Archive, files_of, looked_at, opened
 from readers.catalogue import BANKS, NEWEST, Recording, Register
 from readers.segments import HEADER, PAD, segment_of
@@ -144,14 +146,61 @@ def damage(files: Files, names: list[str], chance: Random) -> None:
             files.update(segments)
 
 
+def asked_positions(whole: Archive, known: Recording, chance: Random) -> list[int]:
+    """Boundaries that a recording had before the damage, some of each of its last terms, and positions near some."""
+    found = random_lines.boundaries(whole, known)
+    terms: dict[int, list[int]] = {}
+    for at in found:
+        terms.setdefault(at // known.term_length, []).append(at)
+    chosen = [at for each in list(terms.values())[-4:] for at in chance.sample(each, min(2, len(each)))]
+    others = [at + chance.choice((1, 32, -32)) for at in found[:: max(1, len(found) // 2)]]
+    return [*found[-3:], *chosen, *(at for at in others if at >= 0)]
+
+
 def looks(script: Script, whole: Archive, chance: Random) -> None:
-    """Reads each recording, also from the boundaries that it had before the damage and from positions near them."""
+    """Reads each recording, also from the boundaries that it had before the damage and from positions near them. Sessions that are open
+    record blocks in between."""
     script.ask("list 0 1024")
     for number in sorted(script.archive.register.recordings):
+        for session in sorted(script.archive.sessions):
+            for line in random_lines.blocks(script.archive, session, chance):
+                script.ask(line)
         known = whole.register.recordings.get(number)
-        found = random_lines.boundaries(whole, known) if known else []
-        others = [at + chance.choice((1, 32, -32)) for at in found[:: max(1, len(found) // 2)]]
-        script.look([*found[-8:], *(at for at in others if at >= 0)], number, chance)
+        script.look(asked_positions(whole, known, chance) if known else [], number, chance)
+
+
+def go_on(script: Script, chance: Random) -> None:
+    """Makes a recording active: one that is extended, or a new one."""
+    stopped = [known for known in script.archive.register.listed() if known.recorded < 2**31 * known.term_length]
+    goes_on = stopped and chance.random() < 0.8
+    script.ask(random_lines.extension(chance.choice(stopped), chance) if goes_on else random_lines.start(chance))
+
+
+def export(tool: Path, folder: Path, archive: Archive, whole: Archive, chance: Random) -> bool:
+    """Compares `export` of a recording, a damaged one if there is one, from a boundary that it had on, mostly one past the damage.
+    Returns whether it exports past damage."""
+    recordings = archive.register.listed()
+    damaged = [each for each in recordings if not archive.reader().verify(each).startswith("verified")]
+    for known in chance.sample(damaged or recordings, min(1, len(recordings))):
+        found = random_lines.boundaries(whole, known)
+        begin = chance.choice(found[-6:])
+        end = chance.choice([None, None, *(at for at in found if at >= begin)])
+        is_past = bool(damaged) and begin > int(archive.reader().verify(known).split()[-1])
+        return try_export(tool, folder, archive, known, begin, end) and is_past
+    return False
+
+
+def past_damage(script: Script) -> int:
+    """How many replays were opened past the first damage of their recording."""
+    damage: dict[str, float] = {}
+    opened = 0
+    for line, told in script.asked:
+        words = line.split(" ")
+        if words[0] == "verify":
+            damage[words[1]] = int(told[0].split()[-1]) if "Damaged" in told[0] else float("inf")
+        elif words[0] == "replay" and told[0].startswith("replay"):
+            opened += int(words[2]) > damage.get(words[1], float("inf"))
+    return opened
 
 
 def truncation(script: Script, whole: Archive, chance: Random) -> list[str]:
@@ -198,20 +247,28 @@ def tried(tool: Path, folder: Path, seed: int, is_active: bool) -> Counter[str]:
     damage(files, sorted(files.keys() - set(BANKS)), chance)
     write(folder, files)
     look_only(tool, folder, files, "damaged")
+    exported = export(tool, folder, looked_at(files), whole, chance)
     if chance.random() < 0.5:
         done = ended(tool, "verify", folder)
         expect("verify", (done.returncode, done.stdout.decode(), done.stderr.decode()), verification(opened(files)))
     script = Script(opened(files))
+    if is_active:
+        go_on(script, chance)
     looks(script, whole, chance)
     commands(script, whole, chance)
     script.try_on(tool, folder, "damaged")
     same_state(folder, script.archive)
     again = Script(script.archive)
+    if chance.random() < 0.25:
+        done = ended(tool, "compact", folder)
+        expect("compact", (done.returncode, done.stdout, done.stderr, again.archive.compact()), (0, b"compacted\n", b"", "compacted"))
     again.archive.reopen()
     looks(again, whole, chance)
     again.try_on(tool, folder, "a second process")
     told = [told for _, answers in script.asked + again.asked for told in answers]
-    return Counter(folders=1, lines=len(script.asked + again.asked), damaged=sum("Damaged" in each for each in told))
+    past = past_damage(script) + past_damage(again)
+    counts = {"lines": len(script.asked + again.asked), "damaged": sum("Damaged" in each for each in told), "past": past}
+    return Counter(folders=1, exported=exported, **counts)
 
 
 def part(tool: Path, work: Path, seed: int, begin: int, end: int) -> Counter[str]:
@@ -230,7 +287,7 @@ def part(tool: Path, work: Path, seed: int, begin: int, end: int) -> Counter[str
 
 def main() -> int:
     words = trial_words(__doc__)
-    words.add_argument("--folders", type=int, default=300)
+    words.add_argument("--folders", type=int, default=1_000)
     words.add_argument("--jobs", type=int, default=os.cpu_count())
     words.add_argument("--memory", type=int, default=512)
     asked = words.parse_args()
@@ -240,7 +297,8 @@ def main() -> int:
         ranges = [(begin, min(begin + PART, asked.folders)) for begin in range(0, asked.folders, PART)]
         counted = in_parts(part, [(tool, work, asked.seed, *each) for each in ranges], asked.jobs, asked.memory)
     told = f"{counted['folders']} folders, {counted['lines']} lines, {counted['damaged']} of them answered by Damaged"
-    print(f"{told}: each answer is the reader's")
+    past = f"{counted['past']} replays and {counted['exported']} exports begun past damage"
+    print(f"{told}, {past}: each answer is the reader's")
     return 0
 
 

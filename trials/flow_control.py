@@ -281,13 +281,13 @@ class Example:
         return self.told.read()
 
 
-def wait_for(what: str, holds: Callable[[], object]) -> None:
-    """Waits until something holds."""
+def wait_for(what: str, holds: Callable[[], object], seconds: float = 0.01) -> None:
+    """Waits until something holds. It looks again after so many seconds."""
     until = time.monotonic() + PATIENCE
     while not holds():
         if time.monotonic() > until:
             raise Fault(f"{what}: nothing in {PATIENCE} s")
-        time.sleep(0.01)
+        time.sleep(seconds)
 
 
 def by_example(tool: Path) -> None:

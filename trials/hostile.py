@@ -26,12 +26,12 @@ from random import Random
 
 import bent_lines
 import random_lines
-from comparison import Files, Script, after_an_opening, ended, in_parts, look_only, write
+from comparison import Files, Script, after_an_opening, ended, in_parts, look_only, try_export, write
 from damaged import cut, damage, grow, looks, made, make_pad, move_bytes, same_state, set_field, turn_bytes
 from readers.archive import Archive, files_of, looked_at, opened
 from readers.catalogue import BANKS, NEWEST, Catalogue, Recording, Refused, Register, read_banks
 from readers.lines import form_of
-from readers.segments import DATA, PAD, aligned, frames_of_file, segment_of, stale_files
+from readers.segments import DATA, aligned, frames_of_file, segment_of, stale_files
 from tool import Fault, Stream, conclude, expect, file_system, program, room, trial_words
 
 # docs/STORAGE.md, "Banks, byte for byte", of both versions, and the frame that they settled.
@@ -57,7 +57,6 @@ FORMS = 1 + 8 + len(VALUES)  # of a worked bank, for each of its bytes
 TERM = 2**31 - 2  # the initial term id of recordings and merges that get hostile datagrams: it soon wraps
 PART = 20  # folders that one worker tries in turn
 LINES_OF_PART = 1_000
-LONGEST_MESSAGE = 65_504  # bytes of a message in a datagram
 NEW_NAMES = "0-5.rec", "77-0.rec", "0-00.rec", "note", "1-9223372036854775807.rec", "2-9223372036854775808.rec"
 NOT_OPEN = "the archive is not open: lines that need it are Broken until reopen opens it"
 
@@ -133,43 +132,14 @@ def described(known: Recording, segments: list[bytes]) -> dict[str, object]:
     }
 
 
-def try_export(tool: Path, folder: Path, files: Files, capture: Path) -> None:
-    """Compares `export` of the first recording. A refused export leaves no capture file."""
+def try_exports(tool: Path, folder: Path, files: Files) -> None:
+    """Compares `export` of the first recording."""
     try:
         archive = looked_at(files)
     except Refused:
         return
     for known in archive.register.listed()[:1]:
-        done = ended(tool, "export", folder, str(known.number), "--pcap", capture)
-        try:
-            right = sent(archive, known)
-        except Refused as refused:
-            expect("export", (done.returncode, done.stderr.decode(), capture.exists()), (3, f"{refused}\n", False))
-            continue
-        expect("export", (done.returncode, done.stdout, done.stderr), (0, b"exported\n", b""))
-        expect("what was exported", packets(capture.read_bytes()), right)
-        capture.unlink()
-
-
-def sent(archive: Archive, known: Recording) -> list[bytes]:
-    """What a capture holds of each frame: docs/PROTOCOL.md, "Captures"."""
-    found = []
-    for at, frame in archive.reader().frames(known, known.start, known.recorded):
-        if frame.kind != PAD and frame.length > LONGEST_MESSAGE:
-            raise Refused(f"error 15 Damaged {known.number} {at}")
-        text = frame.encoding()
-        found.append(text if frame.kind == PAD else text.ljust(aligned(len(text)), b"\x00"))
-    return found
-
-
-def packets(text: bytes) -> list[bytes]:
-    """The frames in the packets of a capture file."""
-    found, at = [], 24
-    while at < len(text):
-        length = struct.unpack_from("<I", text, at + 8)[0]
-        found.append(text[at + 16 + 28 : at + 16 + length])
-        at += 16 + length
-    return found
+        try_export(tool, folder, archive, known)
 
 
 def try_frames(tool: Path, folder: Path, name: str, text: bytes) -> None:
@@ -185,7 +155,7 @@ def try_folder(tool: Path, folder: Path, files: Files, whole: Archive, chance: R
     write(folder, files)
     look_only(tool, folder, files, "mutated")
     try_description(tool, folder, files)
-    try_export(tool, folder, files, folder.with_suffix(".pcap"))
+    try_exports(tool, folder, files)
     expect("the files after looks", files_of(folder), files)
     refused = try_run(tool, folder, files, whole, chance)
     expect("the files after an opening", files_of(folder), after_an_opening(files))

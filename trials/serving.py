@@ -89,9 +89,13 @@ class Server:
 
     def memory(self) -> int:
         """The most memory that it has had, in megabytes."""
+        return self.kilobytes("VmHWM") // 1024
+
+    def kilobytes(self, which: str) -> int:
+        """A measure of its memory, as the system names it."""
         for line in Path(f"/proc/{self.process.pid}/status").read_text().splitlines():
-            if line.startswith("VmHWM:"):
-                return int(line.split()[1]) // 1024
+            if line.startswith(f"{which}:"):
+                return int(line.split()[1])
         return 0
 
     def socket_words(self) -> list[str]:

@@ -132,6 +132,20 @@ def make_folder(name: str) -> Make:
     return lambda folder: (folder / name).mkdir()
 
 
+def wrong_starts() -> list[tuple[str, str, str]]:
+    """A word that a start may have wrong, its rule, and a line: the word is the first one that is wrong."""
+    return [
+        ("<source>", "at most 128 bytes of UTF-8, without blanks and control characters",
+         f"start-from {'s' * 129} 1 1 1 1 1 1 1 -1 c"),
+        ("<term length>", "a power of two from 65536 to 1073741824", "start 1 1 1 65535 1 1 1 -1 c"),
+        ("<mtu>", "a multiple of 32, from 64 to 65504", "start 1 1 1 65536 1407 1 1 -1 c"),
+        ("<segment length>", "a power of two from the term length to 1073741824", "start 1 1 1 131072 1408 65536 1 -1 c"),
+        ("<start position>", "a multiple of 32 from 0, less than 2147483648 term lengths", "start 1 1 1 65536 1408 65536 1 -1 c"),
+        ("<timestamp>", "0 or more", f"start 1 1 1 65536 1408 65536 0 -1 {'c' * 1_025}"),
+        ("<channel>", "1 to 1024 bytes of UTF-8, without control characters", f"start 1 1 1 65536 1408 65536 0 0 {'c' * 1_025}"),
+    ]
+
+
 def rows(tool: Program) -> list[Row]:
     """The table."""
     recorded: Make = lambda folder: tool.script(folder, *RECORDED)
@@ -157,6 +171,18 @@ def rows(tool: Program) -> list[Row]:
         Row("run in an empty folder", ["run", "."], 0, "started 0 0\nsettled 64\n", MADE, lines=RECORDED),
         Row("run on an archive", ["run", "."], 0, "verified 1\n", "", [recorded], ["verify 0"]),
         Row("run in memory", ["run"], 0, "started 0 0\n", "", lines=[START]),
+        *(
+            Row(
+                f"run of a start with a wrong {word}", ["run", "."], 0, f"{BAD_PARAMETER}end 0\n" * 2,
+                MADE + f"start is BadParameter: {word} has to be {rule}\n" * 2,
+                lines=[line, "list 0 1", line, "list 0 1"],
+            )
+            for word, rule, line in wrong_starts()
+        ),
+        Row(
+            "run in memory of such a start", ["run"], 0, BAD_PARAMETER,
+            "start is BadParameter: <timestamp> has to be 0 or more\n", lines=["start 1 1 1 65536 1408 65536 0 -1 c"],
+        ),
         Row(
             "run on a damaged catalogue", ["run", "."], 0, BROKEN + "error 15 Damaged -1 32\nbye\n",
             "error 15 Damaged -1 32\n" + CLOSED, [write("catalogue-a.bank", bank(3, [])[:32])],

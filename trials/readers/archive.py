@@ -99,10 +99,6 @@ class Archive:
         self.register.take(Entry(START, made=made))
         return f"started {number} {self.begin_session(number)}"
 
-    def source(self, number: int) -> str:
-        source = self.known(number).source
-        return f"source {len(source)} {source.decode()}" if source else "source 0"
-
     def extend(self, number: int, stream: int, session: int, term: int, term_length: int, mtu: int, join: int) -> str:
         known = self.known(number)
         asks(not known.is_active, "error 2 ActiveRecording")

@@ -109,11 +109,11 @@ class Reader:
             return str(refused)
 
     def is_boundary(self, known: Recording, position: int) -> bool:
-        """Whether a recorded position is a boundary: docs/STORAGE.md, "Boundaries". Raises Refused if damage comes first."""
+        """Whether a recorded position is a boundary: docs/STORAGE.md, "Boundaries". Raises Refused if damage of its term comes first."""
         if position == known.recorded:
             return True
-        end = known.start
-        for at, frame in self.frames(known, known.start, position):
+        end = max(known.start, position - position % known.term_length)
+        for at, frame in self.frames(known, end, position):
             end = at + aligned(frame.length)
         return end == position
 

@@ -1,5 +1,5 @@
 -- How an export ends.
-use Rattle.std.proofs.Common.{◌≡◌, ◌∙◌, inl, inr, refl, sym, ap, subst, ℕ, ℤ, ◌≤ℤ◌, ◌<ℤ◌, true, IsTrue, List, Option, None, Some, arith}
+use Rattle.std.proofs.Common.{◌≡◌, ◌∙◌, inl, inr, refl, sym, ap, subst, ℕ, ℤ, ◌≤ℤ◌, ◌<ℤ◌, true, false, IsTrue, List, Option, None, Some, arith}
 use Rattle.std.proofs.lemmas.Int.{ints}
 use Rattle.std.proofs.KnownBytes.{Appends-trans}
 use Rattle.std.specs.Io.KnownBytes.{Appends}
@@ -10,10 +10,11 @@ use Rattle.frame_core.specs.declared.refusal.Refusal.TheVariants.{UnknownRecordi
 use Rattle.disk_core.specs.DiskImage.{DiskImage, reads}
 use Rattle.disk_core.specs.Life.{Life}
 use Rattle.segment_store.specs.Boundary.{IsChain}
+use Rattle.recording_reads.specs.Reading.{TellsBoundaryIn}
 use Rattle.archive_model.specs.declared.registration.Registration.{Registration}
 use Rattle.archive_model.specs.Register.{registration_in}
 use Rattle.archive_model.specs.State.{geometry_of}
-use Rattle.engine_core.specs.Recovery.{layout_of}
+use Rattle.recording_reads.specs.Recording.{layout_of}
 use Rattle.archive_view.specs.declared.view.ArchiveView.{ArchiveView}
 use Rattle.archive_view.specs.ShownFrames.{BoundaryAnswers, HasBounded}
 use Rattle.archive_view.specs.Viewed.{desk_of, read_of}
@@ -53,6 +54,20 @@ module _ {D : Type 0} (life : D → Life) where
   begun old mid recording from g found bounded =
       let answers = subst (λ (o : Option Registration). BoundaryAnswers life (read_of old) (read_of mid) o from (Ok true)) found bounded.answers in
       record { look = looked life _ old mid answers bounded.same bounded.desk; begins = answers.seen }
+
+  -- no frame begins or ends there
+  pub nowhere : (old mid : ArchiveView D) (recording from : ℤ) (span : Span) (g : Registration) → registration_in (desk_of old).register recording ≡ Some g → from ≡ span_begin span g → HasBounded life old mid recording from (Ok false) → RefusesExport life old mid recording span BadPosition
+  nowhere old mid recording from span g found first bounded =
+      let answers = subst (λ (o : Option Registration). BoundaryAnswers life (read_of old) (read_of mid) o from (Ok false)) found bounded.answers in
+      let seen : IsTrue (inner life mid).obeys → TellsBoundaryIn (reads (inner life old).now) g from false = answers.seen in
+      record {
+        look = looked life _ old mid answers bounded.same bounded.desk;
+        why = rw found (inr (λ obeys. inl (subst (λ (z : ℤ). IsBoundaryOf g (reads (inner life old).now) z → ⊥) first (seen obeys).0)));
+        cause = λ fault. absurd (differ fault);
+      }
+    where
+      differ : BadPosition ≡ DeviceFault → ⊥
+      differ e = cc
 
   -- the position is where a frame begins
   pub there_at : (old mid : ArchiveView D) (recording : ℤ) (span : Span) (g : Registration) (t : Target) → registration_in (desk_of old).register recording ≡ Some g → IsTargetOf g span t → IsLookedOn life old mid → IsAt life mid recording t g t.first

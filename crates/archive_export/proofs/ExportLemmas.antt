@@ -20,7 +20,7 @@ use Rattle.archive_model.specs.declared.registration.Registration.{Registration}
 use Rattle.archive_model.specs.Register.{registration_in}
 use Rattle.archive_model.specs.State.{geometry_of}
 use Rattle.control_core.specs.Desk.{DeskState}
-use Rattle.engine_core.specs.Recovery.{layout_of}
+use Rattle.recording_reads.specs.Recording.{layout_of}
 use Rattle.archive_view.specs.declared.view.ArchiveView.{ArchiveView}
 use Rattle.archive_view.specs.ReadOnly.{IsOnlyRead, Looks}
 use Rattle.archive_view.specs.ShownFrames.{FrameAnswers, HasShown, RefusesShown}

@@ -7,12 +7,13 @@ use Rattle.frame_core.specs.declared.refusal.Refusal.TheVariants.{UnknownRecordi
 use Rattle.frame_core.specs.FrameEncoding.{aligned_length}
 use Rattle.disk_core.specs.DiskImage.{DiskImage, reads}
 use Rattle.disk_core.specs.Life.{HasFailed, Life}
-use Rattle.segment_store.specs.Boundary.{BreaksAt, IsBoundary, IsChain}
+use Rattle.segment_store.specs.Boundary.{IsChain}
 use Rattle.segment_store.specs.DamagedFrame.{IsDamaged, ShowsFrame}
 use Rattle.archive_model.specs.declared.registration.Registration.{Registration}
 use Rattle.archive_model.specs.Register.{registration_in}
 use Rattle.archive_model.specs.State.{geometry_of}
-use Rattle.engine_core.specs.Recovery.{layout_of}
+use Rattle.recording_reads.specs.Reading.{BreaksIn, IsBoundaryIn}
+use Rattle.recording_reads.specs.Recording.{layout_of}
 use Rattle.archive_view.specs.declared.view.ArchiveView.{ArchiveView}
 use Rattle.archive_view.specs.ReadOnly.{IsOnlyRead, disk_of, life_of}
 use Rattle.archive_view.specs.Viewed.{desk_of, read_of}
@@ -50,7 +51,7 @@ IsShown g image position frame =
 
 -- a frame begins or ends at a position of a recording
 abbrev pub IsBoundaryOf : Registration → DiskImage → ℤ → Type 0
-IsBoundaryOf g image position = IsBoundary image (layout_of g.descriptor) (geometry_of g.descriptor) g.recorded position
+IsBoundaryOf g image position = IsBoundaryIn image g position
 
 -- the frames from a position on have one that begins before another position and ends behind it
 pub record Straddle (g : Registration) (image : DiskImage) (from to : ℤ) : Type 0 where
@@ -70,10 +71,10 @@ pub record StopAt (g : Registration) (image : DiskImage) (from to at : ℤ) : Ty
   pub stops : IsDamaged image (layout_of g.descriptor) (geometry_of g.descriptor) g.recorded (unsigned_abs at)
       ⊎ ((frame : Frame) × IsShown g image at frame × (FitsDatagram frame → ⊥))
 
--- the frames break off at a position: before the first that is asked for, or behind it
+-- the frames break off at a position: before the first that is asked for, in its term, or behind it
 abbrev pub BreakAt : Registration → Span → DiskImage → ℤ → Type 0
 BreakAt g span image at =
-    ((n : ℕ) × (at ≡ pos n) × BreaksAt image (layout_of g.descriptor) (geometry_of g.descriptor) g.recorded (span_begin span g) n)
+    ((n : ℕ) × (at ≡ pos n) × BreaksIn image g (span_begin span g) n)
     ⊎ StopAt g image (span_begin span g) (span_end span g) at
 
 -- Why a recording is not exported: it isn't there; the span isn't in it, or does not begin or end where a frame does; its

@@ -53,7 +53,7 @@ impl From<AllocError> for ExportFault {
 /// `UnknownRecording`; `BadPosition` where the span isn't in the recording, up to the recorded position, or where no frame
 /// begins or ends at one of its ends; `Damaged` with the position where the frames break off, also where a message is longer
 /// than any datagram; `DeviceFault`; `NoMemory`; `Write` where the writer fails. What was written before stays written. Costs
-/// a step for each frame before the span, and what each frame of it costs. docs/CONTROL.md, "Exporting frames".
+/// a step for each frame of the term before the span, and what each frame of it costs. docs/CONTROL.md, "Exporting frames".
 pub fn export<W: Write, D: Disk>(
     alloc: Global,
     view: &mut ArchiveView<D>,

@@ -1,3 +1,4 @@
+mod NothingLemmas
 mod AheadLemmas
 mod RunLemmas
 mod HistoryLemmas

@@ -10,7 +10,7 @@ use Rattle.archive_model.specs.declared.reply.Reply.{Reply}
 use Rattle.archive_model.specs.declared.reply.Reply.TheVariants.{Verified}
 use Rattle.archive_model.specs.Register.{registration_in}
 use Rattle.control_core.specs.Desk.{DeskState}
-use Rattle.engine_core.specs.Reading.{RefusesCount}
+use Rattle.recording_reads.specs.Reading.{RefusesCount}
 use Rattle.tool_core.specs.declared.commands.CommandFault.{CommandFault}
 use Rattle.tool_core.specs.declared.commands.Stopped.{Stopped}
 use Rattle.tool_core.specs.declared.commands.Stopped.TheVariants as stops

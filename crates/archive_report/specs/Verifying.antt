@@ -10,7 +10,7 @@ use Rattle.archive_model.specs.declared.reply.Reply.{Reply}
 use Rattle.archive_model.specs.declared.reply.Reply.TheVariants.{Verified}
 use Rattle.archive_model.specs.Register.{RegisterState, registration_in}
 use Rattle.control_core.specs.Desk.{DeskState}
-use Rattle.engine_core.specs.Reading.{RefusesCount}
+use Rattle.recording_reads.specs.Reading.{HasFrames, RefusesCount}
 use Rattle.tool_core.specs.declared.commands.Stopped.{Stopped}
 use Rattle.tool_core.specs.declared.commands.Stopped.TheVariants.{Refused, Cut}
 use Rattle.tool_core.specs.declared.fault.EarlyEnd.{EarlyEnd}
@@ -18,7 +18,6 @@ use Rattle.tool_core.specs.declared.reports.Verdict.{Verdict}
 use Rattle.tool_core.specs.Reports.{HasReported, HasReportedFirst, Verification, ids_in}
 use Rattle.archive_view.specs.declared.view.ArchiveView.{ArchiveView}
 use Rattle.archive_view.specs.ReadOnly.{IsOnlyRead}
-use Rattle.archive_view.specs.View.{HasFrames}
 use Rattle.archive_view.specs.Viewed.{desk_of}
 use Rattle.archive_report.specs.declared.verify.Seen.{Seen}
 use Rattle.archive_report.specs.Viewing.{IsUnviewedBy, ShowsDesk, inner}

@@ -1,3 +1,2 @@
 mod KnownLemmas
-mod CountLemmas
 mod LookLemmas

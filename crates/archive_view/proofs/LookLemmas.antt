@@ -18,19 +18,18 @@ use Rattle.catalogue_entries.specs.Fold.{after_entries, counts}
 use Rattle.catalogue_log.specs.LogState.{IsAtRest, IsLogIn, LogState}
 use Rattle.catalogue_log.proofs.CallerLemmas.{log_catalogue}
 use Rattle.control_core.specs.Desk.{DeskState, opened_desk}
-use Rattle.engine_core.specs.Reading.{RefusesCount}
+use Rattle.recording_reads.specs.Reading.{HasFrames, RefusesBoundaryIn, RefusesCount}
 use Rattle.archive_view.specs.declared.read_only.ReadOnly.{ReadOnly}
 use Rattle.archive_view.specs.Asked.{Answers}
 use Rattle.archive_view.specs.Verified.{VerifyAnswers}
-use Rattle.engine_core.specs.Recovery.{layout_of}
+use Rattle.recording_reads.specs.Recording.{layout_of}
 use Rattle.archive_view.specs.ReadLife.{read_life}
 use Rattle.archive_view.specs.ReadOnly.{IsOnlyRead, Looks, Refuses, life_of}
 use Rattle.archive_view.specs.ShownFrames.{Bounds, BoundaryAnswers, FrameAnswers, RefusesShown, Shows}
-use Rattle.archive_view.specs.View.{HasFrames, IsAsCatalogued}
+use Rattle.archive_view.specs.View.{IsAsCatalogued}
 use Rattle.frame_core.specs.declared.frame.Frame.{Frame}
 use Rattle.frame_core.specs.declared.refusal.Refusal.TheVariants.{BadPosition}
 use Rattle.frame_core.specs.FrameEncoding.{aligned_length}
-use Rattle.segment_store.specs.Boundary.{RefusesBoundary}
 use Rattle.segment_store.specs.DamagedFrame.{RefusesFrame}
 use Rattle.std.specs.Prelude.{◌<◌, ◌<ℤ◌, ◌+◌, pos, Bool}
 
@@ -171,7 +170,7 @@ module _ {D : Type 0} (life : D → Life) where
   -- a recording was asked for a boundary, or not
   pub bounded_answers : (old new : ReadOnly D) (g : Registration) (position : ℤ) (result : Result Bool Refusal) → MayLeave (life old.disk).now (reads (life old.disk).now) → IsQuiet (life_of life old) (life_of life new)
       → IfOk result (λ told. IsTrue (life new.disk).obeys → Bounds g position told (reads (life old.disk).now))
-      → IfErr result (RefusesBoundary (life new.disk).obeys (reads (life old.disk).now) (layout_of g.descriptor) (geometry_of g.descriptor) g.recorded position)
+      → IfErr result (RefusesBoundaryIn (life new.disk).obeys (reads (life old.disk).now) g position)
       → (IsErrOf result DeviceFault → HasFailed (life_of life old) (life_of life new)) → BoundaryAnswers life old new (Some g) position result
   bounded_answers old new g position (Ok told) stays quiet seen refused cause = quiet_look old new (Bounds g position told) stays quiet seen
   bounded_answers old new g position (Err refusal) stays quiet seen refused cause = (

@@ -6,12 +6,12 @@ use Rattle.frame_core.specs.declared.refusal.Refusal.TheVariants.{BadPosition, U
 use Rattle.frame_core.specs.FrameEncoding.{aligned_length}
 use Rattle.disk_core.specs.DiskImage.{DiskImage, reads}
 use Rattle.disk_core.specs.Life.{Life}
-use Rattle.segment_store.specs.Boundary.{RefusesBoundary, TellsBoundary}
 use Rattle.segment_store.specs.DamagedFrame.{RefusesFrame, ShowsFrame}
 use Rattle.archive_model.specs.declared.registration.Registration.{Registration}
 use Rattle.archive_model.specs.Register.{registration_in}
 use Rattle.archive_model.specs.State.{geometry_of}
-use Rattle.engine_core.specs.Recovery.{layout_of}
+use Rattle.recording_reads.specs.Reading.{RefusesBoundaryIn, TellsBoundaryIn}
+use Rattle.recording_reads.specs.Recording.{layout_of}
 use Rattle.archive_view.specs.declared.read_only.ReadOnly.{ReadOnly}
 use Rattle.archive_view.specs.declared.view.ArchiveView.{ArchiveView}
 use Rattle.archive_view.specs.ReadOnly.{Looks, Refuses, disk_of}
@@ -24,8 +24,7 @@ Shows g position frame image =
 
 -- whether a position is a boundary of a recording, as an image shows it
 abbrev pub Bounds : Registration → ℤ → Bool → DiskImage → Type 0
-Bounds g position told image =
-    TellsBoundary image (layout_of g.descriptor) (geometry_of g.descriptor) g.recorded position told
+Bounds g position told image = TellsBoundaryIn image g position told
 
 -- a position before a recording's start, or not before its recorded position
 abbrev pub IsOutside : Registration → ℤ → Type 0
@@ -61,7 +60,7 @@ module _ {D : Type 0} (life : D → Life) where
   BoundaryAnswers old new (Some g) position (Ok told) = Looks life (Bounds g position told) old new
   BoundaryAnswers old new (Some g) position (Err refusal) =
       Refuses life (λ image. Unit {0}) old new refusal
-      × RefusesBoundary (life (disk_of new)).obeys (reads (life (disk_of old)).now) (layout_of g.descriptor) (geometry_of g.descriptor) g.recorded position refusal
+      × RefusesBoundaryIn (life (disk_of new)).obeys (reads (life (disk_of old)).now) g position refusal
 
   -- a recording was asked for a frame, and the view stays
   pub record HasShown (old new : ArchiveView D) (recording position : ℤ) (result : Result Frame Refusal) : Type 0 where

@@ -6,11 +6,10 @@ use Rattle.disk_core.specs.DiskImage.{reads}
 use Rattle.disk_core.specs.Life.{Life}
 use Rattle.archive_model.specs.declared.registration.Registration.{Registration}
 use Rattle.archive_model.specs.Register.{registration_in}
-use Rattle.engine_core.specs.Reading.{RefusesCount}
+use Rattle.recording_reads.specs.Reading.{HasFrames, RefusesCount}
 use Rattle.archive_view.specs.declared.read_only.ReadOnly.{ReadOnly}
 use Rattle.archive_view.specs.declared.view.ArchiveView.{ArchiveView}
 use Rattle.archive_view.specs.ReadOnly.{Looks, Refuses, disk_of}
-use Rattle.archive_view.specs.View.{HasFrames}
 use Rattle.archive_view.specs.Viewed.{desk_of, read_of}
 
 module _ {D : Type 0} (life : D → Life) where

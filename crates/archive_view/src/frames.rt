@@ -5,36 +5,36 @@ ghost use Rattle.frame_core.specs.declared.refusal.Refusal.TheVariants.{DeviceFa
 ghost use Rattle.frame_core.specs.FrameEncoding.{aligned_length};
 ghost use Rattle.disk_core.specs.DiskImage.{reads};
 ghost use Rattle.disk_core.specs.Life.{HasFailed, IsQuiet};
-ghost use Rattle.segment_store.specs.Boundary.{RefusesBoundary};
 ghost use Rattle.segment_store.specs.DamagedFrame.{RefusesFrame};
 ghost use Rattle.archive_model.specs.State.{geometry_of};
 ghost use Rattle.control_core.specs.Orderly.{IsLaid};
-ghost use Rattle.engine_core.specs.Recovery.{layout_of};
-ghost use Rattle.archive_view.specs.ShownFrames.{Bounds, Shows};
+ghost use Rattle.recording_reads.specs.Recording.{layout_of};
+ghost use Rattle.archive_view.specs.ShownFrames.{Shows};
 
 use crate::ArchiveView;
 use archive_model::Registration;
 use disk_core::Disk;
-use engine_core::layout_of;
 use frame_core::{Frame, Refusal};
+use recording_reads::layout_of;
 use segment_store::read_frame;
 use std::alloc::Global;
 
 impl<D: Disk> ArchiveView<D> {
     ghost use Rattle.archive_view.specs.ShownFrames.{HasBounded, HasShown};
 
-    /// Whether a frame of a recording begins or ends at a position, none past the recorded one.
+    /// Whether a frame of a recording begins or ends at a position, none past the recorded one: by the frames of the position's
+    /// term.
     ///
-    /// `UnknownRecording` where the recording isn't there; `Damaged` with the position at which its frames break off before
-    /// that one; `DeviceFault`. The disk is only read. Costs a step for each frame before the position. docs/STORAGE.md,
-    /// "Boundaries".
+    /// `UnknownRecording` where the recording isn't there; `Damaged` with the position at which the frames of the term break
+    /// off before that one; `DeviceFault`. The disk is only read. Costs a step for each frame of the term before the position.
+    /// docs/STORAGE.md, "Boundaries".
     pub fn is_boundary(&mut self, recording: &i64, position: i64) -> Result<bool, Refusal>
         ensures { HasBounded D.life self.old self.new recording.now position result }
     {
         let Some(known) = self.desk.recording(recording) else {
             return Err(Refusal::UnknownRecording);
         };
-        bounds(&mut self.disk, known, position)
+        recording_reads::is_boundary(&mut self.disk, known, position)
     }
 
     /// The frame of a recording that begins at a position, and ends at or before the recorded one.
@@ -58,30 +58,6 @@ impl<D: Disk> ArchiveView<D> {
         }
         shown(alloc, &mut self.disk, known, position)
     }
-}
-
-/// Whether a frame of a recording begins or ends at a position. `Damaged`; `DeviceFault`.
-fn bounds<D: Disk>(
-    disk: &mut D,
-    registration: &Registration,
-    position: i64,
-) -> Result<bool, Refusal>
-    requires { IsLaid registration.now }
-    ensures told { IfOk result (λ told. IsTrue (D.life disk.new).obeys →
-        Bounds registration.now position told (reads (D.life disk.old).now)) }
-    ensures refused { IfErr result (RefusesBoundary (D.life disk.new).obeys (reads (D.life disk.old).now)
-        (layout_of registration.now.descriptor) (geometry_of registration.now.descriptor) registration.now.recorded position) }
-    ensures quiet { IsQuiet (D.life disk.old) (D.life disk.new) }
-    ensures cause { IsErrOf result DeviceFault → HasFailed (D.life disk.old) (D.life disk.new) }
-{
-    let descriptor = &registration.descriptor;
-    segment_store::is_boundary(
-        disk,
-        &layout_of(descriptor),
-        &descriptor.geometry(),
-        registration.recorded,
-        position,
-    )
 }
 
 /// The frame of a recording at a position. `Damaged`; `DeviceFault`; `NoMemory`.

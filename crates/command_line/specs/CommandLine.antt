@@ -101,6 +101,10 @@ segment_option = record (new_rule (codes "segment-length")) {
   parser = Some (parser.Signed (pos 65536) (pos 1073741824));
 }
 
+-- `--metrics`, a file, which may be given
+abbrev pub metrics_option : Rule
+metrics_option = record (new_rule (codes "metrics")) { long = Some (codes "metrics"); value_names = 1 }
+
 -- a command of one word, which has to be given
 abbrev pub word_app : Text → Text → App
 word_app name id = with_rule (new_app name) (required_word id)
@@ -116,9 +120,10 @@ abbrev pub run_app : App
 run_app = with_rule (new_app (codes "run")) (new_rule (codes "folder"))
 
 abbrev pub serve_app : App
-serve_app = with_rule (with_rule (with_rule (with_rule (with_rule (with_rule (with_rule (with_rule (with_rule (with_rule (with_rule (word_app (codes "serve") (codes "folder"))
+serve_app = with_rule (with_rule (with_rule (with_rule (with_rule (with_rule (with_rule (with_rule (with_rule (with_rule (with_rule (with_rule (with_rule (word_app (codes "serve") (codes "folder"))
     (port_option (codes "control"))) (port_option (codes "receive"))) address_option) idle_option) settle_option)
-    (flag_option (codes "aeron"))) window_option) clients_option) stream_option) segment_option) (flag_option (codes "quiet"))
+    (flag_option (codes "aeron"))) window_option) clients_option) stream_option) segment_option) (flag_option (codes "quiet")))
+    (flag_option (codes "strict"))) metrics_option
 
 -- a number of an i64 from 0 on, which has to be given
 abbrev pub number_word : Text → Rule
@@ -238,6 +243,8 @@ pub record IsServing (rows : List Row) (words : ServeWords) : Type 0 where
   pub streams_are : AreStreams rows words.streams.items
   pub segment_is : IsNumberIf (one_of (codes "segment-length") rows) words.segment_length
   pub quiet_is : IsFlag (one_of (codes "quiet") rows) words.is_quiet
+  pub strict_is : IsFlag (one_of (codes "strict") rows) words.is_strict
+  pub metrics_is : first_of (codes "metrics") rows ≡ option_map (λ file. file.now) words.metrics
 
 -- the text is an i64 in decimal, and this number
 abbrev pub IsSigned : ℤ → Text → Type 0

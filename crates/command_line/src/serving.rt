@@ -3,7 +3,7 @@
 ghost use Rattle.std.specs.Prelude.{◌≡◌, ℤ, IfOk, List, MatchOption, codes, false, map};
 ghost use Rattle.clap.specs.Words.{found_of, rows_of, rule_of};
 ghost use Rattle.command_line.specs.declared.serving.ServeWords.{ServeWords};
-ghost use Rattle.command_line.specs.CommandLine.{AreNumbers, AreStreams, IsCommand, IsServing, address_option, clients_option, idle_option, port_option, segment_option, serve_app, settle_option, stream_option, window_option, word_app};
+ghost use Rattle.command_line.specs.CommandLine.{AreNumbers, AreStreams, IsCommand, IsServing, address_option, clients_option, idle_option, metrics_option, port_option, segment_option, serve_app, settle_option, stream_option, window_option, word_app};
 
 use crate::command::{FOLDER_HELP, flag, required};
 use clap::builder::ValueParser;
@@ -36,6 +36,10 @@ pub struct ServeWords<'a> {
     pub segment_length: Option<u32>,
     /// Whether standard error reports faults alone.
     pub is_quiet: bool,
+    /// Whether the server ends once it can record nothing.
+    pub is_strict: bool,
+    /// The file that the metrics are written to each second, as it was given. None: there is no such file.
+    pub metrics: Option<&'a str>,
 }
 
 const SERVE_HELP: &str =
@@ -48,7 +52,8 @@ folder has to be on a local file system, and one process may have it open at a t
 const SERVE_EXAMPLE: &str =
     "Example: archive_tool serve /var/lib/recorder --control 8010 --receive 40123 --aeron
 
-Statuses: 0 done, refused lines too, 1 refused, 2 a wrong command line, 3 a device fault or damage, or a port failed.";
+Statuses: 0 done, refused lines too, 1 refused, 2 a wrong command line, 3 a device fault or damage, or a port failed; with \
+--strict also a server that can record nothing.";
 
 const CONTROL_HELP: &str = "The TCP port of 127.0.0.1 that control lines come to";
 
@@ -77,6 +82,14 @@ const SEGMENT_HELP: &str =
 134217728. It needs --record";
 
 const QUIET_HELP: &str = "Prints faults alone on standard error";
+
+const STRICT_HELP: &str =
+    "Ends with status 3 once the archive can record nothing: it cannot be opened, a device fault broke it, or its history is \
+full. Without it the server stays up, and answers lines";
+
+const METRICS_HELP: &str =
+    "A file that metrics are written to each second, in the text format of Prometheus, as a textfile collector reads it. It \
+is written beside its place as <file>.part, and then renamed";
 
 /// A port of `serve`, which has to be given.
 fn port<'a>(alloc: Global, name: &'a str, help: &'a str) -> Arg<'a>
@@ -178,6 +191,17 @@ fn segment_length<'a>(alloc: Global) -> Arg<'a>
         .help(SEGMENT_HELP)
 }
 
+/// The option `--metrics`, a file.
+fn metrics<'a>(alloc: Global) -> Arg<'a>
+    ensures rule { rule_of result ≡ metrics_option }
+    ensures local { result.global ≡ false }
+{
+    Arg::new(alloc, "metrics")
+        .long("metrics")
+        .value_name("file")
+        .help(METRICS_HELP)
+}
+
 /// The command `serve` with its folder.
 fn serve_folder<'a>(alloc: Global) -> Result<Command<'a>, AllocError>
     ensures { IfOk result (IsCommand (word_app (codes "serve") (codes "folder"))) }
@@ -205,7 +229,9 @@ pub(crate) fn serve<'a>(alloc: Global) -> Result<Command<'a>, AllocError>
         .arg(clients(alloc))?
         .arg(stream(alloc))?
         .arg(segment_length(alloc))?
-        .arg(flag(alloc, "quiet", QUIET_HELP))
+        .arg(flag(alloc, "quiet", QUIET_HELP))?
+        .arg(flag(alloc, "strict", STRICT_HELP))?
+        .arg(metrics(alloc))
 }
 
 /// The words of `serve` that its matches hold. An error: there is no memory for the streams.
@@ -269,6 +295,8 @@ fn words_of<'a>(own: &ArgMatches<'a>, streams: Vec<i32>) -> Option<ServeWords<'a
     let clients = own.get_one::<u32>("clients");
     let segment_length = own.get_one::<u32>("segment-length");
     let is_quiet = own.get_flag("quiet");
+    let is_strict = own.get_flag("strict");
+    let metrics = own.get_str("metrics");
     Some(ServeWords {
         folder,
         control,
@@ -282,5 +310,7 @@ fn words_of<'a>(own: &ArgMatches<'a>, streams: Vec<i32>) -> Option<ServeWords<'a
         streams,
         segment_length,
         is_quiet,
+        is_strict,
+        metrics,
     })
 }

@@ -24,6 +24,8 @@ pub(crate) fn usual<'a>(alloc: Global) -> ServeWords<'a> {
         streams: Vec::new(alloc),
         segment_length: None,
         is_quiet: false,
+        is_strict: false,
+        metrics: None,
     }
 }
 
@@ -86,6 +88,28 @@ fn serve_has_its_options(rt: HostRuntime) -> Result<(), Fail> {
         words.is_aeron = is_aeron;
         words.window = window;
         words.clients = clients;
+        assert!(rt;
+            asks_for(rt.alloc(), line.as_str(), ToolCommand::Serve(words))?,
+            "{line}"
+        );
+    }
+    Ok(())
+}
+
+/// Whether the server ends once it can record nothing, and the file of its metrics, as it was given.
+#[test]
+fn serve_has_its_reports(rt: HostRuntime) -> Result<(), Fail> {
+    for (options, is_strict, metrics) in [
+        ("--strict", true, None),
+        ("--metrics b.prom", false, Some("b.prom")),
+        ("--metrics=./c --strict", true, Some("./c")),
+    ] {
+        let line = format!(in rt.alloc();
+            "archive_tool serve a --control 1 --receive 2 {options}"
+        )?;
+        let mut words = usual(rt.alloc());
+        words.is_strict = is_strict;
+        words.metrics = metrics;
         assert!(rt;
             asks_for(rt.alloc(), line.as_str(), ToolCommand::Serve(words))?,
             "{line}"
@@ -225,6 +249,8 @@ fn unserved<'a>(
         streams: Vec::new(alloc),
         segment_length: None,
         is_quiet: true,
+        is_strict: false,
+        metrics: None,
     }
 }
 
@@ -232,6 +258,7 @@ fn unserved<'a>(
 #[test]
 fn wrong_words_of_a_server(rt: HostRuntime) -> Result<(), Fail> {
     let (any, absent) = ("127.0.0.1", "the folder is not there");
+    let multicast = "--receive-on wants an address of this machine, not a multicast address";
     let folder = format!(in rt.alloc(); "{}/archive_tool-unserved", env::temp_dir(&rt)?.display())?;
     let mut out = Vec::new(rt.alloc());
     for (receive_on, is_aeron, window, reason, status) in [
@@ -240,6 +267,15 @@ fn wrong_words_of_a_server(rt: HostRuntime) -> Result<(), Fail> {
             false,
             None,
             "--receive-on wants an IPv4 address",
+            2,
+        ),
+        ("224.0.0.0", false, None, multicast, 2),
+        ("239.255.255.255", false, None, multicast, 2),
+        (
+            "223.255.255.255",
+            true,
+            Some(4_100),
+            "--window wants a multiple of 32",
             2,
         ),
         (any, true, Some(4_100), "--window wants a multiple of 32", 2),

@@ -9,5 +9,7 @@ pub mod Targets
 pub mod WritingLemmas
 pub mod WriteCallLemmas
 pub mod SweepCallLemmas
+pub mod ShownLemmas
+pub mod TouchLemmas
 pub mod InsideLemmas
 pub mod AskLemmas

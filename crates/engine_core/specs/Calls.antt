@@ -1,6 +1,6 @@
 -- A call of an archive, and calls one after another: docs/STORAGE.md, "Recovery"; docs/CONTROL.md, "Requests".
 use Rattle.std.specs.Prelude.{◌≡◌, ◌≢◌, ◌+◌, ◌-◌, ◌^◌, ◌≤◌, ℕ, min, IsErrOf, IsTrue, Bool, true, false, List, [], ◌∷◌, count_by, Result, Ok, Err}
-use Rattle.disk_core.specs.DiskImage.{DiskImage, MayLeave}
+use Rattle.disk_core.specs.DiskImage.{DiskImage, MayLeave, reads}
 use Rattle.disk_core.specs.Life.{HasFailed, Life, LeavesOnly}
 use Rattle.frame_core.specs.declared.refusal.Refusal.{Refusal}
 use Rattle.frame_core.specs.declared.refusal.Refusal.TheVariants.{DeviceFault, NoMemory}
@@ -18,6 +18,8 @@ use Rattle.engine_core.specs.Recovery.{Recovers, RecoversTo}
 use Rattle.engine_core.specs.Engine.{Content, EngineState, DiskGoesOn, IsSpared, KeepsBank, archive_of}
 use Rattle.engine_core.specs.Consistent.{IsCrashConsistent, MayStandIn}
 use Rattle.engine_core.specs.Moves.{registered_keeps}
+use Rattle.engine_core.specs.Shown.{Shows}
+use Rattle.engine_core.specs.Touching.{Touches}
 
 -- ---- a call
 
@@ -50,8 +52,8 @@ Keeps _ a b = Unit {0}
 abbrev pub EndsAs : Life → Life → Event → Archive → Result Reply Refusal → Archive → Type 0
 EndsAs old new event a outcome b = IfRead (reads_files a.desk event) new (CallEnds a event (HasFailed old new) outcome b) × Keeps event a b
 
--- What an engine did to answer an event.
-pub record AnswersEvent (old new : EngineState) (event : Event) (result : Result Reply Refusal) : Type 0 where
+-- How a call ends: of any archive by its desk, of a crash-consistent one exactly.
+pub record EndsEvent (old new : EngineState) (event : Event) (result : Result Reply Refusal) : Type 0 where
   -- Whatever the archive is: the disk's calls went on, and a fault has its cause.
   pub goes_on : DiskGoesOn old.life new.life
   pub cause : IsErrOf result DeviceFault → HasFailed old.life new.life
@@ -67,6 +69,13 @@ pub record AnswersEvent (old new : EngineState) (event : Event) (result : Result
   -- Of a crash-consistent archive: the exact answer, and what a crash leaves. A truncation rests on what it reads.
   pub ended : (c : Content) → IsCrashConsistent old.life old.log (archive_of old c) → (IsTrue (is_cut event) → IsTrue new.life.obeys) →
       CallEnded old new (archive_of old c) (EndsAs old.life new.life event (archive_of old c) result)
+
+-- What an engine did to answer an event.
+pub record AnswersEvent (old new : EngineState) (event : Event) (result : Result Reply Refusal) : Type 0 where
+  pub ends : EndsEvent old new event result
+  -- Whatever the archive is: what is told of frames is what the files show, and no other file is changed than the call's.
+  pub shows : IsTrue new.life.obeys → Shows (reads old.life.now) old.desk event result
+  pub touches : Touches old event new.life
 
 -- every image that a crash now may leave recovers to this state
 abbrev pub LeavesAlone : Life → State → Type 0

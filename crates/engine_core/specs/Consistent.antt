@@ -18,7 +18,8 @@ use Rattle.control_core.specs.Consistent.{AreAtBoundaries, IsConsistent}
 use Rattle.control_core.specs.Exact.{Archive, recording_at}
 use Rattle.control_core.specs.Runs.{MayStand}
 use Rattle.engine_core.specs.Engine.{EngineState}
-use Rattle.engine_core.specs.Recovery.{IsDurable, IsSound, RecoversTo, last_of, layout_of}
+use Rattle.engine_core.specs.Recovery.{IsDurable, IsSound, RecoversTo, last_of}
+use Rattle.recording_reads.specs.Recording.{layout_of}
 
 -- ---- which states a crash may leave
 

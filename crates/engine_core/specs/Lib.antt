@@ -8,6 +8,8 @@ pub mod Opened
 pub mod Compacting
 pub mod Opening
 pub mod Reading
+pub mod Shown
+pub mod Touching
 -- what only private functions say
 pub mod Moves
 pub mod Making

@@ -1,11 +1,11 @@
 -- What an operation on the files of an archive did: docs/STORAGE.md, "Recovery".
-use Rattle.std.specs.Prelude.{◌≡◌, ◌≢◌, ◌⊎◌, ◌+◌, ◌<◌, ◌≤◌, false, IfErr, IsErrOf, IsTrue, List, ◌∷◌, map, OnOk, Result, Ok, Err, if◌then◌else◌}
+use Rattle.std.specs.Prelude.{◌≡◌, ◌≢◌, ◌⊎◌, ◌+◌, ◌<◌, ◌≤◌, ℕ, false, IfErr, IsErrOf, IsTrue, List, ◌∷◌, map, OnOk, Result, Ok, Err, if◌then◌else◌}
 use Rattle.frame_core.specs.declared.refusal.Refusal.{Refusal}
 use Rattle.frame_core.specs.declared.refusal.Refusal.TheVariants.{DeviceFault, NoMemory}
 use Rattle.disk_core.specs.declared.file_id.FileId.{FileId}
 use Rattle.disk_core.specs.declared.file_id.FileId.TheVariants.{BankA, BankB}
 use Rattle.disk_core.specs.DiskImage.{Files, reads}
-use Rattle.disk_core.specs.Life.{HasFailed, Life, LeavesOnly}
+use Rattle.disk_core.specs.Life.{HasFailed, Life, LeavesOnly, moment}
 use Rattle.segment_store.specs.declared.keep.Keep.{Keep}
 use Rattle.segment_store.specs.declared.keep.Keep.TheVariants as keeps
 use Rattle.segment_store.specs.Stale.{is_stale}
@@ -18,7 +18,8 @@ use Rattle.archive_model.specs.WellFormed.{IsWell}
 use Rattle.catalogue_entries.specs.declared.entry.Entry.{Entry}
 use Rattle.catalogue_entries.specs.Fold.{admits, after_entry, counts}
 use Rattle.catalogue_log.specs.LogState.{LogState}
-use Rattle.engine_core.specs.Recovery.{IsDurable, IsEither, IsSound, RecoversTo, layout_of}
+use Rattle.engine_core.specs.Recovery.{IsDurable, IsEither, IsSound, RecoversTo}
+use Rattle.recording_reads.specs.Recording.{layout_of}
 use Rattle.engine_core.specs.Engine.{DiskGoesOn, KeepsBank}
 
 -- An entry may follow those of a state, and makes of all but the frames what another state has.
@@ -90,3 +91,15 @@ pub record SparesKept (keeps : List Keep) (old new : Life) : Type 0 where
   pub same : (file : FileId) → is_stale keeps file ≡ false → new.now file ≡ old.now file
   pub obeyed : IsTrue new.obeys → IsTrue old.obeys
   pub faults : old.faults ≤ new.faults
+
+-- ---- which files are touched
+
+-- no file but those that have P has changed, by at most so many calls that change something
+pub record ChangesThese (P : FileId → Type 0) (most : ℕ) (old new : Life) : Type 0 where
+  pub others : (file : FileId) → (P file → ⊥) → new.now file ≡ old.now file
+  pub calls : moment new ≤ moment old + most
+
+-- A segment was synced and an entry added: but these two files none has changed, and each segment file reads as before.
+pub record SettlesAt (old new : Life) (segment bank : FileId) : Type 0 where
+  pub changes : ChangesThese (λ file. (file ≡ segment) ⊎ (file ≡ bank)) 5 old new
+  pub segments : (file : FileId) → file ≢ BankA → file ≢ BankB → reads new.now file ≡ reads old.now file

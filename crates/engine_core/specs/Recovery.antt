@@ -1,9 +1,7 @@
 -- What an image recovers to, and what the engine keeps of its files: docs/STORAGE.md, "Recovery".
 use Rattle.std.specs.Prelude.{◌≡◌, ◌⊎◌, ℕ, List, unsigned_abs}
 use Rattle.disk_core.specs.DiskImage.{DiskImage, Files}
-use Rattle.segment_store.specs.declared.layout.Layout.{Layout}
 use Rattle.segment_store.specs.Stored.{AreDurableFrames, HoldsFrames}
-use Rattle.archive_model.specs.declared.descriptor.Descriptor.{Descriptor}
 use Rattle.archive_model.specs.Keyed.{Each}
 use Rattle.archive_model.specs.Register.{no_recordings}
 use Rattle.archive_model.specs.State.{Recording, State, recorded_position, register_of}
@@ -13,16 +11,7 @@ use Rattle.catalogue_entries.specs.declared.entry.Entry.{Entry}
 use Rattle.catalogue_log.specs.Catalogue.{IsCatalogue}
 use Rattle.catalogue_entries.specs.Fold.{after_entries}
 use Rattle.catalogue_log.specs.LogState.{IsAtRest, LogState}
-
--- where the frames of a recording lie
-abbrev pub layout_of : Descriptor → Layout
-layout_of d = record {
-  recording = d.recording;
-  stream_id = d.stream_id;
-  start_position = d.start_position;
-  term_length = d.term_length;
-  segment_length = d.segment_length;
-}
+use Rattle.recording_reads.specs.Recording.{layout_of}
 
 -- where a recording begins, and where its last frame ends, in bytes of the stream
 abbrev pub first_of : Recording → ℕ

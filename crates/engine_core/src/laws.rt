@@ -32,7 +32,8 @@ ghost use Rattle.engine_core.specs.Consistent.{IsCrashConsistent, Stands};
 ghost use Rattle.engine_core.specs.Engine.{Content, EngineState, DiskGoesOn, archive_of};
 ghost use Rattle.engine_core.specs.Moves.{Enters, EntryLeads};
 ghost use Rattle.engine_core.specs.Opened.{LeavesEither};
-ghost use Rattle.engine_core.specs.Recovery.{IsDurable, IsSound, Recovers, last_of, layout_of};
+ghost use Rattle.engine_core.specs.Recovery.{IsDurable, IsSound, Recovers, last_of};
+ghost use Rattle.recording_reads.specs.Recording.{layout_of};
 
 /// Every image that a crash may leave of a sound archive recovers to its state.
 pub fn a_sound_archive_recovers()

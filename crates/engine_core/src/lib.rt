@@ -7,7 +7,6 @@ mod engine;
 pub mod laws;
 mod making;
 mod opening;
-mod reading;
 mod replay_close;
 mod replay_open;
 mod replay_poll;
@@ -21,6 +20,5 @@ mod write;
 
 pub use compacting::compact;
 pub use engine::{Engine, OpenRefusal};
-pub use reading::layout_of;
 pub use storage::Storage;
 pub use sweep::keeps_of;

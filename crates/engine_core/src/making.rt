@@ -3,12 +3,14 @@
 ghost use Rattle.std.specs.Prelude.{◌≡◌, ◌≢◌, IfErr, IsFalse};
 ghost use Rattle.frame_core.specs.declared.refusal.Refusal.TheVariants.{DeviceFault};
 ghost use Rattle.archive_model.specs.Accepting.{Accepts};
+ghost use Rattle.catalogue_log.specs.Banks.{bank_file};
 ghost use Rattle.catalogue_log.specs.Catalogue.{ChangesBank};
 ghost use Rattle.catalogue_entries.specs.History.{IsRequested};
 ghost use Rattle.control_core.specs.Changes.{reply_after};
 ghost use Rattle.control_core.specs.Decisions.{Allows};
 ghost use Rattle.control_core.specs.Exact.{archive_after, book_of};
 ghost use Rattle.engine_core.specs.Making.{CommitsEntry, Restarts, after_failure};
+ghost use Rattle.engine_core.specs.Moves.{ChangesThese};
 
 use crate::Engine;
 use archive_model::{Command, Reply};
@@ -35,6 +37,8 @@ impl<D: Disk> Engine<D> {
             D.life self.new.storage.disk ≡ D.life self.old.storage.disk) }
         ensures changes { ChangesBank (D.life self.old.storage.disk)
             (D.life self.new.storage.disk) }
+        ensures touches { ChangesThese (λ file. file ≡ bank_file self.old.storage.log.bank) 4
+            (D.life self.old.storage.disk) (D.life self.new.storage.disk) }
     {
         let entry = Entry::of_command(alloc, &self.desk.next_recording(), &command)?;
         self.desk.reserve(&command)?;

@@ -1,6 +1,8 @@
 //! A replay is closed. docs/CONTROL.md, "Replays".
 
+ghost use Rattle.std.specs.Prelude.{◌≡◌};
 ghost use Rattle.control_core.specs.declared.event.Event.TheVariants as events;
+ghost use Rattle.engine_core.specs.Touching.{WantsMemory};
 
 use crate::Engine;
 use archive_model::Reply;
@@ -9,12 +11,14 @@ use disk_core::Disk;
 use frame_core::Refusal;
 
 impl<D: Disk> Engine<D> {
-    ghost use Rattle.engine_core.specs.Seen.{HasAnswered};
+    ghost use Rattle.engine_core.specs.Seen.{HasEnded};
 
     /// Closes a replay: `UnknownReplay` where none of the number is open. The disk is not asked; does not allocate. Costs
     /// the open replays.
     pub(crate) fn close(&mut self, replay: &i64) -> Result<Reply, Refusal>
-        ensures { HasAnswered D.life self.old self.new (events.ReplayClose replay.now) result }
+        ensures ends { HasEnded D.life self.old self.new (events.ReplayClose replay.now) result }
+        ensures disk { self.new.storage ≡ self.old.storage }
+        ensures memory { WantsMemory self.old.desk.state (events.ReplayClose replay.now) result }
     {
         let found = decide_close(&self.desk, replay)?;
         self.desk.close_replay(replay, found.index);

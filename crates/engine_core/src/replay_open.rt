@@ -2,6 +2,7 @@
 
 ghost use Rattle.std.specs.Prelude.{◌≡◌, IfErr, IfOk, IsErrOf, IsTrue, Err, Some};
 ghost use Rattle.frame_core.specs.declared.refusal.Refusal.TheVariants.{DeviceFault};
+ghost use Rattle.disk_core.specs.DiskImage.{reads};
 ghost use Rattle.disk_core.specs.Life.{HasFailed, IsQuiet};
 ghost use Rattle.catalogue_log.specs.LogState.{LogState};
 ghost use Rattle.control_core.specs.ByDecision.{OpensBy};
@@ -10,32 +11,38 @@ ghost use Rattle.control_core.specs.Exact.{Archive, asked_opening, opens_by_fram
 ghost use Rattle.control_core.specs.Turns.{open_decision, opening_in};
 ghost use Rattle.engine_core.specs.Calls.{IfRead};
 ghost use Rattle.engine_core.specs.Consistent.{IsCrashConsistent};
-ghost use Rattle.engine_core.specs.Replaying.{IsDecided};
+ghost use Rattle.engine_core.specs.Replaying.{IsDecided, ShowsOpening};
+ghost use Rattle.engine_core.specs.Shown.{OpensShown};
 
-use crate::{Engine, reading};
+use crate::Engine;
 use archive_model::Reply;
 use control_core::{Desk, Opening, OpeningDecision, decide_open};
 use disk_core::Disk;
 use frame_core::Refusal;
+use recording_reads::is_boundary;
 
 impl<D: Disk> Engine<D> {
-    ghost use Rattle.engine_core.specs.Seen.{HasAnswered};
+    ghost use Rattle.engine_core.specs.Seen.{HasEnded};
 
     /// Opens a replay of a recording, from a position of its stream on and over so many bytes: position -1 means the start,
     /// length -1 that there is no end. Answers the replay's number. Where the position lies strictly inside the recording,
-    /// frames are read.
+    /// frames of its term are read.
     ///
     /// `BadParameter` below -1; `UnknownRecording`; `BadPosition` where no frame begins there; `Damaged` where the frames
     /// break off before it; `MaxReplays` where 64 are open; `DeviceFault`; `NoMemory`. Each leaves the archive as it was.
-    /// Costs a step for each frame before the position.
+    /// Costs a step for each frame of the term before the position.
     pub(crate) fn open_replay(
         &mut self,
         recording: &i64,
         position: &i64,
         length: &i64,
     ) -> Result<Reply, Refusal>
-        ensures { HasAnswered D.life self.old self.new
+        ensures ends { HasEnded D.life self.old self.new
             (events.ReplayOpen recording.now position.now length.now) result }
+        ensures shows { IsTrue (D.life self.new.storage.disk).obeys →
+            OpensShown (reads (D.life self.old.storage.disk).now) self.old.desk.state recording.now
+            (open_decision self.old.desk.state recording.now position.now length.now) result }
+        ensures quiet { IsQuiet (D.life self.old.storage.disk) (D.life self.new.storage.disk) }
     {
         let opening = decided_opening(
             &mut self.storage.disk,
@@ -73,6 +80,10 @@ fn decided_opening<D: Disk>(
         OpensBy desk.now.state (open_decision desk.now.state recording.now position.now length.now) (Err refusal) desk.now.state) }
     ensures leads { IfOk result (λ opening.
         opening_in (open_decision desk.now.state recording.now position.now length.now) ≡ Some opening) }
+    // Whatever they hold, what is told of the position is what they show.
+    ensures shows { IsTrue (D.life disk.new).obeys →
+        ShowsOpening (reads (D.life disk.old).now) desk.now.state recording.now
+        (open_decision desk.now.state recording.now position.now length.now) result }
     ensures quiet { IsQuiet (D.life disk.old) (D.life disk.new) }
     ensures cause { IsErrOf result DeviceFault → HasFailed (D.life disk.old) (D.life disk.new) }
 {
@@ -83,7 +94,7 @@ fn decided_opening<D: Disk>(
             position,
             decided,
         } => {
-            if !reading::begins_at(disk, known, position)? {
+            if !is_boundary(disk, known, position)? {
                 return Err(Refusal::BadPosition);
             }
             decided

@@ -1,18 +1,22 @@
 //! A replay goes on. docs/CONTROL.md, "Replays".
 
-ghost use Rattle.std.specs.Prelude.{◌≡◌, None, Some, if◌then◌else◌};
+ghost use Rattle.std.specs.Prelude.{◌≡◌, IsTrue, None, Some, if◌then◌else◌};
+ghost use Rattle.disk_core.specs.DiskImage.{reads};
+ghost use Rattle.disk_core.specs.Life.{IsQuiet};
 ghost use Rattle.control_core.specs.declared.event.Event.TheVariants as events;
-ghost use Rattle.control_core.specs.Turns.{is_done_at};
+ghost use Rattle.control_core.specs.Turns.{is_done_at, poll_decision};
+ghost use Rattle.engine_core.specs.Shown.{PollsDecided};
 
-use crate::{Engine, reading};
+use crate::Engine;
 use archive_model::{Registration, Reply};
 use control_core::decide_poll;
 use disk_core::Disk;
 use frame_core::{Refusal, is_replay_done};
+use recording_reads::poll_frames;
 use std::alloc::Global;
 
 impl<D: Disk> Engine<D> {
-    ghost use Rattle.engine_core.specs.Seen.{HasAnswered};
+    ghost use Rattle.engine_core.specs.Seen.{HasEnded};
 
     /// Takes the next frames of a replay, at most so many, and where it goes on, or that it is done: at its bound, or at the
     /// end of a recording that isn't active. What is written and not settled is not given.
@@ -20,13 +24,17 @@ impl<D: Disk> Engine<D> {
     /// `BadParameter` where `most` is not from 1 to 4,096; `UnknownReplay`; `Damaged` where the frames break off;
     /// `DeviceFault`; `NoMemory`. Each leaves the replay where it was. Costs what the frames that are given cost.
     pub(crate) fn poll(&mut self, alloc: Global, replay: &i64, most: &i64) -> Result<Reply, Refusal>
-        ensures { HasAnswered D.life self.old self.new
+        ensures ends { HasEnded D.life self.old self.new
             (events.ReplayPoll replay.now most.now) result }
+        ensures shows { IsTrue (D.life self.new.storage.disk).obeys →
+            PollsDecided (reads (D.life self.old.storage.disk).now) self.old.desk.state
+            (poll_decision self.old.desk.state replay.now most.now) most.now result }
+        ensures quiet { IsQuiet (D.life self.old.storage.disk) (D.life self.new.storage.disk) }
     {
         let reader = decide_poll(&self.desk, replay, most)?;
         let found = reader.found;
         let known = reader.known;
-        let given = reading::poll(alloc, &mut self.storage.disk, known, &found.replay, *most)?;
+        let given = poll_frames(alloc, &mut self.storage.disk, known, &found.replay, *most)?;
         let next = goes_on(known, &found.replay.bound, given.next);
         self.desk.move_replay(replay, found.index, &given.next);
         Ok(Reply::Polled {

@@ -1,9 +1,11 @@
 //! What a recorder session wrote is recorded. docs/CONTROL.md, "Recorder sessions"; docs/STORAGE.md, "Segments".
 
-ghost use Rattle.std.specs.Prelude.{◌≡◌, Ok, Some};
+ghost use Rattle.std.specs.Prelude.{◌≡◌, Ok, Some, unsigned_abs};
+ghost use Rattle.segment_store.specs.Layout.{file_of};
 ghost use Rattle.archive_model.specs.declared.registration.Registration.{Registration};
 ghost use Rattle.archive_model.specs.declared.reply.Reply.TheVariants as replies;
 ghost use Rattle.archive_model.specs.Register.{registration_in};
+ghost use Rattle.catalogue_log.specs.Banks.{bank_file};
 ghost use Rattle.control_core.specs.declared.event.Event.TheVariants as events;
 ghost use Rattle.control_core.specs.declared.turns.Settling.TheVariants.{Blocks};
 ghost use Rattle.control_core.specs.Exact.{settled_archive};
@@ -11,20 +13,22 @@ ghost use Rattle.control_core.specs.Orderly.{KeepsDesk};
 ghost use Rattle.control_core.specs.Seats.{IsFoundSession};
 ghost use Rattle.control_core.specs.Turns.{settle_decision};
 ghost use Rattle.engine_core.specs.Making.{CommitsEntry};
-ghost use Rattle.engine_core.specs.Recovery.{layout_of};
+ghost use Rattle.engine_core.specs.Moves.{SettlesAt};
+ghost use Rattle.engine_core.specs.Touching.{SettlesBlocks, WantsMemory};
+ghost use Rattle.recording_reads.specs.Recording.{layout_of};
 
 use crate::Engine;
 use crate::making::failed;
-use crate::reading::layout_of;
 use archive_model::Reply;
 use catalogue_log::Entry;
 use control_core::{FoundSession, Settling, Written, decide_settle};
 use disk_core::Disk;
 use frame_core::Refusal;
+use recording_reads::layout_of;
 use segment_store::Layout;
 
 impl<D: Disk> Engine<D> {
-    ghost use Rattle.engine_core.specs.Seen.{HasAnswered, seen};
+    ghost use Rattle.engine_core.specs.Seen.{HasEnded, seen};
 
     /// Records what a recorder session wrote as one entry of the history, by five calls of the disk, and answers up to
     /// where its recording is recorded then, in bytes of the stream: a crash from then on leaves it recorded. Where the
@@ -33,7 +37,9 @@ impl<D: Disk> Engine<D> {
     /// The refusals of docs/CONTROL.md, "Refusals"; `NoMemory`, which leaves what was written to be settled; `DeviceFault`
     /// where the disk fails, with the archive broken. Costs a lookup at each session and recording.
     pub(crate) fn settle(&mut self, session: &i64) -> Result<Reply, Refusal>
-        ensures { HasAnswered D.life self.old self.new (events.Settle session.now) result }
+        ensures ends { HasEnded D.life self.old self.new (events.Settle session.now) result }
+        ensures touches { SettlesBlocks (seen D.life self.old) session.now (D.life self.new.storage.disk) }
+        ensures memory { WantsMemory self.old.desk.state (events.Settle session.now) result }
     {
         let decided = decide_settle(&self.desk, session)?;
         match decided.settling {
@@ -63,9 +69,11 @@ impl<D: Disk> Engine<D> {
         requires found { IsFoundSession session.now self.old.desk.state.callers.sessions found.now }
         requires decided { settle_decision self.old.desk.state session.now
             ≡ Ok (Blocks recording.now written.now) }
-        ensures { CommitsEntry (seen D.life self.old) (seen D.life self.new)
+        ensures settles { CommitsEntry (seen D.life self.old) (seen D.life self.new)
             (λ a. settle_decision a.desk session.now ≡ Ok (Blocks recording.now written.now))
             (replies.Settled written.now.last) (λ a. settled_archive a session.now recording.now) result }
+        ensures touches { SettlesAt (D.life self.old.storage.disk) (D.life self.new.storage.disk)
+            (file_of layout.now (unsigned_abs written.now.first)) (bank_file self.old.storage.log.bank) }
     {
         let position = written.last;
         let entry = Entry::Settle {

@@ -3,6 +3,7 @@
 ghost use Rattle.std.specs.Prelude.{◌≡◌, IfErr, IfOk};
 ghost use Rattle.frame_core.specs.declared.refusal.Refusal.TheVariants.{NoMemory};
 ghost use Rattle.engine_core.specs.Calls.{IsRun};
+ghost use Rattle.engine_core.specs.Touching.{WantsMemory};
 
 use crate::Engine;
 use archive_model::Reply;
@@ -21,7 +22,8 @@ impl<D: Disk> Engine<D> {
     /// over the state before it, and a crash leaves one of the two; `NoMemory`, which changes nothing. Costs what the
     /// event costs: docs/ARCHITECTURE.md, "The engine".
     pub fn step(&mut self, alloc: Global, event: &Event) -> Result<Reply, Refusal>
-        ensures { HasAnswered D.life self.old self.new event.now result }
+        ensures answered { HasAnswered D.life self.old self.new event.now result }
+        ensures memory { WantsMemory self.old.desk.state event.now result }
     {
         match event {
             Event::Ask(request) => self.ask(alloc, request),

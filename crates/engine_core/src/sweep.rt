@@ -6,18 +6,19 @@ ghost use Rattle.frame_core.specs.declared.refusal.Refusal.TheVariants.{NoMemory
 ghost use Rattle.segment_store.specs.Stale.{IsKeep};
 ghost use Rattle.control_core.specs.declared.event.Event.TheVariants as events;
 ghost use Rattle.engine_core.specs.Moves.{registered_keep, registered_keeps};
+ghost use Rattle.engine_core.specs.Touching.{Touches};
 
 use crate::Engine;
-use crate::reading::layout_of;
 use archive_model::{Registration, Reply};
 use control_core::{Desk, decide_sweep};
 use disk_core::Disk;
 use frame_core::Refusal;
+use recording_reads::layout_of;
 use segment_store::Keep;
 use std::alloc::Global;
 
 impl<D: Disk> Engine<D> {
-    ghost use Rattle.engine_core.specs.Seen.{HasAnswered};
+    ghost use Rattle.engine_core.specs.Seen.{HasEnded, seen};
 
     /// Removes the first segment file that no recording needs, by two calls of the disk behind a listing, and answers
     /// whether there was one.
@@ -25,7 +26,8 @@ impl<D: Disk> Engine<D> {
     /// `Broken` where a write has failed; `DeviceFault`; `NoMemory`. In every case, and at every moment, the archive stays
     /// as it is, and no fault breaks it. docs/STORAGE.md, "Stale files". Costs a step for each file and recording.
     pub(crate) fn sweep(&mut self, alloc: Global) -> Result<Reply, Refusal>
-        ensures { HasAnswered D.life self.old self.new events.Sweep result }
+        ensures ends { HasEnded D.life self.old self.new events.Sweep result }
+        ensures touches { Touches (seen D.life self.old) events.Sweep (D.life self.new.storage.disk) }
     {
         decide_sweep(&self.desk)?;
         let keeps = keeps_of(alloc, &self.desk)?;

@@ -4,14 +4,15 @@ ghost use Rattle.std.specs.Prelude.{◌≡◌, IfSome, MatchOption, Some};
 ghost use Rattle.frame_core.specs.Block.{IsBlock, end_position};
 ghost use Rattle.archive_model.specs.State.{geometry_of, publication_of};
 ghost use Rattle.control_core.specs.declared.event.Event.TheVariants as events;
+ghost use Rattle.engine_core.specs.Touching.{WantsMemory, WritesBlock};
 
 use crate::Engine;
 use crate::making::failed;
-use crate::reading::layout_of;
 use archive_model::Reply;
 use control_core::{Writer, Written, decide_write};
 use disk_core::Disk;
 use frame_core::{Block, Refusal, block_end};
+use recording_reads::layout_of;
 
 // Who writes a block, and where that ends, in bytes of the stream.
 #[derive(Clone, Copy)]
@@ -21,7 +22,7 @@ struct Target<'a> {
 }
 
 impl<D: Disk> Engine<D> {
-    ghost use Rattle.engine_core.specs.Seen.{HasAnswered};
+    ghost use Rattle.engine_core.specs.Seen.{HasEnded};
 
     /// Writes a recorder session's block behind what it wrote before, or behind what is recorded, by one call of the disk,
     /// and answers where it ends, in bytes of the stream. It is durable once it is settled, with what was written before.
@@ -29,7 +30,10 @@ impl<D: Disk> Engine<D> {
     /// The refusals of docs/CONTROL.md, "Refusals"; `DeviceFault` where the disk fails, with the archive broken. Does not
     /// allocate. Costs the block's bytes and a lookup at each session and recording.
     pub(crate) fn write(&mut self, session: &i64, block: &Block) -> Result<Reply, Refusal>
-        ensures { HasAnswered D.life self.old self.new (events.Write session.now block.now) result }
+        ensures ends { HasEnded D.life self.old self.new (events.Write session.now block.now) result }
+        ensures touches { WritesBlock self.old.desk.state session.now block.now
+            (D.life self.old.storage.disk) (D.life self.new.storage.disk) }
+        ensures memory { WantsMemory self.old.desk.state (events.Write session.now block.now) result }
     {
         let writer = self.desk.session(session);
         let Some(target) = target_of(&writer, block) else {

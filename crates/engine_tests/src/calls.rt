@@ -323,8 +323,22 @@ pub fn plays(
     }
 }
 
+/// The disk of an archive that answered as a script says.
+pub fn leaves(
+    rt: &impl Abort,
+    alloc: Global,
+    disk: MemoryDisk,
+    script: &str,
+) -> Result<MemoryDisk, Fail> {
+    let mut engine = opened(alloc, disk)?;
+    match answers(rt, alloc, &mut engine, script) {
+        Ok(()) => Ok(engine.into_disk()),
+        Err(fail) => Err(fail),
+    }
+}
+
 /// The archive of a disk has to answer as a script says.
 pub fn goes_on(rt: &impl Abort, alloc: Global, disk: MemoryDisk, script: &str) -> Result<(), Fail> {
-    let mut engine = opened(alloc, disk)?;
-    answers(rt, alloc, &mut engine, script)
+    leaves(rt, alloc, disk, script)?;
+    Ok(())
 }

@@ -6,6 +6,8 @@ mod calls;
 #[cfg(test)]
 mod crashes;
 #[cfg(test)]
+mod damage;
+#[cfg(test)]
 mod merging;
 #[cfg(test)]
 mod random;

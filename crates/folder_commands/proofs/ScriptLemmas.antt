@@ -1,5 +1,5 @@
 -- A script over a watched disk is one over the disk inside.
-use Rattle.std.proofs.Common.{◌≡◌, ◌∙◌, ℕ, ℤ, Bool, List, [], ◌∷◌, take, drop, Option, None, Some, Result, Ok, Err, ap, refl, inl, inr}
+use Rattle.std.proofs.Common.{◌≡◌, ◌∙◌, ℕ, ℤ, Bool, false, List, [], ◌∷◌, take, drop, Option, None, Some, Result, Ok, Err, ap, refl, inl, inr}
 use Rattle.std.specs.Prelude.{◌⊎◌}
 use Rattle.frame_core.specs.declared.block.Block.{Block}
 use Rattle.frame_core.specs.declared.geometry.Geometry.{Geometry}
@@ -23,8 +23,11 @@ use Rattle.tool_core.specs.Archives.{BeginsAs, CallsEngine, CompactsArchive, Com
 use Rattle.tool_core.specs.InputLines.{kept, lines_of}
 use Rattle.tool_core.specs.Transcript.{LeftNear, Transcript, WritesText, until_quit}
 use Rattle.folder_commands.specs.declared.status.Ending.{Ending}
-use Rattle.folder_commands.specs.declared.status.Ending.TheVariants.{Done, Cut}
+use Rattle.folder_commands.specs.declared.status.Ending.TheVariants.{Done, Cut, Stuck}
+use Rattle.serve_core.specs.declared.served.Stop.{Stop}
+use Rattle.serve_core.specs.Serving.{EndsFrom, IsServed, IsServedAs, IsServedUpTo, IsUnserved}
 use Rattle.folder_commands.specs.Folders.{RunsOver}
+use Rattle.folder_commands.specs.Serving.{ServesOver}
 use Rattle.folder_commands.proofs.WatchedLemmas.{compacted, inside, not_compacted, unwatched}
 
 abbrev of_inside : {D V : Type 0} → ScriptArchive (Watched D V) → ScriptArchive D
@@ -176,3 +179,32 @@ module _ (D V : Type 0) (life : D → Life) where
   run_inside old input contents written Done h = (h.0, record { whole = whole old h.0 input contents written h.1.whole; kept = h.1.kept })
   run_inside old input contents written (Cut end) h = (h.0, record { early = early_or_unopened end old h.0 input contents written h.1.early; kept = h.1.kept })
   run_inside old input contents written ending h = h
+
+  -- ---- servers
+
+  ends_from : (strict : Bool) (beginning : Beginning) (a : ScriptArchive (Watched D V)) (new : Life) (stop : Option Stop) → EndsFrom (inside D V life) strict beginning a new stop → EndsFrom life strict beginning (of_inside a) new stop
+  ends_from strict beginning (Open engine) new stop h = h
+  ends_from strict beginning (Closed watched) new stop h = h
+
+  served_as : (strict : Bool) (old new : Life) (stop : Option Stop) → IsServedAs (inside D V life) strict old new stop → IsServedAs life strict old new stop
+  served_as strict old new stop h = record {
+    first = of_inside h.first;
+    beginning = h.beginning;
+    begins = begins old h.beginning h.first h.begins;
+    ends = ends_from strict h.beginning h.first new stop h.ends;
+  }
+
+  unserved : (old new : Life) → IsUnserved (inside D V life) old new → IsUnserved life old new
+  unserved old new (inl h) = inl h
+  unserved old new (inr (inl h)) = inr (inl h)
+  unserved old new (inr (inr h)) = inr (inr (of_inside h.0, h.1, begins old h.1 h.0 h.2, h.3 ∙ lives h.0))
+
+  served_up_to : (old new : Life) (end : EarlyEnd) → IsServedUpTo (inside D V life) old new end → IsServedUpTo life old new end
+  served_up_to old new end (inl h) = inl (served_as false old new None h)
+  served_up_to old new end (inr h) = inr (h.0, unserved old new h.1)
+
+  pub serves_inside : (strict : Bool) (old : Life) (ending : Ending) → ServesOver (inside D V life) strict old ending → ServesOver life strict old ending
+  serves_inside strict old Done h = (h.0, served_as strict old h.0 None h.1)
+  serves_inside strict old (Stuck stop) h = (h.0, served_as strict old h.0 (Some stop) h.1)
+  serves_inside strict old (Cut end) h = (h.0, served_up_to old h.0 end h.1)
+  serves_inside strict old ending h = h

@@ -1,14 +1,17 @@
 -- How `serve` ends if its words are right, by its folder and its server.
-use Rattle.std.proofs.Common.{◌≡◌, inl, inr, ℤ, sym, subst}
+use Rattle.std.proofs.Common.{◌≡◌, inl, inr, ℤ, Bool, sym, subst}
 use Rattle.command_line.specs.declared.serving.ServeWords.{ServeWords}
 use Rattle.disk_core.specs.Life.{Life}
 use Rattle.host_disk.specs.Events.{Given}
+use Rattle.host_disk.specs.HostDisk.{host_life}
 use Rattle.host_disk.specs.Replay.{life_from}
 use Rattle.serve_core.specs.declared.options.ServeOptions.{ServeOptions}
 use Rattle.folder_commands.specs.declared.status.Ending.{Ending}
-use Rattle.folder_commands.specs.declared.status.Ending.TheVariants.{Done, Cut, Refused, Unopened, FoundDamage, LineRefused, NoCommand, Failed}
-use Rattle.folder_commands.specs.Folders.{IsUnopenedFolder}
+use Rattle.folder_commands.specs.declared.status.Ending.TheVariants.{Done, Cut, Refused, Stuck, Unopened, FoundDamage, LineRefused, NoCommand, Failed}
+use Rattle.folder_commands.specs.Folders.{FolderAsDisk, IsUnopenedFolder}
 use Rattle.folder_commands.specs.Serving.{AreOptions, AreWrong, HasNoEnds, IsUnbound, ServesFolder, ServesOver}
+use Rattle.folder_commands.proofs.ScriptLemmas.{serves_inside}
+use Rattle.folder_commands.proofs.WatchedLemmas.{inside}
 
 module _ (given : Given) (words : ServeWords) (receiver : ℤ) (options : ServeOptions) (asked : AreOptions words receiver options) (named : HasNoEnds words → ⊥) where
   are_right : AreWrong words → ⊥
@@ -20,7 +23,7 @@ module _ (given : Given) (words : ServeWords) (receiver : ℤ) (options : ServeO
   pub not_opened : (ending : Ending) → IsUnopenedFolder ending → ServesFolder given words ending
   not_opened ending (fault, is) = subst (ServesFolder given words) (sym is) are_right
 
-  over_folder : (ending : Ending) → ServesOver (life_from given) ending → ServesFolder given words ending
+  over_folder : (ending : Ending) → ServesOver host_life words.is_strict (life_from given) ending → ServesFolder given words ending
   over_folder Done h = (are_right, h)
   over_folder (Cut end) h = (are_right, h)
   over_folder (Unopened fault) h = absurd h
@@ -29,9 +32,11 @@ module _ (given : Given) (words : ServeWords) (receiver : ℤ) (options : ServeO
   over_folder (Refused refusal) h = absurd h
   over_folder FoundDamage h = absurd h
   over_folder LineRefused h = absurd h
+  over_folder (Stuck stop) h = (are_right, h)
 
-  pub served : (old : Life) (ending : Ending) → old ≡ life_from given → ServesOver old ending → ServesFolder given words ending
-  served old ending begins h = over_folder ending (subst (λ l. ServesOver l ending) begins h)
+  pub served : (V : Type 0) (old : Life) (ending : Ending) → old ≡ life_from given → ServesOver (inside FolderAsDisk V host_life) options.is_strict old ending → ServesFolder given words ending
+  served V old ending begins h = over_folder ending (subst (λ (l : Life). ServesOver host_life words.is_strict l ending) begins
+      (subst (λ (strict : Bool). ServesOver host_life strict old ending) asked.strict (serves_inside FolderAsDisk V host_life options.is_strict old ending h)))
 
 -- no port is bound
 pub not_bound : (given : Given) (words : ServeWords) (receiver : ℤ) (options : ServeOptions) → AreOptions words receiver options → (ending : Ending) → IsUnbound words ending → ServesFolder given words ending
@@ -43,3 +48,4 @@ not_bound given words receiver options asked (Refused refusal) h = absurd h
 not_bound given words receiver options asked (Unopened fault) h = absurd h
 not_bound given words receiver options asked FoundDamage h = absurd h
 not_bound given words receiver options asked LineRefused h = absurd h
+not_bound given words receiver options asked (Stuck stop) h = absurd h

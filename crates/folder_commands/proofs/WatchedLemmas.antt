@@ -33,7 +33,7 @@ module _ (D V : Type 0) (life : D → Life) where
   unlisted old contents written watched (stops.Cut end) h = record { engine = unwatched h.engine; opened = h.opened; left = h.left; told = h.told }
 
   answers : {old new : Engine (Watched D V)} {ids : List ℤ} {outcomes : List (Result Reply Refusal)} → AnswersEach inside old new ids outcomes → AnswersEach life (unwatched old) (unwatched new) ids outcomes
-  answers h = record { goes_on = h.goes_on; each = h.each; cause = h.cause; stays = h.stays; exact = h.exact }
+  answers h = record { goes_on = h.goes_on; each = h.each; quiet = h.quiet; shown = h.shown; cause = h.cause; stays = h.stays; exact = h.exact }
 
   pub verified : {old new : Life} {contents written : Option (List ℕ)} {verdict : Verdict} → HasVerified inside old new contents written verdict → HasVerified life old new contents written verdict
   verified h = record {

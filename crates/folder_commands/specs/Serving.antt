@@ -1,6 +1,7 @@
 -- What `serve` does over the archive of a folder, and how it ends: docs/SERVING.md.
-use Rattle.std.specs.Prelude.{◌≡◌, ◌⊎◌, ◌<◌, ◌≤◌, ◌%◌, ℕ, ℤ, pos, Bool, true, false, List, [], ◌∷◌, length, Option, None, Some}
+use Rattle.std.specs.Prelude.{◌≡◌, ◌⊎◌, ◌<◌, ◌≤◌, ◌%◌, ℕ, ℤ, pos, Bool, true, false, List, [], ◌∷◌, length, Option, None, Some, is_some}
 use Rattle.std.specs.Int.{is_power_of_two}
+use Rattle.std.specs.Net.Addr.{IsMulticastV4}
 use Rattle.std.specs.Net.Grammar.{IsIpv4Text}
 use Rattle.std.specs.declared.net.ipv4_addr.Ipv4Addr.{Ipv4Addr}
 use Rattle.clap.specs.declared.error.ErrorKind.TheVariants.{ValueValidation}
@@ -10,17 +11,23 @@ use Rattle.host_disk.specs.HostDisk.{host_life}
 use Rattle.host_disk.specs.Replay.{life_from}
 use Rattle.command_line.specs.declared.serving.ServeWords.{ServeWords}
 use Rattle.serve_core.specs.declared.options.ServeOptions.{ServeOptions}
-use Rattle.serve_core.specs.Serving.{IsServed, IsServedUpTo}
+use Rattle.serve_core.specs.Serving.{IsServedAs, IsServedUpTo}
 use Rattle.folder_commands.specs.declared.reason.Reason.{Reason}
-use Rattle.folder_commands.specs.declared.reason.Reason.TheVariants.{Window, NeedsAeron, RecordNeedsAeron, Streams, NeedsRecord, SegmentLength}
+use Rattle.folder_commands.specs.declared.reason.Reason.TheVariants.{Address, Multicast, Window, NeedsAeron, RecordNeedsAeron, Streams, NeedsRecord, SegmentLength}
 use Rattle.folder_commands.specs.declared.status.Ending.{Ending}
-use Rattle.folder_commands.specs.declared.status.Ending.TheVariants.{Done, Cut, Unopened, NoCommand, Failed}
+use Rattle.folder_commands.specs.declared.status.Ending.TheVariants.{Done, Cut, Stuck, Unopened, NoCommand, Failed}
 
 -- ---- the words
 
--- the text is no IPv4 address
+-- the text is no IPv4 address of one machine: it is none, or a multicast address, from 224.0.0.0 to 239.255.255.255
 abbrev pub IsNoAddress : List ℕ → Type 0
-IsNoAddress text = (address : Ipv4Addr) → IsIpv4Text text address → ⊥
+IsNoAddress text = (address : Ipv4Addr) → IsIpv4Text text address → IsMulticastV4 address
+
+-- what is wrong with it
+abbrev pub IsAddressReason : List ℕ → Reason → Type 0
+IsAddressReason text Address = (address : Ipv4Addr) → IsIpv4Text text address → ⊥
+IsAddressReason text Multicast = (address : Ipv4Addr) × IsIpv4Text text address × IsMulticastV4 address
+IsAddressReason text reason = ⊥
 
 -- a receiver window that a server can have, in bytes: a multiple of 32, from 4,096 to 1,048,576
 abbrev pub IsReceiverWindow : ℕ → Type 0
@@ -89,6 +96,8 @@ module _ (words : ServeWords) where
     pub may_record : RecordsStreams
     pub streams : options.streams.now ≡ words.streams.items
     pub segments : HasSegments options.segment_length
+    pub strict : options.is_strict ≡ words.is_strict
+    pub measured : options.is_measured ≡ is_some words.metrics
 
   -- the words name no address, or no ports
   abbrev pub HasNoEnds : Type 0
@@ -121,11 +130,14 @@ segment_reason (stream ∷ streams) = SegmentLength
 
 -- ---- the server
 
--- how a server over a disk ends: by a line that quits, or early
-abbrev pub ServesOver : Life → Ending → Type 0
-ServesOver old Done = (new : Life) × IsServed host_life old new
-ServesOver old (Cut end) = (new : Life) × IsServedUpTo host_life old new end
-ServesOver old ending = ⊥
+-- How a server over a disk ends, a strict one or one that is not: by a line that quits, or early. A strict one ends so exactly if
+-- its archive could record something then; else it ends by what that is.
+module _ {D : Type 0} (life : D → Life) (strict : Bool) where
+  abbrev pub ServesOver : Life → Ending → Type 0
+  ServesOver old Done = (new : Life) × IsServedAs life strict old new None
+  ServesOver old (Stuck stop) = (new : Life) × IsServedAs life strict old new (Some stop)
+  ServesOver old (Cut end) = (new : Life) × IsServedUpTo life old new end
+  ServesOver old ending = ⊥
 
 -- `serve` over the archive of a folder with these files. If its words are wrong, it ends by that, and then alone; else a port
 -- is not bound, the folder is not opened, or it is served.
@@ -133,4 +145,4 @@ abbrev pub ServesFolder : Given → ServeWords → Ending → Type 0
 ServesFolder given words (NoCommand kind) = (kind ≡ ValueValidation) × AreWrong words
 ServesFolder given words (Failed fault) = AreWrong words → ⊥
 ServesFolder given words (Unopened fault) = AreWrong words → ⊥
-ServesFolder given words ending = (AreWrong words → ⊥) × ServesOver (life_from given) ending
+ServesFolder given words ending = (AreWrong words → ⊥) × ServesOver host_life words.is_strict (life_from given) ending

@@ -12,9 +12,10 @@ ghost use Rattle.folder_commands.specs.Status.{ending_of};
 use crate::asking::ask;
 use crate::outcome::Ended;
 use crate::reason::Reason;
+use crate::script_lines::{NotedInput, ScriptLines};
 use crate::serving::serve;
 use crate::status::Ending;
-use crate::teller::{FaultTeller, OpeningTeller, ScriptTeller, VerifyTeller};
+use crate::teller::{FaultTeller, OpeningTeller, ScriptTeller, StartTeller, VerifyTeller};
 use crate::{capture, looking};
 use archive_export::Span;
 use command_line::ToolCommand;
@@ -32,8 +33,8 @@ use std::sync::Wait;
 use std::thread::Threads;
 use tool_core::{
     CommandFault, ListedFiles, Listing, Observer, OpeningProgress, Progress, Screen, Stage,
-    Stopped, Unobserved, Verdict, Watched, compact_archive, create_archive, list_archive,
-    list_frames, run_script, verify_archive,
+    Stopped, Verdict, Watched, compact_archive, create_archive, list_archive, list_frames,
+    run_script, verify_archive,
 };
 
 /// Does what a command asks for, hands on what it writes, and answers how that ended. The control lines of `run` come from an
@@ -190,8 +191,15 @@ fn run_in_memory<I: Read + Drop, W: Write>(
 ) -> Result<(), Ended>
     ensures { RunsInMemory (I.remaining input) (W.contents writer.old) (W.contents writer.new) (ending_in result) }
 {
-    let disk = MemoryDisk::new(rt.alloc());
-    run_over(rt.alloc(), input, writer, disk, &mut Unobserved)
+    let screen = Screen::new(&rt);
+    let lines = ScriptLines::new(rt.alloc());
+    run_over(
+        rt.alloc(),
+        NotedInput::new(input, &lines),
+        writer,
+        MemoryDisk::new(rt.alloc()),
+        &mut StartTeller::new(&screen, &lines),
+    )
 }
 
 /// Answers the control lines of an input, over the archive of a folder.
@@ -208,12 +216,13 @@ fn run<I: Read + Drop, W: Write>(
     let faults = FaultTeller::new(rt.alloc(), &screen, Stage::Opening);
     let viewer = (faults, opening_of(&rt, &screen));
     let disk = Watched::new(disk_of(rt, folder)?, viewer);
+    let lines = ScriptLines::new(rt.alloc());
     run_over(
         rt.alloc(),
-        input,
+        NotedInput::new(input, &lines),
         writer,
         disk,
-        &mut ScriptTeller::new(&screen),
+        &mut ScriptTeller::new(&screen, &lines),
     )
 }
 

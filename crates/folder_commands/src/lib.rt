@@ -9,6 +9,8 @@ mod looking;
 mod outcome;
 mod outlet;
 mod reason;
+mod reporting;
+mod script_lines;
 mod serving;
 mod status;
 mod teller;

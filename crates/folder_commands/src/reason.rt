@@ -2,6 +2,7 @@
 
 use disk_core::FileId;
 use host_disk::{FailedCall, LastFault, OpenFault};
+use serve_core::Stop;
 use std::fmt;
 use std::io::{self, Cursor, ErrorKind, Write};
 
@@ -36,6 +37,8 @@ pub enum Reason {
     Port(u16, io::Error),
     /// The word of `--receive-on` is no address.
     Address,
+    /// The word of `--receive-on` is a multicast address.
+    Multicast,
     /// The word of `--window` is not a multiple of 32 in its range.
     Window,
     /// `--window` comes without `--aeron`.
@@ -62,6 +65,8 @@ pub enum Reason {
     SegmentLength,
     /// The listener of control lines or the socket of datagrams failed.
     Ends,
+    /// A strict server could record nothing.
+    Stuck(Stop),
     /// Standard input could not be read on.
     Input,
     /// Standard output took no more; what the system told of it, if it told anything.
@@ -109,6 +114,10 @@ impl fmt::Display for Reason {
                 write!(f, "the port {port} cannot be bound: {}", SystemText(*error))
             }
             Reason::Address => write!(f, "--receive-on wants an IPv4 address"),
+            Reason::Multicast => write!(
+                f,
+                "--receive-on wants an address of this machine, not a multicast address"
+            ),
             Reason::Window => write!(f, "--window wants a multiple of 32"),
             Reason::NeedsAeron => write!(f, "--window needs --aeron"),
             Reason::Lines => write!(
@@ -129,6 +138,7 @@ impl fmt::Display for Reason {
             Reason::NeedsRecord => write!(f, "--segment-length needs --record"),
             Reason::SegmentLength => write!(f, "--segment-length wants a power of two"),
             Reason::Ends => write!(f, "a port failed"),
+            Reason::Stuck(stop) => write!(f, "nothing can be recorded: {stop}"),
             Reason::Input => write!(f, "standard input cannot be read on"),
             Reason::Output(Some(error)) if !is_closed(error) => {
                 write!(f, "standard output: {}", SystemText(*error))
@@ -160,6 +170,20 @@ impl fmt::Display for SystemText {
             Some((text, _)) => f.write_str(text),
             None => f.write_str(text),
         }
+    }
+}
+
+/// A metrics file was not written, as the system told.
+#[derive(Clone, Copy, Drop)]
+pub(crate) struct MetricsFault(pub io::Error);
+
+impl fmt::Display for MetricsFault {
+    fn fmt<W: fmt::Write>(&self, f: &mut fmt::Formatter<W>) -> fmt::Result {
+        write!(
+            f,
+            "the metrics file cannot be written: {}",
+            SystemText(self.0)
+        )
     }
 }
 

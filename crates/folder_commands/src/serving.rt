@@ -5,20 +5,22 @@ ghost use Rattle.std.specs.IoError.{error_kind};
 ghost use Rattle.clap.specs.declared.error.ErrorKind.TheVariants.{ValueValidation};
 ghost use Rattle.host_disk.specs.Events.{Given};
 ghost use Rattle.host_disk.specs.HostDisk.{host_life};
-ghost use Rattle.folder_commands.specs.declared.status.Ending.TheVariants.{NoCommand, Failed};
+ghost use Rattle.folder_commands.specs.declared.status.Ending.TheVariants.{NoCommand, Failed, Stuck};
 ghost use Rattle.folder_commands.specs.Folders.{ending_in};
-ghost use Rattle.folder_commands.specs.Serving.{AreOptions, HasBadOptions, HasBadSegments, HasBadStreams, HasBadWindow, HasNoEnds, HasSegments, HasWindow, IsReceiverWindow, IsSegmentLength, IsUnbound, RecordsStreams, ServesFolder, ServesOver, segment_reason, streams_reason, window_reason};
+ghost use Rattle.folder_commands.specs.Serving.{AreOptions, HasBadOptions, HasBadSegments, HasBadStreams, HasBadWindow, HasNoEnds, HasSegments, HasWindow, IsAddressReason, IsNoAddress, IsReceiverWindow, IsSegmentLength, IsUnbound, RecordsStreams, ServesFolder, ServesOver, segment_reason, streams_reason, window_reason};
 
 use crate::commands::disk_of;
 use crate::outcome::Ended;
 use crate::reason::Reason;
+use crate::reporting::{MetricsFile, ServeFaults, ServeTeller};
 use crate::status::Ending;
 use clap::error::ErrorKind;
 use command_line::ServeWords;
+use disk_core::Disk;
 use flow_control::{INITIAL_WINDOW, LONGEST_WINDOW, SHORTEST_WINDOW};
 use frame_core::limits::{FRAME_ALIGNMENT, MAX_TERM_LENGTH, MIN_TERM_LENGTH};
-use host_disk::HostDisk;
-use serve_core::{LineTeller, SEGMENT_LENGTH, ServeOptions, serve_with};
+use serve_core::{SEGMENT_LENGTH, ServeOptions, Served, Stop, Teller, serve_with};
+use std::alloc::Global;
 use std::io::{self, Eprint};
 use std::net::{Ipv4Addr, Net, TcpListener, TcpStream, UdpSocket};
 use std::path::Path;
@@ -26,6 +28,7 @@ use std::random::RandomSource;
 use std::rt::Clock;
 use std::sync::Wait;
 use std::thread::Threads;
+use tool_core::Watched;
 
 /// Streams that `--record` may name at most.
 const MOST_STREAMS: usize = 64;
@@ -47,8 +50,11 @@ pub(crate) fn serve<
 {
     let options = options_of(words, receiver_id(&rt))?;
     let ports = bound(net, words)?;
-    let disk = disk_of(rt, Path::new(words.folder))?;
-    serve_disk(net, rt, ports, disk, &options, words.is_quiet)
+    let faults = ServeFaults::new(rt.alloc(), net);
+    let disk = Watched::new(disk_of(rt, Path::new(words.folder))?, faults);
+    let metrics = metrics_of(rt, words);
+    let teller = ServeTeller::new(net, words.is_quiet, metrics);
+    serve_disk(net, rt.alloc(), ports, disk, &options, teller)
 }
 
 /// A random number for a receiver, so that no other one is likely to have it. 0 if the system gives none.
@@ -75,6 +81,8 @@ fn options_of<'a>(words: &'a ServeWords<'_>, receiver_id: i64) -> Result<ServeOp
         clients: words.clients,
         streams: streams_of(words)?,
         segment_length: segment_length_of(words)?,
+        is_strict: words.is_strict,
+        is_measured: words.metrics.is_some(),
     })
 }
 
@@ -153,6 +161,22 @@ pub(crate) fn misworded(reason: Reason) -> Ended
     }
 }
 
+/// The address that a word names. Refused if it names none, or a multicast address: no one machine has that.
+fn address_of(word: &str) -> Result<Ipv4Addr, Ended>
+    ensures address { MatchResult result
+        (λ _. IsNoAddress word.now → ⊥)
+        (λ ended. IsNoAddress word.now × (ended.ending ≡ NoCommand ValueValidation)) }
+    ensures reason { IfErr result (λ ended. IsAddressReason word.now ended.reason) }
+{
+    let Ok(address) = word.parse::<Ipv4Addr>() else {
+        return Err(misworded(Reason::Address));
+    };
+    if address.is_multicast() {
+        return Err(misworded(Reason::Multicast));
+    }
+    Ok(address)
+}
+
 /// Binds the ports: control lines to 127.0.0.1 alone, datagrams to an address. Refused if the words name no address or no
 /// port, and if the system refuses one.
 fn bound<R: Net<Listener = TcpListener, Stream = TcpStream>>(
@@ -163,9 +187,7 @@ fn bound<R: Net<Listener = TcpListener, Stream = TcpStream>>(
         (λ _. HasNoEnds words.now → ⊥)
         (λ ended. IsUnbound words.now ended.ending) }
 {
-    let Ok(address) = words.receive_on.parse::<Ipv4Addr>() else {
-        return Err(misworded(Reason::Address));
-    };
+    let address = address_of(words.receive_on)?;
     let (control, receive) = (port_of(words.control)?, port_of(words.receive)?);
     let listener = match TcpListener::bind(net, (Ipv4Addr::LOCALHOST, control)) {
         Ok(listener) => listener,
@@ -198,21 +220,53 @@ fn unbound(port: u16, error: io::Error) -> Ended
     }
 }
 
-/// Serves the archive of a disk with these options until a line quits, and reports on standard error what happens.
-fn serve_disk<R: Threads + Wait + Clock + Eprint + Sync>(
+/// The metrics file that the words ask for.
+fn metrics_of<'a>(rt: HostRuntime, words: &ServeWords<'a>) -> Option<MetricsFile<'a>> {
+    match words.metrics {
+        Some(name) => Some(MetricsFile::new(rt, name)),
+        None => None,
+    }
+}
+
+/// Serves the archive of a disk with these options until a line quits, or a strict server can record nothing.
+fn serve_disk<
+    R: Threads + Wait + Clock + Sync,
+    D: Disk + Drop + Send,
+    T: Teller + Drop + Send + Sync,
+>(
     net: &R,
-    rt: HostRuntime,
+    alloc: Global,
     ports: Ports,
-    disk: HostDisk,
+    disk: D,
     options: &ServeOptions<'_>,
-    is_quiet: bool,
+    teller: T,
 ) -> Result<(), Ended>
-    ensures { ServesOver (host_life disk) (ending_in result) }
+    ensures { ServesOver D.life options.now.is_strict (D.life disk) (ending_in result) }
 {
     let Ports { listener, socket } = ports;
-    let teller = LineTeller::new(net, is_quiet);
-    match serve_with(net, rt.alloc(), listener, socket, disk, options, teller) {
-        Ok(_) => Ok(()),
+    match serve_with(net, alloc, listener, socket, disk, options, teller) {
+        Ok(
+            Served {
+                disk: _,
+                stop: None,
+            },
+        ) => Ok(()),
+        Ok(
+            Served {
+                disk: _,
+                stop: Some(stop),
+            },
+        ) => Err(stuck(stop)),
         Err(fault) => Err(Ended::cut(fault.end(), Reason::Ends)),
+    }
+}
+
+/// A strict server ended that could record nothing.
+fn stuck(stop: Stop) -> Ended
+    ensures { result.ending ≡ Stuck stop }
+{
+    Ended {
+        ending: Ending::Stuck(stop),
+        reason: Reason::Stuck(stop),
     }
 }

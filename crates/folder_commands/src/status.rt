@@ -7,6 +7,7 @@ use crate::told_words::words_status;
 use clap::error::ErrorKind;
 use frame_core::Refusal;
 use host_disk::OpenFault;
+use serve_core::Stop;
 use std::io;
 use tool_core::EarlyEnd;
 
@@ -32,6 +33,8 @@ pub enum Ending {
     FoundDamage,
     /// A server refused a line, and its output says which and why.
     LineRefused,
+    /// A strict server could record nothing.
+    Stuck(Stop),
     /// The words of the command line asked for no command; what is wrong with them, or the help, was told.
     NoCommand(ErrorKind),
     /// The words could not be read, or nothing could be told of them.
@@ -56,6 +59,7 @@ impl Ending {
         match self {
             Ending::FoundDamage => DEVICE,
             Ending::LineRefused => REFUSED,
+            Ending::Stuck(_) => DEVICE,
             Ending::NoCommand(kind) => words_status(kind),
             _ => DONE,
         }
@@ -66,7 +70,7 @@ impl Ending {
         ensures { result ≡ refusal_of self }
     {
         match self {
-            Ending::Done | Ending::FoundDamage | Ending::LineRefused => None,
+            Ending::Done | Ending::FoundDamage | Ending::LineRefused | Ending::Stuck(_) => None,
             Ending::Cut(EarlyEnd::Memory) => Some(Refusal::NoMemory),
             Ending::Cut(EarlyEnd::Read | EarlyEnd::Write) => Some(Refusal::DeviceFault),
             Ending::Refused(refusal) => Some(refusal),

@@ -1,6 +1,7 @@
 //! What is told on standard error while a command runs. docs/CONTROL.md, "Standard error".
 
 use crate::reason::{FaultLine, file_of, word_of};
+use crate::script_lines::ScriptLines;
 use archive_model::{Registration, Reply};
 use disk_core::FileId;
 use frame_core::{Refusal, segment_base};
@@ -59,7 +60,7 @@ impl<R: Eprint> Viewer<ReadFolder> for FaultTeller<'_, R> {
 }
 
 /// Whether two faults are of one file, and have one cause.
-fn is_same(first: &LastFault, second: &LastFault) -> bool {
+pub(crate) fn is_same(first: &LastFault, second: &LastFault) -> bool {
     file_of(first.call) == file_of(second.call)
         && word_of(first.call) == word_of(second.call)
         && first.error.raw_os_error() == second.error.raw_os_error()
@@ -84,26 +85,52 @@ impl<R: Eprint> Observer for OpeningTeller<'_, R> {
     }
 }
 
-/// Tells how a script's archive began, that its history fills up, and that it is full.
+/// Tells which word of a script's start is wrong.
 #[derive(Drop)]
-pub(crate) struct ScriptTeller<'a, R> {
+pub(crate) struct StartTeller<'a, 'l, R> {
     screen: &'a Screen<'a, R>,
+    lines: &'l ScriptLines,
+}
+
+impl<'a, 'l, R: Eprint> StartTeller<'a, 'l, R> {
+    pub(crate) fn new(screen: &'a Screen<'a, R>, lines: &'l ScriptLines) -> StartTeller<'a, 'l, R> {
+        StartTeller { screen, lines }
+    }
+}
+
+impl<R: Eprint> Observer for StartTeller<'_, '_, R> {
+    fn answered(&mut self, outcome: &Result<Reply, Refusal>) {
+        if let Some(word) = self.lines.answered(outcome) {
+            self.screen.tell(word);
+        }
+    }
+}
+
+/// Tells how a script's archive began, that its history fills up, that it is full, and which word of a start is wrong.
+#[derive(Drop)]
+pub(crate) struct ScriptTeller<'a, 'l, R> {
+    screen: &'a Screen<'a, R>,
+    starts: StartTeller<'a, 'l, R>,
     /// The hundredths of the history's limit that were told last.
     told_level: u8,
     has_told_full: bool,
 }
 
-impl<'a, R: Eprint> ScriptTeller<'a, R> {
-    pub(crate) fn new(screen: &'a Screen<'a, R>) -> ScriptTeller<'a, R> {
+impl<'a, 'l, R: Eprint> ScriptTeller<'a, 'l, R> {
+    pub(crate) fn new(
+        screen: &'a Screen<'a, R>,
+        lines: &'l ScriptLines,
+    ) -> ScriptTeller<'a, 'l, R> {
         ScriptTeller {
             screen,
+            starts: StartTeller::new(screen, lines),
             told_level: 0,
             has_told_full: false,
         }
     }
 }
 
-impl<R: Eprint> Observer for ScriptTeller<'_, R> {
+impl<R: Eprint> Observer for ScriptTeller<'_, '_, R> {
     fn began(&mut self, beginning: &Beginning) {
         self.screen.work();
         match beginning {
@@ -121,6 +148,7 @@ impl<R: Eprint> Observer for ScriptTeller<'_, R> {
     }
 
     fn answered(&mut self, outcome: &Result<Reply, Refusal>) {
+        self.starts.answered(outcome);
         if let Err(Refusal::HistoryFull) = outcome {
             if !self.has_told_full {
                 self.has_told_full = true;

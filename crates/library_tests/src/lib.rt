@@ -27,6 +27,8 @@ mod images;
 #[cfg(test)]
 mod merges;
 #[cfg(test)]
+mod metrics;
+#[cfg(test)]
 mod pairs;
 #[cfg(test)]
 mod receivers;

@@ -15,6 +15,10 @@ mod crowds;
 #[cfg(test)]
 mod leaving;
 #[cfg(test)]
+mod metrics;
+#[cfg(test)]
+mod misfits;
+#[cfg(test)]
 mod receivers;
 #[cfg(test)]
 mod recorded;
@@ -28,5 +32,7 @@ mod server;
 mod settles;
 #[cfg(test)]
 mod sources;
+#[cfg(test)]
+mod strict;
 #[cfg(test)]
 mod vectors;

@@ -15,6 +15,8 @@ fn recorder(streams: &[i32]) -> ServeOptions<'_> {
         clients: None,
         streams,
         segment_length: SEGMENT_LENGTH,
+        is_strict: false,
+        is_measured: false,
     }
 }
 

@@ -12,10 +12,11 @@ use std::sync::atomic::{AtomicU32, Ordering};
 use std::thread::{self, Threads};
 use std::time::Duration;
 
-/// How many images were lost by a server, as far as it was told.
+/// How many images were lost by a server, and how many did not fit a session, as far as it was told.
 #[derive(Drop)]
 pub(crate) struct Told {
     lost: AtomicU32,
+    misfits: AtomicU32,
 }
 
 impl Told {
@@ -23,7 +24,18 @@ impl Told {
     pub(crate) fn new() -> Told {
         Told {
             lost: AtomicU32::new(0),
+            misfits: AtomicU32::new(0),
         }
+    }
+
+    /// Counts what a server tells.
+    pub(crate) fn teller(&self) -> Counting<'_> {
+        Counting(self)
+    }
+
+    /// How many images did not fit a session.
+    pub(crate) fn misfits(&self) -> u32 {
+        self.misfits.load(Ordering::SeqCst)
     }
 
     /// Waits for 10 seconds at most until an image was lost. Whether one was.
@@ -38,14 +50,20 @@ impl Told {
     }
 }
 
-/// Counts lost images.
+/// Counts lost images, and those that don't fit.
 #[derive(Clone, Copy, Drop)]
-struct Counting<'a>(&'a Told);
+pub(crate) struct Counting<'a>(&'a Told);
 
 impl Teller for Counting<'_> {
     fn tell(&self, happening: &Happening<'_>) {
-        if let Happening::Lost { .. } = happening {
-            self.0.lost.fetch_add(1, Ordering::SeqCst);
+        match happening {
+            Happening::Lost { .. } => {
+                self.0.lost.fetch_add(1, Ordering::SeqCst);
+            }
+            Happening::Misfit { .. } => {
+                self.0.misfits.fetch_add(1, Ordering::SeqCst);
+            }
+            _ => {}
         }
     }
 }
@@ -77,7 +95,12 @@ pub(crate) fn served_with<
     let told = &told;
     let (back, is_right) = thread::join(
         rt,
-        move || { serve_with(rt, alloc, listener, socket, disk, &options, Counting(told)).ok() },
+        move || {
+            match serve_with(rt, alloc, listener, socket, disk, &options, Counting(told)) {
+                Ok(served) => Some(served.disk),
+                Err(_) => None,
+            }
+        },
         move || {
             let is_right = holds(rt, alloc, ports, told, conversation);
             quits(rt, alloc, ports) && is_right

@@ -11,14 +11,14 @@ use Rattle.frame_core.specs.declared.refusal.Refusal.{Refusal}
 use Rattle.frame_core.specs.declared.refusal.Refusal.TheVariants.{Damaged, DeviceFault}
 use Rattle.frame_core.specs.FrameEncoding.{aligned_length}
 use Rattle.segment_store.specs.declared.layout.Layout.{Layout}
-use Rattle.segment_store.specs.Boundary.{IsChain, ReachesTo, RefusesBoundary, TellsBoundary}
+use Rattle.segment_store.specs.Boundary.{IsChain, Reaches, RefusesReached, TellsReached}
 use Rattle.segment_store.specs.DamagedFrame.{ShowsFrame, belongs_at}
 use Rattle.segment_store.specs.Window.{FrameEndsAt, RefusesEnd}
 use Rattle.segment_store.proofs.DurableLemmas.{one_shown}
 
 module _ (image : DiskImage) (l : Layout) (g : Geometry) (limit : ℤ) where
   -- a chain ends no lower than it begins
-  chain_rises : (frames : List Frame) (from to : ℕ) → IsChain image l g limit from frames to → from ≤ to
+  pub chain_rises : (frames : List Frame) (from to : ℕ) → IsChain image l g limit from frames to → from ≤ to
   chain_rises [] from to is = omega (arith, is)
   chain_rises (f ∷ fs) from to is = omega (arith, chain_rises fs (from + aligned_length f) to is.1)
 
@@ -45,29 +45,29 @@ module _ (image : DiskImage) (l : Layout) (g : Geometry) (limit : ℤ) where
       (subst (λ (n : ℕ). IsChain image l g limit (from + n) hs end) (sym (ap aligned_length same)) other.1) before
 
   -- the frame after those so far
-  pub reaches_more : (to end : ℕ) → ReachesTo image l g limit to → FrameEndsAt image l g limit to end → ReachesTo image l g limit end
-  reaches_more to end so_far next = record {
+  pub reaches_more : (from to end : ℕ) → Reaches image l g limit from to → FrameEndsAt image l g limit to end → Reaches image l g limit from end
+  reaches_more from to end so_far next = record {
     frames = so_far.frames ++ next.frame ∷ [];
-    chain = chain_more so_far.frames (unsigned_abs l.start_position) to end next.frame so_far.chain next.shown next.is;
+    chain = chain_more so_far.frames from to end next.frame so_far.chain next.shown next.is;
   }
 
   -- a position that a frame goes past is no boundary, and nothing breaks off before it
-  pub goes_past : (at next end : ℕ) (position : ℤ) → ReachesTo image l g limit at → FrameEndsAt image l g limit at next → at < end → end < next → position ≡ pos end → TellsBoundary image l g limit position false
-  goes_past at next end position so_far frame before behind is = (
+  pub goes_past : (from at next end : ℕ) (position : ℤ) → Reaches image l g limit from at → FrameEndsAt image l g limit at next → at < end → end < next → position ≡ pos end → TellsReached image l g limit from position false
+  goes_past from at next end position so_far frame before behind is = (
     λ boundary.
         let there : boundary.end ≡ end = omega (arith, ints, sym boundary.is ∙ is) in
-        let passes = chain_passes so_far.frames boundary.reaches.frames (unsigned_abs l.start_position) at boundary.end so_far.chain boundary.reaches.chain (omega (arith, there, before)) in
+        let passes = chain_passes so_far.frames boundary.reaches.frames from at boundary.end so_far.chain boundary.reaches.chain (omega (arith, there, before)) in
         let same = ap aligned_length (one_shown image l g limit at frame.frame passes.0 frame.shown passes.1) in
         omega (arith, passes.2, same, frame.is, there, behind),
     λ broken breaks.
         let low : broken < end = omega (arith, ints, breaks.before, is) in
         elim (cases_lt broken at) [
           | inl less ↦
-              let passes = chain_passes breaks.reaches.frames so_far.frames (unsigned_abs l.start_position) broken at breaks.reaches.chain so_far.chain less in
+              let passes = chain_passes breaks.reaches.frames so_far.frames from broken at breaks.reaches.chain so_far.chain less in
               breaks.damaged passes.0 passes.1
           | inr more ↦ elim (cases_lt at broken) [
             | inl greater ↦
-                let passes = chain_passes so_far.frames breaks.reaches.frames (unsigned_abs l.start_position) at broken so_far.chain breaks.reaches.chain greater in
+                let passes = chain_passes so_far.frames breaks.reaches.frames from at broken so_far.chain breaks.reaches.chain greater in
                 let same = ap aligned_length (one_shown image l g limit at frame.frame passes.0 frame.shown passes.1) in
                 absurd (omega (arith, passes.2, same, frame.is, low, behind))
             | inr equal ↦ breaks.damaged frame.frame (subst (λ (p : ℕ). ShowsFrame image l g limit p frame.frame) (omega (arith, more, equal)) frame.shown)
@@ -93,34 +93,34 @@ module _ (image : DiskImage) (l : Layout) (g : Geometry) (limit : ℤ) where
   ]
 
   -- no frame of the recording ends there
-  pub none_there : (position : ℤ) → (position <ℤ pos (unsigned_abs l.start_position)) ⊎ ((limit <ℤ position) × (pos (unsigned_abs l.start_position) <ℤ position)) → TellsBoundary image l g limit position false
-  none_there position outside = (
+  pub none_there : (from : ℕ) (position : ℤ) → (position <ℤ pos from) ⊎ ((limit <ℤ position) × (pos from <ℤ position)) → TellsReached image l g limit from position false
+  none_there from position outside = (
     λ boundary.
-        let low = chain_rises boundary.reaches.frames (unsigned_abs l.start_position) boundary.end boundary.reaches.chain in
+        let low = chain_rises boundary.reaches.frames from boundary.end boundary.reaches.chain in
         elim outside [
           | inl before ↦ omega (arith, ints, before, low, boundary.is)
-          | inr past ↦ elim (cases_lt (unsigned_abs l.start_position) boundary.end) [
-            | inl some ↦ omega (arith, ints, past.0, boundary.is, chain_within boundary.reaches.frames (unsigned_abs l.start_position) boundary.end boundary.reaches.chain some)
+          | inr past ↦ elim (cases_lt from boundary.end) [
+            | inl some ↦ omega (arith, ints, past.0, boundary.is, chain_within boundary.reaches.frames from boundary.end boundary.reaches.chain some)
             | inr none ↦ omega (arith, ints, none, past.1, boundary.is)
           ]
         ],
     λ broken breaks. elim outside [
-      | inl before ↦ omega (arith, ints, before, breaks.before, chain_rises breaks.reaches.frames (unsigned_abs l.start_position) broken breaks.reaches.chain)
+      | inl before ↦ omega (arith, ints, before, breaks.before, chain_rises breaks.reaches.frames from broken breaks.reaches.chain)
       | inr past ↦ omega (arith, ints, past.0, breaks.within)
     ],
   )
 
--- the start is a boundary
-pub start_there : (image : DiskImage) (l : Layout) (g : Geometry) (recorded position : ℤ) → position ≡ pos (unsigned_abs l.start_position) → TellsBoundary image l g recorded position true
-start_there image l g recorded position is = record { end = unsigned_abs l.start_position; is = is; reaches = record { frames = []; chain = refl } }
+-- where the frames begin is reached
+pub start_there : (image : DiskImage) (l : Layout) (g : Geometry) (recorded : ℤ) (from : ℕ) (position : ℤ) → position ≡ pos from → TellsReached image l g recorded from position true
+start_there image l g recorded from position is = record { end = from; is = is; reaches = record { frames = []; chain = refl } }
 
 -- a frame that is refused before a position breaks the chain there
-pub breaks_off : (obeys : Bool) (image : DiskImage) (l : Layout) (g : Geometry) (recorded position : ℤ) (at end : ℕ) (refusal : Refusal) → position ≡ pos end → at < end → position ≤ℤ recorded
-    → (IsTrue obeys → ReachesTo image l g recorded at) → RefusesEnd obeys image l g recorded at refusal → RefusesBoundary obeys image l g recorded position refusal
-breaks_off obeys image l g recorded position at end DeviceFault is before within so_far refused = tt
-breaks_off obeys image l g recorded position at end (Damaged recording where_) is before within so_far refused =
+pub breaks_off : (obeys : Bool) (image : DiskImage) (l : Layout) (g : Geometry) (recorded : ℤ) (from : ℕ) (position : ℤ) (at end : ℕ) (refusal : Refusal) → position ≡ pos end → at < end → position ≤ℤ recorded
+    → (IsTrue obeys → Reaches image l g recorded from at) → RefusesEnd obeys image l g recorded at refusal → RefusesReached obeys image l g recorded from position refusal
+breaks_off obeys image l g recorded from position at end DeviceFault is before within so_far refused = tt
+breaks_off obeys image l g recorded from position at end (Damaged recording where_) is before within so_far refused =
     (refused.0, λ yes. (at, refused.1, record { reaches = so_far yes; before = omega (arith, ints, is, before); within = within; damaged = refused.2 yes }))
-breaks_off obeys image l g recorded position at end _ is before within so_far refused = absurd refused
+breaks_off obeys image l g recorded from position at end _ is before within so_far refused = absurd refused
 
 -- the position of a number that is not negative
 pub pos_abs : (z : ℤ) → pos 0 ≤ℤ z → z ≡ pos (unsigned_abs z)

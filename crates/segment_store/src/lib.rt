@@ -10,7 +10,7 @@ mod read;
 mod sweep;
 mod write;
 
-pub use boundary::is_boundary;
+pub use boundary::{is_boundary, is_reached};
 pub use check::shown_frame;
 pub use keep::Keep;
 pub use layout::{Layout, Spot, base_of, spot_of};

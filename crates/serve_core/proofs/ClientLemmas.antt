@@ -1,6 +1,6 @@
 -- What clients of a shared archive do, and the passes that they give back.
-use Rattle.std.proofs.Common.{◌≡◌, ◌∙◌, ◌+◌, ◌++◌, ◌<◌, ℕ, suc, ℤ, true, List, [], ◌∷◌, Result, Ok, Err, ap, arith, eqb, get_or, length, refl, subst, sym, take}
-use Rattle.std.specs.Prelude.{IfErr, IfOk}
+use Rattle.std.proofs.Common.{◌≡◌, ◌∙◌, ◌+◌, ◌++◌, ◌<◌, ℕ, suc, ℤ, Bool, false, true, List, [], ◌∷◌, Result, Ok, Err, ap, arith, eqb, get_or, length, refl, subst, sym, take}
+use Rattle.std.specs.Prelude.{◌||◌, IfErr, IfOk}
 use Rattle.std.proofs.Math.Seq.{take-suc}
 use Rattle.atomic_table.specs.Seated.{TableId}
 use Rattle.call_history.specs.Passes.{AllOfTable, has_number}
@@ -8,8 +8,8 @@ use Rattle.call_history.specs.Values.{PassView}
 use Rattle.archive_lock.specs.declared.history.Made.{Made}
 use Rattle.engine_core.specs.Engine.{EngineState}
 use Rattle.serve_core.specs.Answering.{ClientView, Closes, ClosesEach}
-use Rattle.serve_core.specs.Seats.{AreBack, AreClientPasses, HasFrom, IsBack}
-use Rattle.serve_core.proofs.SeatLemmas.{either}
+use Rattle.serve_core.specs.Clients.{AreBack, IsBack}
+use Rattle.recording_thread.specs.Seats.{AreClientPasses, HasFrom}
 
 -- what is known of a result that is Ok, or that is not
 pub ok_part : {T E : Type 0} (P : T → Type 0) (r : Result T E) (value : T) → r ≡ Ok value → IfOk r P → P value
@@ -61,6 +61,10 @@ back_all table [] [] back all = tt
 back_all table [] (n ∷ ns) back all = absurd back
 back_all table (o ∷ os) [] back all = absurd back
 back_all table (o ∷ os) (n ∷ ns) back all = ((back.0).table ∙ all.0, back_all table os ns back.1 all.1)
+
+either : (b c d : Bool) → b || c ≡ true → (c ≡ true → d ≡ true) → b || d ≡ true
+either true c d is more = refl
+either false c d is more = more is
 
 back_has : (n : ℕ) (olds news : List (PassView Made)) → AreBack olds news → has_number n olds ≡ true → has_number n news ≡ true
 back_has n [] news back has = absurd cc

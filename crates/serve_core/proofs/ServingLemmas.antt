@@ -1,8 +1,9 @@
 -- What becomes of a disk that is served.
-use Rattle.std.proofs.Common.{◌≡◌, inl, inr, Bool, true, false, List, Result, Ok, Err, subst, sym}
+use Rattle.std.proofs.Common.{◌≡◌, inl, inr, refl, Bool, true, false, List, Option, None, Result, Ok, Err, subst, sym}
 use Rattle.std.specs.Prelude.{IfErr, IfOk, IsOk, MatchResult}
 use Rattle.disk_core.specs.Life.{Life}
 use Rattle.engine_core.specs.Engine.{EngineState}
+use Rattle.engine_core.specs.Seen.{seen}
 use Rattle.tool_core.specs.declared.archive.ScriptArchive.{ScriptArchive}
 use Rattle.tool_core.specs.declared.archive.ScriptArchive.TheVariants.{Open, Closed}
 use Rattle.tool_core.specs.declared.fault.EarlyEnd.{EarlyEnd}
@@ -18,39 +19,66 @@ use Rattle.archive_lock.specs.declared.history.Made.{Made}
 use Rattle.archive_lock.specs.Closing.{ClosesWith}
 use Rattle.archive_lock.specs.Held.{engine_seen, view_of}
 use Rattle.archive_lock.specs.History.{Member}
-use Rattle.serve_core.specs.Serving.{EndsHistory, EndsOrLacks, EndsUpTo, IsServed, IsServedUpTo}
+use Rattle.serve_core.specs.Serving.{EndsFrom, EndsHistory, EndsOrLacks, EndsUpTo, IsServed, IsServedAs, IsServedUpTo, stop_of}
+use Rattle.serve_core.specs.declared.served.Served.{Served}
+use Rattle.serve_core.specs.declared.served.Stop.{Stop}
 
 -- a history whose calls are counted alone
-pub counted_alone : (old : Life) (opening : EngineState) (keeps : Bool) (new : Life) (end : Result (Unit {0}) EarlyEnd) → EndsOrLacks old opening keeps new end → keeps ≡ false → EndsOrLacks old opening false new end
-counted_alone old opening keeps new end ends is = subst (λ k. EndsOrLacks old opening k new end) is ends
+pub counted_alone : (old : Life) (opening : EngineState) (keeps strict : Bool) (new : Life) (stop : Option Stop) (end : Result (Unit {0}) EarlyEnd) → EndsOrLacks old opening keeps strict new stop end → keeps ≡ false → EndsOrLacks old opening false strict new stop end
+counted_alone old opening keeps strict new stop end ends is = subst (λ k. EndsOrLacks old opening k strict new stop end) is ends
 
 -- what closing gave
-pub ends_history : {D : Type 0} (life : D → Life) (opening : EngineState) (keeps : Bool) (passes : List (PassView Made)) (engine : Engine D) (begun : DeskState) (history : Stored Call) (new : Life)
-    → ((calls : List Member) × ClosesWith opening keeps passes calls (engine_seen life (view_of engine calls)) begun history) → new ≡ life engine.storage.disk → EndsHistory opening keeps new
-ends_history life opening keeps passes engine begun history new (calls, closes) is =
-    record { passes = passes; calls = calls; now = engine_seen life (view_of engine calls); begun = begun; history = history; closes = closes; left = is }
+pub ends_history : {D : Type 0} (life : D → Life) (opening : EngineState) (keeps strict : Bool) (passes : List (PassView Made)) (engine : Engine D) (begun : DeskState) (history : Stored Call) (new : Life) (stop : Option Stop)
+    → ((calls : List Member) × ClosesWith opening keeps passes calls (engine_seen life (view_of engine calls)) begun history) → new ≡ life engine.storage.disk → stop ≡ stop_of strict engine.desk.state → EndsHistory opening keeps strict new stop
+ends_history life opening keeps strict passes engine begun history new stop (calls, closes) is stops =
+    record { passes = passes; calls = calls; now = engine_seen life (view_of engine calls); begun = begun; history = history; closes = closes; left = is; stops = stops }
+
+-- a history of a strict server is one of a server that is not
+lenient : (opening : EngineState) (keeps strict : Bool) (new : Life) (stop : Option Stop) → EndsHistory opening keeps strict new stop → EndsHistory opening keeps false new None
+lenient opening keeps strict new stop ends =
+    record { passes = ends.passes; calls = ends.calls; now = ends.now; begun = ends.begun; history = ends.history; closes = ends.closes; left = ends.left; stops = refl }
 
 module _ {D : Type 0} (life : D → Life) where
-  pub served_ok : (old : Life) (first : ScriptArchive D) (beginning : Beginning) (new : Life) (end : Result (Unit {0}) EarlyEnd) → BeginsAs life old beginning first → EndsUpTo life first new end → IsOk end → IsServed life old new
-  served_ok old (Open engine) beginning new end begins (inl ends) is = record { first = Open engine; beginning = beginning; begins = begins; ends = ends }
-  served_ok old (Open engine) beginning new end begins (inr (memory, same)) is = let bad : false ≡ true = subst IsOk memory is in cc
-  served_ok old (Closed disk) beginning new end begins ends is = record { first = Closed disk; beginning = beginning; begins = begins; ends = ends }
+  lenient_from : (strict : Bool) (beginning : Beginning) (first : ScriptArchive D) (new : Life) (stop : Option Stop) → EndsFrom life strict beginning first new stop → EndsFrom life false beginning first new None
+  lenient_from strict beginning (Open engine) new stop ends = lenient (seen life engine) false strict new stop ends
+  lenient_from strict beginning (Closed disk) new stop ends = (ends.0, refl)
 
-  served_err : (old : Life) (first : ScriptArchive D) (beginning : Beginning) (new : Life) (end : Result (Unit {0}) EarlyEnd) (early : EarlyEnd) → BeginsAs life old beginning first → EndsUpTo life first new end → end ≡ Err early → IsServedUpTo life old new early
-  served_err old (Open engine) beginning new end early begins (inl ends) is = inl (record { first = Open engine; beginning = beginning; begins = begins; ends = ends })
-  served_err old (Open engine) beginning new end early begins (inr (memory, same)) is = inr (cc, inr (inr (Open engine, beginning, begins, same)))
-  served_err old (Closed disk) beginning new end early begins ends is = inl (record { first = Closed disk; beginning = beginning; begins = begins; ends = ends })
+  pub served_leniently : (strict : Bool) (old new : Life) (stop : Option Stop) → IsServedAs life strict old new stop → IsServed life old new
+  served_leniently strict old new stop served =
+      record { first = served.first; beginning = served.beginning; begins = served.begins; ends = lenient_from strict served.beginning served.first new stop served.ends }
 
-  pub served_back : (old : Life) (first : ScriptArchive D) (beginning : Beginning) (disk : D) (end : Result (Unit {0}) EarlyEnd) (result : Result D (ScriptFault D)) → BeginsAs life old beginning first → EndsUpTo life first (life disk) end
-      → MatchResult result (λ back. (back ≡ disk) × IsOk end) (λ fault. (disk_of fault ≡ disk) × (end ≡ Err (early_end_of fault)))
-      → IfOk result (λ back. IsServed life old (life back))
-  served_back old first beginning disk end (Ok back) begins ends handed =
-      subst (λ d. IsServed life old (life d)) (sym handed.0) (served_ok old first beginning (life disk) end begins ends handed.1)
-  served_back old first beginning disk end (Err fault) begins ends handed = tt
+  served_ok : (strict : Bool) (old : Life) (first : ScriptArchive D) (beginning : Beginning) (new : Life) (stop : Option Stop) (end : Result (Unit {0}) EarlyEnd) → BeginsAs life old beginning first → EndsUpTo life strict beginning first new stop end → IsOk end → IsServedAs life strict old new stop
+  served_ok strict old (Open engine) beginning new stop end begins (inl ends) is = record { first = Open engine; beginning = beginning; begins = begins; ends = ends }
+  served_ok strict old (Open engine) beginning new stop end begins (inr (memory, same)) is = let bad : false ≡ true = subst IsOk memory is in cc
+  served_ok strict old (Closed disk) beginning new stop end begins ends is = record { first = Closed disk; beginning = beginning; begins = begins; ends = ends }
 
-  pub served_early : (old : Life) (first : ScriptArchive D) (beginning : Beginning) (disk : D) (end : Result (Unit {0}) EarlyEnd) (result : Result D (ScriptFault D)) → BeginsAs life old beginning first → EndsUpTo life first (life disk) end
-      → MatchResult result (λ back. (back ≡ disk) × IsOk end) (λ fault. (disk_of fault ≡ disk) × (end ≡ Err (early_end_of fault)))
-      → IfErr result (λ fault. IsServedUpTo life old (life (disk_of fault)) (early_end_of fault))
-  served_early old first beginning disk end (Ok back) begins ends handed = tt
-  served_early old first beginning disk end (Err fault) begins ends handed =
-      subst (λ d. IsServedUpTo life old (life d) (early_end_of fault)) (sym handed.0) (served_err old first beginning (life disk) end (early_end_of fault) begins ends handed.1)
+  served_err : (strict : Bool) (old : Life) (first : ScriptArchive D) (beginning : Beginning) (new : Life) (stop : Option Stop) (end : Result (Unit {0}) EarlyEnd) (early : EarlyEnd) → BeginsAs life old beginning first → EndsUpTo life strict beginning first new stop end → end ≡ Err early → IsServedUpTo life old new early
+  served_err strict old (Open engine) beginning new stop end early begins (inl ends) is = inl (served_leniently strict old new stop (record { first = Open engine; beginning = beginning; begins = begins; ends = ends }))
+  served_err strict old (Open engine) beginning new stop end early begins (inr (memory, same)) is = inr (cc, inr (inr (Open engine, beginning, begins, same)))
+  served_err strict old (Closed disk) beginning new stop end early begins ends is = inl (served_leniently strict old new stop (record { first = Closed disk; beginning = beginning; begins = begins; ends = ends }))
+
+  module _ (strict : Bool) (old : Life) (first : ScriptArchive D) (beginning : Beginning) (served : Served D) (end : Result (Unit {0}) EarlyEnd) (result : Result (Served D) (ScriptFault D))
+      (begins : BeginsAs life old beginning first) (ends : EndsUpTo life strict beginning first (life served.disk) served.stop end)
+      (handed : MatchResult result (λ back. (back ≡ served) × IsOk end) (λ fault. (disk_of fault ≡ served.disk) × (end ≡ Err (early_end_of fault)))) where
+    pub stopped_back : IfOk result (λ back. IsServedAs life strict old (life back.disk) back.stop)
+    stopped_back = by result handed
+      where
+        by : (r : Result (Served D) (ScriptFault D)) → MatchResult r (λ back. (back ≡ served) × IsOk end) (λ fault. (disk_of fault ≡ served.disk) × (end ≡ Err (early_end_of fault)))
+            → IfOk r (λ back. IsServedAs life strict old (life back.disk) back.stop)
+        by (Ok back) h = subst (λ (s : Served D). IsServedAs life strict old (life s.disk) s.stop) (sym h.0) (served_ok strict old first beginning (life served.disk) served.stop end begins ends h.1)
+        by (Err fault) h = tt
+
+    pub served_back : IfOk result (λ back. IsServed life old (life back.disk))
+    served_back = by result stopped_back
+      where
+        by : (r : Result (Served D) (ScriptFault D)) → IfOk r (λ back. IsServedAs life strict old (life back.disk) back.stop) → IfOk r (λ back. IsServed life old (life back.disk))
+        by (Ok back) h = served_leniently strict old (life back.disk) back.stop h
+        by (Err fault) h = tt
+
+    pub served_early : IfErr result (λ fault. IsServedUpTo life old (life (disk_of fault)) (early_end_of fault))
+    served_early = by result handed
+      where
+        by : (r : Result (Served D) (ScriptFault D)) → MatchResult r (λ back. (back ≡ served) × IsOk end) (λ fault. (disk_of fault ≡ served.disk) × (end ≡ Err (early_end_of fault)))
+            → IfErr r (λ fault. IsServedUpTo life old (life (disk_of fault)) (early_end_of fault))
+        by (Ok back) h = tt
+        by (Err fault) h = subst (λ d. IsServedUpTo life old (life d) (early_end_of fault)) (sym h.0) (served_err strict old first beginning (life served.disk) served.stop end (early_end_of fault) begins ends h.1)

@@ -1,10 +1,10 @@
 -- How lines are answered by a part in a shared archive, and where no archive is open: docs/SERVING.md, "Control lines".
-use Rattle.std.specs.Prelude.{◌≡◌, ◌⊎◌, ◌++◌, ℕ, ℤ, Bool, true, false, List, [], ◌∷◌, Option, None, Some, Result, Ok, Err, IsErrOf, MatchBool, remove}
+use Rattle.std.specs.Prelude.{◌≡◌, ◌⊎◌, ◌++◌, ◌||◌, ℕ, ℤ, Bool, true, false, List, [], ◌∷◌, Option, None, Some, Result, Ok, Err, IsErrOf, MatchBool, remove}
 use Rattle.std.specs.List.{position}
 use Rattle.std.specs.Ordering.{int_eq}
 use Rattle.frame_core.specs.declared.geometry.Geometry.{Geometry}
 use Rattle.frame_core.specs.declared.refusal.Refusal.{Refusal}
-use Rattle.frame_core.specs.declared.refusal.Refusal.TheVariants.{BadLine, Broken, NoMemory}
+use Rattle.frame_core.specs.declared.refusal.Refusal.TheVariants.{BadLine, Broken, DeviceFault, NoMemory}
 use Rattle.archive_model.specs.declared.reply.Reply.{Reply}
 use Rattle.archive_model.specs.declared.reply.Reply.TheVariants.{ReplayOpened}
 use Rattle.control_core.specs.declared.event.Event.{Event}
@@ -122,6 +122,15 @@ abbrev pub makes_entry : Event → Bool
 makes_entry (Ask request) = is_command request
 makes_entry (Settle session) = true
 makes_entry event = false
+
+-- the device failed
+abbrev pub is_device_fault : Result Reply Refusal → Bool
+is_device_fault (Err DeviceFault) = true
+is_device_fault outcome = false
+
+-- an archive may record nothing after the call: it makes an entry, or the device failed
+abbrev pub may_be_last : Event → Result Reply Refusal → Bool
+may_be_last event outcome = makes_entry event || is_device_fault outcome
 
 -- ---- settlings
 

@@ -1,7 +1,7 @@
 -- What becomes of a disk that is served: docs/SERVING.md.
-use Rattle.std.specs.Prelude.{◌≡◌, ◌⊎◌, Bool, false, List, Result, Err}
+use Rattle.std.specs.Prelude.{◌≡◌, ◌⊎◌, Bool, false, true, if◌then◌else◌, List, Option, None, Some, Result, Err}
 use Rattle.disk_core.specs.Life.{Life}
-use Rattle.control_core.specs.Desk.{DeskState}
+use Rattle.control_core.specs.Desk.{DeskState, has_room}
 use Rattle.engine_core.specs.Engine.{EngineState}
 use Rattle.engine_core.specs.Opening.{ReadsAsBefore}
 use Rattle.engine_core.specs.Seen.{seen}
@@ -16,11 +16,28 @@ use Rattle.tool_core.specs.declared.archive.ScriptArchive.TheVariants.{Open, Clo
 use Rattle.tool_core.specs.declared.fault.EarlyEnd.{EarlyEnd}
 use Rattle.tool_core.specs.declared.fault.EarlyEnd.TheVariants as ends
 use Rattle.tool_core.specs.declared.observer.Beginning.{Beginning}
+use Rattle.tool_core.specs.declared.observer.Beginning.TheVariants.{Refused}
 use Rattle.tool_core.specs.Archives.{BeginsAs, life_of}
+use Rattle.serve_core.specs.declared.served.Stop.{Stop}
+use Rattle.serve_core.specs.declared.served.Stop.TheVariants.{Unopened, Broken, HistoryFull}
+
+-- ---- why a strict server can record nothing
+
+-- by its archive's desk: a write has failed, or the history is full
+abbrev pub stop_of : Bool → DeskState → Option Stop
+stop_of false d = None
+stop_of true d = if d.is_broken then Some Broken else if has_room d then None else Some HistoryFull
+
+-- of an archive that could not be opened
+abbrev pub unopened_stop : Bool → Beginning → Option Stop
+unopened_stop true (Refused refusal) = Some (Unopened refusal)
+unopened_stop strict beginning = None
+
+-- ---- the disk
 
 -- The disk is the one at the end of a legal history of calls from an opening, of each of these passes just its own, and of no
--- others: what the archive gave when it was closed with them.
-pub record EndsHistory (opening : EngineState) (keeps : Bool) (new : Life) : Type 0 where
+-- others: what the archive gave when it was closed with them. A strict server says whether anything can be recorded then.
+pub record EndsHistory (opening : EngineState) (keeps strict : Bool) (new : Life) (stop : Option Stop) : Type 0 where
   pub passes : List (PassView Made)
   pub calls : List Member
   pub now : EngineState
@@ -28,23 +45,28 @@ pub record EndsHistory (opening : EngineState) (keeps : Bool) (new : Life) : Typ
   pub history : Stored Call
   pub closes : ClosesWith opening keeps passes calls now begun history
   pub left : new ≡ now.life
+  pub stops : stop ≡ stop_of strict now.desk
 
 -- it does; or no call was made for want of memory, and the disk is as the archive was opened with it
-abbrev pub EndsOrLacks : Life → EngineState → Bool → Life → Result (Unit {0}) EarlyEnd → Type 0
-EndsOrLacks old opening keeps new end = EndsHistory opening keeps new ⊎ ((end ≡ Err ends.Memory) × (new ≡ old))
+abbrev pub EndsOrLacks : Life → EngineState → Bool → Bool → Life → Option Stop → Result (Unit {0}) EarlyEnd → Type 0
+EndsOrLacks old opening keeps strict new stop end = EndsHistory opening keeps strict new stop ⊎ ((end ≡ Err ends.Memory) × (new ≡ old))
 
 module _ {D : Type 0} (life : D → Life) where
   -- from an archive that is open the disk ends a history, which was counted alone; where none is open it stays
-  abbrev pub EndsFrom : ScriptArchive D → Life → Type 0
-  EndsFrom (Open engine) new = EndsHistory (seen life engine) false new
-  EndsFrom (Closed disk) new = new ≡ life disk
+  abbrev pub EndsFrom : Bool → Beginning → ScriptArchive D → Life → Option Stop → Type 0
+  EndsFrom strict beginning (Open engine) new stop = EndsHistory (seen life engine) false strict new stop
+  EndsFrom strict beginning (Closed disk) new stop = (new ≡ life disk) × (stop ≡ unopened_stop strict beginning)
 
-  -- an archive was made or opened, or none could be, and was served
-  pub record IsServed (old new : Life) : Type 0 where
+  -- an archive was made or opened, or none could be, and was served, by a strict server or by one that is not
+  pub record IsServedAs (strict : Bool) (old new : Life) (stop : Option Stop) : Type 0 where
     pub first : ScriptArchive D
     pub beginning : Beginning
     pub begins : BeginsAs life old beginning first
-    pub ends : EndsFrom first new
+    pub ends : EndsFrom strict beginning first new stop
+
+  -- whatever is said of its end
+  abbrev pub IsServed : Life → Life → Type 0
+  IsServed old new = IsServedAs false old new None
 
   -- for want of memory the disk stays as it was, or it was not opened, and reads and leaves what it did before; or it was opened,
   -- and no call was made
@@ -58,6 +80,6 @@ module _ {D : Type 0} (life : D → Life) where
   IsServedUpTo old new end = IsServed old new ⊎ ((end ≡ ends.Memory) × IsUnserved old new)
 
   -- how an archive was served
-  abbrev pub EndsUpTo : ScriptArchive D → Life → Result (Unit {0}) EarlyEnd → Type 0
-  EndsUpTo (Open engine) new end = EndsOrLacks (life engine.storage.disk) (seen life engine) false new end
-  EndsUpTo (Closed disk) new end = new ≡ life disk
+  abbrev pub EndsUpTo : Bool → Beginning → ScriptArchive D → Life → Option Stop → Result (Unit {0}) EarlyEnd → Type 0
+  EndsUpTo strict beginning (Open engine) new stop end = EndsOrLacks (life engine.storage.disk) (seen life engine) false strict new stop end
+  EndsUpTo strict beginning (Closed disk) new stop end = (new ≡ life disk) × (stop ≡ unopened_stop strict beginning)

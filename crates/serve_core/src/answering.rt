@@ -4,18 +4,18 @@ ghost use Rattle.std.specs.Prelude.{◌≡◌, [], IsErrOf, MatchBool};
 ghost use Rattle.std.specs.List.{position};
 ghost use Rattle.frame_core.specs.declared.refusal.Refusal.TheVariants.{NoMemory};
 ghost use Rattle.archive_lock.specs.History.{EndsWithAnswer, IsNoted};
-ghost use Rattle.serve_core.specs.Answering.{Closes, ClosesEach, EndsConnection, NotesOpened, NotesReplay, awaited_before, closed_replay, is_command, is_replay, left_by, left_open, makes_entry, opened_replay, settled_after, settled_before, shared_ways};
+ghost use Rattle.serve_core.specs.Answering.{Closes, ClosesEach, EndsConnection, NotesOpened, NotesReplay, awaited_before, closed_replay, is_command, is_device_fault, is_replay, left_by, left_open, makes_entry, may_be_last, opened_replay, settled_after, settled_before, shared_ways};
 
 use crate::connections::{Connections, Server};
-use crate::happening::Happening;
 use crate::place::Place;
-use crate::teller::Teller;
 use archive_lock::{Made, Naming, SharedArchive};
 use archive_model::Reply;
 use call_history::Pass;
 use control_core::{Event, Request};
 use disk_core::Disk;
 use frame_core::{Geometry, Refusal};
+use recording_thread::{note_if_broken, stop_if_stuck};
+use server_state::{Happening, Teller};
 use std::alloc::Global;
 use std::marker::{Model, PhantomData};
 use std::mem;
@@ -94,6 +94,8 @@ impl<'a, D: Disk, A: Naming, R: Wait, T: Teller> NotedArchive<'a, D, A, R, T> {
 
     /// Notes what a call was answered, beside the history.
     fn note(&self, event: &Event, outcome: &Result<Reply, Refusal>) {
+        self.with.shared.meter.note_call(event, outcome);
+        self.with.shared.tell_wrong_word(event, outcome);
         if self.with.shared.note(self.rt, event, outcome) {
             self.with.shared.look_round(&self.with.socket);
         }
@@ -103,6 +105,10 @@ impl<'a, D: Disk, A: Naming, R: Wait, T: Teller> NotedArchive<'a, D, A, R, T> {
         if outcome.is_ok() && makes_entry(event) {
             let (counted, limit) = self.archive.counted(self.rt);
             self.with.shared.note_history(counted, limit);
+        }
+        if may_be_last(event, outcome) {
+            stop_if_stuck(self.rt, self.archive, &self.with.shared);
+            note_if_broken(self.rt, self.archive, &self.with.shared);
         }
     }
 }
@@ -256,6 +262,19 @@ fn makes_entry(event: &Event) -> bool
         Event::Settle { .. } => true,
         _ => false,
     }
+}
+
+/// Whether an archive may record nothing after a call that was answered so: it makes an entry, or the device failed.
+fn may_be_last(event: &Event, outcome: &Result<Reply, Refusal>) -> bool
+    ensures { result ≡ may_be_last event.now outcome.now }
+{
+    makes_entry(event) || is_device_fault(outcome)
+}
+
+fn is_device_fault(outcome: &Result<Reply, Refusal>) -> bool
+    ensures { result ≡ is_device_fault outcome.now }
+{
+    matches!(outcome, Err(Refusal::DeviceFault))
 }
 
 /// Whether a request changes the catalogue, where it is accepted.

@@ -1,9 +1,8 @@
 //! A client's connection, whose reads and writes end if it is idle for too long and another waits.
 
 use crate::door::Door;
-use crate::shared::Shared;
-use crate::teller::Teller;
 use memchr::memchr;
+use server_state::{Shared, Teller};
 use std::alloc::{AllocError, Global};
 use std::cell::Cell;
 use std::io::{self, ErrorKind, Read, Write};
@@ -61,9 +60,14 @@ impl<'a, R: Wait + Clock, T: Teller> Client<'a, R, T> {
         self.next.lock(self.rt).take()
     }
 
-    /// Whether its next line is read: it is served further, and no client has quit.
+    /// Whether its next line is read: it is served further, no client has quit, and the server has not stopped.
     pub fn reads_on(&self) -> bool {
-        !self.door.is_closed() && self.goes_on()
+        !self.is_last() && self.goes_on()
+    }
+
+    /// Whether the line that is answered is the last one: a client has quit, or the server has stopped.
+    fn is_last(&self) -> bool {
+        self.door.is_closed() || self.shared.has_stopped()
     }
 
     /// The answer to the line `images`.
@@ -125,7 +129,7 @@ impl<R: Wait + Clock, T: Teller> Read for ClientReader<'_, R, T> {
     }
 }
 
-/// What a client is answered. Once another client has quit, no more is written if a write has to wait.
+/// What a client is answered. Once another client has quit, or the server has stopped, no more is written if a write has to wait.
 #[derive(Drop)]
 pub(crate) struct ClientWriter<'a, R, T>(pub &'a Client<'a, R, T>);
 
@@ -141,7 +145,7 @@ impl<R: Wait + Clock, T: Teller> Write for ClientWriter<'_, R, T> {
                     client.touch();
                     return Ok(count);
                 }
-                Err(error) if is_late(&error) && !client.door.is_closed() => {}
+                Err(error) if is_late(&error) && !client.is_last() => {}
                 Err(error) => return Err(error),
             }
         }

@@ -3,16 +3,16 @@
 ghost use Rattle.std.specs.Prelude.{◌≡◌, ◌++◌, ◌∷◌, [], ◌<◌, vec_capacity, vec_len};
 ghost use Rattle.std.specs.Thread.{IsSync};
 ghost use Rattle.call_history.specs.Passes.{AllOfTable};
-ghost use Rattle.serve_core.specs.Seats.{AreBack, IsBack};
+ghost use Rattle.serve_core.specs.Clients.{AreBack, IsBack};
 
 use crate::answering::{Controller, NotedArchive};
 use crate::connections::{Connections, serve_connections};
 use crate::place::{Place, Places};
-use crate::teller::Teller;
 use crate::unopened::Unopened;
 use archive_lock::{Made, Naming, SharedArchive};
 use call_history::Pass;
 use disk_core::Disk;
+use server_state::Teller;
 use std::marker::Brand;
 use std::rt::Clock;
 use std::snapshot::Snapshot;
@@ -27,7 +27,7 @@ struct GivesBack {
 }
 
 impl Promise<Pass<Made>> for GivesBack {
-    ghost use Rattle.serve_core.specs.Seats.{IsBack};
+    ghost use Rattle.serve_core.specs.Clients.{IsBack};
 
     ghost kept_by = { λ p r. IsBack p.pass.value r };
 }

@@ -1,8 +1,7 @@
 //! The listener, the connections that wait there, and the end of serving.
 
 use crate::place::Places;
-use crate::shared::Shared;
-use crate::teller::Teller;
+use server_state::{Shared, Teller};
 use std::io::{self, ErrorKind};
 use std::net::{SocketAddr, TcpListener, TcpStream};
 use std::rt::Clock;
@@ -100,14 +99,18 @@ impl Door {
         self.is_closed.load(Ordering::SeqCst)
     }
 
-    /// How serving ended: `Read` if the server ended otherwise.
-    pub fn end<R: Wait>(&self, rt: &R) -> Result<(), EarlyEnd> {
+    /// How serving ended: `Read` if the server ended otherwise, and did not stop.
+    pub fn end<R: Wait, T: Teller>(&self, rt: &R, shared: &Shared<T>) -> Result<(), EarlyEnd> {
         let end = *self.end.lock(rt);
-        end.unwrap_or(Err(EarlyEnd::Read))
+        match end {
+            Some(end) => end,
+            None if shared.has_stopped() => Ok(()),
+            None => Err(EarlyEnd::Read),
+        }
     }
 
     fn has_ended<T: Teller>(&self, shared: &Shared<T>) -> bool {
-        self.is_closed() || shared.has_ended()
+        self.is_closed() || shared.has_stopped() || shared.has_ended()
     }
 
     /// Looks for a connection until one comes. None if the server ends, or the listener fails, which ends it.

@@ -2,39 +2,19 @@
 #![tactic(auto)]
 
 mod answering;
-mod asking;
 mod client;
 mod clients;
 mod connections;
-mod counts;
 mod door;
-mod ends;
-mod giving;
-mod happening;
-mod images;
-mod leaving;
 mod line_reader;
-mod listing;
-mod noting;
 mod options;
-mod own_recordings;
-mod pairing;
 mod place;
-mod queue;
-mod receiving;
-mod recording;
 mod script_reader;
-mod seats;
-mod senders;
+mod served;
 mod serving;
-mod settling;
-mod shared;
-mod stopwatch;
-mod streams;
-mod teller;
 mod unopened;
 
-pub use happening::{Counted, Happening, ImageCounted};
 pub use options::{IDLE_SECONDS, SEGMENT_LENGTH, SETTLE_EVERY, ServeOptions};
+pub use served::{Served, Stop};
+pub use server_state::{Counted, Happening, ImageCounted, LineTeller, Teller, Untold};
 pub use serving::{serve_on, serve_with};
-pub use teller::{LineTeller, Teller, Untold};

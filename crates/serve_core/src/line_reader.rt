@@ -3,8 +3,8 @@
 ghost use Rattle.std.specs.Prelude.{◌≤◌, length};
 
 use crate::client::Client;
-use crate::teller::Teller;
 use memchr::memchr;
+use server_state::Teller;
 use std::alloc::Global;
 use std::io::{self, BufRead, BufReader, ErrorKind, Read};
 use std::rt::Clock;

@@ -1,6 +1,6 @@
 //! What a server can be asked for: docs/SERVING.md, "How to run it".
 
-ghost use Rattle.std.specs.Prelude.{◌≡◌, [], None, pos};
+ghost use Rattle.std.specs.Prelude.{◌≡◌, [], None, false, pos};
 
 /// Seconds for which a client may be idle while another waits, unless an option says otherwise.
 pub const IDLE_SECONDS: u64 = 60;
@@ -29,16 +29,24 @@ pub struct ServeOptions<'a> {
     pub streams: &'a [i32],
     /// Bytes of a segment of such a recording: a power of two from 65,536 to 1,073,741,824. It is a term if that is longer.
     pub segment_length: i32,
+    /// Whether the server ends by itself once it can record nothing: its archive can't be opened, a write has failed, or its
+    /// history is full. If not, it goes on until a line quits.
+    pub is_strict: bool,
+    /// Whether the teller is told each second what is measured of the server.
+    pub is_measured: bool,
 }
 
 impl<'a> ServeOptions<'a> {
     /// A client may be idle for 60 seconds while another waits, a block waits for 5 milliseconds at most, no status message is
-    /// sent, one client is served at a time, and nothing is recorded without being asked.
+    /// sent, one client is served at a time, nothing is recorded without being asked, the server is not strict, and nothing is
+    /// measured.
     pub fn new() -> ServeOptions<'a>
         ensures times { (result.idle_seconds ≡ 60) × (result.settle_every ≡ 5) }
         ensures receiver { (result.window ≡ None) × (result.receiver_id ≡ pos 0) }
         ensures clients { result.clients ≡ None }
         ensures streams { (result.streams.now ≡ []) × (result.segment_length ≡ pos 134217728) }
+        ensures strict { result.is_strict ≡ false }
+        ensures measured { result.is_measured ≡ false }
     {
         ServeOptions {
             idle_seconds: IDLE_SECONDS,
@@ -48,6 +56,8 @@ impl<'a> ServeOptions<'a> {
             clients: None,
             streams: &[],
             segment_length: SEGMENT_LENGTH,
+            is_strict: false,
+            is_measured: false,
         }
     }
 }

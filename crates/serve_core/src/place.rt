@@ -1,7 +1,7 @@
 //! How many clients are served at a time, and the passes that they call with.
 
 ghost use Rattle.std.specs.Prelude.{◌≡◌, ◌≤◌};
-ghost use Rattle.serve_core.specs.Seats.{places_of};
+ghost use Rattle.serve_core.specs.Clients.{places_of};
 
 use std::marker::Brand;
 

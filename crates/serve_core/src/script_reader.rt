@@ -1,7 +1,7 @@
 //! What a client sends up to the line `images`, which control lines don't have. docs/SERVING.md, "Which images there are".
 
 ghost use Rattle.std.specs.Prelude.{◌≡◌, ◌≤◌, bytes_eq, codes, length, vec_len};
-ghost use Rattle.serve_core.specs.Listing.{is_images, may_be_images, script_length};
+ghost use Rattle.serve_core.specs.ImagesLine.{is_images, may_be_images, script_length};
 
 use std::alloc::{AllocError, Global};
 use std::io::{self, Read};

@@ -4,30 +4,26 @@ ghost use Rattle.std.specs.Prelude.{◌≡◌, ◌+◌, ◌≤◌, [], Err, fals
 ghost use Rattle.archive_lock.specs.Held.{engine_seen, view_of};
 ghost use Rattle.engine_core.specs.Seen.{seen};
 ghost use Rattle.tool_core.specs.Archives.{disk_of, early_end_of};
-ghost use Rattle.tool_core.specs.declared.fault.EarlyEnd.TheVariants.{Read};
-ghost use Rattle.serve_core.specs.Seats.{AreAllPasses, AreClientPasses};
-ghost use Rattle.serve_core.specs.Serving.{EndsHistory, EndsOrLacks, EndsUpTo, IsServed, IsServedUpTo};
+ghost use Rattle.tool_core.specs.declared.fault.EarlyEnd.TheVariants.{Memory, Read};
+ghost use Rattle.recording_thread.specs.Seats.{AreAllPasses, AreClientPasses};
+ghost use Rattle.serve_core.specs.Serving.{EndsHistory, EndsOrLacks, EndsUpTo, IsServed, IsServedAs, IsServedUpTo};
 
 use crate::clients::{serve_clients, serve_unopened};
 use crate::connections::{Connections, Manner};
 use crate::door::Door;
-use crate::happening::Happening;
-use crate::images::Images;
 use crate::options::ServeOptions;
-use crate::own_recordings::OwnRecordings;
 use crate::place::Places;
-use crate::queue::FedBlock;
-use crate::receiving::{Reception, TENDING};
-use crate::recording::{Recording, record_all};
-use crate::seats::{Benches, Seats, parted};
-use crate::senders::{Receiver, Senders};
-use crate::shared::Shared;
-use crate::teller::{Teller, Untold};
+use crate::served::{Served, stop_of, unopened_stop};
 use archive_lock::{Closed, Made, Naming, SharedArchive};
 use call_history::{Opened, Pass};
 use disk_core::Disk;
 use engine_core::Engine;
 use frame_core::limits::{LONGEST_DATAGRAM, MAX_WAITING_BLOCKS};
+use receiving_thread::{Images, Receiver, Reception, Senders, TENDING};
+use recording_thread::{
+    Benches, OwnRecordings, Recording, Seats, parted, record_all, stop_if_stuck,
+};
+use server_state::{FedBlock, Happening, Shared, SharedOptions, Teller, Untold};
 use std::alloc::{AllocError, Global};
 use std::collections::VecDeque;
 use std::marker::Brand;
@@ -55,6 +51,8 @@ struct Serving<'a, R, T> {
     /// Streams whose publications are recorded without being asked, and how.
     streams: &'a [i32],
     segment_length: i32,
+    /// Whether the server ends once it can record nothing.
+    is_strict: bool,
     shared: &'a Shared<T>,
     /// What the threads that serve clients share.
     lines: &'a Connections<T>,
@@ -105,15 +103,11 @@ pub fn serve_on<R: Threads + Wait + Clock + Sync, D: Disk + Drop + Send>(
     ensures early { IfErr result (λ fault.
         IsServedUpTo D.life (D.life disk) (D.life (disk_of fault)) (early_end_of fault)) }
 {
-    serve_with(
-        rt,
-        alloc,
-        listener,
-        socket,
-        disk,
-        &ServeOptions::new(),
-        Untold,
-    )
+    let options = ServeOptions::new();
+    match serve_with(rt, alloc, listener, socket, disk, &options, Untold) {
+        Ok(served) => Ok(served.disk),
+        Err(fault) => Err(fault),
+    }
 }
 
 /// Serves the archive of a disk until a line quits. If there is no file it is made, with a history of 1,048,576 entries;
@@ -124,6 +118,9 @@ pub fn serve_on<R: Threads + Wait + Clock + Sync, D: Disk + Drop + Send>(
 /// Three threads and one for each further client: the caller's answers the lines of connections, one after another, and so
 /// does each of those; one receives datagrams, and sends a NAK frame after each that its image doesn't refuse while something
 /// is missing; one writes and settles blocks of images that recorder sessions have. docs/SERVING.md.
+///
+/// A strict server ends by itself once its archive can record nothing: it can't be opened, a write has failed, or its history is
+/// full. What comes back says which, whatever ended the server.
 ///
 /// `Memory` if the opening finds none, or a thread can't be made; `Read` if the listener or the socket fails. A reply that
 /// finds no memory ends its connection. Costs memory for 64 images, each of which holds 1,048,576 bytes of its stream at
@@ -140,12 +137,14 @@ pub fn serve_with<
     disk: D,
     options: &ServeOptions<'_>,
     teller: T,
-) -> Result<D, ScriptFault<D>>
-    ensures served { IfOk result (λ back. IsServed D.life (D.life disk) (D.life back)) }
+) -> Result<Served<D>, ScriptFault<D>>
+    ensures served { IfOk result (λ back. IsServed D.life (D.life disk) (D.life back.disk)) }
+    ensures stop { IfOk result (λ back.
+        IsServedAs D.life options.now.is_strict (D.life disk) (D.life back.disk) back.stop) }
     ensures early { IfErr result (λ fault.
         IsServedUpTo D.life (D.life disk) (D.life (disk_of fault)) (early_end_of fault)) }
 {
-    let Ok(shared) = Shared::new(alloc, options.window.is_some(), teller) else {
+    let Ok(shared) = Shared::new(alloc, shared_by(options), teller) else {
         return Err(ScriptFault::Memory(disk));
     };
     let (Ok(tools), Ok(benches)) = (Tools::new(alloc, options), Benches::new(alloc)) else {
@@ -171,16 +170,26 @@ pub fn serve_with<
         settle_every: options.settle_every,
         streams: options.streams,
         segment_length: options.segment_length,
+        is_strict: options.is_strict,
         shared: &lines.shared,
         lines: &lines,
     };
     begin(&serving, beginning);
-    let (disk, end) = serve_archive(&serving, tools, benches, archive);
+    let (served, end) = serve_archive(&serving, tools, benches, archive, beginning);
     lines.shared.tell_end();
-    handed_back(disk, end)
+    handed_back(served, end)
 }
 
-/// Serves an archive, or where none is open: the disk, and how that ended.
+/// What the threads of a server are told of its options.
+fn shared_by(options: &ServeOptions<'_>) -> SharedOptions {
+    SharedOptions {
+        gives_back: options.window.is_some(),
+        is_strict: options.is_strict,
+        is_measured: options.is_measured,
+    }
+}
+
+/// Serves an archive, or where none is open: what comes back, and how that ended. A strict server does not serve without one.
 fn serve_archive<
     R: Threads + Wait + Clock + Sync,
     D: Disk + Drop + Send,
@@ -190,27 +199,33 @@ fn serve_archive<
     tools: Tools,
     benches: Benches,
     archive: ScriptArchive<D>,
-) -> (D, Result<(), EarlyEnd>)
-    ensures { EndsUpTo D.life archive (D.life result.0) result.1 }
+    beginning: Beginning,
+) -> (Served<D>, Result<(), EarlyEnd>)
+    ensures { EndsUpTo D.life with.now.is_strict beginning archive (D.life result.0.disk) result.0.stop result.1 }
 {
     match archive {
         ScriptArchive::Open(engine) => serve_open(with, tools, benches, engine),
         ScriptArchive::Closed(disk) => {
-            let end = serve_closed(with, tools);
-            (disk, end)
+            let end = if with.is_strict {
+                Ok(())
+            } else {
+                serve_closed(with, tools)
+            };
+            let stop = unopened_stop(with.is_strict, &beginning);
+            (Served { disk, stop }, end)
         }
     }
 }
 
-/// The disk of a server that ended so.
-fn handed_back<D>(disk: D, end: Result<(), EarlyEnd>) -> Result<D, ScriptFault<D>>
+/// What a server gives back that ended so.
+fn handed_back<D>(served: Served<D>, end: Result<(), EarlyEnd>) -> Result<Served<D>, ScriptFault<D>>
     ensures { MatchResult result
-        (λ back. (back ≡ disk) × IsOk end)
-        (λ fault. (disk_of fault ≡ disk) × (end ≡ Err (early_end_of fault))) }
+        (λ back. (back ≡ served) × IsOk end)
+        (λ fault. (disk_of fault ≡ served.disk) × (end ≡ Err (early_end_of fault))) }
 {
     match end {
-        Ok(()) => Ok(disk),
-        Err(end) => Err(ScriptFault::new(end, disk)),
+        Ok(()) => Ok(served),
+        Err(end) => Err(ScriptFault::new(end, served.disk)),
     }
 }
 
@@ -223,7 +238,7 @@ fn begin<R, T: Teller>(with: &Serving<'_, R, T>, beginning: Beginning) {
     with.shared.tell(&Happening::Began(beginning));
 }
 
-/// Serves an archive that is open: how that ended, and the disk.
+/// Serves an archive that is open: what comes back, and how that ended.
 #[tactic(auto, using(crate::proofs::ServingLemmas::counted_alone))]
 fn serve_open<
     R: Threads + Wait + Clock + Sync,
@@ -234,11 +249,12 @@ fn serve_open<
     tools: Tools,
     benches: Benches,
     engine: Engine<D>,
-) -> (D, Result<(), EarlyEnd>)
-    ensures { EndsOrLacks (D.life engine.storage.disk) (seen D.life engine) false (D.life result.0) result.1 }
+) -> (Served<D>, Result<(), EarlyEnd>)
+    ensures { EndsOrLacks (D.life engine.storage.disk) (seen D.life engine) false with.now.is_strict
+        (D.life result.0.disk) result.0.stop result.1 }
 {
     let Ok(opened) = Opened::new(with.alloc, false) else {
-        return (engine.into_disk(), Err(EarlyEnd::Memory));
+        return lacking(engine);
     };
     serve_named::<D, Brand, R, T>(with, tools, benches, opened, engine)
 }
@@ -255,29 +271,43 @@ fn serve_named<
     benches: Benches,
     opened: Opened<Made>,
     engine: Engine<D>,
-) -> (D, Result<(), EarlyEnd>)
+) -> (Served<D>, Result<(), EarlyEnd>)
     requires named { opened.table ≡ A.table }
     requires counts { A.passes ≡ 64 + with.now.places.count }
     requires stores { opened.keeps ≡ A.keeps }
     requires opens { engine_seen D.life (view_of engine []) ≡ A.opening }
-    ensures { EndsOrLacks (D.life engine.storage.disk) A.opening A.keeps (D.life result.0) result.1 }
+    ensures { EndsOrLacks (D.life engine.storage.disk) A.opening A.keeps with.now.is_strict
+        (D.life result.0.disk) result.0.stop result.1 }
 {
     let places = with.places;
     let count = FED_SESSIONS + places.count;
     let Ok(room) = Vec::with_capacity(with.alloc, count) else {
-        return (engine.into_disk(), Err(EarlyEnd::Memory));
+        return lacking(engine);
     };
     let made = SharedArchive::<D, A>::new(with.alloc, opened, engine, count as u64);
     let (archive, passes) = match made {
         Ok(made) => made,
-        Err(refused) => return (refused.engine.into_disk(), Err(EarlyEnd::Memory)),
+        Err(refused) => return lacking(refused.engine),
     };
     let (counted, limit) = archive.counted(with.rt);
     with.shared.note_history(counted, limit);
+    stop_if_stuck(with.rt, &archive, with.shared);
+    with.shared.meter.set_open();
     let (passes, clients) = parted::<A>(passes, room);
     let seats = benches.seated::<A>(passes);
     let (passes, end) = serve_shared(with, tools, &archive, clients, seats);
-    (closed(archive, passes), end)
+    (closed(archive, passes, with.is_strict), end)
+}
+
+/// What comes back of an archive for whose serving there was no memory.
+fn lacking<D: Disk + Drop>(engine: Engine<D>) -> (Served<D>, Result<(), EarlyEnd>)
+    ensures { (result.1 ≡ Err Memory) × (D.life result.0.disk ≡ D.life engine.storage.disk) }
+{
+    let served = Served {
+        disk: engine.into_disk(),
+        stop: None,
+    };
+    (served, Err(EarlyEnd::Memory))
 }
 
 /// Serves an archive by a thread that receives, one that records, and one for each client: all its passes, and how that ended.
@@ -340,7 +370,7 @@ fn serve_shared<
             let is_whole = receiver.join(*rt);
             (
                 recorder.join(*rt).into_passes(clients),
-                ended_by(lines.door.end(*rt), is_whole),
+                ended_by(lines.door.end(*rt, shared), is_whole),
             )
         },
     )
@@ -366,7 +396,10 @@ fn serve_closed<R: Threads + Wait + Clock + Sync, T: Teller + Drop + Send + Sync
         };
         serve_unopened(with.rt, with.lines, &with.places);
         with.shared.end(with.socket);
-        ended_by(with.lines.door.end(with.rt), receiver.join(with.rt))
+        ended_by(
+            with.lines.door.end(with.rt, with.shared),
+            receiver.join(with.rt),
+        )
     })
 }
 
@@ -406,7 +439,15 @@ fn receive<R: Wait + Clock, T: Teller>(
     let is_timed = socket
         .set_read_timeout(Some(Duration::from_millis(doze)))
         .is_ok();
-    let mut reception = Reception::new(*rt, shared, socket, images, senders, with.streams);
+    let mut reception = Reception::new(
+        *rt,
+        with.alloc,
+        shared,
+        socket,
+        images,
+        senders,
+        with.streams,
+    );
     let is_whole = is_timed && reception.receive_all(buffer.as_mut_slice());
     if !is_whole {
         shared.end(socket);
@@ -426,14 +467,24 @@ fn ended_by(served: Result<(), EarlyEnd>, is_whole: bool) -> Result<(), EarlyEnd
     }
 }
 
-/// The disk of an archive that is closed with all its passes.
+/// What comes back of an archive that is closed with all its passes.
 #[tactic(auto, using(crate::proofs::ServingLemmas::ends_history))]
-fn closed<D: Disk + Drop, A: Naming>(archive: SharedArchive<D, A>, passes: Vec<Pass<Made>>) -> D
+fn closed<D: Disk + Drop, A: Naming>(
+    archive: SharedArchive<D, A>,
+    passes: Vec<Pass<Made>>,
+    is_strict: bool,
+) -> Served<D>
     requires { AreAllPasses A.table A.passes passes.items }
-    ensures { EndsHistory A.opening A.keeps (D.life result) }
+    ensures { EndsHistory A.opening A.keeps is_strict (D.life result.disk) result.stop }
 {
     match archive.close(passes) {
-        Ok(Closed { engine, .. }) => engine.into_disk(),
+        Ok(Closed { engine, .. }) => {
+            let stop = stop_of(is_strict, engine.desk());
+            Served {
+                disk: engine.into_disk(),
+                stop,
+            }
+        }
         Err(_) => unreachable!(),
     }
 }

@@ -86,7 +86,7 @@ module _ {D : Type 0} (life : D → Life) where
   keeps_further (Closed disk) mid new first later = subst (λ (x : ScriptArchive D). KeepsBanks x new) first later
 
   pub calls_keep : (event : Event) (old : ScriptArchive D) (outcome : Result Reply Refusal) (new : ScriptArchive D) → CallsEngine life event old outcome new → KeepsBanks old new
-  calls_keep event (Open old) outcome (Open new) answered = same_banks old.storage.log new.storage.log answered.bank
+  calls_keep event (Open old) outcome (Open new) answered = same_banks old.storage.log new.storage.log answered.ends.bank
   calls_keep event (Open old) outcome (Closed disk) answered = absurd answered
   calls_keep event (Closed disk) outcome new answered = answered.1
 

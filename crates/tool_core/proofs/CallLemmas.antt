@@ -45,7 +45,7 @@ pub answered_at : (old new : EngineState) (a : Archive) (event : Event) (outcome
 answered_at old new a event outcome desk was answers cut =
     let same : archive_of old (content_of a) ≡ a = ap (λ (d : DeskState). with_desk d a) desk in
     subst (λ (b : Archive). CallEnded old new b (EndsAs old.life new.life event b outcome)) same
-    (answers.ended (content_of a) (subst (λ (b : Archive). IsCrashConsistent old.life old.log b) (sym same) was) cut)
+    (answers.ends.ended (content_of a) (subst (λ (b : Archive). IsCrashConsistent old.life old.log b) (sym same) was) cut)
 
 module _ {D : Type 0} (life : D → Life) where
   -- how an archive stands behind a line, how that ends, and what a crash leaves meanwhile

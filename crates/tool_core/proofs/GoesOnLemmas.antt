@@ -37,7 +37,7 @@ module _ {D : Type 0} (life : D → Life) where
   same_goes old new same = subst (λ (x : ScriptArchive D). DiskGoesOn (life_of life old) (life_of life x)) (sym same) (no_calls (life_of life old))
 
   pub calls_go_on : (event : Event) (old : ScriptArchive D) (outcome : Result Reply Refusal) (new : ScriptArchive D) → CallsEngine life event old outcome new → DiskGoesOn (life_of life old) (life_of life new)
-  calls_go_on event (Open old) outcome (Open new) answered = answered.goes_on
+  calls_go_on event (Open old) outcome (Open new) answered = answered.ends.goes_on
   calls_go_on event (Open old) outcome (Closed disk) answered = absurd answered
   calls_go_on event (Closed disk) outcome new answered = same_goes (Closed disk) new answered.1
 

@@ -1,21 +1,32 @@
 -- What an engine answers to the verifying of recordings.
-use Rattle.std.proofs.Common.{◌≡◌, ◌+◌, refl, sym, ap, subst, inl, inr, ℕ, suc, ℤ, true≢false, cond, List, [], ◌∷◌, length, take, Option, arith}
+use Rattle.std.proofs.Common.{◌≡◌, ◌⊎◌, ◌∙◌, ◌+◌, Bool, true, false, refl, sym, ap, subst, inl, inr, ℕ, suc, ℤ, true≢false, cond, List, [], ◌∷◌, length, take, Option, arith}
 use Rattle.std.proofs.lemmas.List.Sums.{sum_by-cons}
-use Rattle.std.specs.Prelude.{IsTrue, Result, Err}
+use Rattle.std.specs.Prelude.{IfSome, IsTrue, MatchBool, Result, Ok, Err}
+use Rattle.std.specs.List.{AllZip}
 use Rattle.frame_core.specs.declared.refusal.Refusal.{Refusal}
-use Rattle.frame_core.specs.declared.refusal.Refusal.TheVariants.{DeviceFault}
-use Rattle.disk_core.specs.Life.{HasFailed, Life}
+use Rattle.frame_core.specs.declared.refusal.Refusal.TheVariants.{DeviceFault, NoMemory}
+use Rattle.disk_core.specs.DiskImage.{Files, reads}
+use Rattle.disk_core.specs.Life.{HasFailed, IsQuiet, Life}
 use Rattle.archive_model.specs.declared.reply.Reply.{Reply}
 use Rattle.control_core.specs.declared.event.Event.TheVariants.{Verify}
-use Rattle.control_core.specs.Exact.{Archive, CallEnds}
+use Rattle.archive_model.specs.Checks.{Tests, checks}
+use Rattle.archive_model.specs.Register.{registration_in}
+use Rattle.control_core.specs.declared.asked.Asked.TheVariants as calls
+use Rattle.control_core.specs.declared.asked.Told.TheVariants as told
+use Rattle.archive_model.specs.declared.reply.Reply.TheVariants as replies
+use Rattle.control_core.specs.Desk.{DeskState}
+use Rattle.control_core.specs.Exact.{Archive, CallEnds, told_of}
+use Rattle.control_core.specs.Machine.{Ended, Ends, Outcome, Outside, Passing, RefusesCall, Step, Stepped, Unread}
+use Rattle.control_core.specs.Turns.{verify_tests}
 use Rattle.engine_core.specs.declared.engine.Engine.{Engine}
 use Rattle.engine_core.specs.Calls.{HasFailedOften, faults_in, is_fault}
 use Rattle.engine_core.specs.Consistent.{IsCrashConsistent}
 use Rattle.engine_core.specs.Engine.{DiskGoesOn, archive_of}
 use Rattle.engine_core.specs.Seen.{seen}
+use Rattle.engine_core.specs.Shown.{CountsShown}
 use Rattle.tool_core.specs.declared.fault.EarlyEnd.{EarlyEnd}
 use Rattle.tool_core.specs.declared.reports.Verdict.{Verdict}
-use Rattle.tool_core.specs.Reports.{AnswersEach, HasReported, HasReportedFirst, InTurn, InTurnAndOne, IsEngineOf, life_in, verifies_by}
+use Rattle.tool_core.specs.Reports.{AnswersEach, HasReported, HasReportedFirst, InTurn, InTurnAndOne, IsEngineOf, desk_in, life_in, verifies_by}
 use Rattle.tool_core.proofs.CallLemmas.{answered_at, wider_cause}
 
 -- a device fault is answered where a call of the disk has failed; those of both have their causes
@@ -36,9 +47,60 @@ goes_then old mid new first behind =
     let late = behind.faults in
     record { obeyed = λ obeys. first.obeyed (behind.obeyed obeys); faults = omega (arith, early, late) }
 
+-- ---- calls that only read
+
+quiet_here : (life : Life) → IsQuiet life life
+quiet_here life = record { obeyed = λ obeys. obeys; past = refl; now = refl; faults = omega arith }
+
+quiet_then : (old mid new : Life) → IsQuiet old mid → IsQuiet mid new → IsQuiet old new
+quiet_then old mid new first behind =
+    let early = first.faults in
+    let late = behind.faults in
+    record { obeyed = λ obeys. first.obeyed (behind.obeyed obeys); past = behind.past ∙ first.past; now = behind.now ∙ first.now; faults = omega (arith, early, late) }
+
+-- a verification leaves the desk
+
+passing_leaves : (d new : DeskState) (tests : Tests) (rs : List Refusal) (ends : Ends) (o : Outcome) → (ends o new → new ≡ d) → Passing d tests rs ends o new → new ≡ d
+passing_leaves d new tests [] ends o leaves h = leaves h
+passing_leaves d new tests (r ∷ rs) ends o leaves h = by (tests r) h (passing_leaves d new tests rs ends o leaves)
+  where
+    by : (t : Bool) → MatchBool t (Passing d tests rs ends o new) (RefusesCall d r o new) → (Passing d tests rs ends o new → new ≡ d) → new ≡ d
+    by true h rest = rest h
+    by false h rest = h.1
+
+verify_leaves : (d new : DeskState) (id : ℤ) (o : Outcome) → Step d (calls.Verify id) o new → new ≡ d
+verify_leaves d new id o step = passing_leaves d new (verify_tests d id) checks verifying o leaves step
+  where
+    verifying : Ends
+    verifying = λ outcome end. ((frames : ℤ) × Ended (Ok (told.Reply (replies.Verified frames))) d outcome end) ⊎ Unread d outcome end
+
+    leaves : verifying o new → new ≡ d
+    leaves (inl counted) = counted.1.1
+    leaves (inr (inl fault)) = fault.1
+    leaves (inr (inr damaged)) = damaged.2.1
+
+verified_leaves : (d new : DeskState) (id : ℤ) (o : Outcome) → Stepped d (calls.Verify id) o new → new ≡ d
+verified_leaves d new id (Ok told) step = verify_leaves d new id (Ok told) step
+verified_leaves d new id (Err refusal) step = elim step [ inl exact ↦ verify_leaves d new id (Err refusal) exact | inr out ↦ outside refusal out ]
+  where
+    outside : (r : Refusal) → Outside d ⊥ (λ x. ⊥) r new → new ≡ d
+    outside NoMemory is = is
+    outside DeviceFault never = absurd never.0
+    outside r never = absurd never
+
+-- what is told over the same desk and files is told over both
+shown_before : (old mid : Life) (d e : DeskState) (ids : List ℤ) (outcomes : List (Result Reply Refusal)) → IsQuiet old mid → e ≡ d → AllZip (λ id outcome. IfSome (registration_in e.register id) (λ g. CountsShown (reads mid.now) g outcome)) ids outcomes
+    → AllZip (λ id outcome. IfSome (registration_in d.register id) (λ g. CountsShown (reads old.now) g outcome)) ids outcomes
+shown_before old mid d e ids outcomes quiet same shown =
+    subst (λ (x : DeskState). AllZip (λ id outcome. IfSome (registration_in x.register id) (λ g. CountsShown (reads old.now) g outcome)) ids outcomes) same
+    (subst (λ (files : Files). AllZip (λ id outcome. IfSome (registration_in e.register id) (λ g. CountsShown (reads files) g outcome)) ids outcomes) quiet.now shown)
+
 module _ {D : Type 0} (life : D → Life) where
   none_yet : (engine : Engine D) → AnswersEach life engine engine [] []
-  none_yet engine = record { goes_on = record { obeyed = λ obeys. obeys; faults = omega arith }; each = refl; cause = omega arith; stays = λ a is. is; exact = λ a is obeys. tt }
+  none_yet engine = record { goes_on = record { obeyed = λ obeys. obeys; faults = omega arith }; each = refl; quiet = quiet_here (life_in life engine); shown = λ obeys. tt; cause = omega arith; stays = λ a is. is; exact = λ a is obeys. tt }
+
+  one_desk : (old new : Engine D) (id : ℤ) (outcome : Result Reply Refusal) → verifies_by life old id outcome new → desk_in new ≡ desk_in old
+  one_desk old new id outcome answers = verified_leaves (desk_in old) (desk_in new) id (told_of (desk_in old) (Verify id) outcome) answers.ends.machine
 
   -- the archive of one verifying stays, and its answer is one that the call may have
   stays_one : (old new : Engine D) (id : ℤ) (outcome : Result Reply Refusal) → verifies_by life old id outcome new → (a : Archive) → IsEngineOf life a old → IsEngineOf life a new
@@ -56,9 +118,11 @@ module _ {D : Type 0} (life : D → Life) where
   -- one before the others
   before : (old mid new : Engine D) (id : ℤ) (ids : List ℤ) (outcome : Result Reply Refusal) (outcomes : List (Result Reply Refusal)) → verifies_by life old id outcome mid → AnswersEach life mid new ids outcomes → AnswersEach life old new (id ∷ ids) (outcome ∷ outcomes)
   before old mid new id ids outcome outcomes first rest = record {
-    goes_on = goes_then (life_in life old) (life_in life mid) (life_in life new) first.goes_on rest.goes_on;
+    goes_on = goes_then (life_in life old) (life_in life mid) (life_in life new) first.ends.goes_on rest.goes_on;
     each = ap suc rest.each;
-    cause = faults_then (life_in life old) (life_in life mid) (life_in life new) outcome outcomes first.goes_on first.cause rest.cause;
+    quiet = quiet_then (life_in life old) (life_in life mid) (life_in life new) first.touches rest.quiet;
+    shown = λ obeys. (first.shows (rest.goes_on.obeyed obeys), shown_before (life_in life old) (life_in life mid) (desk_in old) (desk_in mid) ids outcomes first.touches (one_desk old mid id outcome first) (rest.shown obeys));
+    cause = faults_then (life_in life old) (life_in life mid) (life_in life new) outcome outcomes first.ends.goes_on first.ends.cause rest.cause;
     stays = λ a is. rest.stays a (stays_one old mid id outcome first a is);
     exact = λ a is obeys. (exact_one old mid id outcome first a is (rest.goes_on.obeyed obeys), rest.exact a (stays_one old mid id outcome first a is) obeys);
   }
@@ -66,11 +130,13 @@ module _ {D : Type 0} (life : D → Life) where
   -- a later engine, of whose call no answer was written
   later : (old mid new : Engine D) (ids : List ℤ) (outcomes : List (Result Reply Refusal)) (id : ℤ) (outcome : Result Reply Refusal) → AnswersEach life old mid ids outcomes → verifies_by life mid id outcome new → AnswersEach life old new ids outcomes
   later old mid new ids outcomes id outcome so_far last = record {
-    goes_on = goes_then (life_in life old) (life_in life mid) (life_in life new) so_far.goes_on last.goes_on;
+    goes_on = goes_then (life_in life old) (life_in life mid) (life_in life new) so_far.goes_on last.ends.goes_on;
     each = so_far.each;
-    cause = faults_since (life_in life old) (life_in life mid) (life_in life new) outcomes so_far.cause last.goes_on;
+    quiet = quiet_then (life_in life old) (life_in life mid) (life_in life new) so_far.quiet last.touches;
+    shown = λ obeys. so_far.shown (last.ends.goes_on.obeyed obeys);
+    cause = faults_since (life_in life old) (life_in life mid) (life_in life new) outcomes so_far.cause last.ends.goes_on;
     stays = λ a is. stays_one mid new id outcome last a (so_far.stays a is);
-    exact = λ a is obeys. so_far.exact a is (last.goes_on.obeyed obeys);
+    exact = λ a is obeys. so_far.exact a is (last.ends.goes_on.obeyed obeys);
   }
 
   in_turn : (old new : Engine D) (ids : List ℤ) (outcomes : List (Result Reply Refusal)) → InTurn (verifies_by life) old new ids outcomes → AnswersEach life old new ids outcomes

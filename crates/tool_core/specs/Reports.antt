@@ -1,11 +1,12 @@
 -- What `verify` tells of an archive: docs/CONTROL.md, "The program".
-use Rattle.std.specs.Prelude.{◌≡◌, ◌⊎◌, ℕ, ℤ, Bool, IsTrue, List, [], ◌∷◌, length, map, take, Option, Result, MatchResult, is_ok, if◌then◌else◌}
+use Rattle.std.specs.Prelude.{◌≡◌, ◌⊎◌, ℕ, ℤ, Bool, IfSome, IsTrue, List, [], ◌∷◌, length, map, take, Option, Result, MatchResult, is_ok, if◌then◌else◌}
 use Rattle.std.specs.List.{AllZip, flat_map, list_all}
 use Rattle.std.specs.Io.KnownBytes.{Appends}
 use Rattle.frame_core.specs.declared.refusal.Refusal.{Refusal}
-use Rattle.disk_core.specs.Life.{Life}
+use Rattle.disk_core.specs.DiskImage.{reads}
+use Rattle.disk_core.specs.Life.{IsQuiet, Life}
 use Rattle.archive_model.specs.declared.reply.Reply.{Reply}
-use Rattle.archive_model.specs.Register.{id_of}
+use Rattle.archive_model.specs.Register.{id_of, registration_in}
 use Rattle.control_core.specs.declared.event.Event.TheVariants.{Verify}
 use Rattle.control_core.specs.Desk.{DeskState}
 use Rattle.control_core.specs.Exact.{Archive, CallEnds}
@@ -14,6 +15,7 @@ use Rattle.engine_core.specs.Calls.{AnswersEvent, HasFailedOften, faults_in}
 use Rattle.engine_core.specs.Engine.{DiskGoesOn}
 use Rattle.engine_core.specs.Consistent.{KeepsArchive}
 use Rattle.engine_core.specs.Seen.{seen}
+use Rattle.engine_core.specs.Shown.{CountsShown}
 use Rattle.tool_core.specs.declared.fault.EarlyEnd.{EarlyEnd}
 use Rattle.tool_core.specs.declared.fault.EarlyEnd.TheVariants as ends
 use Rattle.tool_core.specs.declared.reports.Verdict.{Verdict}
@@ -103,6 +105,10 @@ module _ {D : Type 0} (life : D → Life) where
   pub record AnswersEach (old new : Engine D) (ids : List ℤ) (outcomes : List (Result Reply Refusal)) : Type 0 where
     pub goes_on : DiskGoesOn (life_in old) (life_in new)
     pub each : length outcomes ≡ length ids
+    -- Whatever the archive is: no file has changed, and each answer tells what the files show of its recording.
+    pub quiet : IsQuiet (life_in old) (life_in new)
+    pub shown : IsTrue (life_in new).obeys →
+        AllZip (λ id outcome. IfSome (registration_in (desk_in old).register id) (λ g. CountsShown (reads (life_in old).now) g outcome)) ids outcomes
     pub cause : HasFailedOften (faults_in outcomes) (life_in old) (life_in new)
     pub stays : (a : Archive) → IsEngineOf a old → IsEngineOf a new
     pub exact : (a : Archive) → IsEngineOf a old → IsTrue (life_in new).obeys →

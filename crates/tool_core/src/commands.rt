@@ -1,7 +1,9 @@
 //! What `create`, `compact`, `list` and `verify` do over a disk and a writer. docs/CONTROL.md, "The program".
 
-ghost use Rattle.std.specs.Prelude.{IfErr, IfOk, codes};
+ghost use Rattle.std.specs.Prelude.{◌≡◌, ◌⊎◌, ◌<◌, IfErr, IfOk, IsErrAnd, codes};
 ghost use Rattle.std.specs.Io.KnownBytes.{Appends};
+ghost use Rattle.frame_core.specs.declared.refusal.Refusal.TheVariants.{BadParameter};
+ghost use Rattle.tool_core.specs.declared.commands.Stopped.TheVariants.{Refused};
 ghost use Rattle.tool_core.specs.Commands.{FailsToCompact, FailsToCreate, FailsToList, FailsToVerify, HasListed, HasVerified, IsCreated, IsOpenedBy, IsUnopenedBy};
 ghost use Rattle.tool_core.specs.Archives.{HasCompacted};
 
@@ -48,6 +50,9 @@ pub fn create_archive<W: Write, D: Disk>(
         × Appends (W.contents writer.old) (W.contents writer.new) (codes "created\n")) }
     ensures fault { IfErr result (λ fault. FailsToCreate D.life history (D.life disk) fault.disk fault.why
         (W.contents writer.old) (W.contents writer.new)) }
+    // A limit out of its range is refused before the disk is asked.
+    ensures limit { (history < 1) ⊎ (16777216 < history) → IsErrAnd result (λ fault.
+        (fault.why ≡ Refused BadParameter) × (D.life fault.disk ≡ D.life disk)) }
 {
     let engine = match Engine::create(alloc, disk, history) {
         Ok(engine) => engine,

@@ -38,6 +38,20 @@ const PAD: &[u8] = b"\0\0\0\0\0\0\0\0\x3c\0\0\0\x3c\0\0\0\
     \x45\0\0\x3c\0\0\0\0\x40\x11\x1a\xaf\x7f\0\0\x01\xe0\0\x01\x01\x9e\x08\x9e\x08\0\x28\0\0\
     \x80\xff\0\0\0\0\0\0\x80\0\0\0\x07\0\0\0\xe9\x03\0\0\x2a\0\0\0\0\0\0\0\0\0\0\0";
 
+/// The script and `hello` at 65,536, where the next term begins.
+const TWO_TERMS: &str =
+    "start 1001 7 42 65536 1408 131072 0 1000 aeron:udp?endpoint=224.0.1.1:40456|mtu=1408\n\
+    block 0 2500000000c001000000000007000000e90300002a000000000000000000000068656c6c6f\n\
+    block 0 2500000000c001004000000007000000e90300002a0000000000000000000000776f726c64\n\
+    block 0 80ff0000000000008000000007000000e90300002a0000000000000000000000\n\
+    block 0 2500000000c001000000000007000000e90300002b000000000000000000000068656c6c6f\n";
+
+/// `hello` of the next term.
+const NEXT_HELLO: &[u8] = b"\0\0\0\0\0\0\0\0\x5c\0\0\0\x5c\0\0\0\
+    \x45\0\0\x5c\0\0\0\0\x40\x11\x1a\x8f\x7f\0\0\x01\xe0\0\x01\x01\x9e\x08\x9e\x08\0\x48\0\0\
+    \x25\0\0\0\0\xc0\x01\0\0\0\0\0\x07\0\0\0\xe9\x03\0\0\x2b\0\0\0\0\0\0\0\0\0\0\0hello\
+    \0\0\0\0\0\0\0\0\0\0\0\0\0\0\0\0\0\0\0\0\0\0\0\0\0\0\0";
+
 /// What is written of a part of a recording of a disk, or why it ended early.
 fn export(alloc: Global, disk: MemoryDisk, recording: i64, span: Span) -> Result<Vec<u8>, Stopped> {
     let mut out = Vec::new(alloc);
@@ -68,17 +82,23 @@ fn is_of(bytes: &[u8], parts: &[&[u8]]) -> bool {
     rest.is_empty()
 }
 
-/// The number of the refusal by which a part of a recording is not exported, of a disk of which a byte is changed.
-fn refusal(alloc: Global, recording: i64, span: Span, changed: u64) -> Result<u8, Fail> {
-    let mut disk = after(alloc, SCRIPT)?;
+/// The disk behind a script, on which a byte of the recording's file is changed.
+fn changed_at(alloc: Global, script: &str, offset: u64) -> Result<MemoryDisk, Fail> {
+    let mut disk = after(alloc, script)?;
     disk.write_at(
         FileId::Segment {
             recording: 0,
             base: 0,
         },
-        changed,
+        offset,
         &[1],
     )?;
+    Ok(disk)
+}
+
+/// The number of the refusal by which a part of a recording is not exported, of a disk of which a byte is changed.
+fn refusal(alloc: Global, recording: i64, span: Span, changed: u64) -> Result<u8, Fail> {
+    let disk = changed_at(alloc, SCRIPT, changed)?;
     match export(alloc, disk, recording, span) {
         Ok(_) => Ok(0),
         Err(Stopped::Refused(refusal)) => Ok(refusal.number()),
@@ -115,10 +135,28 @@ fn what_is_refused(rt: HostRuntime) -> Result<(), Fail> {
         (0, Some(128), Some(64), 37, 5, "backward"),
         (0, None, None, 68, 15, "damage"),
         (0, None, Some(64), 68, 0, "damage behind"),
+        (0, Some(64), None, 68, 15, "from damage on"),
+        (0, Some(128), None, 68, 15, "past damage in a term"),
+        (0, Some(65_536), None, 68, 0, "past a term with damage"),
     ] {
         let told = refusal(rt.alloc(), recording, Span { from, to }, changed)?;
         assert!(rt; told == number, "{what}");
     }
+    Ok(())
+}
+
+/// The frames of a term that is whole are exported past one that is not.
+#[test]
+fn a_term_past_damage(rt: HostRuntime) -> Result<(), Fail> {
+    let span = Span {
+        from: Some(65_536),
+        to: None,
+    };
+    let disk = changed_at(rt.alloc(), TWO_TERMS, 68)?;
+    let Ok(out) = export(rt.alloc(), disk, 0, span) else {
+        return Err(Fail::new("the export ended early"));
+    };
+    assert!(rt; is_of(out.as_slice(), &[FILE_HEADER, NEXT_HELLO]));
     Ok(())
 }
 

@@ -8,6 +8,8 @@ mod captures;
 #[cfg(test)]
 mod compactions;
 #[cfg(test)]
+mod damage;
+#[cfg(test)]
 mod disks;
 #[cfg(test)]
 mod faults;

@@ -65,6 +65,59 @@ fn a_page(rt: HostRuntime) -> Result<(), Fail> {
     )
 }
 
+/// The disk behind a script, on which the file of one recording is gone, and that of the other is cut.
+fn with_damage(alloc: Global) -> Result<MemoryDisk, Fail> {
+    let mut disk = after(alloc, SCRIPT)?;
+    disk.remove(FileId::Segment {
+        recording: 0,
+        base: 0,
+    })?;
+    disk.cut(
+        FileId::Segment {
+            recording: 1,
+            base: 0,
+        },
+        40,
+    )?;
+    Ok(disk)
+}
+
+/// A page has what the catalogue says of a recording, and how many bytes there are of its files.
+#[test]
+fn a_page_over_damage(rt: HostRuntime) -> Result<(), Fail> {
+    check(
+        rt.alloc(),
+        with_damage(rt.alloc())?,
+        Form::Page,
+        "recording 0, stopped\n\
+        \x20 channel    c\n\
+        \x20 stream     1001\n\
+        \x20 session    7\n\
+        \x20 started    1970-01-01T00:00:01Z\n\
+        \x20 stopped    1970-01-01T00:00:02Z\n\
+        \x20 positions  0 to 64\n\
+        \x20 recorded   64 bytes\n\
+        \x20 on disk    0 bytes in 0 segment files\n\
+        \x20 lengths    term 65536, segment 131072, MTU 1408\n\
+        \n\
+        recording 1, active\n\
+        \x20 channel    d\n\
+        \x20 stream     1001\n\
+        \x20 session    7\n\
+        \x20 started    1970-01-01T00:00:01Z\n\
+        \x20 stopped    -\n\
+        \x20 positions  0 to 64\n\
+        \x20 recorded   64 bytes\n\
+        \x20 on disk    40 bytes in 1 segment files\n\
+        \x20 lengths    term 65536, segment 131072, MTU 1408\n\
+        \n\
+        archive    2 recordings, 1 of them active\n\
+        on disk    40 bytes in 1 segment files\n\
+        history    5 of 1048576 entries\n\
+        catalogue  version 2\n",
+    )
+}
+
 #[test]
 fn a_document(rt: HostRuntime) -> Result<(), Fail> {
     check(

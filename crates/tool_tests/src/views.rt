@@ -1,7 +1,7 @@
 //! What `list --read-only` and `verify --read-only` tell of the archives of disks: docs/CONTROL.md, "Looking without a change".
 
 use super::reports::damaged;
-use super::scenarios::replies;
+use super::scenarios::{expect, replies};
 use archive_report::{list_view, verify_view};
 use archive_view::{ArchiveView, ReadOnly};
 use disk_core::{Disk, FileId, MemoryDisk};
@@ -31,8 +31,14 @@ fn listed(alloc: Global, disk: MemoryDisk) -> Result<(Vec<u8>, MemoryDisk), Fail
     }
 }
 
+/// Fails where the list of the archive of a disk is another text.
+pub fn check_listed(alloc: Global, disk: MemoryDisk, told: &str) -> Result<(), Fail> {
+    let (out, _) = listed(alloc, disk)?;
+    expect(out.as_slice(), told)
+}
+
 /// Fails where the verifying of the archive of a disk tells another text or verdict.
-fn check_verified(
+pub fn check_verified(
     alloc: Global,
     disk: MemoryDisk,
     told: &str,

@@ -1,5 +1,5 @@
 -- How a request is answered.
-use Rattle.std.proofs.Common.{◌≡◌, ◌&&◌, ◌++◌, ◌∙◌, inl, inr, sym, ap, subst, refl, Bool, true, false, true≢false, cond, Option, Some, None, IsTrue, IsFalse, List, [], ◌∷◌, ℤ}
+use Rattle.std.proofs.Common.{◌≡◌, ◌++◌, ◌∙◌, inl, inr, sym, ap, subst, refl, Bool, true, false, true≢false, cond, Option, Some, None, IsTrue, IsFalse, List, [], ◌∷◌, ℤ}
 use Rattle.std.specs.Prelude.{IfOk, Result, Ok, Err, is_some}
 use Rattle.frame_core.specs.declared.refusal.Refusal.{Refusal}
 use Rattle.frame_core.specs.declared.refusal.Refusal.TheVariants.{BadPosition, DeviceFault, NoMemory}
@@ -33,12 +33,13 @@ use Rattle.control_core.specs.Machine.{Decided, OrOutside, Outcome, Outside, Ste
 use Rattle.control_core.proofs.AgreementLemmas.{allowed, answered_none, at_boundary, in_front, passing}
 use Rattle.control_core.proofs.CallLemmas.{asked_works}
 use Rattle.control_core.proofs.DecidedLemmas.{decided_accepted}
-use Rattle.engine_core.specs.Calls.{AnswersEvent, CommitEnds, EndsAs, is_cut}
+use Rattle.engine_core.specs.Calls.{EndsEvent, CommitEnds, EndsAs, is_cut}
 use Rattle.engine_core.specs.Engine.{Content, EngineState, archive_of}
 use Rattle.engine_core.specs.Making.{CommitsEntry}
 use Rattle.engine_core.proofs.calls.EndedLemmas.{ended_as, spared_by}
 use Rattle.engine_core.proofs.calls.InsideLemmas.{BegunEnds, InsideEnds, MakesInside, commit_cause, commit_step, some_content}
 use Rattle.engine_core.proofs.calls.KnownLemmas.{known_recording}
+use Rattle.engine_core.proofs.calls.ShownLemmas.{ComesBehind, among, comes_behind}
 use Rattle.engine_core.proofs.calls.SweepCallLemmas.{one_refusal, unmoved}
 
 -- ---- what is decided is no device fault
@@ -56,19 +57,8 @@ NoFault (Err refusal) = is_other refusal ≡ true
 never : {X : Type 0} (outcome : Result X Refusal) → NoFault outcome → outcome ≡ Err DeviceFault → ⊥
 never outcome none is = true≢false (sym (subst NoFault is none))
 
-split : (b c : Bool) → (b && c) ≡ true → (b ≡ true) × (c ≡ true)
-split true c is = (refl, is)
-split false c is = absurd (true≢false (sym is))
-
--- what holds of the other refusals and of an answer holds of what is checked
 checked_by : {X : Type 0} (P : Result X Refusal → Type 0) (tests : Tests) (rs : List Refusal) (answer : Result X Refusal) → passes is_other rs ≡ true → ((r : Refusal) → is_other r ≡ true → P (Err r)) → P answer → P (checked tests rs answer)
-checked_by P tests [] answer others err ok = ok
-checked_by P tests (r ∷ rs) answer others err ok = by (tests r) (err r (split (is_other r) (passes is_other rs) others).0) (checked_by P tests rs answer (split (is_other r) (passes is_other rs) others).1 err ok)
-  where
-    by : (b : Bool) → P (Err r) → P (checked tests rs answer)
-        → P (cond b (checked tests rs answer) (Err r))
-    by true here rest = rest
-    by false here rest = here
+checked_by P tests rs answer others err ok = among P is_other tests rs answer others err ok
 
 -- a decision that names no device fault
 abbrev DecidesOther : Decision → Type 0
@@ -183,6 +173,7 @@ pub record AsksInside (d : DeskState) (request : Request) (id position : ℤ) (b
   pub found : registration_in d.register id ≡ Some known
   pub inside : is_end position known ≡ false
   pub cut : is_cut (events.Ask request) ≡ true
+  pub comes : ComesBehind behind
 
 not_accepted : (o : Result Command Refusal) (id position : ℤ) (behind : Result Command Refusal)
     → accepted o ≡ decisions.IfBoundary id position behind → ⊥
@@ -202,17 +193,18 @@ behind_front tests (r ∷ rs) decision id position behind is = by (tests r) is (
     by true e rest = rest e
     by false e rest = absurd cc
 
-inside_of : (d : DeskState) (request : Request) (found : Option Registration) (own boundary id position : ℤ) (first behind : Result Command Refusal) → registration_in d.register own ≡ found → is_cut (events.Ask request) ≡ true
+inside_of : (d : DeskState) (request : Request) (found : Option Registration) (own boundary id position : ℤ) (first behind : Result Command Refusal) → registration_in d.register own ≡ found → is_cut (events.Ask request) ≡ true → ComesBehind first
     → if_boundary found own boundary first ≡ decisions.IfBoundary id position behind → AsksInside d request id position behind
-inside_of d request None own boundary id position first behind there cut is = absurd (not_accepted first id position behind is)
-inside_of d request (Some r) own boundary id position first behind there cut is = by (is_end boundary r) refl is
+inside_of d request None own boundary id position first behind there cut comes is = absurd (not_accepted first id position behind is)
+inside_of d request (Some r) own boundary id position first behind there cut comes is = by (is_end boundary r) refl is
   where
     by : (b : Bool) → is_end boundary r ≡ b → cond b (accepted first) (decisions.IfBoundary own boundary first) ≡ decisions.IfBoundary id position behind → AsksInside d request id position behind
     by true e is = absurd (not_accepted first id position behind is)
     by false e is =
         let same : own ≡ id = cc in
         let at : boundary ≡ position = cc in
-        record { known = r; found = subst (λ (n : ℤ). registration_in d.register n ≡ Some r) same there; inside = subst (λ (p : ℤ). is_end p r ≡ false) at e; cut = cut }
+        let same_behind : first ≡ behind = cc in
+        record { known = r; found = subst (λ (n : ℤ). registration_in d.register n ≡ Some r) same there; inside = subst (λ (p : ℤ). is_end p r ≡ false) at e; cut = cut; comes = subst ComesBehind same_behind comes }
 
 pub asks_inside : (d : DeskState) (request : Request) (id position : ℤ) (behind : Result Command Refusal) → decision_of d request ≡ decisions.IfBoundary id position behind → AsksInside d request id position behind
 asks_inside d (requests.Start f) id position behind is = absurd (not_accepted _ id position behind is)
@@ -221,7 +213,8 @@ asks_inside d (requests.Extend f) id position behind is = absurd (not_accepted _
 asks_inside d (requests.Truncate other boundary) id position behind is =
     let tests = truncate_tests d other boundary in
     let first = checked tests (block_checks ++ last_checks) (Ok (commands.Truncate other boundary)) in
-    inside_of d (requests.Truncate other boundary) (registration_in d.register other) other boundary id position first behind refl refl
+    let comes : ComesBehind first = among ComesBehind comes_behind tests (block_checks ++ last_checks) (Ok (commands.Truncate other boundary)) refl (λ r other. other) tt in
+    inside_of d (requests.Truncate other boundary) (registration_in d.register other) other boundary id position first behind refl refl comes
     (behind_front tests first_checks (if_boundary (registration_in d.register other) other boundary first) id position behind is)
 asks_inside d (requests.PurgeSegments other boundary) id position behind is = absurd (not_accepted _ id position behind is)
 asks_inside d (requests.PurgeRecording other) id position behind is = absurd (not_accepted _ id position behind is)
@@ -230,9 +223,12 @@ asks_inside d (requests.Find f) id position behind is = absurd (not_answered _ i
 asks_inside d (requests.Positions other) id position behind is = absurd (not_answered _ id position behind is)
 asks_inside d (requests.Source other) id position behind is = absurd (not_answered _ id position behind is)
 
+pub inside_leads : (d : DeskState) (request : Request) (id position : ℤ) (behind : Result Command Refusal) (c : Command) → decisions.IfBoundary id position behind ≡ decision_of d request → behind ≡ Ok c → command_in (decision_of d request) ≡ Some c
+inside_leads d request id position behind c is ok = ap command_in (sym is) ∙ ap (λ (b : Result Command Refusal). command_in (decisions.IfBoundary id position b)) ok
+
 pub requested_inside : (d : DeskState) (request : Request) (id position : ℤ) (behind : Result Command Refusal) (c : Command) → decisions.IfBoundary id position behind ≡ decision_of d request → behind ≡ Ok c
     → IsRequested c × Allows d c × IsFalse d.is_broken
-requested_inside d request id position behind c is ok = decided_requested d request c (ap command_in (sym is) ∙ ap (λ (b : Result Command Refusal). command_in (decisions.IfBoundary id position b)) ok)
+requested_inside d request id position behind c is ok = decided_requested d request c (inside_leads d request id position behind c is ok)
 
 -- what the frames say of it
 inside_is : (a : Archive) (request : Request) (id position : ℤ) (behind : Result Command Refusal) (r : Recording) → decision_of a.desk request ≡ decisions.IfBoundary id position behind → recording_at a id ≡ Some r
@@ -314,20 +310,20 @@ no_sweep : (request : Request) → events.Ask request ≡ events.Sweep → ⊥
 no_sweep request is = cc
 
 -- a refusal
-pub ask_refused : (old : EngineState) (request : Request) (refusal : Refusal) → Decides (takes_memory request) (decisions.Refused refusal) (decision_of old.desk request) → AnswersEvent old old (events.Ask request) (Err refusal)
+pub ask_refused : (old : EngineState) (request : Request) (refusal : Refusal) → Decides (takes_memory request) (decisions.Refused refusal) (decision_of old.desk request) → EndsEvent old old (events.Ask request) (Err refusal)
 ask_refused old request refusal decides =
     unmoved old (events.Ask request) (Err refusal) (λ fault. refused_other (takes_memory request) old.desk request refusal decides (one_refusal (Err refusal) refusal DeviceFault refl fault)) (λ removed sweep is. no_sweep request sweep)
     (refused_step old.desk request refusal decides) (λ c was. ((λ reads. refused_ends (archive_of old c) request refusal (HasFailed old.life old.life) decides), tt))
 
 -- a reply
-pub ask_answered : (old : EngineState) (request : Request) (reply : Reply) → Decides (takes_memory request) (decisions.Answered reply) (decision_of old.desk request) → AnswersEvent old old (events.Ask request) (Ok reply)
+pub ask_answered : (old : EngineState) (request : Request) (reply : Reply) → Decides (takes_memory request) (decisions.Answered reply) (decision_of old.desk request) → EndsEvent old old (events.Ask request) (Ok reply)
 ask_answered old request reply decides =
     unmoved old (events.Ask request) (Ok reply) (λ fault. let clash = fault in cc) (λ removed sweep is. no_sweep request sweep)
     (step_by old.desk old.desk request (decisions.Answered reply) (Ok (told.Reply reply)) (sym decides) (refl, refl)) (λ c was. ((λ reads. answered_ends (archive_of old c) request reply (HasFailed old.life old.life) decides), tt))
 
 -- a command
 pub ask_made : (old new : EngineState) (request : Request) (command : Command) (outcome : Result Reply Refusal) → decision_of old.desk request ≡ decisions.Accepted command
-    → CommitsEntry old new (λ a. Accepts (book_of a) command) (reply_after old.desk command) (λ a. archive_after a command) outcome → AnswersEvent old new (events.Ask request) outcome
+    → CommitsEntry old new (λ a. Accepts (book_of a) command) (reply_after old.desk command) (λ a. archive_after a command) outcome → EndsEvent old new (events.Ask request) outcome
 ask_made old new request command outcome is commits = record {
   goes_on = commits.goes_on;
   bank = commits.bank;
@@ -349,7 +345,7 @@ ask_made old new request command outcome is commits = record {
 
 -- what the frames are asked for
 pub ask_inside : (old new : EngineState) (request : Request) (id position : ℤ) (behind : Result Command Refusal) (outcome : Result Reply Refusal) → decision_of old.desk request ≡ decisions.IfBoundary id position behind
-    → MakesInside old new id position behind outcome → AnswersEvent old new (events.Ask request) outcome
+    → MakesInside old new id position behind outcome → EndsEvent old new (events.Ask request) outcome
 ask_inside old new request id position behind outcome is makes = record {
   goes_on = makes.goes_on;
   bank = makes.bank;

@@ -1,14 +1,11 @@
 -- A command whose position lies strictly inside a recording: frames are read first.
 use Rattle.std.proofs.Common.{◌≡◌, ◌⊎◌, ◌∙◌, inl, inr, sym, ap, subst, refl, ℤ, [], Bool, true, false, Some, None, IsTrue, arith}
 use Rattle.std.specs.Prelude.{IfOk, IsErrOf, Result, Ok, Err}
-use Rattle.frame_core.specs.declared.geometry.Geometry.{Geometry}
 use Rattle.frame_core.specs.declared.refusal.Refusal.{Refusal}
 use Rattle.frame_core.specs.declared.refusal.Refusal.TheVariants.{BadPosition, Damaged, DeviceFault, NoMemory}
 use Rattle.disk_core.specs.DiskImage.{DiskImage, MayLeave, reads}
 use Rattle.disk_core.specs.Life.{HasFailed, IsQuiet, Life}
 use Rattle.disk_core.proofs.CallerLemmas.{goes_on_part}
-use Rattle.segment_store.specs.declared.layout.Layout.{Layout}
-use Rattle.segment_store.specs.Boundary.{RefusesBoundary}
 use Rattle.segment_store.proofs.ChainLemmas.{quiet_on}
 use Rattle.archive_model.specs.declared.command.Command.{Command}
 use Rattle.archive_model.specs.declared.registration.Registration.{Registration}
@@ -23,6 +20,7 @@ use Rattle.control_core.specs.Desk.{DeskState}
 use Rattle.control_core.specs.Exact.{Archive, ArchiveEnd, Is, archive_after, book_of, plain, recording_at}
 use Rattle.control_core.specs.Machine as machine
 use Rattle.control_core.specs.Machine.{Does, Ends, OrOutside, Outcome, UnlessBoundary, Unread}
+use Rattle.recording_reads.specs.Reading.{RefusesBoundaryIn}
 use Rattle.engine_core.specs.Calls.{CommitEnds, CallEnded}
 use Rattle.engine_core.specs.Consistent.{IsCrashConsistent, MayStandIn}
 use Rattle.engine_core.specs.Engine.{Content, DiskGoesOn, EngineState, IsAsBefore, IsSpared, KeepsBank, archive_of}
@@ -64,10 +62,10 @@ some_content = record { state = empty; blocks = λ number. []; doubt = None }
 -- ---- what the desk machine says
 
 -- frames that cannot be read
-boundary_unread : (d : DeskState) (obeys : Bool) (image : DiskImage) (l : Layout) (g : Geometry) (recorded position : ℤ) (refusal : Refusal) → RefusesBoundary obeys image l g recorded position refusal → Unread d (Err refusal) d
-boundary_unread d obeys image l g recorded position DeviceFault refuses = inl (refl, refl)
-boundary_unread d obeys image l g recorded position (Damaged recording at) refuses = inr (recording, at, (refl, refl))
-boundary_unread d obeys image l g recorded position refusal refuses = absurd refuses
+boundary_unread : (d : DeskState) (obeys : Bool) (image : DiskImage) (g : Registration) (position : ℤ) (refusal : Refusal) → RefusesBoundaryIn obeys image g position refusal → Unread d (Err refusal) d
+boundary_unread d obeys image g position DeviceFault refuses = inl (refl, refl)
+boundary_unread d obeys image g position (Damaged recording at) refuses = inr (recording, at, (refl, refl))
+boundary_unread d obeys image g position refusal refuses = absurd refuses
 
 -- a commit is one that it allows
 pub commit_step : (a : Archive) (command : Command) (faulted : Type 0) (outcome : Result Reply Refusal) (b : Archive) → CommitEnds a (reply_after a.desk command) (archive_after a command) faulted outcome b
@@ -141,14 +139,14 @@ module _ (old : EngineState) (mid : Life) (id position : ℤ) (g : Registration)
   read_before = record { files = asked.quiet; log = refl; desk = refl }
 
   -- the frames could not be read
-  pub inside_unread : (outcome : Result Reply Refusal) (refusal : Refusal) (obeys : Bool) (image : DiskImage) (l : Layout) (geometry : Geometry) (recorded at : ℤ) → outcome ≡ Err refusal → RefusesBoundary obeys image l geometry recorded at refusal
+  pub inside_unread : (outcome : Result Reply Refusal) (refusal : Refusal) (obeys : Bool) (image : DiskImage) (at : ℤ) → outcome ≡ Err refusal → RefusesBoundaryIn obeys image g at refusal
       → ((r : Recording) → RecordingIsRead old.life mid g r → refusal ≡ DeviceFault) → (refusal ≡ DeviceFault → HasFailed old.life mid) → MakesInside old (behind_read old mid) id position decided outcome
-  inside_unread outcome refusal obeys image l geometry recorded at is refuses fault cause = subst (MakesInside old (behind_read old mid) id position decided) (sym is) (record {
+  inside_unread outcome refusal obeys image at is refuses fault cause = subst (MakesInside old (behind_read old mid) id position decided) (sym is) (record {
     goes_on = quiet_goes_on old.life mid asked.quiet;
     bank = same_bank old.log old.log refl;
     kept = λ harmless. read_before;
     cause = λ failed. inr (cause (one_refusal (Err refusal) refusal DeviceFault refl failed));
-    machine = inl (inr (inl (boundary_unread old.desk obeys image l geometry recorded at refusal refuses)));
+    machine = inl (inr (inl (boundary_unread old.desk obeys image g at refusal refuses)));
     ended = λ c r was found inside accepts obeyed.
         let a = archive_of old c in
         let same = fault r (read_of c r was found obeyed) in

@@ -33,7 +33,8 @@ use Rattle.control_core.specs.Turns.{continues, open_replay_in, session_in}
 use Rattle.engine_core.specs.Consistent.{IsCrashConsistent}
 use Rattle.engine_core.specs.Moves.{keeps_of, registered_keep, registered_keeps}
 use Rattle.engine_core.specs.Reading.{RecordingIsRead}
-use Rattle.engine_core.specs.Recovery.{HoldsRecording, layout_of}
+use Rattle.engine_core.specs.Recovery.{HoldsRecording}
+use Rattle.recording_reads.specs.Recording.{layout_of}
 use Rattle.engine_core.proofs.files.RecoveryLemmas.{durable_hold}
 use Rattle.std.proofs.lemmas.Bool.Decides.{Decides-int_eq}
 

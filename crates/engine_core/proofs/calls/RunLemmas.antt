@@ -32,7 +32,7 @@ goes_further old mid new first then = let one = first.faults in let two = then.f
 
 pub run_goes_on : (old new : EngineState) (events : List Event) (outcomes : List (Result Reply Refusal)) → IsRun old events outcomes new → DiskGoesOn old.life new.life
 run_goes_on old new [] [] run = subst (λ (e : EngineState). DiskGoesOn old.life e.life) (sym run) (goes_on_here old.life)
-run_goes_on old new (event ∷ events) (outcome ∷ outcomes) (mid, answers, run) = goes_further old.life mid.life new.life answers.goes_on (run_goes_on mid new events outcomes run)
+run_goes_on old new (event ∷ events) (outcome ∷ outcomes) (mid, answers, run) = goes_further old.life mid.life new.life answers.ends.goes_on (run_goes_on mid new events outcomes run)
 run_goes_on old new [] (outcome ∷ outcomes) run = absurd run
 run_goes_on old new (event ∷ events) [] run = absurd run
 
@@ -48,7 +48,7 @@ pub run_failed : (old new : EngineState) (events : List Event) (outcomes : List 
 run_failed old new [] [] run = subst (λ (e : EngineState). HasFailedOften 0 old.life e.life) (sym run) (omega arith)
 run_failed old new (event ∷ events) (outcome ∷ outcomes) (mid, answers, run) =
     subst (λ (n : ℕ). HasFailedOften n old.life new.life) (sym (sum_by-cons (λ o. cond (is_fault o) 1 0) outcome outcomes))
-    (fault_first old.life mid.life new.life (faults_in outcomes) outcome answers.goes_on (λ is. answers.cause is) (run_failed mid new events outcomes run))
+    (fault_first old.life mid.life new.life (faults_in outcomes) outcome answers.ends.goes_on (λ is. answers.ends.cause is) (run_failed mid new events outcomes run))
 run_failed old new [] (outcome ∷ outcomes) run = absurd run
 run_failed old new (event ∷ events) [] run = absurd run
 
@@ -99,7 +99,7 @@ run_ran old new c [] [] run was obeys = subst (λ (e : EngineState). Ran old e (
 run_ran old new c (event ∷ events) (outcome ∷ outcomes) (mid, answers, run) was obeys =
     let a : Archive = archive_of old c in
     let here : IsTrue mid.life.obeys = (run_goes_on mid new events outcomes run).obeyed obeys in
-    let ended = answers.ended c was (λ cut. here) in
+    let ended = answers.ends.ended c was (λ cut. here) in
     let b : Archive = archive_of mid ended.after in
     let rest = run_ran mid new ended.after events outcomes run ended.consistent obeys in
     record {
@@ -131,7 +131,7 @@ leaves_alone life log a was works = λ image left. (
 pub one_answered : (old new : EngineState) (c : Content) (event : Event) (reply : Reply) → IsCrashConsistent old.life old.log (archive_of old c) → IsTrue new.life.obeys → AnswersEvent old new event (Ok reply) → IsFalse new.desk.is_broken
     → (after : Content) × ArchiveEnds (archive_of old c) event (Ok reply) (archive_of new after) × LeavesAlone new.life after.state
 one_answered old new c event reply was obeys answers works =
-    let ended = answers.ended c was (λ cut. obeys) in
+    let ended = answers.ends.ended c was (λ cut. obeys) in
     (ended.after, ended.ends.0 (λ reads. obeys), leaves_alone new.life new.log (archive_of new ended.after) ended.consistent works)
 
 -- a refusal that leaves the archive unbroken has changed no state
@@ -145,7 +145,7 @@ pub one_refused : (old new : EngineState) (c : Content) (event : Event) (refusal
     → LeavesAlone new.life c.state
 one_refused old new c event refusal was obeys answers works =
     let a : Archive = archive_of old c in
-    let ended = answers.ended c was (λ cut. obeys) in
+    let ended = answers.ends.ended c was (λ cut. obeys) in
     let b : Archive = archive_of new ended.after in
     let same : b.state ≡ a.state = elim (ended.ends.0 (λ reads. obeys)) [
       | inl exact ↦ ap (λ (x : Archive). x.state) (refused_unchanged a event refusal b exact)

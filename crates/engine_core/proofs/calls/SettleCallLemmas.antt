@@ -2,7 +2,7 @@
 use Rattle.std.proofs.Common.{rules, ◌≡◌, ◌≢◌, ◌⊎◌, ◌∙◌, ◌+◌, ◌<◌, sym, ap, subst, refl, ℤ, pos, ◌+ℤ◌, ◌&&◌, ◌||◌, not, Bool, true, false, cond, true≢false, inl, inr, List, [], ◌∷◌, Option, Some, Result, Ok, Err, unsigned_abs, arith}
 use Rattle.std.specs.Prelude.{IsFalse, IsTrue, is_some}
 use Rattle.disk_core.specs.DiskImage.{DiskImage, reads}
-use Rattle.disk_core.specs.Life.{HasFailed}
+use Rattle.disk_core.specs.Life.{HasFailed, Life}
 use Rattle.frame_core.specs.declared.block.Block.{Block}
 use Rattle.frame_core.specs.declared.refusal.Refusal.{Refusal}
 use Rattle.frame_core.specs.declared.refusal.Refusal.TheVariants.{DeviceFault, NoMemory}
@@ -46,18 +46,23 @@ use Rattle.control_core.specs.Turns.{has_written, session_in, settle_decision, s
 use Rattle.control_core.proofs.ConsistentLemmas.{consistent_call, settling_sessions}
 use Rattle.control_core.proofs.DecidedLemmas.{IsSettled, held, settling_accepted, settling_session}
 use Rattle.control_core.proofs.FaultLemmas.{call_is_allowed, other_cause}
-use Rattle.engine_core.specs.Calls.{AnswersEvent, CommitEnds, CallEnded, EndsAs, Keeps}
+use Rattle.engine_core.specs.Calls.{EndsEvent, CommitEnds, CallEnded, EndsAs, Keeps}
 use Rattle.engine_core.specs.Consistent.{IsCrashConsistent, Stands, StandsBehind}
 use Rattle.engine_core.specs.Engine.{Content, EngineState, IsTied, archive_of, content_of}
 use Rattle.engine_core.specs.Making.{CommitsEntry, after_failure}
-use Rattle.engine_core.specs.Moves.{AddsEntry, Enters, HasEntryRoom, KeepsSegments, Moves}
-use Rattle.engine_core.specs.Recovery.{IsSound, last_of, layout_of}
+use Rattle.engine_core.specs.Moves.{AddsEntry, Enters, HasEntryRoom, KeepsSegments, Moves, SettlesAt}
+use Rattle.engine_core.specs.Recovery.{IsSound, last_of}
+use Rattle.recording_reads.specs.Recording.{layout_of}
 use Rattle.engine_core.proofs.calls.CommitCallLemmas.{commit_done, commit_refused, exact_commit, tied_behind}
 use Rattle.engine_core.proofs.calls.EndedLemmas.{as_before, ended_as, goes_on_here, no_doubt, quiet_life, same_bank, spared, spared_by, spared_unbroken, still}
 use Rattle.engine_core.proofs.files.FrameLemmas.{each_then}
 use Rattle.engine_core.proofs.calls.KnownLemmas.{IsKnown, known_recording, laid_found, layout_laid, written_from_start}
 use Rattle.engine_core.proofs.calls.StandLemmas.{stands_nothing, stands_open}
 use Rattle.engine_core.proofs.files.StayLemmas.{enters}
+use Rattle.disk_core.specs.declared.file_id.FileId.{FileId}
+use Rattle.catalogue_log.specs.Banks.{bank_file}
+use Rattle.engine_core.specs.Touching.{IsSegmentAt, IsSettledFile, SettlesBlocks, written_by}
+use Rattle.std.proofs.Common.{IsSomeAnd}
 
 -- ---- what is decided
 
@@ -93,6 +98,24 @@ settled_known d n id w writer told is =
     let same : Some writer.found.session ≡ Some of.session = sym is.found.session ∙ of.found in
     let one : writer.found.session ≡ of.session = cc in
     sym is.known ∙ ap (λ (s : RecorderSession). registration_in d.register s.recording) one ∙ ap (λ (z : ℤ). registration_in d.register z) of.recording
+
+-- the files that are touched are those of the session
+pub blocks_touch : (e : EngineState) (n id : ℤ) (w : Written) (known : Registration) (layout : Layout) (new : Life) → settle_decision e.desk n ≡ Ok (settling.Blocks id w) → Some known ≡ registration_in e.desk.register id → layout ≡ layout_of known.descriptor
+    → SettlesAt e.life new (file_of layout (unsigned_abs w.first)) (bank_file e.log.bank) → SettlesBlocks e n new
+blocks_touch e n id w known layout new told there is at =
+    let of = (settles e.desk n id w told).of in
+    let writes : written_by e.desk (session_in e.desk n) ≡ Some known = ap (written_by e.desk) of.found ∙ ap (registration_in e.desk.register) of.recording ∙ sym there in
+    let own : (file : FileId) → file ≡ file_of layout (unsigned_abs w.first) → IsSettledFile e.desk n file = λ file same.
+    subst (λ (o : Option RecorderSession). IsSomeAnd o (λ s. IsSomeAnd s.written (λ (v : Written). IsSegmentAt e.desk n v.first file))) (sym of.found)
+    (subst (λ (o : Option Written). IsSomeAnd o (λ (v : Written). IsSegmentAt e.desk n v.first file)) (sym of.written)
+    (subst (λ (o : Option Registration). IsSomeAnd o (λ g. file ≡ file_of (layout_of g.descriptor) (unsigned_abs w.first))) (sym writes) (same ∙ ap (λ (l : Layout). file_of l (unsigned_abs w.first)) is))) in
+    record {
+      changes = record {
+        others = λ file none. at.changes.others file (λ either. none (elim either [ inl segment ↦ inl (own file segment) | inr bank ↦ inr bank ]));
+        calls = at.changes.calls;
+      };
+      segments = at.segments;
+    }
 
 module _ (d : DeskState) (n id : ℤ) (w : Written) (r : Registration) (keeps : KeepsDesk d.register d.callers) (told : settle_decision d n ≡ Ok (settling.Blocks id w)) (there : Some r ≡ registration_in d.register id) where
   -- it is laid out
@@ -313,7 +336,7 @@ blank = content_of (opened_archive empty 0 0 Two)
 
 -- an event that is answered by the desk alone, and changes nothing
 pub answered_still : (e : EngineState) (event : Event) (outcome : Result Reply Refusal) (some : Content) → is_poll event ≡ false → event ≢ events.Sweep → outcome ≢ Err DeviceFault → ArchiveEnds (archive_of e some) event outcome (archive_of e some)
-    → ((c : Content) → IsCrashConsistent e.life e.log (archive_of e c) → ArchiveEnds (archive_of e c) event outcome (archive_of e c)) → ((a : Archive) → Keeps event a a) → AnswersEvent e e event outcome
+    → ((c : Content) → IsCrashConsistent e.life e.log (archive_of e c) → ArchiveEnds (archive_of e c) event outcome (archive_of e c)) → ((a : Archive) → Keeps event a a) → EndsEvent e e event outcome
 answered_still e event outcome some no_poll no_sweep no_fault here ends keeps = record {
   goes_on = goes_on_here e.life;
   bank = same_bank e.log e.log refl;
@@ -339,7 +362,7 @@ commit_cause a reply b faulted outcome after ends is = (subst (λ (o : Result Re
 
 -- it is refused
 pub settle_refuses : (e : EngineState) (n : ℤ) (refusal : Refusal)
-    → settle_decision e.desk n ≡ Err refusal → AnswersEvent e e (events.Settle n) (Err refusal)
+    → settle_decision e.desk n ≡ Err refusal → EndsEvent e e (events.Settle n) (Err refusal)
 settle_refuses e n refusal is =
     let outcome : Result Settling Refusal = Err refusal in
     answered_still e (events.Settle n) (Err refusal) blank refl (λ sweep. absurd cc)
@@ -349,7 +372,7 @@ settle_refuses e n refusal is =
     ends c = subst (λ (o : Result Settling Refusal). SettlingEnds (archive_of e c) n o (Err refusal) (archive_of e c)) (sym is) (refl, refl)
 
 -- there is nothing to settle
-pub settle_nothing : (e : EngineState) (n position : ℤ) → settle_decision e.desk n ≡ Ok (settling.Nothing position) → AnswersEvent e e (events.Settle n) (Ok (replies.Settled position))
+pub settle_nothing : (e : EngineState) (n position : ℤ) → settle_decision e.desk n ≡ Ok (settling.Nothing position) → EndsEvent e e (events.Settle n) (Ok (replies.Settled position))
 settle_nothing e n position is = answered_still e (events.Settle n) (Ok (replies.Settled position)) blank refl (λ sweep. absurd cc) (λ fault. absurd cc) (ends blank) (λ c was. ends c) (λ a. tt)
   where
     ends : (c : Content) → ArchiveEnds (archive_of e c) (events.Settle n) (Ok (replies.Settled position)) (archive_of e c)
@@ -357,7 +380,7 @@ settle_nothing e n position is = answered_still e (events.Settle n) (Ok (replies
 
 -- blocks are settled
 pub settle_blocks : (old new : EngineState) (n id : ℤ) (w : Written) (outcome : Result Reply Refusal) → settle_decision old.desk n ≡ Ok (settling.Blocks id w)
-    → CommitsEntry old new (λ a. settle_decision a.desk n ≡ Ok (settling.Blocks id w)) (replies.Settled w.last) (λ a. settled_archive a n id) outcome → AnswersEvent old new (events.Settle n) outcome
+    → CommitsEntry old new (λ a. settle_decision a.desk n ≡ Ok (settling.Blocks id w)) (replies.Settled w.last) (λ a. settled_archive a n id) outcome → EndsEvent old new (events.Settle n) outcome
 settle_blocks old new n id w outcome told commits =
     let event : Event = events.Settle n in
     let made = commits.exact blank in

@@ -26,7 +26,8 @@ use Rattle.control_core.specs.Consistent.{IsConsistent, IsSameOrLater, StaysOpen
 use Rattle.control_core.specs.Exact.{Archive}
 use Rattle.control_core.specs.Seats.{IsWriting}
 use Rattle.engine_core.specs.Consistent.{LieIn, Stands, StandsBehind}
-use Rattle.engine_core.specs.Recovery.{last_of, layout_of}
+use Rattle.engine_core.specs.Recovery.{last_of}
+use Rattle.recording_reads.specs.Recording.{layout_of}
 use Rattle.engine_core.proofs.files.FrameLemmas.{each_then}
 use Rattle.engine_core.proofs.calls.KnownLemmas.{is_there, known_recording}
 use Rattle.engine_core.proofs.files.StayLemmas.{IsLater, is_later, same_bases}

@@ -35,12 +35,13 @@ use Rattle.control_core.specs.Seats.{IsWriting}
 use Rattle.control_core.specs.Turns.{sweep_tests}
 use Rattle.control_core.proofs.DecidedLemmas.{held}
 use Rattle.control_core.proofs.StepLemmas.{sweep_step}
-use Rattle.engine_core.specs.Calls.{AnswersEvent, CallEnded, EndsAs}
+use Rattle.engine_core.specs.Calls.{EndsEvent, CallEnded, EndsAs}
 use Rattle.engine_core.specs.Consistent.{IsCrashConsistent, StandsBehind}
 use Rattle.engine_core.specs.Engine.{Content, EngineState, archive_of}
 use Rattle.engine_core.specs.Moves.{SparesKept, StaysSound, keeps_of, registered_keeps}
 use Rattle.engine_core.specs.Reading.{IsOutside}
-use Rattle.engine_core.specs.Recovery.{IsEither, IsSound, RecoversTo, first_of, last_of, layout_of}
+use Rattle.engine_core.specs.Recovery.{IsEither, IsSound, RecoversTo, first_of, last_of}
+use Rattle.recording_reads.specs.Recording.{layout_of}
 use Rattle.engine_core.proofs.calls.EndedLemmas.{as_before, done, no_doubt, quiet_goes_on, quiet_life, recovers_as, same_bank, sound_consistent, spared, still}
 use Rattle.engine_core.proofs.files.FrameLemmas.{each_both, each_then}
 use Rattle.engine_core.proofs.calls.KnownLemmas.{keeps_same, registered_of}
@@ -54,7 +55,7 @@ pub one_refusal : (answer : Result Reply Refusal) (x y : Refusal) → answer ≡
 one_refusal answer x y this that = cc
 
 pub unmoved : (old : EngineState) (event : Event) (outcome : Result Reply Refusal) → (IsErrOf outcome DeviceFault → ⊥) → ((removed : Bool) → event ≡ events.Sweep → outcome ≡ Ok (replies.Swept removed) → ⊥) → Stepped old.desk (asked_of event) (told_of old.desk event outcome) old.desk
-    → ((c : Content) → IsCrashConsistent old.life old.log (archive_of old c) → EndsAs old.life old.life event (archive_of old c) outcome (archive_of old c)) → AnswersEvent old old event outcome
+    → ((c : Content) → IsCrashConsistent old.life old.log (archive_of old c) → EndsAs old.life old.life event (archive_of old c) outcome (archive_of old c)) → EndsEvent old old event outcome
 unmoved old event outcome no_fault no_sweep step ends = record {
   goes_on = quiet_goes_on old.life old.life (quiet_life old.life);
   bank = same_bank old.log old.log refl;
@@ -161,7 +162,7 @@ one_swept : (answer : Result Reply Refusal) (x y : Bool) → answer ≡ Ok (repl
     → answer ≡ Ok (replies.Swept y) → x ≡ y
 one_swept answer x y this that = cc
 
-pub swept_answers : (old new : EngineState) (keeps : List Keep) (removed : Bool) → SweepsFiles old new keeps → HasSwept keeps old.life new.life removed → AnswersEvent old new events.Sweep (Ok (replies.Swept removed))
+pub swept_answers : (old new : EngineState) (keeps : List Keep) (removed : Bool) → SweepsFiles old new keeps → HasSwept keeps old.life new.life removed → EndsEvent old new events.Sweep (Ok (replies.Swept removed))
 swept_answers old new keeps removed did swept = record {
   goes_on = record { obeyed = did.spares.obeyed; faults = did.spares.faults };
   bank = same_bank old.log new.log did.log;
@@ -201,8 +202,8 @@ unswept_cause : (old new : EngineState) (refusal : Refusal) → HowUnswept old n
 unswept_cause old new refusal (inl fault) is = fault.1
 unswept_cause old new refusal (inr memory) is = absurd (memory_other (sym memory.0 ∙ is))
 
-pub unswept_answers : (old new : EngineState) (keeps : List Keep) (outcome : Result Reply Refusal) (refusal : Refusal) → outcome ≡ Err refusal → SweepsFiles old new keeps → HowUnswept old new refusal → AnswersEvent old new events.Sweep outcome
-unswept_answers old new keeps outcome refusal is did how = subst (AnswersEvent old new events.Sweep) (sym is) (record {
+pub unswept_answers : (old new : EngineState) (keeps : List Keep) (outcome : Result Reply Refusal) (refusal : Refusal) → outcome ≡ Err refusal → SweepsFiles old new keeps → HowUnswept old new refusal → EndsEvent old new events.Sweep outcome
+unswept_answers old new keeps outcome refusal is did how = subst (EndsEvent old new events.Sweep) (sym is) (record {
   goes_on = record { obeyed = did.spares.obeyed; faults = did.spares.faults };
   bank = same_bank old.log new.log did.log;
   cause = λ fault. unswept_cause old new refusal how (one_refusal _ refusal DeviceFault refl fault);
@@ -220,8 +221,8 @@ unswept_answers old new keeps outcome refusal is did how = subst (AnswersEvent o
 
 -- for want of memory
 pub unkept_answers : (old : EngineState) (outcome : Result Reply Refusal) (refusal : Refusal)
-    → outcome ≡ Err refusal → refusal ≡ NoMemory → AnswersEvent old old events.Sweep outcome
-unkept_answers old outcome refusal is memory = subst (AnswersEvent old old events.Sweep) (sym (is ∙ ap Err memory)) (unmoved old events.Sweep (Err NoMemory)
+    → outcome ≡ Err refusal → refusal ≡ NoMemory → EndsEvent old old events.Sweep outcome
+unkept_answers old outcome refusal is memory = subst (EndsEvent old old events.Sweep) (sym (is ∙ ap Err memory)) (unmoved old events.Sweep (Err NoMemory)
     (λ fault. memory_other (let same = fault in cc)) (λ removed sweep told. let clash = told in cc) (inr refl) (λ c was. ((λ reads. inr refl), refl)))
 
 -- refused where a write has failed
@@ -232,8 +233,8 @@ sweep_fault d is = by d.is_broken is
     by true is = let clash = is in cc
     by false is = let clash = is in cc
 
-pub sweep_refused : (old : EngineState) (outcome : Result Reply Refusal) (refusal : Refusal) → outcome ≡ Err refusal → Err refusal ≡ sweep_decision old.desk → AnswersEvent old old events.Sweep outcome
-sweep_refused old outcome refusal is decided = subst (AnswersEvent old old events.Sweep) (sym is) (unmoved old events.Sweep (Err refusal)
+pub sweep_refused : (old : EngineState) (outcome : Result Reply Refusal) (refusal : Refusal) → outcome ≡ Err refusal → Err refusal ≡ sweep_decision old.desk → EndsEvent old old events.Sweep outcome
+sweep_refused old outcome refusal is decided = subst (EndsEvent old old events.Sweep) (sym is) (unmoved old events.Sweep (Err refusal)
     (λ fault. sweep_fault old.desk (ap Err (sym (one_refusal _ refusal DeviceFault refl fault)) ∙ decided)) (λ removed sweep told. let clash = told in cc)
     (inl (sweep_step old.desk (Err refusal) old.desk (subst (λ (o : Result (Unit {0}) Refusal). SweepsBy old.desk o (Err refusal) old.desk) decided (refl, refl))))
     (λ c was. ((λ reads. inl (subst (λ (o : Result (Unit {0}) Refusal). SweepEnds (archive_of old c) o (Err refusal) (archive_of old c)) decided (refl, refl))), refl)))

@@ -10,7 +10,7 @@ use Rattle.control_core.specs.declared.callers.RecorderSession.{RecorderSession}
 use Rattle.control_core.specs.Desk.{DeskState}
 use Rattle.control_core.specs.Orderly.{KeepsDesk}
 use Rattle.control_core.specs.Turns.{session_in}
-use Rattle.engine_core.specs.Recovery.{layout_of}
+use Rattle.recording_reads.specs.Recording.{layout_of}
 
 -- The session of a number writes a recording of this layout, and the block is one of its terms, session and stream, and
 -- ends there.

@@ -40,11 +40,12 @@ use Rattle.control_core.proofs.ConsistentLemmas.{consistent_call}
 use Rattle.control_core.proofs.DeskLemmas.{not_same}
 use Rattle.control_core.proofs.FaultLemmas.{call_is_allowed}
 use Rattle.control_core.proofs.WriteLemmas.{blocks_follow, other_blocks, this_session, written_end}
-use Rattle.engine_core.specs.Calls.{AnswersEvent, CallEnded, EndsAs}
+use Rattle.engine_core.specs.Calls.{EndsEvent, CallEnded, EndsAs}
 use Rattle.engine_core.specs.Consistent.{IsCrashConsistent, Stands, StandsBehind}
 use Rattle.engine_core.specs.Engine.{Content, EngineState, archive_of}
 use Rattle.engine_core.specs.Moves.{Moves}
-use Rattle.engine_core.specs.Recovery.{IsSound, last_of, layout_of}
+use Rattle.engine_core.specs.Recovery.{IsSound, last_of}
+use Rattle.recording_reads.specs.Recording.{layout_of}
 use Rattle.engine_core.proofs.calls.Targets.{HasNoTarget, IsTarget}
 use Rattle.engine_core.proofs.files.BlockLemmas.{blocks_encodable, stands_more}
 use Rattle.engine_core.proofs.calls.EndedLemmas.{done, failed, no_doubt, same_bank, sound_consistent}
@@ -72,11 +73,11 @@ no_blank : (e : EngineState) (o : Option RecorderSession) (block : Block)
 no_blank e None block is = is
 no_blank e (Some s) block is = is
 
-pub write_untargeted : (e : EngineState) (n : ℤ) (block : Block) (w : Written) (outcome : Result Reply Refusal) → HasNoTarget e.desk n block → outcome ≡ write_decision e.desk n w false → AnswersEvent e e (events.Write n block) outcome
+pub write_untargeted : (e : EngineState) (n : ℤ) (block : Block) (w : Written) (outcome : Result Reply Refusal) → HasNoTarget e.desk n block → outcome ≡ write_decision e.desk n w false → EndsEvent e e (events.Write n block) outcome
 write_untargeted e n block w outcome without is =
     let refused = is_refused e.desk n w (span_of block) in
     let told : Result Reply Refusal = Err refused.0 in
-    subst (λ (o : Result Reply Refusal). AnswersEvent e e (events.Write n block) o) (sym (is ∙ refused.1))
+    subst (λ (o : Result Reply Refusal). EndsEvent e e (events.Write n block) o) (sym (is ∙ refused.1))
     (answered_still e (events.Write n block) told blank refl (λ sweep. absurd cc) (λ fault. no_fault (write_tests e.desk n w false) (WrittenReply w.last) (refused.1 ∙ fault))
     (ends blank (no_blank e (session_in e.desk n) block) refused.0 refused.2) (λ c was. ends c (no_block e c n block was without) refused.0 refused.2) (λ a. tt))
   where
@@ -282,7 +283,7 @@ module _ (old : EngineState) (n : ℤ) (block : Block) (layout : Layout) (end : 
 
   -- ---- the call
 
-  pub write_refuses : (refusal : Refusal) → Err refusal ≡ write_decision old.desk n (span_to block end) true → AnswersEvent old old event (Err refusal)
+  pub write_refuses : (refusal : Refusal) → Err refusal ≡ write_decision old.desk n (span_to block end) true → EndsEvent old old event (Err refusal)
   write_refuses refusal is =
       answered_still old event (Err refusal) alone refl (λ sweep. absurd cc) (λ fault. no_fault (write_tests old.desk n (span_to block end) true) (WrittenReply end) (sym is ∙ fault)) (refused_ends alone refusal of_alone is)
       (λ c was. refused_ends c refusal (block_of c was) is) (λ a. tt)
@@ -291,7 +292,7 @@ module _ (old : EngineState) (n : ℤ) (block : Block) (layout : Layout) (end : 
       (does : (s : State) (x : Recording) → IsSound old.life.now old.log s → find id_of layout.recording s.recordings ≡ Some x → layout ≡ layout_of x.descriptor → recorded_position x ≤ℤ block.position → Moves old.life new.life new.log s s result)
       (stays : FramesStay old.life new.life layout block) (log : new.log ≡ old.log) where
     pub write_done : result ≡ Ok tt → new.desk ≡ after_write n (span_to block end) old.desk → HoldsFrames (reads new.life.now) layout (unsigned_abs block.position) block.frames (unsigned_abs block.position + covered block.frames)
-        → AnswersEvent old new event (Ok reply)
+        → EndsEvent old new event (Ok reply)
     write_done went desk holds =
         let same : new.desk ≡ after_write n (span_of block) old.desk = desk ∙ ap (λ (w : Written). after_write n w old.desk) (sym (span_is old.desk n block layout end at)) in
         record {
@@ -306,8 +307,8 @@ module _ (old : EngineState) (n : ℤ) (block : Block) (layout : Layout) (end : 
         }
 
     pub write_fails : (told : Refusal) → told ≡ DeviceFault → HasFailed old.life new.life
-        → new.desk ≡ broken_desk old.desk → AnswersEvent old new event (Err told)
-    write_fails told fault cause desk = subst (λ (x : Refusal). AnswersEvent old new event (Err x)) (sym fault) (record {
+        → new.desk ≡ broken_desk old.desk → EndsEvent old new event (Err told)
+    write_fails told fault cause desk = subst (λ (x : Refusal). EndsEvent old new event (Err x)) (sym fault) (record {
       goes_on = record { obeyed = changes.obeyed; faults = changes.faults };
       bank = same_bank old.log new.log log;
       cause = λ e. cause;

@@ -45,7 +45,8 @@ use Rattle.control_core.proofs.AllowedLemmas.{both, passes_at}
 use Rattle.control_core.proofs.DecidedLemmas.{held}
 use Rattle.control_core.proofs.WriteLemmas.{span_ends}
 use Rattle.engine_core.specs.Consistent.{Stands, StandsBehind}
-use Rattle.engine_core.specs.Recovery.{last_of, layout_of}
+use Rattle.engine_core.specs.Recovery.{last_of}
+use Rattle.recording_reads.specs.Recording.{layout_of}
 use Rattle.engine_core.proofs.calls.Targets.{HasNoTarget, IsTarget}
 use Rattle.engine_core.proofs.files.FrameLemmas.{apart}
 use Rattle.engine_core.proofs.files.BlockLemmas.{block_aligned, block_some}

@@ -10,7 +10,8 @@ use Rattle.segment_store.specs.declared.layout.Layout.{Layout}
 use Rattle.segment_store.specs.Stored.{HoldsFrames}
 use Rattle.archive_model.specs.State.{State, register_of}
 use Rattle.catalogue_log.specs.Compacting.{HasRegister, LeavesRegister}
-use Rattle.engine_core.specs.Recovery.{HoldsRecording, Recovers, first_of, last_of, layout_of}
+use Rattle.engine_core.specs.Recovery.{HoldsRecording, Recovers, first_of, last_of}
+use Rattle.recording_reads.specs.Recording.{layout_of}
 use Rattle.engine_core.proofs.files.FrameLemmas.{each_then}
 
 -- an image with these banks and those segment files

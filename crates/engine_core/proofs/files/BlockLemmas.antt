@@ -28,7 +28,8 @@ use Rattle.archive_model.specs.Commands.{frames_of}
 use Rattle.archive_model.proofs.HistoriesLemmas.{covered-append}
 use Rattle.archive_model.specs.State.{Recording}
 use Rattle.engine_core.specs.Consistent.{LieIn, Stands}
-use Rattle.engine_core.specs.Recovery.{last_of, layout_of}
+use Rattle.engine_core.specs.Recovery.{last_of}
+use Rattle.recording_reads.specs.Recording.{layout_of}
 use Rattle.engine_core.proofs.files.FrameLemmas.{holds_append}
 
 -- data frames of one term lie in the segment of the first

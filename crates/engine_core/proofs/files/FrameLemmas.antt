@@ -17,7 +17,7 @@ use Rattle.segment_store.proofs.DurableLemmas.{durable_bytes}
 use Rattle.archive_model.specs.Keyed.{find, Each, Rise}
 use Rattle.archive_model.specs.State.{Recording, id_of}
 use Rattle.engine_core.specs.Consistent.{Lie}
-use Rattle.engine_core.specs.Recovery.{layout_of}
+use Rattle.recording_reads.specs.Recording.{layout_of}
 
 -- a bank is no segment file
 

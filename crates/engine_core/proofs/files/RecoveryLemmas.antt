@@ -29,7 +29,8 @@ use Rattle.archive_model.specs.WellFormed.{IsKept, IsOfStream}
 use Rattle.catalogue_entries.specs.Fold.{after_entries}
 use Rattle.catalogue_log.specs.LogState.{LogState}
 use Rattle.catalogue_log.proofs.CallerLemmas.{one_catalogue, rest_left}
-use Rattle.engine_core.specs.Recovery.{HoldsRecording, IsDurable, IsSound, Recovers, layout_of, first_of, last_of}
+use Rattle.engine_core.specs.Recovery.{HoldsRecording, IsDurable, IsSound, Recovers, first_of, last_of}
+use Rattle.recording_reads.specs.Recording.{layout_of}
 
 pub durable_hold : (files : Files) (image : DiskImage) (rs : List Recording) → MayLeave files image
     → Each (IsDurable files) rs → Each (HoldsRecording image) rs

@@ -34,7 +34,8 @@ use Rattle.archive_model.proofs.WellLemmas.{base_is_term, both}
 use Rattle.catalogue_entries.specs.History.{IsRequested, entry_of}
 use Rattle.catalogue_entries.proofs.CallerLemmas.{entry_admitted, register_kept}
 use Rattle.engine_core.specs.Moves.{Enters, EntryLeads}
-use Rattle.engine_core.specs.Recovery.{IsDurable, first_of, last_of, layout_of}
+use Rattle.engine_core.specs.Recovery.{IsDurable, first_of, last_of}
+use Rattle.recording_reads.specs.Recording.{layout_of}
 
 -- where frames end, written in another way
 ends_at : (files : Files) (l : Layout) (fs : List Frame) (from to end : ℕ) → to ≡ end

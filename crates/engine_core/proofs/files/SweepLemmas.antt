@@ -35,7 +35,8 @@ use Rattle.catalogue_log.specs.LogState.{LogState}
 use Rattle.catalogue_log.proofs.CallerLemmas.{banks_left, other_files}
 use Rattle.engine_core.specs.Moves.{SparesKept, StaysSound, keep_of, keeps_of}
 use Rattle.engine_core.specs.Consistent.{Lie}
-use Rattle.engine_core.specs.Recovery.{HoldsRecording, IsDurable, IsSound, RecoversTo, first_of, last_of, layout_of}
+use Rattle.engine_core.specs.Recovery.{HoldsRecording, IsDurable, IsSound, RecoversTo, first_of, last_of}
+use Rattle.recording_reads.specs.Recording.{layout_of}
 use Rattle.engine_core.proofs.files.FrameLemmas.{each_both, each_then, frames_left, frames_same, lie_then}
 use Rattle.engine_core.proofs.files.WriteLemmas.{natural}
 

@@ -25,7 +25,8 @@ use Rattle.archive_model.proofs.StateLemmas.{each_found}
 use Rattle.catalogue_log.specs.LogState.{LogState}
 use Rattle.catalogue_log.proofs.CallerLemmas.{banks_left, other_files}
 use Rattle.engine_core.specs.Moves.{Moves, RestsAfter}
-use Rattle.engine_core.specs.Recovery.{HoldsRecording, IsDurable, IsEither, IsSound, RecoversTo, first_of, last_of, layout_of}
+use Rattle.engine_core.specs.Recovery.{HoldsRecording, IsDurable, IsEither, IsSound, RecoversTo, first_of, last_of}
+use Rattle.recording_reads.specs.Recording.{layout_of}
 use Rattle.engine_core.proofs.files.FrameLemmas.{a_not_segment, apart, b_not_segment, each_both, each_by, left_frames, same_frames}
 
 -- what a write at a position of a recording does

@@ -33,7 +33,8 @@ use Rattle.catalogue_entries.specs.Fold.{after_entries}
 use Rattle.catalogue_log.specs.LogState.{IsAtRest, IsLogIn, LogState}
 use Rattle.catalogue_log.proofs.CallerLemmas.{not_refused, one_catalogue, rests_in, same_image}
 use Rattle.engine_core.specs.Opening.{ReadsAsBefore, SyncsOnly}
-use Rattle.engine_core.specs.Recovery.{Folds, HoldsRecording, IsDurable, IsSound, Recovers, first_of, last_of, layout_of}
+use Rattle.engine_core.specs.Recovery.{Folds, HoldsRecording, IsDurable, IsSound, Recovers, first_of, last_of}
+use Rattle.recording_reads.specs.Recording.{layout_of}
 use Rattle.engine_core.proofs.files.FrameLemmas.{each_both, each_then, read_durable}
 
 -- a file reads as before

@@ -1,10 +1,11 @@
 -- What is read of a recording whose frames stand in an image.
-use Rattle.std.proofs.Common.{◌≡◌, ◌∙◌, ◌⊎◌, inl, inr, sym, ap, subst, refl, ℕ, zero, suc, ℤ, pos, negsuc, ◌+◌, ◌+ℤ◌, ◌<◌, ◌≤◌, ◌≤ℤ◌, ◌||◌, Bool, true, false, true≢false, List, [], ◌∷◌, ◌++◌, length, take, filter, append_assoc, arith}
+use Rattle.std.proofs.Common.{◌≡◌, ◌∙◌, ◌⊎◌, inl, inr, sym, ap, subst, refl, ℕ, zero, suc, ℤ, pos, negsuc, ◌+◌, ◌-◌, ◌*◌, ◌/◌, ◌%◌, ◌+ℤ◌, ◌*ℤ◌, ◌<◌, ◌≤◌, ◌<ℤ◌, ◌≤ℤ◌, ◌||◌, Bool, true, false, true≢false, List, [], ◌∷◌, ◌++◌, length, take, filter, arith}
 use Rattle.std.proofs.lemmas.Int.{ints}
 use Rattle.std.proofs.lemmas.Bool.{or_left, or_right}
 use Rattle.std.proofs.lemmas.Bool.Decides.{nat_tests, Decides-int_eq}
-use Rattle.std.specs.Prelude.{IsTrue, nat_le, int_lt, unsigned_abs, if◌then◌else◌}
+use Rattle.std.specs.Prelude.{IsTrue, nat_le, nat_lt, int_lt, unsigned_abs, if◌then◌else◌}
 use Rattle.std.specs.Ordering.{int_eq}
+use Rattle.std.proofs.Math.Nat.{div-mul-le_self, le-max_left, max-eq_left, max-eq_right, max-le, mod-eq-sub-div-mul, mul-le-mul_right}
 use Rattle.disk_core.specs.DiskImage.{DiskImage, reads}
 use Rattle.disk_core.specs.Life.{Life}
 use Rattle.frame_core.specs.declared.frame.Frame.{Frame}
@@ -13,9 +14,11 @@ use Rattle.frame_core.specs.declared.refusal.Refusal.{Refusal}
 use Rattle.frame_core.specs.declared.refusal.Refusal.TheVariants.{Damaged, DeviceFault, NoMemory}
 use Rattle.frame_core.specs.Block.{covered}
 use Rattle.frame_core.specs.FrameEncoding.{aligned_length}
+use Rattle.frame_core.specs.Position.{HasPosition, terms_since}
 use Rattle.segment_store.specs.declared.layout.Layout.{Layout}
-use Rattle.segment_store.specs.Boundary.{BreaksAt, IsBoundary, IsChain, RefusesBoundary, TellsBoundary}
+use Rattle.segment_store.specs.Boundary.{BreaksAt, IsChain, IsReached}
 use Rattle.segment_store.specs.DamagedFrame.{IsDamaged}
+use Rattle.segment_store.proofs.ChainLemmas.{chain_rises}
 use Rattle.segment_store.proofs.DurableLemmas.{one_shown}
 use Rattle.segment_store.proofs.ReadLemmas.{belongs_ends}
 use Rattle.replay_core.specs.Poll.{ArePolled, RefusesPoll, before}
@@ -26,12 +29,16 @@ use Rattle.archive_model.specs.Keyed.{Each}
 use Rattle.archive_model.specs.Register.{is_end}
 use Rattle.archive_model.specs.Replay.{begins_frame, is_between, is_boundary, placed, polled}
 use Rattle.archive_model.specs.State.{Recording, geometry_of, recorded_position, registration_of}
+use Rattle.archive_model.specs.Histories.{AreContiguous}
 use Rattle.archive_model.specs.WellFormed.{IsKept}
 use Rattle.archive_model.proofs.CutLemmas.{IsEdge, edge_begins, edge_end, edge_start}
+use Rattle.archive_model.proofs.HistoriesLemmas.{covered-append}
 use Rattle.archive_model.proofs.ReplayLemmas.{begins_at, past_bound}
-use Rattle.control_core.specs.Exact.{frames_end}
-use Rattle.engine_core.specs.Reading.{IsOutside, RecordingIsRead, RefusesCount}
-use Rattle.engine_core.specs.Recovery.{HoldsRecording, first_of, last_of, layout_of}
+use Rattle.control_core.specs.declared.callers.OpenReplay.{OpenReplay}
+use Rattle.engine_core.specs.Reading.{IsOutside, RecordingIsRead}
+use Rattle.recording_reads.specs.Reading.{BreaksIn, GivesShown, HasFrames, IsBoundaryIn, RefusesBoundaryIn, RefusesCount, TellsBoundaryIn, term_start}
+use Rattle.engine_core.specs.Recovery.{HoldsRecording, first_of, last_of}
+use Rattle.recording_reads.specs.Recording.{layout_of}
 use Rattle.engine_core.proofs.files.RecoveryLemmas.{one_chain, shown}
 
 -- ---- edges: positions where a frame begins or the last one ends
@@ -107,6 +114,47 @@ edge_bounds p (pos at) fs low edge = elim (edge_begun p at fs edge) [
       (or_right (int_eq (pos p) (pos at)) _ ((Decides-int_eq (pos p) (pos (at + covered fs))).1 (ap pos ends)))
 ]
 
+-- an edge at or behind where some frames end is one of the others
+edge_back : (p at : ℕ) (front back : List Frame) → Each (λ (f : Frame). 0 < aligned_length f) front → at + covered front ≤ p → IsEdge p at (front ++ back) → IsEdge p (at + covered front) back
+edge_back p at [] back cover past edge = subst (λ (n : ℕ). IsEdge p n back) (omega arith) edge
+edge_back p at (f ∷ fs) back cover past (inl is) = absurd (omega (arith, is, past, cover.0))
+edge_back p at (f ∷ fs) back cover past (inr edge) =
+    let same : (at + aligned_length f) + covered fs ≡ at + covered (f ∷ fs) = omega arith in
+    subst (λ (n : ℕ). IsEdge p n back) same (edge_back p (at + aligned_length f) fs back cover.1 (omega (arith, past)) edge)
+
+-- a frame inside its term that begins before a multiple of the term length ends at or before it
+ends_before : (t s o at k size : ℕ) → at ≡ s * t + o → o + size ≤ t → at < k * t → at + size ≤ k * t
+ends_before t s o at k size sum inside before = by (nat_lt s k) refl
+  where
+    by : (b : Bool) → nat_lt s k ≡ b → at + size ≤ k * t
+    by true e = let next : s + 1 ≤ k = grind (arith, nat_tests) in let more = mul-le-mul_right t next in let one : (s + 1) * t ≡ s * t + t = omega arith in omega arith
+    by false e = let low : k ≤ s = grind (arith, nat_tests) in let less = mul-le-mul_right t low in absurd (omega arith)
+
+term_ends : (g : Geometry) (term offset : ℤ) (at k size : ℕ) → HasPosition g term offset (pos at) → (offset +ℤ pos size) ≤ℤ g.term_length → at < k * unsigned_abs g.term_length → at + size ≤ k * unsigned_abs g.term_length
+term_ends g term offset at k size has inside before = by (terms_since g term) offset g.term_length has.since has.low has.high has.sum inside before
+  where
+    by : (since offset length : ℤ) → pos 0 ≤ℤ since → pos 0 ≤ℤ offset → offset <ℤ length → pos at ≡ since *ℤ length +ℤ offset → (offset +ℤ pos size) ≤ℤ length → at < k * unsigned_abs length → at + size ≤ k * unsigned_abs length
+    by (negsuc s) o t low positive high sum within before = absurd (omega (arith, ints))
+    by (pos s) (negsuc o) t low positive high sum within before = absurd (omega (arith, ints))
+    by (pos s) (pos o) (negsuc t) low positive high sum within before = absurd (omega (arith, ints))
+    by (pos s) (pos o) (pos t) low positive high sum within before =
+        let placed_at : pos at ≡ pos (s * t + o) = sum in
+        let within_term : pos (o + size) ≤ℤ pos t = within in ends_before t s o at k size (omega (arith, ints)) (omega (arith, ints)) before
+
+-- each multiple of the term length among contiguous frames is an edge of them
+term_edge : (g : Geometry) (k at : ℕ) (fs : List Frame) → AreContiguous g (pos at) fs → at ≤ k * unsigned_abs g.term_length → k * unsigned_abs g.term_length ≤ at + covered fs → IsEdge (k * unsigned_abs g.term_length) at fs
+term_edge g k at [] contiguous low high = edge_start (k * unsigned_abs g.term_length) at [] (omega (arith, low, high))
+term_edge g k at (f ∷ fs) contiguous low high = by (nat_lt at (k * unsigned_abs g.term_length)) refl (term_edge g k (at + aligned_length f) fs contiguous.2)
+  where
+    by : (b : Bool) → nat_lt at (k * unsigned_abs g.term_length) ≡ b
+        → (at + aligned_length f ≤ k * unsigned_abs g.term_length → k * unsigned_abs g.term_length ≤ (at + aligned_length f) + covered fs → IsEdge (k * unsigned_abs g.term_length) (at + aligned_length f) fs)
+        → IsEdge (k * unsigned_abs g.term_length) at (f ∷ fs)
+    by true e rest =
+        let before : at < k * unsigned_abs g.term_length = grind (arith, nat_tests) in
+        inr (rest (term_ends g f.term_id f.term_offset at k (aligned_length f) contiguous.0 contiguous.1 before) (omega (arith, high)))
+    by false e rest =
+        let not_before : k * unsigned_abs g.term_length ≤ at = grind (arith, nat_tests) in inl (omega (arith, low, not_before))
+
 -- ---- chains of shown frames
 
 module _ (image : DiskImage) (l : Layout) (g : Geometry) (limit : ℤ) where
@@ -176,32 +224,6 @@ placed_take zero at fs = refl
 placed_take (suc n) at [] = refl
 placed_take (suc n) at (f ∷ fs) = ap (λ (xs : List PolledFrame). record { position = pos at; frame = f } ∷ xs) (placed_take n (at + aligned_length f) fs)
 
--- placed frames end where the last of them does
-pub placed_end : (at : ℤ) (fs : List Frame) → frames_end at (placed at fs) ≡ at +ℤ pos (covered fs)
-placed_end at [] = omega (arith, ints)
-placed_end at (f ∷ fs) = placed_end (at +ℤ pos (aligned_length f)) fs ∙ omega (arith, ints)
-
--- some of all frames were placed, and these are left
-pub record Places (start : ℤ) (all : List Frame) (done : List PolledFrame) (at : ℤ) (left : List Frame) : Type 0 where
-  pub are : done ++ placed at left ≡ placed start all
-  pub ends : at +ℤ pos (covered left) ≡ start +ℤ pos (covered all)
-
-pub places_one : (start at next : ℤ) (all left rest : List Frame) (done more : List PolledFrame) (f : Frame) → Places start all done at left → left ≡ f ∷ rest
-    → more ≡ done ++ record { position = at; frame = f } ∷ [] → next ≡ at +ℤ pos (aligned_length f) → Places start all more next rest
-places_one start at next all left rest done more f places is one after =
-    let again : Places start all done at (f ∷ rest) = subst (Places start all done at) is places in
-    record {
-      are = ap (λ (z : ℤ). more ++ placed z rest) after ∙ ap (λ (xs : List PolledFrame). xs ++ placed (at +ℤ pos (aligned_length f)) rest) one
-          ∙ append_assoc done (record { position = at; frame = f } ∷ []) (placed (at +ℤ pos (aligned_length f)) rest) ∙ again.are;
-      ends = (let ends = again.ends in omega (arith, ints, after));
-    }
-
--- the next of them ends at or before the end of all
-pub places_within : (start at : ℤ) (all left rest : List Frame) (done : List PolledFrame) (f : Frame) → Places start all done at left → left ≡ f ∷ rest → (at +ℤ pos (aligned_length f)) ≤ℤ (start +ℤ pos (covered all))
-places_within start at all left rest done f places is =
-    let again : Places start all done at (f ∷ rest) = subst (Places start all done at) is places in
-    let ends = again.ends in omega (arith, ints)
-
 -- ---- a recording whose frames stand
 
 module _ (image : DiskImage) (r : Recording) (kept : IsKept r) (stands : HoldsRecording image r) where
@@ -259,54 +281,6 @@ module _ (image : DiskImage) (r : Recording) (kept : IsKept r) (stands : HoldsRe
     | inr ends ↦ absurd (not_last p inside ends)
   ]
 
-  begun_boundary : (p : ℤ) → begins_frame p r ≡ true
-      → IsBoundary image lay geo (recorded_position r) p
-  begun_boundary p begun =
-      let edge = begun_edge p (first_of r) r.frames (subst (λ (z : ℤ). begins_at p (placed z r.frames) ≡ true) (sym start_is) begun) in
-      let parts = splits_at edge.0 (first_of r) r.frames edge.2 in
-      let chain : IsChain image lay geo (recorded_position r) (first_of r) (parts.front ++ parts.back) (last_of r) =
-      subst (λ (fs : List Frame). IsChain image lay geo (recorded_position r) (first_of r) fs (last_of r)) parts.is all_shown in
-      record {
-        end = edge.0;
-        is = edge.1;
-        reaches = record {
-          frames = parts.front;
-          chain = subst (λ (n : ℕ). IsChain image lay geo (recorded_position r) (first_of r) parts.front n) (sym parts.ends)
-              (chain_front image lay geo (recorded_position r) parts.front parts.back (first_of r) (last_of r) chain);
-        };
-      }
-
-  pub beginning_told : (p : ℤ) (told : Bool) → is_end p (registration_of r) ≡ false
-      → TellsBoundary image lay geo (recorded_position r) p told → told ≡ begins_frame p r
-  beginning_told p true inside tells =
-      let edge : IsEdge tells.end (first_of r) r.frames = reached_edge tells.reaches.frames tells.end tells.reaches.chain in
-      let begun : begins_frame (pos tells.end) r ≡ true = begins tells.end edge (subst (λ (z : ℤ). is_end z (registration_of r) ≡ false) tells.is inside) in
-      sym (subst (λ (z : ℤ). begins_frame z r ≡ true) (sym tells.is) begun)
-  beginning_told p false inside tells = by (begins_frame p r) refl
-    where
-      by : (b : Bool) → begins_frame p r ≡ b → false ≡ begins_frame p r
-      by true is = absurd (tells.0 (begun_boundary p is))
-      by false is = sym is
-
-  breaks_nowhere : (p : ℤ) (at : ℕ) → BreaksAt image lay geo (recorded_position r) p at → ⊥
-  breaks_nowhere p at breaks =
-      none_broken breaks.reaches.frames (first_of r) r.frames at all_shown breaks.reaches.chain (omega (arith, ints, breaks.before, breaks.within, last_is)) breaks.damaged
-
-  pub boundary_fault : (obeys : Bool) (p : ℤ) (refusal : Refusal) → IsTrue obeys
-      → RefusesBoundary obeys image lay geo (recorded_position r) p refusal → refusal ≡ DeviceFault
-  boundary_fault obeys p DeviceFault does refuses = refl
-  boundary_fault obeys p (Damaged recording at) does refuses = let broken = refuses.1 does in absurd (breaks_nowhere p broken.0 broken.2)
-  boundary_fault obeys p refusal does refuses = absurd refuses
-
-  pub count_outside : (obeys : Bool) (refusal : Refusal) → IsTrue obeys
-      → RefusesCount obeys image (registration_of r) refusal → IsOutside refusal
-  count_outside obeys DeviceFault does refuses = inl refl
-  count_outside obeys NoMemory does refuses = inr refl
-  count_outside obeys (Damaged recording at) does refuses = let broken = refuses.1 does in absurd (breaks_nowhere (recorded_position r) broken.0 broken.2)
-  count_outside obeys refusal does refuses = absurd refuses
-
-  -- ---- polls
-
   -- the frames from a boundary on
   pub back_shown : (q : ℕ) (parts : SplitsAt q (first_of r) r.frames)
       → IsChain image lay geo (recorded_position r) q parts.back (last_of r)
@@ -323,6 +297,132 @@ module _ (image : DiskImage) (r : Recording) (kept : IsKept r) (stands : HoldsRe
       subst (λ (fs : List Frame). IsChain image lay geo (recorded_position r) (first_of r) fs (last_of r)) parts.is all_shown in
       all_cover image lay geo (recorded_position r) parts.front (first_of r) (first_of r + covered parts.front)
       (chain_front image lay geo (recorded_position r) parts.front parts.back (first_of r) (last_of r) chain)
+
+  -- ---- boundaries, by the frames of a position's term
+
+  abbrev term_of : ℕ → ℕ
+  term_of p = term_start r.descriptor p
+
+  -- its beginning is an edge
+  term_is_edge : (p : ℕ) → first_of r ≤ p → p ≤ last_of r → IsEdge (term_of p) (first_of r) r.frames
+  term_is_edge p from within =
+      let t : ℕ = unsigned_abs r.descriptor.term_length in
+      let base : p - p % t ≡ p / t * t = (let parts = mod-eq-sub-div-mul p t in let less = div-mul-le_self p t in omega (arith, parts, less)) in
+      by (nat_le (first_of r) (p - p % t)) refl base
+    where
+      contiguous : AreContiguous geo (pos (first_of r)) r.frames
+      contiguous = subst (λ (z : ℤ). AreContiguous geo z r.frames) (sym start_is) kept.contiguous
+
+      by : (b : Bool) → nat_le (first_of r) (p - p % unsigned_abs r.descriptor.term_length) ≡ b → p - p % unsigned_abs r.descriptor.term_length ≡ p / unsigned_abs r.descriptor.term_length * unsigned_abs r.descriptor.term_length
+          → IsEdge (term_of p) (first_of r) r.frames
+      by true e base =
+          let low : first_of r ≤ p - p % unsigned_abs r.descriptor.term_length = grind (arith, nat_tests) in
+          let here = term_edge geo (p / unsigned_abs r.descriptor.term_length) (first_of r) r.frames contiguous (omega (arith, low, base)) (omega (arith, base, within, ends_at)) in
+          subst (λ (n : ℕ). IsEdge n (first_of r) r.frames) (sym (max-eq_right low ∙ base)) here
+      by false e base =
+          let high : p - p % unsigned_abs r.descriptor.term_length ≤ first_of r = grind (arith, nat_tests) in
+          edge_start (term_of p) (first_of r) r.frames (max-eq_left high)
+
+  term_before : (p : ℕ) → first_of r ≤ p → term_of p ≤ p
+  term_before p from = max-le from (omega arith)
+
+  -- the frames from there on
+  term_parts : (p : ℕ) → first_of r ≤ p → p ≤ last_of r → SplitsAt (term_of p) (first_of r) r.frames
+  term_parts p from within = splits_at (term_of p) (first_of r) r.frames (term_is_edge p from within)
+
+  begun_boundary : (p : ℤ) → begins_frame p r ≡ true → IsBoundaryIn image (registration_of r) p
+  begun_boundary p begun =
+      let edge = begun_edge p (first_of r) r.frames (subst (λ (z : ℤ). begins_at p (placed z r.frames) ≡ true) (sym start_is) begun) in
+      let q : ℕ = edge.0 in
+      let whole = splits_at q (first_of r) r.frames edge.2 in
+      let cover : covered r.frames ≡ covered whole.front + covered whole.back = ap covered whole.is ∙ covered-append whole.front whole.back in
+      let low : first_of r ≤ q = omega (arith, whole.ends) in
+      let high : q ≤ last_of r = omega (arith, whole.ends, cover, ends_at) in
+      let parts = term_parts q low high in
+      let behind : IsEdge q (first_of r + covered parts.front) parts.back =
+      edge_back q (first_of r) parts.front parts.back (front_covers (term_of q) parts) (omega (arith, parts.ends, term_before q low)) (subst (IsEdge q (first_of r)) parts.is edge.2) in
+      let back = splits_at q (term_of q) parts.back (subst (λ (n : ℕ). IsEdge q n parts.back) (sym parts.ends) behind) in
+      let chain : IsChain image lay geo (recorded_position r) (term_of q) (back.front ++ back.back) (last_of r) =
+      subst (λ (fs : List Frame). IsChain image lay geo (recorded_position r) (term_of q) fs (last_of r)) back.is (back_shown (term_of q) parts) in
+      let reached : IsReached image lay geo (recorded_position r) (term_of q) (pos q) = record {
+        end = q;
+        is = refl;
+        reaches = record {
+          frames = back.front;
+          chain = subst (λ (n : ℕ). IsChain image lay geo (recorded_position r) (term_of q) back.front n) (sym back.ends)
+              (chain_front image lay geo (recorded_position r) back.front back.back (term_of q) (last_of r) chain);
+        };
+      } in
+      let here : IsBoundaryIn image (registration_of r) (pos q) = record {
+        from_start = omega (arith, ints, low, start_is);
+        within = omega (arith, ints, high, last_is);
+        reached = inr reached;
+      } in
+      let same : pos q ≡ p = sym edge.1 in
+      subst (λ (z : ℤ). IsBoundaryIn image (registration_of r) z) same here
+
+  -- what the frames of its term reach is an edge
+  term_reached : (q : ℕ) → first_of r ≤ q → q ≤ last_of r → IsReached image lay geo (recorded_position r) (term_of q) (pos q) → IsEdge q (first_of r) r.frames
+  term_reached q low high reached =
+      let parts = term_parts q low high in
+      let same : reached.end ≡ q = omega (arith, ints, reached.is) in
+      let here : IsEdge reached.end (term_of q) parts.back = chain_edge image lay geo (recorded_position r) reached.reaches.frames parts.back (term_of q) reached.end (last_of r) within_last reached.reaches.chain (back_shown (term_of q) parts) in
+      let behind = edge_behind reached.end (first_of r) parts.front parts.back (subst (λ (n : ℕ). IsEdge reached.end n parts.back) parts.ends here) in
+      subst (λ (n : ℕ). IsEdge n (first_of r) r.frames) same (subst (IsEdge reached.end (first_of r)) (sym parts.is) behind)
+
+  not_recorded : (p : ℤ) → is_end p (registration_of r) ≡ false → p ≡ recorded_position r → ⊥
+  not_recorded p inside is = true≢false (sym (or_right (int_eq p r.descriptor.start_position) _ ((Decides-int_eq p (recorded_position r)).1 is)) ∙ inside)
+
+  pub beginning_told : (p : ℤ) (told : Bool) → is_end p (registration_of r) ≡ false
+      → TellsBoundaryIn image (registration_of r) p told → told ≡ begins_frame p r
+  beginning_told (negsuc n) true inside tells = absurd (omega (arith, ints, tells.from_start, start_is))
+  beginning_told (pos q) true inside tells =
+      let low : first_of r ≤ q = omega (arith, ints, tells.from_start, start_is) in
+      let high : q ≤ last_of r = omega (arith, ints, tells.within, last_is) in
+      elim tells.reached [
+        | inl recorded ↦ absurd (not_recorded (pos q) inside recorded)
+        | inr reached ↦ sym (begins q (term_reached q low high reached) inside)
+      ]
+  beginning_told p false inside tells = by (begins_frame p r) refl
+    where
+      by : (b : Bool) → begins_frame p r ≡ b → false ≡ begins_frame p r
+      by true is = absurd (tells.0 (begun_boundary p is))
+      by false is = sym is
+
+  breaks_nowhere : (p : ℤ) (at : ℕ) → BreaksAt image lay geo (recorded_position r) p at → ⊥
+  breaks_nowhere p at breaks =
+      none_broken breaks.reaches.frames (first_of r) r.frames at all_shown breaks.reaches.chain (omega (arith, ints, breaks.before, breaks.within, last_is)) breaks.damaged
+
+  -- the frames of a term break off nowhere
+  term_unbroken : (p : ℤ) (at : ℕ) → r.descriptor.start_position ≤ℤ p → BreaksIn image (registration_of r) p at → ⊥
+  term_unbroken (negsuc n) at from breaks = absurd (omega (arith, ints, from, start_is))
+  term_unbroken (pos q) at from breaks =
+      let low : first_of r ≤ q = omega (arith, ints, from, start_is) in
+      let high : q ≤ last_of r = omega (arith, ints, breaks.within, last_is) in
+      let parts = term_parts q low high in
+      none_broken breaks.reaches.frames (term_of q) parts.back at (back_shown (term_of q) parts) breaks.reaches.chain (omega (arith, ints, breaks.before, breaks.within, last_is)) breaks.damaged
+
+  -- where they would, the position is not before the start
+  breaks_from : (p : ℤ) (at : ℕ) → BreaksIn image (registration_of r) p at → r.descriptor.start_position ≤ℤ p
+  breaks_from p at breaks =
+      let rises = chain_rises image lay geo (recorded_position r) breaks.reaches.frames (term_of (unsigned_abs p)) at breaks.reaches.chain in
+      let low = le-max_left (first_of r) (unsigned_abs p - unsigned_abs p % unsigned_abs r.descriptor.term_length) in
+      omega (arith, ints, breaks.before, rises, low, start_is)
+
+  pub boundary_fault : (obeys : Bool) (p : ℤ) (refusal : Refusal) → IsTrue obeys
+      → RefusesBoundaryIn obeys image (registration_of r) p refusal → refusal ≡ DeviceFault
+  boundary_fault obeys p DeviceFault does refuses = refl
+  boundary_fault obeys p (Damaged recording at) does refuses = let broken = refuses.1 does in absurd (term_unbroken p broken.0 (breaks_from p broken.0 broken.2) broken.2)
+  boundary_fault obeys p refusal does refuses = absurd refuses
+
+  pub count_outside : (obeys : Bool) (refusal : Refusal) → IsTrue obeys
+      → RefusesCount obeys image (registration_of r) refusal → IsOutside refusal
+  count_outside obeys DeviceFault does refuses = inl refl
+  count_outside obeys NoMemory does refuses = inr refl
+  count_outside obeys (Damaged recording at) does refuses = let broken = refuses.1 does in absurd (breaks_nowhere (recorded_position r) broken.0 broken.2)
+  count_outside obeys refusal does refuses = absurd refuses
+
+  -- ---- polls
 
   given_back : (q end most : ℕ) (bound : ℤ) (frames : List Frame) (parts : SplitsAt q (first_of r) r.frames) → ArePolled image lay geo (recorded_position r) bound most q frames end
       → frames ≡ take most (before bound q parts.back)
@@ -373,48 +473,43 @@ module _ (image : DiskImage) (r : Recording) (kept : IsKept r) (stands : HoldsRe
       absurd (none_broken broken.frames q parts.back broken.to (back_shown q parts) chain (omega (arith, ints, broken.within, last_is)) broken.damaged)
   poll_outside obeys next bound most refusal does at refuses = absurd refuses
 
-  -- ---- counting
-
-  -- frames that are shown up to the recorded position are those of the recording
-  pub counted_all : (frames : List Frame) (end : ℕ) → recorded_position r ≤ℤ pos end → end ≤ last_of r → IsChain image lay geo (recorded_position r) (first_of r) frames end → length frames ≡ length r.frames
-  counted_all frames end past before chain =
-      let same : end ≡ last_of r = omega (arith, ints, last_is, past, before) in
-      ap length (one_chain image lay geo (recorded_position r) frames r.frames (first_of r) (last_of r) (subst (IsChain image lay geo (recorded_position r) (first_of r) frames) same chain) all_shown)
-
 -- ---- the same of what a register has
 
 module _ (old new : Life) (g : Registration) (r : Recording) (read : RecordingIsRead old new g r) where
-  pub told_read : (p : ℤ) (told : Bool) → is_end p g ≡ false → TellsBoundary (reads old.now) (layout_of g.descriptor) (geometry_of g.descriptor) g.recorded p told → told ≡ begins_frame p r
+  abbrev image : DiskImage
+  image = reads old.now
+
+  pub told_read : (p : ℤ) (told : Bool) → is_end p g ≡ false → TellsBoundaryIn image g p told → told ≡ begins_frame p r
   told_read p told inside tells =
-      beginning_told (reads old.now) r read.kept read.stands p told (subst (λ (x : Registration). is_end p x ≡ false) read.is inside)
-      (subst (λ (x : Registration). TellsBoundary (reads old.now) (layout_of x.descriptor) (geometry_of x.descriptor) x.recorded p told) read.is tells)
+      beginning_told image r read.kept read.stands p told (subst (λ (x : Registration). is_end p x ≡ false) read.is inside)
+      (subst (λ (x : Registration). TellsBoundaryIn image x p told) read.is tells)
 
-  pub fault_read : (p : ℤ) (refusal : Refusal) → RefusesBoundary new.obeys (reads old.now) (layout_of g.descriptor) (geometry_of g.descriptor) g.recorded p refusal → refusal ≡ DeviceFault
+  pub fault_read : (p : ℤ) (refusal : Refusal) → RefusesBoundaryIn new.obeys image g p refusal → refusal ≡ DeviceFault
   fault_read p refusal refuses =
-      boundary_fault (reads old.now) r read.kept read.stands new.obeys p refusal read.obeys
-      (subst (λ (x : Registration). RefusesBoundary new.obeys (reads old.now) (layout_of x.descriptor) (geometry_of x.descriptor) x.recorded p refusal) read.is refuses)
+      boundary_fault image r read.kept read.stands new.obeys p refusal read.obeys (subst (λ (x : Registration). RefusesBoundaryIn new.obeys image x p refusal) read.is refuses)
 
-  pub count_read : (refusal : Refusal) → RefusesCount new.obeys (reads old.now) g refusal
-      → IsOutside refusal
+  pub count_read : (refusal : Refusal) → RefusesCount new.obeys image g refusal → IsOutside refusal
   count_read refusal refuses =
-      count_outside (reads old.now) r read.kept read.stands new.obeys refusal read.obeys (subst (λ (x : Registration). RefusesCount new.obeys (reads old.now) x refusal) read.is refuses)
+      count_outside image r read.kept read.stands new.obeys refusal read.obeys (subst (λ (x : Registration). RefusesCount new.obeys image x refusal) read.is refuses)
 
-  pub frames_read : (next bound : ℤ) (most end : ℕ) (frames : List Frame)
-      → is_boundary next r ≡ true
-      → ArePolled (reads old.now) (layout_of g.descriptor) (geometry_of g.descriptor) g.recorded bound most (unsigned_abs next) frames end → placed next frames ≡ polled next bound most r
-  frames_read next bound most end frames at polls =
-      polled_frames (reads old.now) r read.kept read.stands next bound most end frames at
-      (subst (λ (x : Registration). ArePolled (reads old.now) (layout_of x.descriptor) (geometry_of x.descriptor) x.recorded bound most (unsigned_abs next) frames end) read.is polls)
+  -- frames that are shown up to the recorded position are those of the recording
+  pub counted_read : (count : ℤ) → HasFrames image g count → count ≡ pos (length r.frames)
+  counted_read count has =
+      let these : HasFrames image (registration_of r) count = subst (λ (x : Registration). HasFrames image x count) read.is has in
+      these.is ∙ ap (λ (fs : List Frame). pos (length fs))
+      (one_chain image (layout_of r.descriptor) (geometry_of r.descriptor) (recorded_position r) these.frames r.frames (first_of r) (last_of r) these.chain (all_shown image r read.kept read.stands))
 
-  pub boundary_read : (next bound : ℤ) (most end : ℕ) (frames : List Frame)
-      → is_boundary next r ≡ true
-      → ArePolled (reads old.now) (layout_of g.descriptor) (geometry_of g.descriptor) g.recorded bound most (unsigned_abs next) frames end → is_boundary (pos end) r ≡ true
-  boundary_read next bound most end frames at polls =
-      goes_on_boundary (reads old.now) r read.kept read.stands next bound most end frames at
-      (subst (λ (x : Registration). ArePolled (reads old.now) (layout_of x.descriptor) (geometry_of x.descriptor) x.recorded bound most (unsigned_abs next) frames end) read.is polls)
+  pub given_read : (replay : OpenReplay) (most next : ℤ) (frames : List PolledFrame) → is_boundary replay.next r ≡ true → pos 0 ≤ℤ next → GivesShown image g replay most frames (unsigned_abs next)
+      → IsTrue (is_boundary next r) × (frames ≡ polled replay.next replay.bound (unsigned_abs most) r)
+  given_read replay most next frames at low gives =
+      let these : GivesShown image (registration_of r) replay most frames (unsigned_abs next) = subst (λ (x : Registration). GivesShown image x replay most frames (unsigned_abs next)) read.is gives in
+      let same : pos (unsigned_abs next) ≡ next = omega (arith, ints, low) in (
+        subst (λ (z : ℤ). is_boundary z r ≡ true) same (goes_on_boundary image r read.kept read.stands replay.next replay.bound (unsigned_abs most) (unsigned_abs next) these.given at these.polled),
+        these.placed ∙ polled_frames image r read.kept read.stands replay.next replay.bound (unsigned_abs most) (unsigned_abs next) these.given at these.polled,
+      )
 
   pub poll_read : (next bound : ℤ) (most : ℕ) (refusal : Refusal) → is_boundary next r ≡ true
-      → RefusesPoll new.obeys (reads old.now) (layout_of g.descriptor) (geometry_of g.descriptor) g.recorded bound most (unsigned_abs next) refusal → IsOutside refusal
+      → RefusesPoll new.obeys image (layout_of g.descriptor) (geometry_of g.descriptor) g.recorded bound most (unsigned_abs next) refusal → IsOutside refusal
   poll_read next bound most refusal at refuses =
-      poll_outside (reads old.now) r read.kept read.stands new.obeys next bound most refusal read.obeys at
-      (subst (λ (x : Registration). RefusesPoll new.obeys (reads old.now) (layout_of x.descriptor) (geometry_of x.descriptor) x.recorded bound most (unsigned_abs next) refusal) read.is refuses)
+      poll_outside image r read.kept read.stands new.obeys next bound most refusal read.obeys at
+      (subst (λ (x : Registration). RefusesPoll new.obeys image (layout_of x.descriptor) (geometry_of x.descriptor) x.recorded bound most (unsigned_abs next) refusal) read.is refuses)

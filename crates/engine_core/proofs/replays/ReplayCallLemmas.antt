@@ -1,5 +1,6 @@
 -- Calls of replays and the verification of a recording, each as it answers.
-use Rattle.std.proofs.Common.{rules, ◌≡◌, ◌∙◌, ◌&&◌, ◌<◌, inl, inr, sym, ap, subst, refl, ℕ, ℤ, pos, Bool, true, false, IsTrue, List, Option, None, Some, int_le}
+use Rattle.std.proofs.Common.{rules, ◌≡◌, ◌∙◌, ◌&&◌, ◌<◌, inl, inr, sym, ap, subst, refl, ℕ, ℤ, pos, Bool, true, false, IsTrue, List, Option, None, Some, int_le, ◌≤ℤ◌, arith}
+use Rattle.std.proofs.lemmas.Int.{ints}
 use Rattle.std.specs.Prelude.{IsErrOf, Result, Ok, Err, is_none, length, if◌then◌else◌, unsigned_abs}
 use Rattle.frame_core.specs.declared.refusal.Refusal.{Refusal}
 use Rattle.frame_core.specs.declared.refusal.Refusal.TheVariants.{Damaged, DeviceFault, NoMemory}
@@ -38,23 +39,25 @@ use Rattle.control_core.proofs.DecidedLemmas.{held}
 use Rattle.control_core.proofs.DeskLemmas.{keeps_closed, keeps_moved}
 use Rattle.control_core.proofs.FaultLemmas.{call_is_allowed}
 use Rattle.control_core.proofs.StepLemmas.{poll_step, verify_step}
-use Rattle.engine_core.specs.Calls.{AnswersEvent}
+use Rattle.engine_core.specs.Calls.{EndsEvent}
 use Rattle.engine_core.specs.Engine.{Content, EngineState, archive_of}
-use Rattle.engine_core.specs.Reading.{IsOutside, RecordingIsRead, RefusesCount}
+use Rattle.engine_core.specs.Reading.{IsOutside, RecordingIsRead}
+use Rattle.recording_reads.specs.Reading.{RefusesCount}
 use Rattle.engine_core.proofs.calls.EndedLemmas.{quiet_life}
-use Rattle.engine_core.proofs.calls.KnownLemmas.{read_known}
+use Rattle.control_core.specs.Orderly.{KeepsDesk}
+use Rattle.engine_core.proofs.calls.KnownLemmas.{laid_found, one_known, read_known, replay_recording}
 use Rattle.engine_core.proofs.replays.ReplayLemmas.{answer_no_fault, leaves_refused, leaves_told, moved_at, no_content, open_at, outside_read, poll_no_fault, poll_passes, polled_ends, polling_refused, reads_on, reads_only, checked_err, checked_ok}
 
 -- ---- a replay is closed
 
-pub close_refused : (old : EngineState) (number : ℤ) (refusal : Refusal) → close_decision old.desk number ≡ Err refusal → AnswersEvent old old (events.ReplayClose number) (Err refusal)
+pub close_refused : (old : EngineState) (number : ℤ) (refusal : Refusal) → close_decision old.desk number ≡ Err refusal → EndsEvent old old (events.ReplayClose number) (Err refusal)
 close_refused old number refusal decided =
     let left = λ (c : Content). leaves_refused (archive_of old c) (with_desk (after_close number old.desk) (archive_of old c)) (close_decision old.desk number) refusal decided in
     reads_only old old (events.ReplayClose number) (Err refusal) (quiet_life old.life) refl refl (λ is. absurd cc) (λ fault. absurd (answer_no_fault (close_tests old.desk number) replies.Closed refusal decided fault))
     (call_is_allowed (archive_of old no_content) (events.ReplayClose number) (Err refusal) (archive_of old no_content) (λ poll. absurd cc) (inl (left no_content)))
     (λ c was. ((λ reading. inl (left c)), tt))
 
-pub closed : (old new : EngineState) (number : ℤ) → IsQuiet old.life new.life → new.log ≡ old.log → new.desk ≡ after_close number old.desk → close_decision old.desk number ≡ Ok replies.Closed → AnswersEvent old new (events.ReplayClose number) (Ok replies.Closed)
+pub closed : (old new : EngineState) (number : ℤ) → IsQuiet old.life new.life → new.log ≡ old.log → new.desk ≡ after_close number old.desk → close_decision old.desk number ≡ Ok replies.Closed → EndsEvent old new (events.ReplayClose number) (Ok replies.Closed)
 closed old new number quiet log desk decided =
     let left = λ (c : Content). leaves_told (archive_of old c) (with_desk (after_close number old.desk) (archive_of old c)) (close_decision old.desk number) replies.Closed decided in
     reads_on old new (events.ReplayClose number) replies.Closed (without replay_number number old.desk.callers.replays) old.desk.callers.next_replay quiet log desk (λ is. absurd cc)
@@ -68,7 +71,7 @@ closed old new number quiet log desk decided =
 abbrev pub decided_verify : DeskState → ℤ → Result (Unit {0}) Refusal
 decided_verify d id = checked (verify_tests d id) checks (Ok tt)
 
-pub verify_refused : (old : EngineState) (id : ℤ) (refusal : Refusal) → decided_verify old.desk id ≡ Err refusal → AnswersEvent old old (events.Verify id) (Err refusal)
+pub verify_refused : (old : EngineState) (id : ℤ) (refusal : Refusal) → decided_verify old.desk id ≡ Err refusal → EndsEvent old old (events.Verify id) (Err refusal)
 verify_refused old id refusal decided =
     reads_only old old (events.Verify id) (Err refusal) (quiet_life old.life) refl refl (λ is. absurd cc) (λ fault. absurd (answer_no_fault (verify_tests old.desk id) tt refusal decided fault))
     (inl (verify_step old.desk id (Err refusal) old.desk (subst (λ (x : Result (Unit {0}) Refusal). VerifiesBy old.desk x (Err refusal) old.desk) (sym decided) (refl, refl))))
@@ -92,7 +95,7 @@ verify_stepped d id obeys image g refusal decided refuses = by refusal refuses
 
 pub verify_unread : (old new : EngineState) (id : ℤ) (g : Registration) (refusal : Refusal) → IsQuiet old.life new.life → new.log ≡ old.log → new.desk ≡ old.desk → MayLeave old.life.now (reads old.life.now) → decided_verify old.desk id ≡ Ok tt
     → Some g ≡ registration_in old.desk.register id → (IsErrOf {T = Reply} (Err refusal) DeviceFault → HasFailed old.life new.life) → RefusesCount new.life.obeys (reads old.life.now) g refusal → ((r : Recording) → RecordingIsRead old.life new.life g r → IsOutside refusal)
-    → AnswersEvent old new (events.Verify id) (Err refusal)
+    → EndsEvent old new (events.Verify id) (Err refusal)
 verify_unread old new id g refusal quiet log desk stays decided known cause refuses outside =
     let passed : passes (verify_tests old.desk id) checks ≡ true = (held (verify_tests old.desk id) checks tt tt decided).0 in
     reads_only old new (events.Verify id) (Err refusal) quiet log desk (λ is. absurd cc) cause (verify_stepped old.desk id new.life.obeys (reads old.life.now) g refusal decided refuses)
@@ -104,7 +107,7 @@ verify_unread old new id g refusal quiet log desk stays decided known cause refu
     ))
 
 pub verified : (old new : EngineState) (id : ℤ) (g : Registration) (count : ℤ) → IsQuiet old.life new.life → new.log ≡ old.log → new.desk ≡ old.desk → MayLeave old.life.now (reads old.life.now) → decided_verify old.desk id ≡ Ok tt → Some g ≡ registration_in old.desk.register id
-    → ((r : Recording) → RecordingIsRead old.life new.life g r → count ≡ pos (length r.frames)) → AnswersEvent old new (events.Verify id) (Ok (replies.Verified count))
+    → ((r : Recording) → RecordingIsRead old.life new.life g r → count ≡ pos (length r.frames)) → EndsEvent old new (events.Verify id) (Ok (replies.Verified count))
 verified old new id g count quiet log desk stays decided known counts =
     let reply = replies.Verified count in
     let passed : passes (verify_tests old.desk id) checks ≡ true = (held (verify_tests old.desk id) checks tt tt decided).0 in
@@ -122,7 +125,7 @@ verified old new id g count quiet log desk stays decided known counts =
 
 -- ---- a replay goes on
 
-pub poll_refused : (old : EngineState) (number most : ℤ) (refusal : Refusal) → poll_decision old.desk number most ≡ Err refusal → AnswersEvent old old (events.ReplayPoll number most) (Err refusal)
+pub poll_refused : (old : EngineState) (number most : ℤ) (refusal : Refusal) → poll_decision old.desk number most ≡ Err refusal → EndsEvent old old (events.ReplayPoll number most) (Err refusal)
 poll_refused old number most refusal decided =
     reads_only old old (events.ReplayPoll number most) (Err refusal) (quiet_life old.life) refl refl (λ is. absurd cc) (λ fault. absurd (poll_no_fault old.desk number most refusal decided fault))
     (inl (poll_step old.desk number most (Err refusal) old.desk (subst (λ (x : Result OpenReplay Refusal). PollsBy old.desk x (Err refusal) old.desk) (sym decided) (refl, refl))))
@@ -145,7 +148,7 @@ poll_stepped d number most replay obeys image l g recorded asked from refusal de
 pub poll_unread : (old new : EngineState) (number most : ℤ) (replay : OpenReplay) (g : Registration) (l : Layout) (geometry : Geometry) (recorded : ℤ) (asked from : ℕ) (refusal : Refusal) → IsQuiet old.life new.life → new.log ≡ old.log → new.desk ≡ old.desk
     → MayLeave old.life.now (reads old.life.now) → poll_decision old.desk number most ≡ Ok replay → Some g ≡ registration_in old.desk.register replay.recording → (IsErrOf {T = Reply} (Err refusal) DeviceFault → HasFailed old.life new.life)
     → RefusesPoll new.life.obeys (reads old.life.now) l geometry recorded replay.bound asked from refusal → ((r : Recording) → RecordingIsRead old.life new.life g r → IsTrue (is_boundary replay.next r) → IsOutside refusal)
-    → AnswersEvent old new (events.ReplayPoll number most) (Err refusal)
+    → EndsEvent old new (events.ReplayPoll number most) (Err refusal)
 poll_unread old new number most replay g l geometry recorded asked from refusal quiet log desk stays decided known cause refuses outside =
     let passed = poll_passes old.desk number most replay decided in
     let opened = polled_open old.desk number most replay decided in
@@ -194,11 +197,20 @@ poll_gives d number most next replay g frames goes decided known ends moves on =
     (written, goes_there, (ap (λ (b : Bool). Ok (told.Polled written b)) done, same)) in
     poll_step d number most outcome new (subst (λ (x : Result OpenReplay Refusal). PollsBy d x outcome new) (sym decided) (inr gives))
 
+-- where a replay goes on is no position before the stream
+pub next_low : (d : DeskState) (number most : ℤ) (replay : OpenReplay) (g : Registration) (next : ℤ) → KeepsDesk d.register d.callers → poll_decision d number most ≡ Ok replay → registration_in d.register replay.recording ≡ Some g → replay.next ≤ℤ next → pos 0 ≤ℤ next
+next_low d number most replay g next keeps decided known further =
+    let there = replay_recording d number replay keeps (polled_open d number most replay decided) in
+    let same : there.0 ≡ g = one_known there.0 g (sym there.1 ∙ known) in
+    let from : g.descriptor.start_position ≤ℤ replay.next = subst (λ (r : Registration). r.descriptor.start_position ≤ℤ replay.next) same there.2 in
+    let laid = laid_found d replay.recording g keeps (sym known) in
+    omega (arith, ints, laid.laid_out.layout.start_is, from, further)
+
 pub polled_on : (old new : EngineState) (number most next : ℤ) (replay : OpenReplay) (g : Registration) (frames : List PolledFrame) (goes : Option ℤ) → IsQuiet old.life new.life → new.log ≡ old.log → new.desk ≡ after_poll number next old.desk
     → MayLeave old.life.now (reads old.life.now) → poll_decision old.desk number most ≡ Ok replay → Some g ≡ registration_in old.desk.register replay.recording → next ≡ frames_end replay.next frames
     → (0 < unsigned_abs most → MovesTo g.recorded replay.bound replay.next next) → goes ≡ (if is_done_at g replay.bound next then None else Some next)
     → ((r : Recording) → RecordingIsRead old.life new.life g r → IsTrue (is_boundary replay.next r) → IsTrue (is_boundary next r) × (frames ≡ polled replay.next replay.bound (unsigned_abs most) r))
-    → AnswersEvent old new (events.ReplayPoll number most) (Ok (replies.Polled frames goes))
+    → EndsEvent old new (events.ReplayPoll number most) (Ok (replies.Polled frames goes))
 polled_on old new number most next replay g frames goes quiet log desk stays decided known ends moves on given =
     let passed = poll_passes old.desk number most replay decided in
     let opened = polled_open old.desk number most replay decided in

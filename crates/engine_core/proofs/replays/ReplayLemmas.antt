@@ -29,7 +29,7 @@ use Rattle.control_core.specs.Turns.{poll_decision, poll_tests, open_replay_in, 
 use Rattle.control_core.proofs.ConsistentLemmas.{polled_open}
 use Rattle.control_core.proofs.FoundLemmas.{each_weaker}
 use Rattle.control_core.proofs.StayLemmas.{blocks_stay, same_recording}
-use Rattle.engine_core.specs.Calls.{AnswersEvent, EndsAs, is_fault}
+use Rattle.engine_core.specs.Calls.{EndsEvent, EndsAs, is_fault}
 use Rattle.engine_core.specs.Consistent.{IsCrashConsistent}
 use Rattle.engine_core.specs.Engine.{Content, EngineState, IsTied, archive_of}
 use Rattle.engine_core.specs.Reading.{IsOutside}
@@ -76,7 +76,7 @@ no_content = record { state = empty; blocks = λ number. []; doubt = None }
 
 -- nothing but the count of faults has changed
 pub reads_only : (old new : EngineState) (event : Event) (result : Result Reply Refusal) → IsQuiet old.life new.life → new.log ≡ old.log → new.desk ≡ old.desk → event ≢ events.Sweep → (IsErrOf result DeviceFault → HasFailed old.life new.life)
-    → Stepped old.desk (asked_of event) (told_of old.desk event result) old.desk → ((c : Content) → IsCrashConsistent old.life old.log (archive_of old c) → EndsAs old.life new.life event (archive_of old c) result (archive_of old c)) → AnswersEvent old new event result
+    → Stepped old.desk (asked_of event) (told_of old.desk event result) old.desk → ((c : Content) → IsCrashConsistent old.life old.log (archive_of old c) → EndsAs old.life new.life event (archive_of old c) result (archive_of old c)) → EndsEvent old new event result
 reads_only old new event result quiet log desk other cause step ends = record {
   goes_on = quiet_goes_on old.life new.life quiet;
   bank = same_bank old.log new.log log;
@@ -91,7 +91,7 @@ reads_only old new event result quiet log desk other cause step ends = record {
 pub reads_on : (old new : EngineState) (event : Event) (reply : Reply) (rs : List OpenReplay) (next : ℤ) → IsQuiet old.life new.life → new.log ≡ old.log → new.desk ≡ with_replays rs next old.desk → event ≢ events.Sweep
     → Stepped old.desk (asked_of event) (told_of old.desk event (Ok reply)) (with_replays rs next old.desk) → (KeepsSeats old.desk.register old.desk.callers → KeepsSeats old.desk.register (calls_with rs next old.desk.callers))
     → ((c : Content) → IsCrashConsistent old.life old.log (archive_of old c) → IsTrue new.life.obeys → Each (IsAtBoundary c.state) rs)
-    → ((c : Content) → IsCrashConsistent old.life old.log (archive_of old c) → EndsAs old.life new.life event (archive_of old c) (Ok reply) (with_desk (with_replays rs next old.desk) (archive_of old c))) → AnswersEvent old new event (Ok reply)
+    → ((c : Content) → IsCrashConsistent old.life old.log (archive_of old c) → EndsAs old.life new.life event (archive_of old c) (Ok reply) (with_desk (with_replays rs next old.desk) (archive_of old c))) → EndsEvent old new event (Ok reply)
 reads_on old new event reply rs next quiet log desk other step seats at ends = record {
   goes_on = quiet_goes_on old.life new.life quiet;
   bank = same_bank old.log new.log log;

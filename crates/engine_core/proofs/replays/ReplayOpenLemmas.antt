@@ -32,13 +32,14 @@ use Rattle.control_core.proofs.ConsistentLemmas.{opened_at_boundary}
 use Rattle.control_core.proofs.DecidedLemmas.{held}
 use Rattle.control_core.proofs.DeskLemmas.{keeps_opened}
 use Rattle.control_core.proofs.StepLemmas.{open_step}
-use Rattle.engine_core.specs.Calls.{AnswersEvent, IfRead}
+use Rattle.engine_core.specs.Calls.{EndsEvent, IfRead}
 use Rattle.engine_core.specs.Consistent.{IsCrashConsistent}
 use Rattle.engine_core.specs.Engine.{Content, EngineState, archive_of}
 use Rattle.engine_core.specs.Reading.{RecordingIsRead}
 use Rattle.engine_core.specs.Replaying.{IsDecided}
 use Rattle.engine_core.proofs.calls.KnownLemmas.{one_known, read_known}
 use Rattle.engine_core.proofs.replays.ReplayLemmas.{checked_fault, has_fault, reads_on, reads_only, unkept}
+use Rattle.engine_core.proofs.calls.ShownLemmas.{ComesBehind, among, comes_behind}
 
 -- ---- what the desk decides
 
@@ -133,6 +134,17 @@ opening_no_fault d id position size decided is fault =
     let told : Ok (opening_of d id position size) ≡ Err DeviceFault = checked_fault tests (block_checks ++ last_checks) (Ok (opening_of d id position size)) refl refused in
     absurd cc
 
+-- what is decided behind the position of frames
+pub opens_behind : (d : DeskState) (id position size boundary : ℤ) (decided : Result Opening Refusal) → open_decision d id position size ≡ opening.IfBoundary boundary decided → ComesBehind decided
+opens_behind d id position size boundary decided e =
+    let tests : Tests = open_tests d id position size true in
+    let found : Option Registration = registration_in d.register id in
+    let next : ℤ = begins_at position found in
+    let behind : Result Opening Refusal = checked tests (block_checks ++ last_checks) (Ok (opening_of d id position size)) in
+    let front = inside_front tests first_checks (opened_at found behind next) boundary decided e in
+    let same : behind ≡ decided = sym (behind_is found behind next) ∙ ap outcome_in front.1 in
+    subst ComesBehind same (among ComesBehind comes_behind tests (block_checks ++ last_checks) (Ok (opening_of d id position size)) refl (λ r other. other) tt)
+
 -- ---- what the desk machine allows
 
 abbrev pub Allowed : DeskState → OpeningDecision → Refusal → Type 0
@@ -209,27 +221,27 @@ IsDecidedOf old new id position size result = (log : LogState) (a : Archive) →
     (IsDecided (asked_opening a id (open_decision a.desk id position size)) (HasFailed old.life new.life × IsTrue (opens_by_frames (open_decision a.desk id position size))) result)
 
 pub open_refused : (old new : EngineState) (id position size : ℤ) (refusal : Refusal) → IsQuiet old.life new.life → new.log ≡ old.log → new.desk ≡ old.desk → (IsErrOf {T = Opening} (Err refusal) DeviceFault → HasFailed old.life new.life)
-    → Allowed old.desk (open_decision old.desk id position size) refusal → IsDecidedOf old new id position size (Err refusal) → AnswersEvent old new (events.ReplayOpen id position size) (Err refusal)
+    → Allowed old.desk (open_decision old.desk id position size) refusal → IsDecidedOf old new id position size (Err refusal) → EndsEvent old new (events.ReplayOpen id position size) (Err refusal)
 open_refused old new id position size refusal quiet log desk cause allowed decided =
     reads_only old new (events.ReplayOpen id position size) (Err refusal) quiet log desk (λ is. absurd cc) (λ fault. cause (let same : refusal ≡ DeviceFault = cc in ap Err same))
     (inl (open_step old.desk id position size (Err refusal) old.desk allowed))
     (λ c was. ((λ reading. opening_refused (archive_of old c) id position size (HasFailed old.life new.life) refusal (decided old.log (archive_of old c) refl was reading)), refl))
 
 -- memory was refused
-pub open_unkept : (old new : EngineState) (id position size : ℤ) → IsQuiet old.life new.life → new.log ≡ old.log → new.desk ≡ old.desk → AnswersEvent old new (events.ReplayOpen id position size) (Err NoMemory)
+pub open_unkept : (old new : EngineState) (id position size : ℤ) → IsQuiet old.life new.life → new.log ≡ old.log → new.desk ≡ old.desk → EndsEvent old new (events.ReplayOpen id position size) (Err NoMemory)
 open_unkept old new id position size quiet log desk =
     reads_only old new (events.ReplayOpen id position size) (Err NoMemory) quiet log desk (λ is. absurd cc) (λ fault. absurd cc) (inr refl)
     (λ c was. ((λ reading. unkept (archive_of old c) (events.ReplayOpen id position size) (HasFailed old.life new.life) NoMemory refl), refl))
 
 pub open_done : (old new : EngineState) (id position size number : ℤ) (o : Opening) → number ≡ old.desk.callers.next_replay → IsQuiet old.life new.life → new.log ≡ old.log → new.desk ≡ after_open o.recording o.next o.bound old.desk → opening_in (open_decision old.desk id position size) ≡ Some o
-    → IsDecidedOf old new id position size (Ok o) → AnswersEvent old new (events.ReplayOpen id position size) (Ok (replies.ReplayOpened number))
+    → IsDecidedOf old new id position size (Ok o) → EndsEvent old new (events.ReplayOpen id position size) (Ok (replies.ReplayOpened number))
 open_done old new id position size number o numbered quiet log desk leads decided =
     let next : ℤ = old.desk.callers.next_replay in
     let replay : OpenReplay = record { number = next; recording = o.recording; next = o.next; bound = o.bound } in
     let may = opening_allowed old.desk id position size o leads in
     let opens = λ (c : Content) (was : IsCrashConsistent old.life old.log (archive_of old c)) (reading : IsTrue (opens_by_frames (open_decision old.desk id position size)) → IsTrue new.life.obeys).
     is_opened (asked_opening (archive_of old c) id (open_decision old.desk id position size)) (HasFailed old.life new.life × IsTrue (opens_by_frames (open_decision old.desk id position size))) o (decided old.log (archive_of old c) refl was reading) in
-    subst (λ (n : ℤ). AnswersEvent old new (events.ReplayOpen id position size) (Ok (replies.ReplayOpened n))) (sym numbered)
+    subst (λ (n : ℤ). EndsEvent old new (events.ReplayOpen id position size) (Ok (replies.ReplayOpened n))) (sym numbered)
     (reads_on old new (events.ReplayOpen id position size) (replies.ReplayOpened next) (old.desk.callers.replays ++ replay ∷ []) (next +ℤ pos 1) quiet log desk (λ is. absurd cc)
     (open_step old.desk id position size (Ok (told.Reply (replies.ReplayOpened next))) (after_open o.recording o.next o.bound old.desk) (opens_by old.desk (open_decision old.desk id position size) o leads))
     (λ seats. keeps_opened old.desk.register old.desk.callers replay refl may.few may.there seats)

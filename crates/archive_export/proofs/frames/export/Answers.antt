@@ -1,7 +1,7 @@
-use Rattle.std.proofs.Common.{rules, ◌≡◌, ◌≤ℤ◌, ◌<ℤ◌, true, to_z, of_z, w64}
+use Rattle.std.proofs.Common.{rules, ◌≡◌, ◌≤ℤ◌, ◌<ℤ◌, true, false, to_z, of_z, w64}
 use Rattle.std.specs.Prelude.{Err, Ok}
 use Rattle.archive_export.specs.declared.frames.ExportFault.TheVariants.{Refused}
-use Rattle.archive_export.proofs.EndLemmas.{at_end, at_once, begun, fails_midway, past_end, there_at}
+use Rattle.archive_export.proofs.EndLemmas.{at_end, at_once, begun, fails_midway, nowhere, past_end, there_at}
 use Rattle.archive_export.proofs.frames.export.Goals as goal
 
 pub returns-in_err-target-clause-refused : goal.returns-in_err-target-clause-refused
@@ -50,3 +50,11 @@ returns-clause-exported g c =
     let there = there_at life old mid c.args.recording.now c.args.span.now known.0 t known.1 known.2 start.look in
     let within : c.in_ok-end.end ≤ℤ t.last = search rules in
     at_end life old mid c.export_frames.new.view c.args.recording.now c.args.span.now known.0 t known.1 known.2 start c.in_ok-end.end _ _ _ (rw c.file_header.ensures at c.in_ok-write.ensures.ok) (c.in_ok-end.ensures.written known.0 there) c.in_ok-end.ensures.past within
+
+pub returns-then-not-branch-clause-refused : goal.returns-then-not-branch-clause-refused
+returns-then-not-branch-clause-refused g c =
+    let t = c.in_ok-target.target in
+    let known = c.in_ok-target.ensures in
+    let first : to_z w64 (of_z w64 t.first) ≡ t.first = search rules in
+    let told : c.is_boundary.result ≡ Ok false = search rules in
+    nowhere g.D.Disk.life c.args.view.now c.is_boundary.new.self c.args.recording.now t.first c.args.span.now known.0 known.1 known.2.first (rw told at rw first at c.is_boundary.ensures)

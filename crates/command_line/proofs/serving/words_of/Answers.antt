@@ -1,5 +1,5 @@
 -- The entries of `serve` are the words that are answered, and no words if they lack one.
-use Rattle.std.proofs.Common.{◌∙◌, sym, codes}
+use Rattle.std.proofs.Common.{◌∙◌, refl, sym, codes}
 use Rattle.std.specs.Str.Parse.{ParsesUnsigned, ExplainsUnsignedError, HasUnsignedDigitsIfOk}
 use Rattle.clap.specs.Words.{found_of}
 use Rattle.command_line.proofs.CommandLineLemmas.{flag_given, number_given, number_if, number_lacks, text_given}
@@ -62,4 +62,6 @@ returns c = record {
   segment_is = number_if (λ text x. ParsesUnsigned 32 10 text x × ExplainsUnsignedError 10 text x × HasUnsignedDigitsIfOk text x) (λ text x read. read.0)
       (found_of c.args.own.now) (codes "segment-length") _ c.get_one-segment_length.ensures.none c.get_one-segment_length.ensures.value;
   quiet_is = flag_given (found_of c.args.own.now) (codes "quiet") _ c.get_flag-is_quiet.ensures.none c.get_flag-is_quiet.ensures.value c.get_flag-is_quiet.ensures.other;
+  strict_is = flag_given (found_of c.args.own.now) (codes "strict") _ c.get_flag-is_strict.ensures.none c.get_flag-is_strict.ensures.value c.get_flag-is_strict.ensures.other;
+  metrics_is = text_given (found_of c.args.own.now) (codes "metrics") _ _ c.get_str-metrics.ensures refl;
 }

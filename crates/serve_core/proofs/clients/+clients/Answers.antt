@@ -3,7 +3,7 @@ use Rattle.std.proofs.Common.{◌≡◌, ◌∙◌, ◌++◌, ◌∷◌, [], Lis
 use Rattle.std.specs.Prelude.{vec_len}
 use Rattle.call_history.specs.Values.{PassView}
 use Rattle.archive_lock.specs.declared.history.Made.{Made}
-use Rattle.serve_core.specs.Seats.{AreBack, IsBack}
+use Rattle.serve_core.specs.Clients.{AreBack, IsBack}
 use Rattle.serve_core.proofs.ClientLemmas.{all_before, back_length, back_more, back_moved, err_part, ok_part}
 use Rattle.serve_core.proofs.clients.+clients.Goals.{serve_beside-scope-in-Ok, serve_beside-scope-in-Err}
 use Rattle.serve_core.proofs.clients.+clients.Goals as goal

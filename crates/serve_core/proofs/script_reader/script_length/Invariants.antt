@@ -1,5 +1,5 @@
 use Rattle.std.proofs.Common.{◌≡◌, ◌+◌, drop}
-use Rattle.serve_core.specs.Listing.{script_length}
+use Rattle.serve_core.specs.ImagesLine.{script_length}
 use Rattle.serve_core.proofs.script_reader.script_length.Given as goal
 
 abbrev pub invariant-loop-at : goal.invariant-loop-at

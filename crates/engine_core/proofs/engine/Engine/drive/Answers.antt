@@ -26,7 +26,7 @@ loop-event-preserved g c =
     let events = c.args.events.now in
     let i = c.loop-event.event-index in (
       subst (λ outcomes. IsRun old (take (i + 1) events) outcomes new) (sym pushed.items)
-          (run_next old mid new events i c.event-item.result c.loop-event.outcomes.items c.step-outcome.result c.loop-event-test.true c.event-item.is c.loop-event.invariant.0 c.step-outcome.ensures),
+          (run_next old mid new events i c.event-item.result c.loop-event.outcomes.items c.step-outcome.result c.loop-event-test.true c.event-item.is c.loop-event.invariant.0 c.step-outcome.ensures.answered),
       omega (arith, pushed.len, c.loop-event.invariant.1),
       omega (arith, pushed.capacity, c.loop-event.invariant.2),
     )

@@ -5,6 +5,7 @@ use Rattle.control_core.specs.Desk.{DeskState}
 use Rattle.engine_core.specs.Engine.{IsTied}
 use Rattle.engine_core.specs.Making.{after_failure}
 use Rattle.engine_core.proofs.calls.MakeLemmas.{IsEntryFor, commits_done, commits_refused, has_room, made_tied, held_for, unmade}
+use Rattle.engine_core.proofs.calls.TouchLemmas.{quiet_these, still_quiet}
 use Rattle.engine_core.proofs.engine.Engine.make.Goals as goal
 
 pub returns-in_err-entry-clause-made : goal.returns-in_err-entry-clause-made
@@ -65,3 +66,9 @@ returns-in-Err-clause-made g c =
 
 pub returns-in-Err-clause-quiet : goal.returns-in-Err-clause-quiet
 returns-in-Err-clause-quiet g c = λ other. c.in-Err.ensures.quiet (λ is. other (c.failed.ensures.same ∙ is))
+
+pub returns-in_err-entry-clause-touches : goal.returns-in_err-entry-clause-touches
+returns-in_err-entry-clause-touches g c = quiet_these _ 4 _ _ (still_quiet _)
+
+pub returns-in_err-reserve-clause-touches : goal.returns-in_err-reserve-clause-touches
+returns-in_err-reserve-clause-touches g c = quiet_these _ 4 _ _ (still_quiet _)

@@ -2,20 +2,27 @@ use Rattle.std.proofs.Common.{rules, ◌≡◌, ◌∙◌, sym, subst, ap, Ok, E
 use Rattle.control_core.specs.declared.event.Event.TheVariants as events
 use Rattle.control_core.specs.declared.turns.Settling.TheVariants as settling
 use Rattle.control_core.specs.Turns.{settle_decision}
-use Rattle.engine_core.specs.Calls.{AnswersEvent}
+use Rattle.engine_core.specs.Calls.{EndsEvent}
 use Rattle.engine_core.specs.Seen.{seen}
 use Rattle.engine_core.proofs.calls.SettleCallLemmas.{settle_blocks, settle_nothing, settle_refuses, settled_known}
+use Rattle.std.proofs.Common.{refl}
+use Rattle.frame_core.specs.declared.refusal.Refusal.TheVariants.{NoMemory}
+use Rattle.control_core.specs.Exact.{has_blocks}
+use Rattle.control_core.specs.Turns.{session_in, settle_tests, settling_of}
+use Rattle.engine_core.proofs.calls.SettleCallLemmas.{blocks_touch}
+use Rattle.engine_core.proofs.calls.SweepCallLemmas.{one_refusal}
+use Rattle.engine_core.proofs.calls.TouchLemmas.{checked_memory, nothing_settled}
 use Rattle.engine_core.proofs.engine.Engine.settle.Goals as goal
 
-pub returns-in_err-decided : goal.returns-in_err-decided
-returns-in_err-decided g c =
+pub returns-in_err-decided-clause-ends : goal.returns-in_err-decided-clause-ends
+returns-in_err-decided-clause-ends g c =
     let e = seen g.D.Disk.life c.args.self.now in
     let n = c.args.session.now in
     let is : c.from_residual.result ≡ Err c.in_err-decided.field-0.0 = search rules in
-    subst (λ o. AnswersEvent e e (events.Settle n) o) (sym is) (settle_refuses e n c.in_err-decided.field-0.0 c.in_err-decided.ensures.decided)
+    subst (λ o. EndsEvent e e (events.Settle n) o) (sym is) (settle_refuses e n c.in_err-decided.field-0.0 c.in_err-decided.ensures.decided)
 
-pub returns-in-Nothing : goal.returns-in-Nothing
-returns-in-Nothing g c =
+pub returns-in-Nothing-clause-ends : goal.returns-in-Nothing-clause-ends
+returns-in-Nothing-clause-ends g c =
     let e = seen g.D.Disk.life c.args.self.now in
     let position = to_z w64 (of_z w64 c.in-Nothing.position) in
     let same : c.in-Nothing.position ≡ position = search rules in
@@ -39,8 +46,8 @@ settle_blocks-requires-clause-laid g c =
     let known = c.in_ok-decided.decided.writer.known.now in
     (known, settled_known d n id w c.in_ok-decided.decided.writer decided c.in_ok-decided.ensures.found, c.layout_of-layout.ensures)
 
-pub returns-in-Blocks : goal.returns-in-Blocks
-returns-in-Blocks g c =
+pub returns-in-Blocks-clause-ends : goal.returns-in-Blocks-clause-ends
+returns-in-Blocks-clause-ends g c =
     let old = seen g.D.Disk.life c.args.self.now in
     let new = seen g.D.Disk.life c.settle_blocks.new.self in
     let n = c.args.session.now in
@@ -48,4 +55,35 @@ returns-in-Blocks g c =
     let id = to_z w64 (of_z w64 c.in-Blocks.recording) in
     let same : c.in-Blocks.recording ≡ id = search rules in
     let decided : settle_decision old.desk n ≡ Ok (settling.Blocks id w) = c.in_ok-decided.ensures.decided ∙ ap Ok c.in-Blocks.is ∙ ap (λ z. Ok (settling.Blocks z w)) same in
-    settle_blocks old new n id w c.settle_blocks.result decided c.settle_blocks.ensures
+    settle_blocks old new n id w c.settle_blocks.result decided c.settle_blocks.ensures.settles
+
+pub returns-in_err-decided-clause-touches : goal.returns-in_err-decided-clause-touches
+returns-in_err-decided-clause-touches g c = nothing_settled (seen g.D.Disk.life c.args.self.now) c.args.session.now
+
+pub returns-in-Nothing-clause-touches : goal.returns-in-Nothing-clause-touches
+returns-in-Nothing-clause-touches g c = nothing_settled (seen g.D.Disk.life c.args.self.now) c.args.session.now
+
+pub returns-in-Blocks-clause-touches : goal.returns-in-Blocks-clause-touches
+returns-in-Blocks-clause-touches g c =
+    let old = seen g.D.Disk.life c.args.self.now in
+    let n = c.args.session.now in
+    let w = c.in-Blocks.written in
+    let id = to_z w64 (of_z w64 c.in-Blocks.recording) in
+    let same : c.in-Blocks.recording ≡ id = search rules in
+    let decided : settle_decision old.desk n ≡ Ok (settling.Blocks id w) = c.in_ok-decided.ensures.decided ∙ ap Ok c.in-Blocks.is ∙ ap (λ z. Ok (settling.Blocks z w)) same in
+    let known = c.in_ok-decided.decided.writer.known.now in
+    blocks_touch old n id w known c.layout_of-layout.result (g.D.Disk.life c.settle_blocks.new.self.storage.disk) decided (settled_known old.desk n id w c.in_ok-decided.decided.writer decided c.in_ok-decided.ensures.found) c.layout_of-layout.ensures c.settle_blocks.ensures.touches
+
+pub returns-in_err-decided-clause-memory : goal.returns-in_err-decided-clause-memory
+returns-in_err-decided-clause-memory g c memory =
+    let e = seen g.D.Disk.life c.args.self.now in
+    let is : c.from_residual.result ≡ Err c.in_err-decided.field-0.0 = search rules in
+    absurd (checked_memory (settle_tests e.desk c.args.session.now) (settling_of e.desk (session_in e.desk c.args.session.now)) (Err NoMemory) (let same : c.in_err-decided.field-0.0 ≡ NoMemory = one_refusal c.from_residual.result _ _ is memory in ap Err (sym same) ∙ sym c.in_err-decided.ensures.decided) refl)
+
+pub returns-in-Blocks-clause-memory : goal.returns-in-Blocks-clause-memory
+returns-in-Blocks-clause-memory g c memory =
+    let d = c.args.self.now.desk.state in
+    let n = c.args.session.now in
+    let w = c.in-Blocks.written in
+    let decided : settle_decision d n ≡ Ok (settling.Blocks c.in-Blocks.recording w) = c.in_ok-decided.ensures.decided ∙ ap Ok c.in-Blocks.is in
+    ap has_blocks decided

@@ -7,6 +7,10 @@ use Rattle.engine_core.specs.Engine.{EngineState, IsTied}
 use Rattle.engine_core.specs.Seen.{seen}
 use Rattle.engine_core.proofs.calls.CommitCallLemmas.{tied_refused}
 use Rattle.engine_core.proofs.calls.SettleCallLemmas.{SettlesTo, asked, settled_layout, settled_start, settled_tied, settles, settling_done, settling_failed, settling_room, settling_works}
+use Rattle.std.specs.Prelude.{unsigned_abs}
+use Rattle.segment_store.specs.Layout.{file_of}
+use Rattle.catalogue_log.specs.Banks.{bank_file}
+use Rattle.engine_core.specs.Moves.{SettlesAt}
 use Rattle.engine_core.proofs.engine.Engine.settle_blocks.Goals as goal
 
 pub settle-requires-clause-layout : goal.settle-requires-clause-layout
@@ -49,8 +53,8 @@ invariant_of-self g c =
     let asks = asked desk n id w layout first last number c.requires.laid.0 c.requires.decided c.requires.laid.1 c.requires.laid.2 same_first same_last same_id in
     record { tied = settled_tied log desk n id w layout first (entries.Settle number last) c.args.self.now.tied asks c.settle.new.self.log c.settle-in-Ok.new.self.state c.in-Ok.ensures.adds.bank.header c.in-Ok.ensures.adds.works c.in-Ok.ensures.adds.counted c.settle-in-Ok.ensures }
 
-pub returns-in-Ok : goal.returns-in-Ok
-returns-in-Ok g c =
+pub returns-in-Ok-clause-settles : goal.returns-in-Ok-clause-settles
+returns-in-Ok-clause-settles g c =
     let life = g.D.Disk.life in
     let old = seen life c.args.self.now in
     let new : EngineState = record { life = life c.settle.new.self.disk; log = c.settle.new.self.log; desk = c.settle-in-Ok.new.self.state } in
@@ -73,8 +77,8 @@ pub invariant_of-self-in-Err : goal.invariant_of-self-in-Err
 invariant_of-self-in-Err g c =
     record { tied = subst (IsTied c.settle.new.self.log) (sym c.failed.ensures.state) (tied_refused c.args.self.now.storage.log c.settle.new.self.log c.args.self.now.desk.state c.in-Err.refusal c.args.self.now.tied c.in-Err.ensures.adds.kept) }
 
-pub returns : goal.returns
-returns g c =
+pub returns-clause-settles : goal.returns-clause-settles
+returns-clause-settles g c =
     let life = g.D.Disk.life in
     let old = seen life c.args.self.now in
     let new : EngineState = record { life = life c.settle.new.self.disk; log = c.settle.new.self.log; desk = c.failed.new.desk.state } in
@@ -90,3 +94,13 @@ returns g c =
     let same_id : id ≡ number = search rules in
     let asks = asked old.desk n id w layout first last number c.requires.laid.0 c.requires.decided c.requires.laid.1 c.requires.laid.2 same_first same_last same_id in
     settling_failed old new n id w layout first (entries.Settle number last) c.args.self.now.tied asks c.in-Err.ensures.keeps c.in-Err.refusal c.failed.result c.failed.ensures.same c.in-Err.ensures.adds c.in-Err.ensures.quiet c.failed.ensures.state c.in-Err.ensures.moves
+
+pub returns-in-Ok-clause-touches : goal.returns-in-Ok-clause-touches
+returns-in-Ok-clause-touches g c =
+    let first : to_z w64 (of_z w64 c.args.written.now.first) ≡ c.args.written.now.first = search rules in
+    subst (λ z. SettlesAt (g.D.Disk.life c.args.self.now.storage.disk) (g.D.Disk.life c.settle.new.self.disk) (file_of c.args.layout.now (unsigned_abs z)) (bank_file c.args.self.now.storage.log.bank)) first c.in-Ok.ensures.touches
+
+pub returns-clause-touches : goal.returns-clause-touches
+returns-clause-touches g c =
+    let first : to_z w64 (of_z w64 c.args.written.now.first) ≡ c.args.written.now.first = search rules in
+    subst (λ z. SettlesAt (g.D.Disk.life c.args.self.now.storage.disk) (g.D.Disk.life c.settle.new.self.disk) (file_of c.args.layout.now (unsigned_abs z)) (bank_file c.args.self.now.storage.log.bank)) first c.in-Err.ensures.touches

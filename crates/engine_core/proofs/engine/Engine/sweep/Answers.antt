@@ -1,23 +1,26 @@
 use Rattle.std.proofs.Common.{rules, ◌≡◌, refl, Err}
 use Rattle.engine_core.specs.Moves.{registered_keeps}
 use Rattle.engine_core.proofs.calls.SweepCallLemmas.{sweep_refused, swept_answers, unkept_answers, unswept_answers}
+use Rattle.std.proofs.Common.{inl}
+use Rattle.engine_core.specs.Seen.{seen}
+use Rattle.engine_core.proofs.calls.TouchLemmas.{still_quiet, swept_touches}
 use Rattle.engine_core.proofs.engine.Engine.sweep.Goals as goal
 
-pub returns-in_err-decide_sweep : goal.returns-in_err-decide_sweep
-returns-in_err-decide_sweep g c =
+pub returns-in_err-decide_sweep-clause-ends : goal.returns-in_err-decide_sweep-clause-ends
+returns-in_err-decide_sweep-clause-ends g c =
     let is : c.from_residual.result ≡ Err c.in_err-decide_sweep.field-0.0 = search rules in
     sweep_refused _ c.from_residual.result c.in_err-decide_sweep.field-0.0 is c.in_err-decide_sweep.ensures
 
-pub returns-in_err-keeps : goal.returns-in_err-keeps
-returns-in_err-keeps g c =
+pub returns-in_err-keeps-clause-ends : goal.returns-in_err-keeps-clause-ends
+returns-in_err-keeps-clause-ends g c =
     let is : c.from_residual-in_err-keeps.result ≡ Err c.in_err-keeps.field-0.0 = search rules in
     unkept_answers _ c.from_residual-in_err-keeps.result c.in_err-keeps.field-0.0 is c.in_err-keeps.ensures.err
 
 pub sweep-requires : goal.sweep-requires
 sweep-requires g c = record { keeps = search rules }
 
-pub returns-in_err-removed : goal.returns-in_err-removed
-returns-in_err-removed g c =
+pub returns-in_err-removed-clause-ends : goal.returns-in_err-removed-clause-ends
+returns-in_err-removed-clause-ends g c =
     let registered : c.as_slice.result.now ≡ registered_keeps c.args.self.now.desk.state.register = search rules in
     let refusal = c.in_err-removed.field-0.0 in
     let outcome = c.from_residual-in_err-removed.result in
@@ -32,8 +35,8 @@ returns-in_err-removed g c =
       log = c.sweep.ensures.log;
     }) c.in_err-removed.ensures.refused
 
-pub returns : goal.returns
-returns g c =
+pub returns-clause-ends : goal.returns-clause-ends
+returns-clause-ends g c =
     let registered : c.as_slice.result.now ≡ registered_keeps c.args.self.now.desk.state.register = search rules in
     swept_answers _ _ c.as_slice.result.now c.in_ok-removed.removed (record {
       asked = registered;
@@ -44,3 +47,19 @@ returns g c =
       desk = refl;
       log = c.sweep.ensures.log;
     }) c.in_ok-removed.ensures.swept
+
+pub returns-in_err-decide_sweep-clause-touches : goal.returns-in_err-decide_sweep-clause-touches
+returns-in_err-decide_sweep-clause-touches g c = inl (still_quiet _)
+
+pub returns-in_err-keeps-clause-touches : goal.returns-in_err-keeps-clause-touches
+returns-in_err-keeps-clause-touches g c = inl (still_quiet _)
+
+pub returns-in_err-removed-clause-touches : goal.returns-in_err-removed-clause-touches
+returns-in_err-removed-clause-touches g c =
+    let registered : c.as_slice.result.now ≡ registered_keeps c.args.self.now.desk.state.register = search rules in
+    swept_touches (seen g.D.Disk.life c.args.self.now) (g.D.Disk.life c.sweep.new.self.disk) c.as_slice.result.now registered c.sweep.ensures.bounded c.sweep.ensures.calls
+
+pub returns-clause-touches : goal.returns-clause-touches
+returns-clause-touches g c =
+    let registered : c.as_slice.result.now ≡ registered_keeps c.args.self.now.desk.state.register = search rules in
+    swept_touches (seen g.D.Disk.life c.args.self.now) (g.D.Disk.life c.sweep.new.self.disk) c.as_slice.result.now registered c.sweep.ensures.bounded c.sweep.ensures.calls

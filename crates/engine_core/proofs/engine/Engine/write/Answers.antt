@@ -6,28 +6,34 @@ use Rattle.control_core.specs.declared.event.Event.TheVariants as events
 use Rattle.control_core.specs.Changes.{after_write, with_block}
 use Rattle.control_core.specs.Orderly.{LiesBehind}
 use Rattle.control_core.specs.Turns.{session_in, write_decision}
-use Rattle.engine_core.specs.Calls.{AnswersEvent}
+use Rattle.engine_core.specs.Calls.{EndsEvent}
 use Rattle.engine_core.specs.Engine.{EngineState}
 use Rattle.engine_core.specs.Making.{after_failure}
 use Rattle.engine_core.specs.Seen.{seen}
 use Rattle.engine_core.proofs.calls.WriteCallLemmas.{write_done, write_fails, write_refuses, write_untargeted}
 use Rattle.engine_core.proofs.calls.WritingLemmas.{from_start, lies_behind, span_same, span_to, target_is, target_layout, untargeted}
+use Rattle.std.proofs.Common.{false}
+use Rattle.frame_core.specs.declared.refusal.Refusal.TheVariants.{DeviceFault, NoMemory}
+use Rattle.archive_model.specs.declared.reply.Reply.TheVariants.{Written as WrittenReply}
+use Rattle.control_core.specs.Turns.{write_tests}
+use Rattle.engine_core.proofs.calls.SweepCallLemmas.{one_refusal}
+use Rattle.engine_core.proofs.calls.TouchLemmas.{block_written, checked_memory, nothing_written}
 use Rattle.engine_core.proofs.engine.Engine.write.Goals as goal
 
-pub returns-in_default : goal.returns-in_default
-returns-in_default g c =
+pub returns-in_default-clause-ends : goal.returns-in_default-clause-ends
+returns-in_default-clause-ends g c =
     let e = seen g.D.Disk.life c.args.self.now in
     let at = to_z w64 (of_z w64 c.args.block.now.position) in
     let nothing : Written = record { first = at; last = at } in
     let none = untargeted e.desk c.args.session.now c.args.block.now _ c.session-writer.ensures.found c.in_default.ensures in
     write_untargeted e c.args.session.now c.args.block.now nothing c.decide_write.result none (search rules)
 
-pub returns-in_err-reply : goal.returns-in_err-reply
-returns-in_err-reply g c =
+pub returns-in_err-reply-clause-ends : goal.returns-in_err-reply-clause-ends
+returns-in_err-reply-clause-ends g c =
     let e = seen g.D.Disk.life c.args.self.now in
     let is : c.from_residual.result ≡ Err c.in_err-reply.field-0.0 = search rules in
     let decided : Err c.in_err-reply.field-0.0 ≡ write_decision e.desk c.args.session.now (span_to c.args.block.now c.in-Some.target.end) true = search rules in
-    subst (λ o. AnswersEvent e e (events.Write c.args.session.now c.args.block.now) o) (sym is)
+    subst (λ o. EndsEvent e e (events.Write c.args.session.now c.args.block.now) o) (sym is)
     (write_refuses e c.args.session.now c.args.block.now c.layout_of-layout.result c.in-Some.target.end (target_is _ _ _ _ _ _ _ c.session-writer.ensures.found c.session-writer.ensures.keeps c.in-Some.ensures c.layout_of-layout.ensures) c.in_err-reply.field-0.0 decided)
 
 pub write-requires-clause-layout : goal.write-requires-clause-layout
@@ -47,8 +53,8 @@ note_written-requires-clause-behind g c =
     subst (λ (w : Written). IsSomeAnd (session_in d c.args.session.now) (λ s. IsSomeAnd (registration_in d.register s.recording) (LiesBehind (with_block w s.written)))) (sym (c.span_of-span.ensures ∙ span_same c.args.block.now c.in-Some.target.end c.args.block.now.position to refl same_to))
     (lies_behind d c.args.session.now c.args.block.now c.layout_of-layout.result c.in-Some.target.end (target_is _ _ _ _ _ _ _ c.session-writer.ensures.found c.session-writer.ensures.keeps c.in-Some.ensures c.layout_of-layout.ensures) c.in_ok-reply.reply decided)
 
-pub returns-in-Ok : goal.returns-in-Ok
-returns-in-Ok g c =
+pub returns-in-Ok-clause-ends : goal.returns-in-Ok-clause-ends
+returns-in-Ok-clause-ends g c =
     let life = g.D.Disk.life in
     let old = seen life c.args.self.now in
     let new : EngineState = record { life = life c.write.new.self.disk; log = c.write.new.self.log; desk = c.note_written.new.self.state } in
@@ -59,8 +65,8 @@ returns-in-Ok g c =
     write_done old c.args.session.now c.args.block.now c.layout_of-layout.result c.in-Some.target.end (target_is _ _ _ _ _ _ _ c.session-writer.ensures.found c.session-writer.ensures.keeps c.in-Some.ensures c.layout_of-layout.ensures) new c.in_ok-reply.reply decided (Ok tt) c.in-Ok.ensures.changes c.in-Ok.ensures.moves c.in-Ok.ensures.stays c.in-Ok.ensures.log refl noted
     c.in-Ok.ensures.written
 
-pub returns-in-Err : goal.returns-in-Err
-returns-in-Err g c =
+pub returns-in-Err-clause-ends : goal.returns-in-Err-clause-ends
+returns-in-Err-clause-ends g c =
     let life = g.D.Disk.life in
     let old = seen life c.args.self.now in
     let new : EngineState = record { life = life c.write.new.self.disk; log = c.write.new.self.log; desk = c.failed.new.desk.state } in
@@ -68,3 +74,39 @@ returns-in-Err g c =
     let fault = c.in-Err.ensures.refusal in
     write_fails old c.args.session.now c.args.block.now c.layout_of-layout.result c.in-Some.target.end (target_is _ _ _ _ _ _ _ c.session-writer.ensures.found c.session-writer.ensures.keeps c.in-Some.ensures c.layout_of-layout.ensures) new c.in_ok-reply.reply decided (Err c.in-Err.refusal) c.in-Err.ensures.changes c.in-Err.ensures.moves c.in-Err.ensures.stays c.in-Err.ensures.log
     c.failed.result (c.failed.ensures.same ∙ fault) c.in-Err.ensures.cause (c.failed.ensures.state ∙ ap (λ refusal. after_failure refusal old.desk) fault)
+
+pub returns-in_default-clause-touches : goal.returns-in_default-clause-touches
+returns-in_default-clause-touches g c = nothing_written c.args.self.now.desk.state c.args.session.now c.args.block.now _
+
+pub returns-in_err-reply-clause-touches : goal.returns-in_err-reply-clause-touches
+returns-in_err-reply-clause-touches g c = nothing_written c.args.self.now.desk.state c.args.session.now c.args.block.now _
+
+pub returns-in-Ok-clause-touches : goal.returns-in-Ok-clause-touches
+returns-in-Ok-clause-touches g c =
+    block_written c.args.self.now.desk.state c.args.session.now c.args.block.now c.layout_of-layout.result c.in-Some.target.end (target_is _ _ _ _ _ _ _ c.session-writer.ensures.found c.session-writer.ensures.keeps c.in-Some.ensures c.layout_of-layout.ensures) _ _
+    c.in-Ok.ensures.changes c.in-Ok.ensures.calls c.in-Ok.ensures.below
+
+pub returns-in-Err-clause-touches : goal.returns-in-Err-clause-touches
+returns-in-Err-clause-touches g c =
+    block_written c.args.self.now.desk.state c.args.session.now c.args.block.now c.layout_of-layout.result c.in-Some.target.end (target_is _ _ _ _ _ _ _ c.session-writer.ensures.found c.session-writer.ensures.keeps c.in-Some.ensures c.layout_of-layout.ensures) _ _
+    c.in-Err.ensures.changes c.in-Err.ensures.calls c.in-Err.ensures.below
+
+pub returns-in_default-clause-memory : goal.returns-in_default-clause-memory
+returns-in_default-clause-memory g c memory =
+    let d = c.args.self.now.desk.state in
+    let at = to_z w64 (of_z w64 c.args.block.now.position) in
+    let nothing : Written = record { first = at; last = at } in
+    let is : c.decide_write.result ≡ write_decision d c.args.session.now nothing false = search rules in
+    absurd (checked_memory (write_tests d c.args.session.now nothing false) (WrittenReply nothing.last) c.decide_write.result is memory)
+
+pub returns-in_err-reply-clause-memory : goal.returns-in_err-reply-clause-memory
+returns-in_err-reply-clause-memory g c memory =
+    let d = c.args.self.now.desk.state in
+    let is : c.from_residual.result ≡ Err c.in_err-reply.field-0.0 = search rules in
+    let decided : Err c.in_err-reply.field-0.0 ≡ write_decision d c.args.session.now (span_to c.args.block.now c.in-Some.target.end) true = search rules in
+    absurd (checked_memory (write_tests d c.args.session.now (span_to c.args.block.now c.in-Some.target.end) true) (WrittenReply c.in-Some.target.end) c.from_residual.result (is ∙ decided) memory)
+
+pub returns-in-Err-clause-memory : goal.returns-in-Err-clause-memory
+returns-in-Err-clause-memory g c memory =
+    let same : c.failed.result ≡ DeviceFault = c.failed.ensures.same ∙ c.in-Err.ensures.refusal in
+    absurd (let clash : DeviceFault ≡ NoMemory = sym same ∙ one_refusal (Err c.failed.result) _ _ refl memory in cc)

@@ -1,0 +1,144 @@
+//! What a server reports while it runs: lines on standard error, and the metrics file. docs/SERVING.md, "What the server prints"
+//! and "Metrics".
+
+use crate::reason::{FaultLine, MetricsFault};
+use crate::teller::is_same;
+use host_disk::{HostDisk, LastFault};
+use metrics_text::{Measures, print_metrics};
+use serve_core::{Happening, LineTeller, Teller};
+use std::alloc::Global;
+use std::fs;
+use std::io::{self, Eprint, ErrorKind};
+use std::sync::atomic::{AtomicI32, Ordering};
+use tool_core::Viewer;
+
+/// Causes of faults of a metrics file that are told at most.
+const TOLD_CAUSES: usize = 8;
+/// No cause.
+const NO_CAUSE: i32 = i32::MIN;
+
+/// Tells what happens, a line for each, and writes the metrics file, if there is one.
+#[derive(Drop)]
+pub(crate) struct ServeTeller<'a, R> {
+    lines: LineTeller<'a, R>,
+    errors: &'a R,
+    metrics: Option<MetricsFile<'a>>,
+}
+
+impl<'a, R: Eprint> ServeTeller<'a, R> {
+    /// Standard error is told; faults and the end alone if it is quiet.
+    pub(crate) fn new(
+        errors: &'a R,
+        is_quiet: bool,
+        metrics: Option<MetricsFile<'a>>,
+    ) -> ServeTeller<'a, R> {
+        ServeTeller {
+            lines: LineTeller::new(errors, is_quiet),
+            errors,
+            metrics,
+        }
+    }
+}
+
+impl<R: Eprint> Teller for ServeTeller<'_, R> {
+    fn tell(&self, happening: &Happening<'_>) {
+        self.lines.tell(happening);
+    }
+
+    fn measured(&self, measures: &Measures) {
+        let Some(metrics) = &self.metrics else {
+            return;
+        };
+        if let Err(error) = metrics.write(measures) {
+            if metrics.is_new(error) {
+                let _ = self.errors.eprintln(MetricsFault(error));
+            }
+        }
+    }
+}
+
+/// A file that metrics are written to.
+#[derive(Drop)]
+pub(crate) struct MetricsFile<'a> {
+    rt: HostRuntime,
+    name: &'a str,
+    /// The numbers of the causes of its faults that were told.
+    told: [AtomicI32; TOLD_CAUSES],
+}
+
+impl<'a> MetricsFile<'a> {
+    pub(crate) fn new(rt: HostRuntime, name: &'a str) -> MetricsFile<'a> {
+        MetricsFile {
+            rt,
+            name,
+            told: [
+                AtomicI32::new(NO_CAUSE),
+                AtomicI32::new(NO_CAUSE),
+                AtomicI32::new(NO_CAUSE),
+                AtomicI32::new(NO_CAUSE),
+                AtomicI32::new(NO_CAUSE),
+                AtomicI32::new(NO_CAUSE),
+                AtomicI32::new(NO_CAUSE),
+                AtomicI32::new(NO_CAUSE),
+            ],
+        }
+    }
+
+    /// Writes the text of measures beside the file, and gives it the file's name.
+    fn write(&self, measures: &Measures) -> io::Result<()> {
+        let Ok(text) = print_metrics(self.rt.alloc(), measures) else {
+            return Err(io::Error::from(ErrorKind::OutOfMemory));
+        };
+        let Ok(part) = format!(in self.rt.alloc(); "{}.part", self.name) else {
+            return Err(io::Error::from(ErrorKind::OutOfMemory));
+        };
+        fs::write(&self.rt, part.as_str(), text.as_str())?;
+        fs::rename(&self.rt, part.as_str(), self.name)
+    }
+
+    /// Whether a fault has a cause that was not told. From now on it was; no more than eight are.
+    fn is_new(&self, error: io::Error) -> bool {
+        let cause = error.raw_os_error().unwrap_or(0);
+        for slot in self.told.iter() {
+            let told = slot.load(Ordering::SeqCst);
+            if told == cause {
+                return false;
+            }
+            if told == NO_CAUSE {
+                slot.store(cause, Ordering::SeqCst);
+                return true;
+            }
+        }
+        false
+    }
+}
+
+/// Tells each call of a served folder that fails, once for each file and cause.
+#[derive(Drop)]
+pub(crate) struct ServeFaults<'a, R> {
+    errors: &'a R,
+    told: Vec<LastFault>,
+}
+
+impl<'a, R: Eprint> ServeFaults<'a, R> {
+    pub(crate) fn new(alloc: Global, errors: &'a R) -> ServeFaults<'a, R> {
+        ServeFaults {
+            errors,
+            told: Vec::new(alloc),
+        }
+    }
+}
+
+impl<R: Eprint> Viewer<HostDisk> for ServeFaults<'_, R> {
+    fn failed(&mut self, disk: &HostDisk) {
+        let Some(fault) = disk.last_fault() else {
+            return;
+        };
+        if self.told.iter().any(|told| is_same(told, &fault)) {
+            return;
+        }
+        // Where there is no memory for it, it may be told again.
+        let _ = self.told.push(fault);
+        let _ = self.errors.eprintln(FaultLine(fault));
+    }
+}

@@ -1,0 +1,8 @@
+use Rattle.std.proofs.Common.{◌≡◌, ◌++◌, take}
+use Rattle.std.specs.String.{string_bytes}
+use Rattle.std.specs.List.{flat_map}
+use Rattle.metrics_text.specs.MetricsText.{recorded_line}
+use Rattle.metrics_text.proofs.print.put_recorded_lines.Given as goal
+
+abbrev pub invariant-loop-r : goal.invariant-loop-r
+invariant-loop-r l = string_bytes l.out ≡ string_bytes l.fn.out ++ flat_map recorded_line (take l.r-index l.recordings)

@@ -1,0 +1,11 @@
+//! What is measured of a server, and the text that a monitoring system reads it as: the text format 0.0.4 of Prometheus.
+#![tactic(auto)]
+
+mod measures;
+mod print;
+
+pub use measures::{
+    ArchiveMeasures, ClientMeasures, DatagramMeasures, ImageMeasures, Measures, RecorderMeasures,
+    RecordingMeasures,
+};
+pub use print::print_metrics;

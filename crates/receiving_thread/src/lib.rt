@@ -1,0 +1,17 @@
+//! The thread of a server that receives datagrams: images, and what their senders are sent.
+#![tactic(auto)]
+
+mod ends;
+mod gaps;
+mod giving;
+mod images;
+mod leaving;
+mod metering;
+mod receiving;
+mod recorded_streams;
+mod repeats;
+mod senders;
+
+pub use images::{Came, Images};
+pub use receiving::{Reception, TENDING};
+pub use senders::{Receiver, SenderEnd, Senders};

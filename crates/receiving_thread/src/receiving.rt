@@ -1,0 +1,354 @@
+//! The thread that receives datagrams. docs/ARCHITECTURE.md, "Serving".
+
+use crate::ends::UdpEnd;
+use crate::giving::{give, give_all, give_round};
+use crate::images::{Came, Images};
+use crate::leaving::Leaving;
+use crate::metering::Metering;
+use crate::recorded_streams::is_recorded_stream;
+use crate::senders::Senders;
+use agents_core::DatagramEnd;
+use server_state::{Happening, Shared, Stopwatch, Teller};
+use std::alloc::Global;
+use std::net::UdpSocket;
+use std::rt::Clock;
+use std::sync::Wait;
+use stream_pairs::StreamPoint;
+
+/// Milliseconds between two looks for what is due to senders.
+pub const TENDING: u64 = 10;
+/// Milliseconds between two looks for images that have to leave.
+const SEEING_OFF: u64 = 10;
+/// Milliseconds between two looks for images that wait to be recorded.
+const RECORDING: u64 = 1_000;
+
+/// What the thread that receives works with.
+#[derive(Drop)]
+pub struct Reception<'a, R, T> {
+    rt: &'a R,
+    alloc: Global,
+    shared: &'a Shared<T>,
+    end: UdpEnd<'a>,
+    images: Images,
+    /// The senders of images, if the server is a receiver of the public standard.
+    senders: Option<Senders>,
+    /// Streams whose publications are recorded without being asked.
+    streams: &'a [i32],
+    /// Images that leave.
+    leaving: Leaving,
+    watch: Stopwatch,
+    /// When it is looked next for what is due to senders.
+    tends_at: u64,
+    /// When it is looked next for images that have to leave.
+    sees_off_at: u64,
+    /// When it is looked next for images that wait to be recorded.
+    records_at: u64,
+    metering: Metering,
+}
+
+impl<'a, R: Wait + Clock, T: Teller> Reception<'a, R, T> {
+    /// Nothing was received.
+    pub fn new(
+        rt: &'a R,
+        alloc: Global,
+        shared: &'a Shared<T>,
+        socket: &'a UdpSocket,
+        images: Images,
+        senders: Option<Senders>,
+        streams: &'a [i32],
+    ) -> Reception<'a, R, T> {
+        Reception {
+            rt,
+            alloc,
+            shared,
+            end: UdpEnd::new(socket),
+            images,
+            senders,
+            streams,
+            leaving: Leaving::new(),
+            watch: Stopwatch::new(rt),
+            tends_at: 0,
+            sees_off_at: 0,
+            records_at: 0,
+            metering: Metering::new(),
+        }
+    }
+
+    /// Receives datagrams until the server ends, and then hands on all blocks that sessions have. False if no more can be
+    /// received.
+    pub fn receive_all(&mut self, buffer: &mut [u8]) -> bool {
+        let mut first = 0;
+        let mut is_whole = true;
+        for _ in self.rt.forever() {
+            let Some(count) = self.end.receive(buffer) else {
+                is_whole = self.shared.has_ended();
+                break;
+            };
+            if self.shared.has_ended() {
+                break;
+            }
+            let now = self.now();
+            self.take(&buffer[..count], now);
+            let is_round = self.shared.takes_round();
+            if is_round {
+                first = give_round(self.rt, self.shared, &mut self.images, &self.leaving, first);
+            }
+            self.tend_by_time(is_round, now);
+            self.see_off_by_time(now);
+            self.record_by_time(now);
+            self.measure_by_time(now);
+        }
+        give_all(self.rt, self.shared, &mut self.images, &self.leaving);
+        is_whole
+    }
+
+    /// Milliseconds since the thread began, if the server is a receiver of the public standard. None if the clock can't be read.
+    fn now(&self) -> Option<u64> {
+        if self.senders.is_some() {
+            self.watch.read(self.rt)
+        } else {
+            None
+        }
+    }
+
+    /// Takes a datagram, and answers it. An empty one is not a datagram.
+    fn take(&mut self, datagram: &[u8], now: Option<u64>) {
+        if datagram.is_empty() {
+            return;
+        }
+        self.shared.counts.datagrams.add(1);
+        let came = self.images.take_datagram(datagram);
+        if self.shared.meter.is_on() {
+            self.metering.note(&came, datagram, &self.images);
+        }
+        match came {
+            Came::Joined { image, point } => {
+                self.note_joined(point);
+                self.ask_to_record(image);
+            }
+            Came::Frames { image, is_lost } => self.note_frames(image, is_lost),
+            _ => {}
+        }
+        if self.senders.is_some() {
+            self.answer(&came, now);
+        } else {
+            self.ask(&came);
+        }
+    }
+
+    fn note_joined(&mut self, point: StreamPoint) {
+        let sender = self.end.sender();
+        if let Some(joined) = self.shared.joined(self.rt, point, sender) {
+            self.shared.tell(&Happening::Joined {
+                image: joined.number,
+                point,
+                sender,
+            });
+            self.note_window(joined.number, point);
+            self.shared.tell_pairs(self.rt);
+            self.shared.tell_misfits(self.rt);
+        }
+    }
+
+    /// Reports an image whose sender is sent no status messages.
+    fn note_window(&self, image: u64, point: StreamPoint) {
+        if let Some(senders) = &self.senders {
+            if !senders.has_window(&point.geometry) {
+                let mtu = point.geometry.mtu;
+                self.shared.tell(&Happening::NoWindow { image, mtu });
+            }
+        }
+    }
+
+    fn note_frames(&self, image: usize, is_lost: bool) {
+        if let Some(counts) = self.shared.counts.of(image) {
+            if is_lost {
+                counts.lost.add(1);
+            }
+        }
+    }
+
+    fn note_request(&self, image: usize, has_asked: bool) {
+        if let Some(counts) = self.shared.counts.of(image) {
+            if has_asked {
+                counts.requests.add(1);
+            }
+        }
+    }
+
+    /// Asks for what is missing of an image, and hands on its blocks.
+    fn ask(&mut self, came: &Came) {
+        let has_asked = self.images.ask_after(&mut self.end, came);
+        if let Came::Frames { image, .. } = came {
+            self.note_request(*image, has_asked);
+            self.give(*image);
+        }
+    }
+
+    /// Hands on blocks of an image, and sends what is due to its sender, as a receiver of the public standard does.
+    fn answer(&mut self, came: &Came, now: Option<u64>) {
+        if let Came::Frames { image, .. } = came {
+            self.give(*image);
+        }
+        let Some(now) = now else {
+            return;
+        };
+        let from = self.end.sender();
+        if let Some(senders) = self.senders.as_mut() {
+            senders.note(came, from, now);
+            senders.ask_for_setup(&mut self.end, came, from, now);
+        }
+        if let Some(image) = self.image_in(came) {
+            self.tend(image, now);
+        }
+    }
+
+    /// The image that a datagram was for, or made.
+    fn image_in(&self, came: &Came) -> Option<usize> {
+        match came {
+            Came::Joined { image, .. } | Came::SetUp { image } | Came::Frames { image, .. } => {
+                Some(*image)
+            }
+            _ => None,
+        }
+    }
+
+    /// Hands on the blocks of an image that may be handed on now. Whether one was kept back.
+    fn give(&mut self, image: usize) -> bool {
+        give(self.rt, self.shared, &mut self.images, &self.leaving, image)
+    }
+
+    /// Sends what is due to the sender of an image, unless the image leaves.
+    fn tend(&mut self, image: usize, now: u64) {
+        if self.leaving.contains(image) {
+            return;
+        }
+        let is_recorded = self.is_status_due(image, now) && self.shared.is_recorded(self.rt, image);
+        let has_asked = match (self.senders.as_mut(), self.images.get(image)) {
+            (Some(senders), Some(known)) => {
+                senders.tend(&mut self.end, image, known, is_recorded, now)
+            }
+            _ => false,
+        };
+        self.note_request(image, has_asked);
+    }
+
+    /// Whether it is time for a status message to the sender of an image, if it is recorded.
+    fn is_status_due(&self, image: usize, now: u64) -> bool {
+        match (&self.senders, self.images.get(image)) {
+            (Some(senders), Some(known)) => senders.is_status_due(image, known, now),
+            _ => false,
+        }
+    }
+
+    /// Sends what is due to all senders, each 10 milliseconds, and when blocks of all images were looked for.
+    fn tend_by_time(&mut self, is_round: bool, now: Option<u64>) {
+        let Some(now) = now else {
+            return;
+        };
+        if !is_round && now < self.tends_at {
+            return;
+        }
+        self.tends_at = now.saturating_add(TENDING);
+        for image in 0..self.images.len() {
+            self.tend(image, now);
+        }
+    }
+
+    /// Gives back the places of images that have to leave, each 10 milliseconds.
+    fn see_off_by_time(&mut self, now: Option<u64>) {
+        let Some(now) = now else {
+            return;
+        };
+        if now < self.sees_off_at {
+            return;
+        }
+        self.sees_off_at = now.saturating_add(SEEING_OFF);
+        for image in 0..self.images.len() {
+            self.see_off(image, now);
+        }
+    }
+
+    /// Asks that each image is recorded whose stream is, each second.
+    fn record_by_time(&mut self, now: Option<u64>) {
+        let Some(now) = now else {
+            return;
+        };
+        if self.streams.is_empty() || now < self.records_at {
+            return;
+        }
+        self.records_at = now.saturating_add(RECORDING);
+        for image in 0..self.images.len() {
+            self.ask_to_record(image);
+        }
+    }
+
+    /// Measures the server each second, if there are metrics.
+    fn measure_by_time(&mut self, now: Option<u64>) {
+        if !self.shared.meter.is_on() {
+            return;
+        }
+        let now = match now {
+            Some(now) => Some(now),
+            None => self.watch.read(self.rt),
+        };
+        let Some(now) = now else {
+            return;
+        };
+        if self.metering.is_due(now) {
+            let statuses = self.end.statuses();
+            self.metering.measure(
+                self.rt,
+                self.alloc,
+                self.shared,
+                &self.images,
+                statuses,
+                now,
+            );
+        }
+    }
+
+    /// Asks that an image is recorded if its stream is, it does not leave, and feeds no session.
+    fn ask_to_record(&self, image: usize) {
+        let Some(known) = self.images.get(image) else {
+            return;
+        };
+        if is_recorded_stream(self.streams, known.publication().stream_id)
+            && !self.leaving.contains(image)
+            && self.shared.waiting(self.rt, image).is_some()
+        {
+            self.shared.queue.ask_to_record(self.rt, image);
+        }
+    }
+
+    /// Gives the place of an image back that has to leave, in two steps: no block of it is handed on any more; then the
+    /// recording thread is done with those that were.
+    fn see_off(&mut self, image: usize, now: u64) {
+        if !self.leaving.contains(image) {
+            if self.has_to_leave(image, now) {
+                self.leaving.add(image);
+                self.shared.queue.ask_to_leave(self.rt, image);
+            }
+        } else if !self.shared.queue.is_leaving(self.rt, image) {
+            self.shared.left(self.rt, image);
+            self.images.remove(image);
+            self.leaving.remove(image);
+        }
+    }
+
+    /// Whether an image has to leave: it was lost, its session has ended, or it is not live, and no block of it is left for its
+    /// session.
+    fn has_to_leave(&mut self, image: usize, now: u64) -> bool {
+        if self.images.get(image).is_none() {
+            return false;
+        }
+        if self.shared.is_over(self.rt, image) {
+            return true;
+        }
+        let is_gone = match &self.senders {
+            Some(senders) => senders.is_gone(image, now),
+            None => false,
+        };
+        is_gone && !self.give(image)
+    }
+}

@@ -1,0 +1,12 @@
+//! What is read of a recording, for an archive that is open and for one that is only looked at.
+#![tactic(auto)]
+
+mod boundary;
+mod counting;
+mod layout;
+mod polling;
+
+pub use boundary::is_boundary;
+pub use counting::count_frames;
+pub use layout::layout_of;
+pub use polling::{Given, poll_frames};

@@ -1,0 +1,4 @@
+mod SeatLemmas
+mod SettlingLemmas
+pub mod StoppingLemmas
+pub mod StreamLemmas

@@ -1,0 +1,8 @@
+-- What a reader has to believe: when a session settles, and what a recording is that nobody asked for.
+pub mod Settling
+pub mod Streams
+-- Seats with their passes, and the term of a block.
+pub mod Seats
+pub mod Recording
+-- Archives that can record nothing any more.
+pub mod Stopping

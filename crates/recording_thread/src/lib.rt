@@ -1,0 +1,14 @@
+//! The thread of a server that records: seats of sessions, settlings, and recordings that nobody asked for.
+#![tactic(auto)]
+
+mod own_recordings;
+mod recording;
+mod seats;
+mod settling;
+mod stopping;
+mod streams;
+
+pub use own_recordings::OwnRecordings;
+pub use recording::{Recording, record_all};
+pub use seats::{Benches, Seats, parted};
+pub use stopping::{note_if_broken, stop_if_stuck};

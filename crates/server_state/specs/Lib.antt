@@ -1,0 +1,10 @@
+-- What a reader has to believe: what an answered call makes of the pairs, which pairs are reported, and the answer to the line
+-- `images`.
+pub mod Noting
+pub mod Listing
+pub mod Measuring
+pub mod Naming
+-- Blocks on their way, settlings that clients ask for, and the time.
+pub mod Handing
+pub mod Asking
+pub mod Stopwatch

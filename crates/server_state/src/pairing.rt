@@ -1,0 +1,309 @@
+//! Pairs of images and recorder sessions, and which of them were reported.
+
+ghost use Rattle.std.specs.Prelude.{◌≡◌, ◌<◌, None, replicate};
+ghost use Rattle.std.specs.List.{position};
+ghost use Rattle.stream_pairs.specs.Pairs.{feeds, seat_of};
+ghost use Rattle.server_state.specs.Noting.{TellsMisfit, TellsNext, after_noted, after_refusing, fed_key, fed_session, has_key, image_key, is_over, is_told, is_unfed, key_at, lost_key, misfit_at, misfit_of, misfit_with, untold_misfit, waiting_image, waiting_with, waits, seated_session, fed_at, untold_image};
+
+use crate::noting::note;
+use archive_model::Reply;
+use control_core::Event;
+use frame_core::Publication;
+use stream_pairs::{FED_SESSIONS, JoinedImage, Pairs, SessionSlot, StreamPoint};
+
+/// An image: its place, and its number, which no other image has.
+#[derive(Clone, Copy, PartialEq, Eq)]
+pub struct ImageKey {
+    /// The place.
+    pub place: usize,
+    /// How many images came before it.
+    pub number: u64,
+}
+
+/// A recorder session that an image feeds.
+#[derive(Clone, Copy)]
+pub struct FedSession {
+    /// Its seat.
+    pub seat: usize,
+    /// Its number.
+    pub session: i64,
+}
+
+/// An image and a recorder session of one publication that don't fit.
+#[derive(Clone, Copy)]
+pub(crate) struct Misfit {
+    /// The image's number.
+    pub image: u64,
+    /// The session's number.
+    pub session: i64,
+    /// Where the image joined.
+    pub joined: StreamPoint,
+    /// Up to where the session's recording is recorded.
+    pub recorded: StreamPoint,
+}
+
+/// Which image feeds which recorder session, and which pairs and misfits were reported.
+#[derive(Drop)]
+pub(crate) struct Pairing {
+    /// The pairs.
+    pub pairs: Pairs,
+    /// Of each seat the number of the image that was reported to feed its session.
+    told: [Option<u64>; FED_SESSIONS],
+    /// Of each seat the misfit of its session that was reported last.
+    misfits: [Option<Misfit>; FED_SESSIONS],
+    /// Whether the seat of a session is given back once its recording was stopped.
+    gives_back: bool,
+}
+
+impl Pairing {
+    /// These pairs, of which nothing was reported.
+    pub fn new(pairs: Pairs, gives_back: bool) -> Pairing
+        ensures { result ≡ record { pairs = pairs; told = replicate 64 None; misfits = replicate 64 None; gives_back = gives_back } }
+    {
+        Pairing {
+            pairs,
+            told: [None; FED_SESSIONS],
+            misfits: [None; FED_SESSIONS],
+            gives_back,
+        }
+    }
+
+    /// A call was answered so.
+    pub fn note(&mut self, event: &Event, reply: &Reply)
+        ensures { self.new ≡ record self.old
+            { pairs = after_noted self.old.gives_back event.now reply.now self.old.pairs } }
+    {
+        note(&mut self.pairs, self.gives_back, event, reply);
+    }
+
+    /// The least seat whose session has an image that was not reported before, and that image's number. From now on it was.
+    pub fn next_untold(&mut self) -> Option<(usize, u64)>
+        ensures told { TellsNext self.old.pairs self.old.told result self.new.told }
+        ensures same { self.new ≡ record self.old { told = self.new.told } }
+    {
+        for seat in 0..FED_SESSIONS {
+            if let Some(number) = self.untold_image(seat) {
+                self.told[seat] = Some(number);
+                return Some((seat, number));
+            }
+        }
+        None
+    }
+
+    /// The number of the image that feeds a session, unless it was reported.
+    fn untold_image(&self, seat: usize) -> Option<u64>
+        requires { seat < 64 }
+        ensures { result ≡ untold_image seat self.now.pairs self.now.told }
+    {
+        match self.fed_key(seat) {
+            Some(key) if self.told[seat] != Some(key.number) => Some(key.number),
+            _ => None,
+        }
+    }
+
+    /// The misfit of the least seat whose session has one that was not reported before. From now on it was.
+    pub fn next_misfit(&mut self) -> Option<Misfit>
+        ensures told { TellsMisfit self.old.pairs self.old.misfits result self.new.misfits }
+        ensures same { self.new ≡ record self.old { misfits = self.new.misfits } }
+    {
+        for seat in 0..FED_SESSIONS {
+            if let Some(misfit) = self.untold_misfit(seat) {
+                self.misfits[seat] = Some(misfit);
+                return Some(misfit);
+            }
+        }
+        None
+    }
+
+    /// The misfit of the session at a seat, unless it was reported.
+    fn untold_misfit(&self, seat: usize) -> Option<Misfit>
+        requires { seat < 64 }
+        ensures { result ≡ untold_misfit seat self.now.pairs self.now.misfits }
+    {
+        match self.misfit_at(seat) {
+            Some(misfit) if !is_told(&misfit, self.misfits[seat]) => Some(misfit),
+            _ => None,
+        }
+    }
+
+    /// The session at a seat and the image of its publication, if they don't fit.
+    fn misfit_at(&self, seat: usize) -> Option<Misfit>
+        ensures { result ≡ misfit_at seat self.now.pairs }
+    {
+        match self.pairs.slot(seat) {
+            Some(slot) if is_unfed(&slot) => self.misfit_of(&slot),
+            _ => None,
+        }
+    }
+
+    /// A session that no image feeds and the image of its publication, if they don't fit.
+    fn misfit_of(&self, slot: &SessionSlot) -> Option<Misfit>
+        ensures { result ≡ misfit_of slot.now self.now.pairs }
+    {
+        match self.waiting_of(&slot.point.publication) {
+            Some(image) => misfit_with(slot, &image),
+            None => None,
+        }
+    }
+
+    /// The image of a publication, if it waits for a session.
+    fn waiting_of(&self, publication: &Publication) -> Option<JoinedImage>
+        ensures { result ≡ waiting_with publication.now self.now.pairs }
+    {
+        match self.pairs.image_of(publication) {
+            Some(place) => self.waiting(place),
+            None => None,
+        }
+    }
+
+    /// The image at a place.
+    pub fn key_at(&self, place: usize) -> Option<ImageKey>
+        ensures { result ≡ key_at place self.now.pairs }
+    {
+        image_key(place, self.pairs.image(place))
+    }
+
+    /// The image that feeds the session at a seat.
+    fn fed_key(&self, seat: usize) -> Option<ImageKey>
+        ensures { result ≡ fed_key seat self.now.pairs }
+    {
+        match self.pairs.image_of_session(seat) {
+            Some(place) => self.key_at(place),
+            None => None,
+        }
+    }
+
+    /// The session that an image feeds. None if it feeds none, or its place was given back.
+    pub fn session_of(&self, key: &ImageKey) -> Option<FedSession>
+        ensures { result ≡ fed_session key.now self.now.pairs }
+    {
+        if self.has_key(key) {
+            self.session_fed(key.place)
+        } else {
+            None
+        }
+    }
+
+    /// Whether the image is at its place.
+    fn has_key(&self, key: &ImageKey) -> bool
+        ensures { result ≡ has_key key.now self.now.pairs }
+    {
+        match self.pairs.image(key.place) {
+            Some(image) => image.number == key.number,
+            None => false,
+        }
+    }
+
+    /// The session that the image at a place feeds.
+    fn session_fed(&self, place: usize) -> Option<FedSession>
+        ensures { result ≡ fed_at (position (feeds place) self.now.pairs.slots) self.now.pairs }
+    {
+        match self.pairs.session_of_image(place) {
+            Some(seat) => self.seated_session(seat),
+            None => None,
+        }
+    }
+
+    /// The session at a seat.
+    pub fn seated_session(&self, seat: usize) -> Option<FedSession>
+        ensures { result ≡ seated_session seat self.now.pairs }
+    {
+        match self.pairs.slot(seat) {
+            Some(slot) => Some(FedSession {
+                seat,
+                session: slot.session,
+            }),
+            None => None,
+        }
+    }
+
+    /// Whether the place of an image may be given back, whether it is live or not: it was lost, or its session has ended.
+    pub fn is_over(&self, place: usize) -> bool
+        ensures { result ≡ is_over place self.now.pairs }
+    {
+        match self.pairs.image(place) {
+            Some(image) => image.is_lost,
+            None => false,
+        }
+    }
+
+    /// The image at a place, if it waits for a session: it feeds none, and was not lost.
+    pub fn waiting(&self, place: usize) -> Option<JoinedImage>
+        ensures { result ≡ waiting_image place self.now.pairs }
+    {
+        match self.pairs.image(place) {
+            Some(image) => self.waits(place, image),
+            None => None,
+        }
+    }
+
+    fn waits(&self, place: usize, image: JoinedImage) -> Option<JoinedImage>
+        ensures { result ≡ waits place image self.now.pairs }
+    {
+        if image.is_lost || self.pairs.session_of_image(place).is_some() {
+            None
+        } else {
+            Some(image)
+        }
+    }
+
+    /// The session of a number was refused: the image that it loses, if it has one.
+    pub fn refused(&mut self, session: i64) -> Option<ImageKey>
+        ensures image { result ≡ lost_key (seat_of session self.old.pairs) self.old.pairs }
+        ensures pairs { self.new ≡ record self.old { pairs = after_refusing (seat_of session self.old.pairs) self.old.pairs } }
+    {
+        match self.pairs.seat_of(session) {
+            Some(seat) => {
+                let key = self.fed_key(seat);
+                self.pairs.refused(seat);
+                key
+            }
+            None => None,
+        }
+    }
+}
+
+/// The image at a place, by what is known of it.
+fn image_key(place: usize, image: Option<JoinedImage>) -> Option<ImageKey>
+    ensures { result ≡ image_key place image }
+{
+    match image {
+        Some(image) => Some(ImageKey {
+            place,
+            number: image.number,
+        }),
+        None => None,
+    }
+}
+
+/// Whether a session is open, and no image feeds it.
+fn is_unfed(slot: &SessionSlot) -> bool
+    ensures { result ≡ is_unfed slot.now }
+{
+    slot.is_open && slot.image.is_none()
+}
+
+/// A session and an image of its publication, if the recording does not stand where the image joined.
+fn misfit_with(slot: &SessionSlot, image: &JoinedImage) -> Option<Misfit>
+    ensures { result ≡ misfit_with slot.now image.now }
+{
+    if slot.point.is_at(&image.join) {
+        return None;
+    }
+    Some(Misfit {
+        image: image.number,
+        session: slot.session,
+        joined: image.join,
+        recorded: slot.point,
+    })
+}
+
+/// Whether a misfit is of the same image and session as the one that was reported.
+fn is_told(misfit: &Misfit, told: Option<Misfit>) -> bool
+    ensures { result ≡ is_told misfit.now told }
+{
+    match told {
+        Some(told) => told.image == misfit.image && told.session == misfit.session,
+        None => false,
+    }
+}

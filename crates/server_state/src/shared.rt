@@ -1,0 +1,439 @@
+//! What the three threads of a server share, beside the archive.
+
+ghost use Rattle.std.specs.Prelude.{◌≡◌};
+ghost use Rattle.server_state.specs.Noting.{opens_session};
+
+use crate::counts::Counts;
+use crate::happening::Happening;
+use crate::listing::images_text;
+use crate::measuring::recordings_of;
+use crate::meter::Meter;
+use crate::naming::named_word;
+use crate::noting::settle;
+use crate::pairing::{FedSession, ImageKey, Pairing};
+use crate::queue::Queue;
+use crate::teller::Teller;
+use archive_model::Reply;
+use control_core::Event;
+use frame_core::Refusal;
+use metrics_text::{DatagramMeasures, ImageMeasures, Measures};
+use std::alloc::{AllocError, Global};
+use std::net::{SocketAddr, UdpSocket};
+use std::sync::atomic::{AtomicBool, AtomicU8, Ordering};
+use std::sync::{Mutex, Wait};
+use stream_pairs::{FED_SESSIONS, MAX_IMAGES, Pairs, StreamPoint};
+use tool_core::HistoryUse;
+
+/// An image that waits for a session.
+#[derive(Clone, Copy)]
+pub struct WaitingImage {
+    /// Its number.
+    pub number: u64,
+    /// Where it joined.
+    pub point: StreamPoint,
+    /// Who sent its setup frame.
+    pub sender: Option<SocketAddr>,
+}
+
+/// What the thread that receives measures of datagrams.
+#[derive(Clone, Copy, Debug, PartialEq, Eq)]
+pub struct ReceivedMeasures {
+    /// Datagrams that changed nothing.
+    pub dropped: u64,
+    /// Datagrams that came late or again.
+    pub repeats: u64,
+    /// Status messages that were sent.
+    pub status_messages: u64,
+}
+
+/// How a server goes on.
+#[derive(Clone, Copy, Debug, PartialEq, Eq)]
+pub struct SharedOptions {
+    /// Whether places of images and seats of sessions are given back.
+    pub gives_back: bool,
+    /// Whether the server ends once its archive can record nothing any more.
+    pub is_strict: bool,
+    /// Whether it is measured.
+    pub is_measured: bool,
+}
+
+/// What the threads share. A method takes one lock at most, and tells what happened when it has none.
+#[derive(Drop)]
+pub struct Shared<T> {
+    pairing: Mutex<Pairing>,
+    /// Who sent the setup frames of images, by their places.
+    senders: Mutex<[Option<SocketAddr>; MAX_IMAGES]>,
+    /// Blocks on their way.
+    pub queue: Queue,
+    /// What is counted.
+    pub counts: Counts,
+    /// What is counted for the metrics alone.
+    pub meter: Meter,
+    ends: AtomicBool,
+    looks_round: AtomicBool,
+    /// Calls that make entries are made and noted one after another.
+    pub turn: Mutex<()>,
+    has_faulted: AtomicBool,
+    history: AtomicU8,
+    /// Whether places of images and seats of sessions are given back.
+    gives_back: bool,
+    /// Whether the server ends once its archive can record nothing any more.
+    is_strict: bool,
+    has_stopped: AtomicBool,
+    teller: T,
+}
+
+impl<T: Teller> Shared<T> {
+    /// Nothing came yet. Costs memory for tables and for 16 blocks.
+    pub fn new(alloc: Global, options: SharedOptions, teller: T) -> Result<Shared<T>, AllocError>
+    where
+        T: Drop,
+    {
+        let Ok(pairs) = Pairs::new(alloc) else {
+            return Err(AllocError);
+        };
+        Ok(Shared {
+            pairing: Mutex::new(Pairing::new(pairs, options.gives_back)),
+            senders: Mutex::new([None; MAX_IMAGES]),
+            queue: Queue::new(alloc)?,
+            counts: Counts::new(alloc)?,
+            meter: Meter::new(options.is_measured),
+            ends: AtomicBool::new(false),
+            looks_round: AtomicBool::new(false),
+            turn: Mutex::new(()),
+            has_faulted: AtomicBool::new(false),
+            history: AtomicU8::new(0),
+            gives_back: options.gives_back,
+            is_strict: options.is_strict,
+            has_stopped: AtomicBool::new(false),
+            teller,
+        })
+    }
+
+    /// Tells what happened.
+    pub fn tell(&self, happening: &Happening<'_>) {
+        self.teller.tell(happening);
+    }
+
+    /// Tells what was counted.
+    pub fn tell_end(&self) {
+        let counted = self.counts.all();
+        self.tell(&Happening::Ended(counted));
+    }
+
+    /// A client's call was answered so: which word is wrong is reported, if it is a start that is BadParameter.
+    pub fn tell_wrong_word(&self, event: &Event, outcome: &Result<Reply, Refusal>) {
+        if let Some(word) = named_word(event, outcome) {
+            self.tell(&Happening::WrongWord(word));
+        }
+    }
+
+    /// Tells what is measured of the server, with what the thread that receives has measured. Without memory nothing is told.
+    pub fn tell_measures<R: Wait>(
+        &self,
+        rt: &R,
+        alloc: Global,
+        received: ReceivedMeasures,
+        images: Vec<ImageMeasures>,
+    ) {
+        if let Ok(measures) = self.measures(rt, alloc, received, images) {
+            self.teller.measured(&measures);
+        }
+    }
+
+    fn measures<R: Wait>(
+        &self,
+        rt: &R,
+        alloc: Global,
+        received: ReceivedMeasures,
+        images: Vec<ImageMeasures>,
+    ) -> Result<Measures, AllocError> {
+        let recordings = recordings_of(alloc, &self.pairing.lock(rt).pairs)?;
+        let counted = self.counts.all();
+        Ok(Measures {
+            archive: self.meter.archive(),
+            recorder: self.meter.recorder(counted.all.recorded),
+            datagrams: DatagramMeasures {
+                received: counted.datagrams,
+                dropped: received.dropped,
+                lost: counted.all.lost,
+                repeats: received.repeats,
+                naks: counted.all.requests,
+                status_messages: received.status_messages,
+                images: counted.images,
+            },
+            clients: self.meter.clients(counted.connections),
+            recordings,
+            images,
+        })
+    }
+
+    /// The image at a place: its number.
+    pub fn key_at<R: Wait>(&self, rt: &R, place: usize) -> Option<ImageKey> {
+        self.pairing.lock(rt).key_at(place)
+    }
+
+    /// Whether a call was answered by a device fault.
+    pub fn has_faulted(&self) -> bool {
+        self.has_faulted.load(Ordering::SeqCst)
+    }
+
+    /// Whether the server ends.
+    pub fn has_ended(&self) -> bool {
+        self.ends.load(Ordering::SeqCst)
+    }
+
+    /// Whether the server ends once its archive can record nothing any more.
+    pub fn is_strict(&self) -> bool
+        ensures { result ≡ self.now.is_strict }
+    {
+        self.is_strict
+    }
+
+    /// The archive can record nothing any more: no further line is read from now on, as after a `quit`.
+    pub fn stop(&self) {
+        self.has_stopped.store(true, Ordering::SeqCst);
+    }
+
+    /// Whether the server ends since its archive can record nothing any more.
+    pub fn has_stopped(&self) -> bool {
+        self.has_stopped.load(Ordering::SeqCst)
+    }
+
+    /// The server ends from now on; who sleeps on the socket is woken.
+    pub fn end(&self, socket: &UdpSocket) {
+        self.ends.store(true, Ordering::SeqCst);
+        wake(socket);
+    }
+
+    /// The thread that receives is to look for blocks of all images; it is woken.
+    pub fn look_round(&self, socket: &UdpSocket) {
+        self.looks_round.store(true, Ordering::SeqCst);
+        wake(socket);
+    }
+
+    /// Whether it is to look for blocks of all images; it is told once.
+    pub fn takes_round(&self) -> bool {
+        self.looks_round.swap(false, Ordering::SeqCst)
+    }
+
+    /// A call was answered so: who is to know it is told. Whether a session was opened.
+    pub fn note<R: Wait>(&self, rt: &R, event: &Event, outcome: &Result<Reply, Refusal>) -> bool
+        ensures { result ≡ opens_session outcome.now }
+    {
+        match outcome {
+            Ok(reply) => {
+                self.pairing.lock(rt).note(event, reply);
+                match reply {
+                    Reply::Started { session, .. } | Reply::Extended { session } => {
+                        self.tell_session(rt, *session);
+                        true
+                    }
+                    _ => false,
+                }
+            }
+            Err(refusal) => {
+                self.note_refusal(refusal);
+                false
+            }
+        }
+    }
+
+    fn tell_session<R: Wait>(&self, rt: &R, session: i64) {
+        self.tell_pairs(rt);
+        self.tell_misfits(rt);
+        if self.gives_back {
+            self.tell_seat(rt, session);
+        } else if session == FED_SESSIONS as i64 - 1 {
+            self.tell(&Happening::LastSession);
+        }
+    }
+
+    /// Reports a session that has no seat.
+    fn tell_seat<R: Wait>(&self, rt: &R, session: i64) {
+        let seat = self.pairing.lock(rt).pairs.seat_of(session);
+        if seat.is_none() {
+            self.tell(&Happening::NoSeat { session });
+        }
+    }
+
+    /// A device fault is told, the first time.
+    pub fn note_refusal(&self, refusal: &Refusal) {
+        if *refusal == Refusal::DeviceFault && !self.has_faulted.swap(true, Ordering::SeqCst) {
+            self.tell(&Happening::DeviceFault);
+        }
+    }
+
+    /// So many entries of the history count, and so many may: told at 90, 95 and 99 hundredths, each once.
+    pub fn note_history(&self, counted: u64, limit: u32) {
+        self.meter.set_history(counted, limit);
+        let history = HistoryUse { counted, limit };
+        let level = history.level();
+        if level > 0 && self.history.fetch_max(level, Ordering::SeqCst) < level {
+            self.tell(&Happening::HistoryUsed(history));
+        }
+    }
+
+    /// An image joined, whose setup frame came from there. Its place and its number.
+    pub fn joined<R: Wait>(
+        &self,
+        rt: &R,
+        point: StreamPoint,
+        sender: Option<SocketAddr>,
+    ) -> Option<ImageKey> {
+        let place = self.pairing.lock(rt).pairs.joined(point)?;
+        if place < MAX_IMAGES {
+            self.senders.lock(rt)[place] = sender;
+        }
+        let count = self.pairing.lock(rt).pairs.image_count();
+        self.counts.images.add(1);
+        if count == MAX_IMAGES {
+            self.tell(if self.gives_back {
+                &Happening::AllPlacesTaken
+            } else {
+                &Happening::LastImage
+            });
+        }
+        self.pairing.lock(rt).key_at(place)
+    }
+
+    /// The place of an image is given back.
+    pub fn left<R: Wait>(&self, rt: &R, place: usize) {
+        let key = self.pairing.lock(rt).key_at(place);
+        self.pairing.lock(rt).pairs.left(place);
+        if let Some(key) = key {
+            let counted = self.counts.counted(place);
+            self.counts.leave(place);
+            self.tell(&Happening::Left {
+                image: key.number,
+                counted,
+            });
+        }
+    }
+
+    /// The image at a place, if it waits for a session.
+    pub fn waiting<R: Wait>(&self, rt: &R, place: usize) -> Option<WaitingImage> {
+        let image = self.pairing.lock(rt).waiting(place)?;
+        let sender = match self.senders.lock(rt).get(place) {
+            Some(sender) => *sender,
+            None => None,
+        };
+        Some(WaitingImage {
+            number: image.number,
+            point: image.join,
+            sender,
+        })
+    }
+
+    /// Whether the place of an image may be given back, whether it is live or not: it was lost, or its session has ended.
+    pub fn is_over<R: Wait>(&self, rt: &R, place: usize) -> bool {
+        self.pairing.lock(rt).is_over(place)
+    }
+
+    /// Reports the pairs that were not reported.
+    pub fn tell_pairs<R: Wait>(&self, rt: &R) {
+        for _ in 0..FED_SESSIONS {
+            let Some((seat, image)) = self.pairing.lock(rt).next_untold() else {
+                return;
+            };
+            let fed = self.pairing.lock(rt).seated_session(seat);
+            if let Some(fed) = fed {
+                let session = fed.session;
+                self.tell(&Happening::Paired { image, session });
+            }
+        }
+    }
+
+    /// Reports the images and sessions of one publication that don't fit and were not reported.
+    pub fn tell_misfits<R: Wait>(&self, rt: &R) {
+        for _ in 0..FED_SESSIONS {
+            let Some(misfit) = self.pairing.lock(rt).next_misfit() else {
+                return;
+            };
+            self.tell(&Happening::Misfit {
+                image: misfit.image,
+                session: misfit.session,
+                joined: misfit.joined,
+                recorded: misfit.recorded,
+            });
+        }
+    }
+
+    /// The image at a place, if it feeds a session.
+    pub fn feeding<R: Wait>(&self, rt: &R, place: usize) -> Option<ImageKey> {
+        let pairing = self.pairing.lock(rt);
+        pairing.pairs.session_of_image(place)?;
+        pairing.key_at(place)
+    }
+
+    /// The session that an image feeds.
+    pub fn session_of<R: Wait>(&self, rt: &R, image: &ImageKey) -> Option<FedSession> {
+        self.pairing.lock(rt).session_of(image)
+    }
+
+    /// The seat of the session that the image at a place feeds.
+    pub fn seat_of<R: Wait>(&self, rt: &R, place: usize) -> Option<usize> {
+        self.pairing.lock(rt).pairs.session_of_image(place)
+    }
+
+    /// Whether the image at a place feeds a session that is open.
+    pub fn is_recorded<R: Wait>(&self, rt: &R, place: usize) -> bool {
+        self.pairing.lock(rt).pairs.is_recorded(place)
+    }
+
+    /// A line for each image, and a line with how many there are.
+    pub fn images_text<R: Wait>(&self, rt: &R, alloc: Global) -> Result<String, AllocError> {
+        images_text(alloc, &self.pairing.lock(rt).pairs)
+    }
+
+    /// A session settled, and is recorded up to a position.
+    pub fn settled<R: Wait>(&self, rt: &R, session: i64, position: i64) {
+        settle(&mut self.pairing.lock(rt).pairs, session, position);
+    }
+
+    /// The open session that writes a recording is to settle at once, if there is one. Its seat. Waits for nothing.
+    pub fn ask_writer<R: Wait>(&self, rt: &R, recording: i64) -> Option<usize> {
+        let session = self.pairing.lock(rt).pairs.writer_of(recording);
+        if let Some(session) = session {
+            self.queue.ask(rt, session);
+        }
+        session
+    }
+
+    /// The open session that writes a recording settles at once, if there is one. Waits until it has, or the recording thread
+    /// has ended.
+    pub fn settle_writer<R: Wait>(&self, rt: &R, recording: i64) {
+        if let Some(session) = self.ask_writer(rt, recording) {
+            self.queue.wait_for_settling(rt, session);
+        }
+    }
+
+    /// Waits for a settling of the open session that writes a recording, if one was asked for and is not made yet.
+    pub fn await_writer<R: Wait>(&self, rt: &R, recording: i64) {
+        let session = self.pairing.lock(rt).pairs.writer_of(recording);
+        if let Some(session) = session {
+            self.queue.wait_for_settling(rt, session);
+        }
+    }
+
+    /// A session was refused: it loses its image, if it has one.
+    pub fn refused<R: Wait>(&self, rt: &R, session: i64, cause: Refusal) {
+        self.note_refusal(&cause);
+        let lost = self.pairing.lock(rt).refused(session);
+        if let Some(lost) = lost {
+            self.tell(&Happening::Lost {
+                image: lost.number,
+                session,
+                cause,
+                counted: self.counts.counted(lost.place),
+            });
+        }
+    }
+}
+
+/// An empty datagram to the socket's own port. Where it is lost, the socket's time-out wakes who sleeps.
+fn wake(socket: &UdpSocket) {
+    if let Ok(address) = socket.local_addr() {
+        let _ = socket.send_to(&[], address);
+    }
+}
