@@ -1,6 +1,7 @@
 -- What is made of a desk keeps its seats and what is orderly.
 use Rattle.std.proofs.Common.{◌≡◌, ◌<◌, ◌+ℤ◌, ◌≤ℤ◌, ◌++◌, ℤ, pos, true, false, refl, sym, subst, [], ◌∷◌, length, not, Option, Some, None}
 use Rattle.std.specs.Prelude.{IsSomeAnd, is_some}
+use Rattle.frame_core.specs.FrameEncoding.{IsAligned}
 use Rattle.archive_model.specs.declared.command.StartFields.{StartFields}
 use Rattle.archive_model.specs.declared.registration.Change.TheVariants as changes
 use Rattle.archive_model.specs.Checks.{is_boundary_by, is_of}
@@ -29,8 +30,8 @@ kept_extended g c id session_id stopped few keeps = record { seats = seats.keeps
 pub kept_stopped : (g : RegisterState) (c : CallersState) (id timestamp : ℤ) → KeepsDesk g c → KeepsDesk (changed id (changes.Stop timestamp) g) (without_sessions id c)
 kept_stopped g c id timestamp keeps = record { seats = seats.keeps_stopped g c id timestamp keeps.seats; orderly = orderly.stopped g c id timestamp keeps.orderly }
 
-pub kept_truncated : (g : RegisterState) (c : CallersState) (id position : ℤ) → is_of (registration_in g id) (is_boundary_by true position) ≡ true → KeepsDesk g c → KeepsDesk (changed id (changes.Truncate position) g) (without_sessions id c)
-kept_truncated g c id position boundary keeps = record { seats = seats.keeps_truncated g c id position keeps.seats; orderly = orderly.truncated g c id position keeps.orderly boundary }
+pub kept_truncated : (g : RegisterState) (c : CallersState) (id position : ℤ) → is_of (registration_in g id) (is_boundary_by true position) ≡ true → IsAligned position → KeepsDesk g c → KeepsDesk (changed id (changes.Truncate position) g) (without_sessions id c)
+kept_truncated g c id position boundary aligned keeps = record { seats = seats.keeps_truncated g c id position keeps.seats; orderly = orderly.truncated g c id position keeps.orderly boundary aligned }
 
 pub kept_purged : (g : RegisterState) (c : CallersState) (id position : ℤ) → is_of (registration_in g id) (is_later_base position) ≡ true → list_any (is_replay_before id position) c.replays ≡ false → KeepsDesk g c
     → KeepsDesk (changed id (changes.PurgeSegments position) g) c

@@ -4,6 +4,7 @@ use Rattle.std.proofs.lemmas.Int.{ints}
 use Rattle.std.proofs.lemmas.Nat.{pow-add}
 use Rattle.std.proofs.lemmas.Bool.Decides.{nat_tests}
 use Rattle.std.specs.Prelude.{◌==◌, not}
+use Rattle.frame_core.specs.FrameEncoding.{IsAligned}
 use Rattle.frame_core.specs.Limits.{is_mtu, is_term_length}
 use Rattle.frame_core.specs.Segment.{segment_base}
 use Rattle.frame_core.proofs.LimitsLemmas.{exponent_le, is_power}
@@ -17,6 +18,7 @@ use Rattle.archive_model.specs.Register.{RegisterState, all_stopped, changed, ch
 use Rattle.archive_model.proofs.RegisterLemmas.{each_map, each_push}
 use Rattle.archive_model.proofs.StateLemmas.{each_change, each_without}
 use Rattle.archive_model.proofs.WellLemmas.{base_is_term, both}
+use Rattle.control_core.specs.Decisions.{is_multiple}
 use Rattle.control_core.specs.Orderly.{AreLaid, IsLaid, IsLayoutIn, stream_end}
 
 -- ---- one recording
@@ -37,6 +39,15 @@ start_units (pos p) term is =
     let same : p ≡ 32 * (p / 32) = omega (arith, whole) in
     (p / 32, ap pos same, omega (arith, same, less))
 start_units (negsuc p) term is = absurd (true≢false (sym is))
+
+-- a multiple of 32 from 0
+pub multiple_units : (z : ℤ) → is_multiple z ≡ true → IsAligned z
+unfolding is_multiple
+multiple_units (pos p) is =
+    let none : p % 32 ≡ 0 = grind (arith, nat_tests) in
+    let whole : p ≡ 32 * (p / 32) = omega (arith, none) in
+    (p / 32, ap pos whole)
+multiple_units (negsuc p) is = absurd (true≢false (sym is))
 
 -- what a new recording's range says
 record HasRange (f : StartFields) : Type 0 where
@@ -68,28 +79,30 @@ laid_begun id f range =
       };
       from_start = omega (arith, ints);
       in_stream = omega (arith, ints, units.1, units.2);
+      aligned = (units.0, units.1);
     }
 
 pub laid_stopped : (timestamp : ℤ) (r : Registration) → IsLaid r → IsLaid (changed_by (changes.Stop timestamp) r)
-laid_stopped timestamp r laid = record { laid_out = record { layout = laid.laid_out.layout; mtu = laid.laid_out.mtu }; from_start = laid.from_start; in_stream = laid.in_stream }
+laid_stopped timestamp r laid = record { laid_out = record { layout = laid.laid_out.layout; mtu = laid.laid_out.mtu }; from_start = laid.from_start; in_stream = laid.in_stream; aligned = laid.aligned }
 
 pub laid_extended : (session_id : ℤ) (r : Registration) → IsLaid r → IsLaid (changed_by (changes.Extend session_id) r)
-laid_extended session_id r laid = record { laid_out = record { layout = laid.laid_out.layout; mtu = laid.laid_out.mtu }; from_start = laid.from_start; in_stream = laid.in_stream }
+laid_extended session_id r laid = record { laid_out = record { layout = laid.laid_out.layout; mtu = laid.laid_out.mtu }; from_start = laid.from_start; in_stream = laid.in_stream; aligned = laid.aligned }
 
--- recorded further, in its stream
-pub laid_settled : (position : ℤ) (r : Registration) → IsLaid r → r.recorded ≤ℤ position → position ≤ℤ stream_end r → IsLaid (changed_by (changes.Settle position) r)
-laid_settled position r laid further inside = record {
+-- recorded further, in its stream, up to a multiple of 32
+pub laid_settled : (position : ℤ) (r : Registration) → IsLaid r → r.recorded ≤ℤ position → position ≤ℤ stream_end r → IsAligned position → IsLaid (changed_by (changes.Settle position) r)
+laid_settled position r laid further inside aligned = record {
   laid_out = record { layout = laid.laid_out.layout; mtu = laid.laid_out.mtu };
   from_start = omega (arith, ints, laid.from_start, further);
   in_stream = inside;
+  aligned = aligned;
 }
 
-pub laid_truncated : (position : ℤ) (r : Registration) → IsLaid r → is_within position r ≡ true → IsLaid (changed_by (changes.Truncate position) r)
-laid_truncated position r laid within =
+pub laid_truncated : (position : ℤ) (r : Registration) → IsLaid r → is_within position r ≡ true → IsAligned position → IsLaid (changed_by (changes.Truncate position) r)
+laid_truncated position r laid within aligned =
     let ends : (int_le r.descriptor.start_position position ≡ true) × (int_le position r.recorded ≡ true) = both within in
     let low : r.descriptor.start_position ≤ℤ position = le_true r.descriptor.start_position position ends.0 in
     let high : position ≤ℤ r.recorded = le_true position r.recorded ends.1 in
-    record { laid_out = record { layout = laid.laid_out.layout; mtu = laid.laid_out.mtu }; from_start = low; in_stream = omega (arith, ints, high, laid.in_stream) }
+    record { laid_out = record { layout = laid.laid_out.layout; mtu = laid.laid_out.mtu }; from_start = low; in_stream = omega (arith, ints, high, laid.in_stream); aligned = aligned }
 
 -- a base of a segment behind the start lies a whole number of terms into the stream
 record IsLater (r : Registration) (position : ℤ) : Type 0 where
@@ -135,6 +148,7 @@ laid_purged position r laid base =
       };
       from_start = later.before;
       in_stream = laid.in_stream;
+      aligned = laid.aligned;
     }
 
 laid_restarted : (r : Registration) (b : Bool) → IsLaid r → IsLaid (cond b (changed_by (changes.Stop (negsuc 0)) r) r)

@@ -25,3 +25,4 @@ pub mod RunLemmas
 pub mod StepLemmas
 pub mod OpenedLemmas
 pub mod ThereLemmas
+mod MultipleLemmas

@@ -6,6 +6,7 @@ use Rattle.std.specs.Prelude.{IfSome, IsSomeAnd}
 use Rattle.std.specs.List.{list_any}
 use Rattle.std.specs.Ordering.{int_eq}
 use Rattle.frame_core.specs.declared.refusal.Refusal.TheVariants.{ActiveRecording, ActiveReplay, BadParameter, BadPosition, Broken, MaxRecordings, MaxReplays, HistoryFull, NeedCompact, NeedSettle, NotActive, StaleSession, UnknownRecording, UnknownReplay}
+use Rattle.frame_core.specs.FrameEncoding.{IsAligned}
 use Rattle.archive_model.specs.declared.command.Command.TheVariants.{Start, Truncate, PurgeSegments}
 use Rattle.archive_model.specs.declared.command.StartFields.{StartFields}
 use Rattle.archive_model.specs.declared.registration.Change.{Change}
@@ -23,7 +24,7 @@ use Rattle.control_core.specs.declared.callers.RecorderSession.{RecorderSession}
 use Rattle.control_core.specs.declared.callers.Written.{Written}
 use Rattle.control_core.specs.Changes.{begun_session, is_session_of, with_blocks, with_session, without_callers, without_sessions}
 use Rattle.control_core.specs.Callers.{CallersState, moved_to, no_callers, replay_number, session_number, with_written}
-use Rattle.control_core.specs.Decisions.{Allows, command_tests}
+use Rattle.control_core.specs.Decisions.{Allows, command_tests, is_multiple}
 use Rattle.control_core.specs.Desk.{DeskState, is_replay_before, is_replay_of}
 use Rattle.control_core.specs.Seats.{AreApart, KeepsSeats}
 use Rattle.control_core.proofs.AllowedLemmas.{before_position, is_not, passes_at}
@@ -31,7 +32,7 @@ use Rattle.control_core.proofs.DeskLemmas.{not_same, other_replay, other_session
 use Rattle.control_core.proofs.FoundLemmas.{each_both, each_filter, each_weaker, found_left, found_other}
 use Rattle.control_core.specs.Orderly.{AreLaid, AreOrderly, LiesBehind, ReadsFromStart, WroteBehind}
 use Rattle.control_core.proofs.SomeLemmas.{some_changed, some_more}
-use Rattle.control_core.proofs.LaidLemmas.{changed_laid, laid_begun, laid_extended, laid_purged, laid_settled, laid_stopped, laid_truncated, le_true, one_less_laid, one_more_laid, test_of}
+use Rattle.control_core.proofs.LaidLemmas.{changed_laid, laid_begun, laid_extended, laid_purged, laid_settled, laid_stopped, laid_truncated, le_true, multiple_units, one_less_laid, one_more_laid, test_of}
 
 -- ---- sessions and replays
 
@@ -111,11 +112,11 @@ extended g c id session_id orderly =
       replays = replays_changed g c.replays id k (λ r. refl) orderly.replays;
     })
 
-pub truncated : (g : RegisterState) (c : CallersState) (id position : ℤ) → AreOrderly g c → is_of (registration_in g id) (is_boundary_by true position) ≡ true → AreOrderly (changed id (changes.Truncate position) g) (without_sessions id c)
-truncated g c id position orderly boundary =
+pub truncated : (g : RegisterState) (c : CallersState) (id position : ℤ) → AreOrderly g c → is_of (registration_in g id) (is_boundary_by true position) ≡ true → IsAligned position → AreOrderly (changed id (changes.Truncate position) g) (without_sessions id c)
+truncated g c id position orderly boundary aligned =
     let k : Change = changes.Truncate position in
     with_none (changed id k g) c id (record {
-      register = changed_laid g id k orderly.register (λ r found laid. laid_truncated position r laid (within r found));
+      register = changed_laid g id k orderly.register (λ r found laid. laid_truncated position r laid (within r found) aligned);
       sessions = sessions_changed g c.sessions id k (λ r found w lies. record { behind = fallen r found w lies.behind; forward = lies.forward; in_stream = lies.in_stream; aligned = lies.aligned }) orderly.sessions;
       replays = replays_changed g c.replays id k (λ r. refl) orderly.replays;
     })
@@ -205,7 +206,7 @@ settled_one g c s w orderly seats found has =
       register = changed_laid g s.recording k orderly.register
           (λ r there laid.
           let lies : LiesBehind w r = subst (λ (o : Option Registration). IsSomeAnd o (LiesBehind w)) there some in
-          laid_settled w.last r laid (omega (arith, ints, lies.behind, lies.forward)) lies.in_stream);
+          laid_settled w.last r laid (omega (arith, ints, lies.behind, lies.forward)) lies.in_stream lies.aligned);
       sessions = settled_others g h s.number s c.sessions
           (λ id other. same_stay g h id (found_other id s.recording (changed_by k) g.recordings (id_kept k) (not_same id s.recording other))) seats.sessions.apart found orderly.sessions;
       replays = replays_changed g c.replays s.recording k (λ r. refl) orderly.replays;
@@ -238,8 +239,15 @@ found_by_number number key low next n (y ∷ ys) x rising found =
 pub start_range : (d : DeskState) (f : StartFields) → Allows d (Start f) → is_in_range f ≡ true
 start_range d f allows = passes_at (command_tests d (Start f)) (Broken ∷ []) (UnknownRecording ∷ ActiveRecording ∷ NotActive ∷ StaleSession ∷ UnknownReplay ∷ BadPosition ∷ (block_checks ++ last_checks)) BadParameter allows
 
+-- a truncation's position is in its recording, and a multiple of 32
+truncate_position : (d : DeskState) (id position : ℤ) → Allows d (Truncate id position) → (is_of (registration_in d.register id) (is_boundary_by true position) ≡ true) × (is_multiple position ≡ true)
+truncate_position d id position allows = both (passes_at (command_tests d (Truncate id position)) before_position (block_checks ++ last_checks) BadPosition allows)
+
 pub truncate_boundary : (d : DeskState) (id position : ℤ) → Allows d (Truncate id position) → is_of (registration_in d.register id) (is_boundary_by true position) ≡ true
-truncate_boundary d id position allows = passes_at (command_tests d (Truncate id position)) before_position (block_checks ++ last_checks) BadPosition allows
+truncate_boundary d id position allows = (truncate_position d id position allows).0
+
+pub truncate_aligned : (d : DeskState) (id position : ℤ) → Allows d (Truncate id position) → IsAligned position
+truncate_aligned d id position allows = multiple_units position (truncate_position d id position allows).1
 
 pub unread_before : (d : DeskState) (id position : ℤ) → Allows d (PurgeSegments id position) → list_any (is_replay_before id position) d.callers.replays ≡ false
 unread_before d id position allows =

@@ -31,11 +31,12 @@ pub record IsLaidOut (g : Registration) : Type 0 where
 abbrev pub stream_end : Registration → ℤ
 stream_end g = pos (2 ^ 31 * unsigned_abs g.descriptor.term_length)
 
--- A recording is laid out, and is recorded up to a position of its stream that is not before its start.
+-- A recording is laid out, and is recorded up to a position of its stream that is not before its start, a multiple of 32.
 pub record IsLaid (g : Registration) : Type 0 where
   pub laid_out : IsLaidOut g
   pub from_start : g.descriptor.start_position ≤ℤ g.recorded
   pub in_stream : g.recorded ≤ℤ stream_end g
+  pub aligned : IsAligned g.recorded
 
 -- each recording is laid
 abbrev pub AreLaid : RegisterState → Type 0

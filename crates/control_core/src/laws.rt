@@ -4,7 +4,8 @@ ghost use Rattle.std.specs.Prelude.{◌≡◌, ◌≢◌, ◌⊎◌, ℕ, ℤ, L
 ghost use Rattle.archive_model.specs.declared.command.Command.{Command};
 ghost use Rattle.archive_model.specs.Checks.{checked, checks};
 ghost use Rattle.archive_model.specs.Keyed.{Each};
-ghost use Rattle.archive_model.specs.State.{State, register_of};
+ghost use Rattle.archive_model.specs.Replay.{is_boundary};
+ghost use Rattle.archive_model.specs.State.{Recording, State, register_of};
 ghost use Rattle.archive_model.specs.Commands.{after, register_after};
 ghost use Rattle.archive_model.specs.Acceptance.{BookState};
 ghost use Rattle.archive_model.specs.Accepting.{Accepts};
@@ -12,7 +13,7 @@ ghost use Rattle.archive_model.specs.WellFormed.{IsWell};
 ghost use Rattle.control_core.specs.declared.request.Request.{Request};
 ghost use Rattle.control_core.specs.Desk.{DeskState};
 ghost use Rattle.control_core.specs.Changes.{desk_after};
-ghost use Rattle.control_core.specs.Decisions.{Allows, asked_command, command_in, decision_of};
+ghost use Rattle.control_core.specs.Decisions.{Allows, asked_command, command_in, decision_of, is_multiple};
 ghost use Rattle.control_core.specs.Agreement.{Agrees, HasWritten};
 ghost use Rattle.frame_core.specs.declared.refusal.Refusal.{Refusal};
 ghost use Rattle.frame_core.specs.declared.refusal.Refusal.TheVariants.{DeviceFault};
@@ -24,7 +25,7 @@ ghost use Rattle.control_core.specs.Machine.{Outcome, Step, Stepped};
 ghost use Rattle.control_core.specs.declared.asked.Asked.{Asked};
 ghost use Rattle.control_core.specs.Seats.{KeepsSeats};
 ghost use Rattle.control_core.specs.declared.asked.Asked.TheVariants.{ReplayOpen, ReplayPoll, Sweep, Verify};
-ghost use Rattle.control_core.specs.Exact.{Archive, ArchiveEnds, CallEnds, archive_after, asked_frames, asked_of, book_of, is_poll, opened_archive, settled_archive, told_of, with_desk};
+ghost use Rattle.control_core.specs.Exact.{Archive, ArchiveEnds, CallEnds, archive_after, asked_frames, asked_of, book_of, is_poll, opened_archive, recording_at, settled_archive, told_of, with_desk};
 ghost use Rattle.control_core.specs.Consistent.{AreAtBoundaries, IsAcceptable, IsAtBoundary, IsConsistent, MakesCommand, SettlesByAppend, StaysConsistent, StaysOpen, WroteNothing, is_append, is_asked};
 ghost use Rattle.control_core.specs.Orderly.{BeginsBy};
 ghost use Rattle.control_core.specs.Runs.{IsHistory, Leave};
@@ -70,6 +71,15 @@ pub fn the_desk_follows_the_state()
 pub fn a_decided_command_is_accepted()
     ensures { (a : Archive) (request : Request) (c : Command) → Agrees a.desk a.state →
         asked_frames a (decision_of a.desk request) ≡ Accepted c → IsAcceptable a c × IsTrue (is_asked c) }
+{}
+
+/// Each boundary of a recording of a consistent archive, its start, its recorded position and where a frame begins, is a
+/// multiple of 32. So a truncation at another position, which is refused unread, would be refused by the frames, too:
+/// docs/CONTROL.md, "Requests".
+#[tactic(auto, using(crate::proofs::MultipleLemmas::boundary_multiple))]
+pub fn a_boundary_is_a_multiple_of_32()
+    ensures { (a : Archive) (id position : ℤ) (r : Recording) → IsConsistent a →
+        recording_at a id ≡ Some r → IsTrue (is_boundary position r) → IsTrue (is_multiple position) }
 {}
 
 /// What is settled of a session's blocks is recorded by an accepted append, which makes of the desk what the settling

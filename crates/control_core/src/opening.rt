@@ -11,9 +11,9 @@ use archive_model::{BankVersion, Register};
 use std::alloc::Global;
 
 impl Desk {
-    /// The desk of an archive with these recordings, each laid out and recorded inside its stream, of whose history so many
-    /// entries count and may, and whose catalogue's bank has this version: nobody calls yet, and the numbers of sessions and
-    /// replays begin at 0. Does not allocate.
+    /// The desk of an archive with these recordings, each laid out and recorded inside its stream up to a multiple of 32, of
+    /// whose history so many entries count and may, and whose catalogue's bank has this version: nobody calls yet, and the
+    /// numbers of sessions and replays begin at 0. Does not allocate.
     pub fn opened(
         alloc: Global,
         register: Register,

@@ -244,6 +244,53 @@ fn a_replay_keeps_its_recording(rt: HostRuntime) -> Result<(), Fail> {
     Ok(())
 }
 
+fn record_and_stop(alloc: Global, desk: &mut Desk) -> Result<(), Refusal> {
+    record_a_segment(desk)?;
+    make_asked(alloc, desk, 0, 0, 5)
+}
+
+/// Recording 0 is recorded to where its second segment begins, and stopped; there is room for an entry.
+fn stopped_behind_a_segment(alloc: Global) -> Result<Desk, Refusal> {
+    let mut desk = recording(alloc, 1, 4)?;
+    record_and_stop(alloc, &mut desk).and(Ok(desk))
+}
+
+/// What a truncation of recording 0 is told by the desk alone.
+fn truncated(alloc: Global, desk: &Desk, position: i64) -> &'static str {
+    let request = Request::Truncate {
+        recording: 0,
+        position,
+    };
+    match decide(alloc, desk, &request) {
+        Decision::Refused(Refusal::BadPosition) => "BadPosition",
+        Decision::IfBoundary { .. } => "as the frames say",
+        Decision::Accepted(_) => "accepted",
+        _ => "another",
+    }
+}
+
+const TRUNCATED: [(i64, &'static str); 10] = [
+    (-32, "BadPosition"),
+    (0, "accepted"),
+    (63, "BadPosition"),
+    (64, "as the frames say"),
+    (65, "BadPosition"),
+    (96, "as the frames say"),
+    (97, "BadPosition"),
+    (131_071, "BadPosition"),
+    (131_072, "accepted"),
+    (131_104, "BadPosition"),
+];
+
+#[test]
+fn frames_are_asked_at_multiples_of_32_alone(rt: HostRuntime) -> Result<(), Fail> {
+    let desk = stopped_behind_a_segment(rt.alloc())?;
+    for (position, decided) in TRUNCATED {
+        assert!(rt; truncated(rt.alloc(), &desk, position) == decided);
+    }
+    Ok(())
+}
+
 fn open_many(desk: &mut Desk, count: u8) -> Result<(), Refusal> {
     for _ in 0..count {
         open(desk, 0)?;

@@ -26,25 +26,6 @@ unfolding is_in_stream
 within_stream (pos p) term is = let low : p ≤ 2 ^ 31 * unsigned_abs term = grind (arith, nat_tests) in omega (arith, ints, low)
 within_stream (negsuc p) term is = absurd (true≢false (sym is))
 
-settled_further : (position : ℤ) (r : Registration) → may_settle position r ≡ true → IsLaid r
-    → IsLaid (changed_by (changes.Settle position) r)
-settled_further position r may laid =
-    let first : ((is_active r && int_lt r.recorded position) && is_aligned position ≡ true) × (is_in_stream position r.descriptor.term_length ≡ true) = both may in
-    let second : (is_active r && int_lt r.recorded position ≡ true) × (is_aligned position ≡ true) = both first.0 in
-    let third : (is_active r ≡ true) × (int_lt r.recorded position ≡ true) = both second.0 in
-    let more : r.recorded <ℤ position = lt_true r.recorded position third.1 in
-    laid_settled position r laid (omega (arith, ints, more)) (within_stream position r.descriptor.term_length first.1)
-
-truncated_within : (position : ℤ) (r : Registration) → may_truncate position r ≡ true → IsLaid r
-    → IsLaid (changed_by (changes.Truncate position) r)
-truncated_within position r may laid =
-    let first : (is_stopped r && is_within position r ≡ true) × (is_aligned position ≡ true) = both may in
-    let second : (is_stopped r ≡ true) × (is_within position r ≡ true) = both first.0 in
-    laid_truncated position r laid second.1
-
-le_true : (a b : ℤ) → int_le a b ≡ true → a ≤ℤ b
-le_true a b is = search rules
-
 -- a multiple of 32 from 0
 aligned_units : (z : ℤ) → is_aligned z ≡ true → (k : ℕ) × (z ≡ pos (32 * k))
 unfolding is_aligned
@@ -53,6 +34,25 @@ aligned_units (pos p) is =
     let whole : p ≡ 32 * (p / 32) = omega (arith, none) in
     (p / 32, ap pos whole)
 aligned_units (negsuc p) is = absurd (true≢false (sym is))
+
+settled_further : (position : ℤ) (r : Registration) → may_settle position r ≡ true → IsLaid r
+    → IsLaid (changed_by (changes.Settle position) r)
+settled_further position r may laid =
+    let first : ((is_active r && int_lt r.recorded position) && is_aligned position ≡ true) × (is_in_stream position r.descriptor.term_length ≡ true) = both may in
+    let second : (is_active r && int_lt r.recorded position ≡ true) × (is_aligned position ≡ true) = both first.0 in
+    let third : (is_active r ≡ true) × (int_lt r.recorded position ≡ true) = both second.0 in
+    let more : r.recorded <ℤ position = lt_true r.recorded position third.1 in
+    laid_settled position r laid (omega (arith, ints, more)) (within_stream position r.descriptor.term_length first.1) (aligned_units position second.1)
+
+truncated_within : (position : ℤ) (r : Registration) → may_truncate position r ≡ true → IsLaid r
+    → IsLaid (changed_by (changes.Truncate position) r)
+truncated_within position r may laid =
+    let first : (is_stopped r && is_within position r ≡ true) × (is_aligned position ≡ true) = both may in
+    let second : (is_stopped r ≡ true) × (is_within position r ≡ true) = both first.0 in
+    laid_truncated position r laid second.1 (aligned_units position first.1)
+
+le_true : (a b : ℤ) → int_le a b ≡ true → a ≤ℤ b
+le_true a b is = search rules
 
 -- the limits of a recording
 pub record HasLimits (d : Descriptor) : Type 0 where
@@ -91,6 +91,7 @@ kept_laid g d is =
       };
       from_start = from;
       in_stream = ends;
+      aligned = aligned_units d.stop_position h.1;
     }
 
 -- an entry that may follow keeps recordings laid
