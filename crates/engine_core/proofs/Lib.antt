@@ -1,3 +1,4 @@
+pub mod Words
 pub mod files
 pub mod openings
 pub mod replays

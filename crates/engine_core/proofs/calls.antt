@@ -3,7 +3,9 @@ pub mod StandLemmas
 pub mod EndedLemmas
 pub mod CommitCallLemmas
 pub mod MakeLemmas
+pub mod EntryLemmas
 pub mod RunLemmas
+pub mod KeptRunLemmas
 pub mod SettleCallLemmas
 pub mod Targets
 pub mod WritingLemmas
@@ -11,5 +13,6 @@ pub mod WriteCallLemmas
 pub mod SweepCallLemmas
 pub mod ShownLemmas
 pub mod TouchLemmas
+pub mod KeepLemmas
 pub mod InsideLemmas
 pub mod AskLemmas

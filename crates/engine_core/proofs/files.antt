@@ -1,6 +1,7 @@
 pub mod RecoveryLemmas
 pub mod FrameLemmas
 pub mod CommitLemmas
+pub mod CatalogueLemmas
 pub mod StayLemmas
 pub mod WriteLemmas
 pub mod SettleLemmas

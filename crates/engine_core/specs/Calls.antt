@@ -1,5 +1,5 @@
 -- A call of an archive, and calls one after another: docs/STORAGE.md, "Recovery"; docs/CONTROL.md, "Requests".
-use Rattle.std.specs.Prelude.{◌≡◌, ◌≢◌, ◌+◌, ◌-◌, ◌^◌, ◌≤◌, ℕ, min, IsErrOf, IsTrue, Bool, true, false, List, [], ◌∷◌, count_by, Result, Ok, Err}
+use Rattle.std.specs.Prelude.{◌≡◌, ◌≢◌, ◌⊎◌, ◌+◌, ◌-◌, ◌^◌, ◌≤◌, ℕ, min, IsErrOf, IsFalse, IsTrue, Bool, true, false, List, [], ◌∷◌, count_by, Result, Ok, Err}
 use Rattle.disk_core.specs.DiskImage.{DiskImage, MayLeave, reads}
 use Rattle.disk_core.specs.Life.{HasFailed, Life, LeavesOnly}
 use Rattle.frame_core.specs.declared.refusal.Refusal.{Refusal}
@@ -7,6 +7,7 @@ use Rattle.frame_core.specs.declared.refusal.Refusal.TheVariants.{DeviceFault, N
 use Rattle.segment_store.specs.Stale.{HasSwept}
 use Rattle.archive_model.specs.declared.reply.Reply.{Reply}
 use Rattle.archive_model.specs.declared.reply.Reply.TheVariants.{Swept}
+use Rattle.archive_model.specs.Register.{RegisterState}
 use Rattle.archive_model.specs.State.{State}
 use Rattle.control_core.specs.declared.event.Event.{Event}
 use Rattle.control_core.specs.declared.event.Event.TheVariants as events
@@ -18,6 +19,7 @@ use Rattle.engine_core.specs.Recovery.{Recovers, RecoversTo}
 use Rattle.engine_core.specs.Engine.{Content, EngineState, DiskGoesOn, IsSpared, KeepsBank, archive_of}
 use Rattle.engine_core.specs.Consistent.{IsCrashConsistent, MayStandIn}
 use Rattle.engine_core.specs.Moves.{registered_keeps}
+use Rattle.engine_core.specs.Catalogued.{IsCatalogued, KeepsFound, MakesRegister, register_made}
 use Rattle.engine_core.specs.Shown.{Shows}
 use Rattle.engine_core.specs.Touching.{Touches}
 
@@ -76,6 +78,8 @@ pub record AnswersEvent (old new : EngineState) (event : Event) (result : Result
   -- Whatever the archive is: what is told of frames is what the files show, and no other file is changed than the call's.
   pub shows : IsTrue new.life.obeys → Shows (reads old.life.now) old.desk event result
   pub touches : Touches old event new.life
+  -- And a catalogue that was found whole is so at every moment, with what was recorded before the call or behind it.
+  pub catalogue : KeepsFound old new (register_made old.desk event)
 
 -- every image that a crash now may leave recovers to this state
 abbrev pub LeavesAlone : Life → State → Type 0
@@ -108,6 +112,28 @@ pub record Ran (old new : EngineState) (a : Archive) (events : List Event) (outc
   pub last : last_left a left ≡ archive_of new after
   pub consistent : IsCrashConsistent new.life new.log (archive_of new after)
   pub any_moment : LeavesOnly old.life new.life (RecoversTo (StoodAmong a left))
+
+-- ---- calls over damage
+
+-- each call was made while no write had failed
+abbrev pub WorksOn : (old : EngineState) (events : List Event) (outcomes : List (Result Reply Refusal)) (new : EngineState) → IsRun old events outcomes new → Type 0
+WorksOn old [] [] new run = Unit {0}
+WorksOn old (event ∷ events) (outcome ∷ outcomes) new run = IsFalse old.desk.is_broken × WorksOn run.0 events outcomes new run.2
+WorksOn old [] (outcome ∷ outcomes) new run = ⊥
+WorksOn old (event ∷ events) [] new run = ⊥
+
+-- the recordings before the first call, or those that one of the calls makes where it is accepted
+abbrev pub StoodIn : (old : EngineState) (events : List Event) (outcomes : List (Result Reply Refusal)) (new : EngineState) → IsRun old events outcomes new → RegisterState → Type 0
+StoodIn old [] [] new run g = g ≡ old.desk.register
+StoodIn old (event ∷ events) (outcome ∷ outcomes) new run g = (g ≡ old.desk.register) ⊎ ((g ≡ register_made old.desk event) ⊎ StoodIn run.0 events outcomes new run.2 g)
+StoodIn old [] (outcome ∷ outcomes) new run g = ⊥
+StoodIn old (event ∷ events) [] new run g = ⊥
+
+-- A crash at any moment of calls leaves a catalogue of the same header that makes recordings which stood then; behind them,
+-- while no write has failed, the log is at rest with what makes the desk's.
+pub record KeepsStanding (old new : EngineState) (Stood : RegisterState → Type 0) : Type 0 where
+  pub any_moment : LeavesOnly old.life new.life (λ image. (g : RegisterState) × Stood g × MakesRegister old.log.header g image)
+  pub rests : IsFalse new.desk.is_broken → IsCatalogued new
 
 -- ---- faults
 

@@ -41,8 +41,9 @@ pub record IsTied (log : LogState) (desk : DeskState) : Type 0 where
   pub limit : IsFalse desk.is_broken → log.header.history_limit ≡ desk.limit
   pub version : IsFalse desk.is_broken → log.header.version ≡ desk.version
 
--- entries are added to a bank of the same header, beside the same other one
+-- entries are added to the same bank, of the same header, beside the same other one
 pub record KeepsBank (old new : LogState) : Type 0 where
+  pub bank : new.bank ≡ old.bank
   pub header : new.header ≡ old.header
   pub spare : new.spare ≡ old.spare
 

@@ -10,6 +10,7 @@ pub mod Opening
 pub mod Reading
 pub mod Shown
 pub mod Touching
+pub mod Catalogued
 -- what only private functions say
 pub mod Moves
 pub mod Making

@@ -1,5 +1,5 @@
 -- How commands are made.
-use Rattle.std.specs.Prelude.{◌≡◌, ◌⊎◌, ℕ, ℤ, pos, IfErr, IfOk, IsErrOf, OnOk, Result, Err}
+use Rattle.std.specs.Prelude.{◌≡◌, ◌⊎◌, ℕ, ℤ, pos, IfErr, IfOk, IsErrOf, List, OnOk, Result, Err}
 use Rattle.disk_core.specs.Life.{HasFailed, LeavesOnly, Life}
 use Rattle.frame_core.specs.declared.refusal.Refusal.{Refusal}
 use Rattle.frame_core.specs.declared.refusal.Refusal.TheVariants.{DeviceFault, NoMemory}
@@ -7,12 +7,19 @@ use Rattle.archive_model.specs.declared.version.BankVersion.{BankVersion}
 use Rattle.archive_model.specs.declared.command.Command.TheVariants.{Restart}
 use Rattle.archive_model.specs.declared.reply.Reply.{Reply}
 use Rattle.archive_model.specs.Commands.{after}
-use Rattle.archive_model.specs.Register.{RegisterState, active_count, all_stopped}
+use Rattle.archive_model.specs.Register.{RegisterState, active_count, all_stopped, no_recordings}
 use Rattle.archive_model.specs.State.{State, register_of}
+use Rattle.catalogue_entries.specs.declared.entry.Entry.{Entry}
+use Rattle.catalogue_entries.specs.declared.entry.Entry.TheVariants as entries
+use Rattle.catalogue_entries.specs.Fold.{after_entries}
+use Rattle.catalogue_log.specs.Banks.{bank_file}
 use Rattle.catalogue_log.specs.Catalogue.{ChangesBank}
+use Rattle.catalogue_log.specs.LogState.{IsAtRest}
 use Rattle.control_core.specs.Changes.{broken_desk}
 use Rattle.control_core.specs.Desk.{DeskState, opened_desk}
 use Rattle.control_core.specs.Exact.{Archive, opened_archive}
+use Rattle.engine_core.specs.Catalogued.{HasEntries, restarted_entries}
+use Rattle.engine_core.specs.Moves.{ChangesThese}
 use Rattle.engine_core.specs.Recovery.{IsEither, RecoversTo}
 use Rattle.engine_core.specs.Engine.{Content, EngineState, DiskGoesOn, IsSpared, KeepsBank, archive_of}
 use Rattle.engine_core.specs.Consistent.{IsCrashConsistent}
@@ -35,9 +42,17 @@ pub record CommitsEntry (old new : EngineState) (Fits : Archive → Type 0) (rep
   pub ended : (c : Content) → IsCrashConsistent old.life old.log (archive_of old c) → Fits (archive_of old c) →
       CallEnded old new (archive_of old c) (CommitEnds (archive_of old c) reply (to (archive_of old c)) (HasFailed old.life new.life) result)
 
+-- The entry of a restart was added behind others where a recording was active; where none was, nothing was.
+pub record RestartsBehind (old new : EngineState) (es : List Entry) (result : Result ℤ Refusal) : Type 0 where
+  pub any_moment : LeavesOnly old.life new.life (HasEntries old.log.header es entries.Restart)
+  pub rests : IfOk result (λ stopped. IsAtRest new.life.now new.log (restarted_entries stopped es))
+
 -- What a restart of an archive did that is opened.
 pub record Restarts (old new : EngineState) (result : Result ℤ Refusal) : Type 0 where
   pub bank : KeepsBank old.log new.log
+  pub touches : ChangesThese (λ file. file ≡ bank_file old.log.bank) 4 old.life new.life
+  -- whatever the segment files hold
+  pub entries : (es : List Entry) → IsAtRest old.life.now old.log es → after_entries no_recordings es ≡ old.desk.register → RestartsBehind old new es result
   pub changes : ChangesBank old.life new.life
   pub cause : IsErrOf result DeviceFault → HasFailed old.life new.life
   pub outside : IfErr result (λ refusal. (refusal ≡ DeviceFault) ⊎ (refusal ≡ NoMemory))

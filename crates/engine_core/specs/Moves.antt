@@ -8,7 +8,9 @@ use Rattle.disk_core.specs.DiskImage.{Files, reads}
 use Rattle.disk_core.specs.Life.{HasFailed, Life, LeavesOnly, moment}
 use Rattle.segment_store.specs.declared.keep.Keep.{Keep}
 use Rattle.segment_store.specs.declared.keep.Keep.TheVariants as keeps
+use Rattle.disk_core.specs.Standing.{KeepsBelow}
 use Rattle.segment_store.specs.Stale.{is_stale}
+use Rattle.segment_store.specs.Stored.{ChangesFile}
 use Rattle.archive_model.specs.declared.registration.Registration.{Registration}
 use Rattle.archive_model.specs.Keyed.{Each}
 use Rattle.archive_model.specs.Register as register
@@ -20,6 +22,7 @@ use Rattle.catalogue_entries.specs.Fold.{admits, after_entry, counts}
 use Rattle.catalogue_log.specs.LogState.{LogState}
 use Rattle.engine_core.specs.Recovery.{IsDurable, IsEither, IsSound, RecoversTo}
 use Rattle.recording_reads.specs.Recording.{layout_of}
+use Rattle.engine_core.specs.Catalogued.{KeepsBanks}
 use Rattle.engine_core.specs.Engine.{DiskGoesOn, KeepsBank}
 
 -- An entry may follow those of a state, and makes of all but the frames what another state has.
@@ -103,3 +106,11 @@ pub record ChangesThese (P : FileId → Type 0) (most : ℕ) (old new : Life) : 
 pub record SettlesAt (old new : Life) (segment bank : FileId) : Type 0 where
   pub changes : ChangesThese (λ file. (file ≡ segment) ⊎ (file ≡ bank)) 5 old new
   pub segments : (file : FileId) → file ≢ BankA → file ≢ BankB → reads new.now file ≡ reads old.now file
+
+-- A block was written at an offset of a segment file, or was not: below it nothing became unsynced, and no crash leaves
+-- other banks than before.
+pub record WritesAt (segment : FileId) (offset : ℕ) (old new : Life) : Type 0 where
+  pub changes : ChangesFile segment old new
+  pub calls : moment new ≤ moment old + 1
+  pub below : KeepsBelow offset (old.now segment) (new.now segment)
+  pub banks : KeepsBanks old new

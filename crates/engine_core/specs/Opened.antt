@@ -1,11 +1,12 @@
 -- Opening an archive after a crash: docs/STORAGE.md, "Recovery".
-use Rattle.std.specs.Prelude.{◌≡◌, ◌≢◌, ◌⊎◌, ◌<◌, ℕ, ℤ, pos, true, IsSome, IsTrue, List, Option, None, Some, count_by}
+use Rattle.std.specs.Prelude.{◌≡◌, ◌≢◌, ◌⊎◌, ◌+◌, ◌<◌, ◌≤◌, ℕ, length, ℤ, pos, true, IsSome, IsTrue, List, Option, None, Some, count_by}
 use Rattle.frame_core.specs.declared.refusal.Refusal.{Refusal}
 use Rattle.frame_core.specs.declared.refusal.Refusal.TheVariants.{BadParameter, DeviceFault, NoMemory}
 use Rattle.disk_core.specs.declared.file_id.FileId.{FileId}
 use Rattle.disk_core.specs.declared.file_id.FileId.TheVariants.{BankA, BankB}
 use Rattle.disk_core.specs.DiskImage.{DiskImage, MayLeave, reads}
-use Rattle.disk_core.specs.Life.{Life, LeavesOnly}
+use Rattle.disk_core.specs.FileNames.{AreFilesWith}
+use Rattle.disk_core.specs.Life.{IsQuiet, Life, LeavesOnly, moment}
 use Rattle.archive_model.specs.State.{State, active_count}
 use Rattle.archive_model.specs.declared.command.Command.TheVariants.{Restart}
 use Rattle.archive_model.specs.Commands.{after}
@@ -13,11 +14,13 @@ use Rattle.archive_model.specs.Register as register
 use Rattle.archive_model.specs.Register.{all_stopped, no_recordings}
 use Rattle.catalogue_log.specs.declared.bank.BankHeader.{BankHeader}
 use Rattle.catalogue_entries.specs.declared.entry.Entry.{Entry}
+use Rattle.catalogue_log.specs.Banks.{bank_file, other_of}
 use Rattle.catalogue_log.specs.Catalogue.{IsCatalogue}
 use Rattle.catalogue_entries.specs.Fold.{after_entries, counts}
 use Rattle.catalogue_log.specs.LogState.{Banks, TellsBanks, banks_of}
 use Rattle.control_core.specs.Desk.{DeskState, opened_desk}
 use Rattle.control_core.specs.Exact.{Archive, opened_archive}
+use Rattle.engine_core.specs.Catalogued.{LeavesCatalogue, OpensCatalogue}
 use Rattle.engine_core.specs.Recovery.{IsEither, Recovers, RecoversTo}
 use Rattle.engine_core.specs.Engine.{DiskGoesOn, EngineState, new_archive}
 use Rattle.engine_core.specs.Consistent.{IsCrashConsistent, KeepsArchive}
@@ -65,6 +68,12 @@ pub record IsDeskOf (image : DiskImage) (desk : DeskState) (restarted : ℤ) : T
   pub is : desk ≡ opened_desk (all_stopped (after_entries no_recordings entries)) (count_by counts entries) header.history_limit header.version
   pub stopped : restarted ≡ pos (register.active_count (after_entries no_recordings entries))
 
+-- at most a call that changes something for each file, one for each bank, and four for a restart
+pub record OpensBy (old new : Life) : Type 0 where
+  pub files : List FileId
+  pub are : IsTrue new.obeys → AreFilesWith (λ file. IsSome (reads old.now file)) files
+  pub calls : moment new ≤ moment old + length files + 6
+
 -- What `Engine::open` says of a disk that it opens, by stopping so many recordings.
 pub record HasOpened (old : Life) (new : EngineState) (stopped : ℤ) : Type 0 where
   pub opened : (s u : State) → LeavesEither old s u → IsTrue new.life.obeys → IsOpened old new stopped s u
@@ -75,8 +84,12 @@ pub record HasOpened (old : Life) (new : EngineState) (stopped : ℤ) : Type 0 w
   pub goes_on : DiskGoesOn old new.life
   -- only the bank in use may read otherwise
   pub others : (file : FileId) → file ≢ BankA → file ≢ BankB → reads new.life.now file ≡ reads old.now file
+  pub other_bank : reads new.life.now (bank_file (other_of new.log.bank)) ≡ reads old.now (bank_file (other_of new.log.bank))
   -- nothing is written where no recording was active
   pub idle : stopped ≡ pos 0 → ReadsAsBefore old new.life
+  pub calls : OpensBy old new.life
+  -- the catalogue that the disk read as is there at every moment, whatever the segment files hold
+  pub catalogue : IsTrue new.life.obeys → (h : BankHeader) (es : List Entry) → IsCatalogue (reads old.now) h es → OpensCatalogue old new stopped h es
 
 -- What it says of a disk that it refuses.
 pub record HasNotOpened (old new : Life) (refusal : Refusal) : Type 0 where
@@ -85,6 +98,9 @@ pub record HasNotOpened (old new : Life) (refusal : Refusal) : Type 0 where
   pub refuses : RefusesOpening old new refusal
   pub goes_on : DiskGoesOn old new
   pub others : (file : FileId) → file ≢ BankA → file ≢ BankB → reads new.now file ≡ reads old.now file
+  pub calls : IsQuiet old new ⊎ OpensBy old new
+  -- also of a disk that no archive has left
+  pub catalogue : IsTrue new.obeys → (h : BankHeader) (es : List Entry) → IsCatalogue (reads old.now) h es → LeavesCatalogue old new h es
 
 -- the banks of a new archive: of epoch 1, and the other may be written
 abbrev pub new_banks : Banks

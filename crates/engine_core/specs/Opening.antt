@@ -1,9 +1,9 @@
 -- What syncing an archive's files does, before they are read: docs/STORAGE.md, "Opening".
-use Rattle.std.specs.Prelude.{◌≡◌, ◌⊎◌, ◌<◌, ◌≤◌, ℕ, None, IsSome, IsTrue}
+use Rattle.std.specs.Prelude.{◌≡◌, ◌≢◌, ◌⊎◌, ◌<◌, ◌≤◌, ℕ, None, IsSome, IsTrue}
 use Rattle.frame_core.specs.declared.refusal.Refusal.{Refusal}
 use Rattle.frame_core.specs.declared.refusal.Refusal.TheVariants.{BadParameter, DeviceFault, NoMemory}
 use Rattle.disk_core.specs.declared.file_id.FileId.{FileId}
-use Rattle.disk_core.specs.declared.file_id.FileId.TheVariants.{BankB}
+use Rattle.disk_core.specs.declared.file_id.FileId.TheVariants.{BankA, BankB}
 use Rattle.disk_core.specs.DiskImage.{MayLeave, durable, reads}
 use Rattle.disk_core.specs.Life.{HasFailed, IsQuiet, Life, LeavesOnly}
 use Rattle.catalogue_log.specs.Banks.{HasClosedGate}
@@ -15,6 +15,10 @@ pub record SyncsOnly (old new : Life) : Type 0 where
   pub any_moment : LeavesOnly old new (MayLeave old.now)
   pub obeyed : IsTrue new.obeys → IsTrue old.obeys
   pub faults : old.faults ≤ new.faults
+
+-- each segment file is on the disk as it read
+abbrev pub AreOnDisk : Life → Life → Type 0
+AreOnDisk old new = (file : FileId) → file ≢ BankA → file ≢ BankB → IsSome (reads old.now file) → new.now file ≡ durable (reads old.now file)
 
 -- each file reads as before, and no crash leaves what it might not have left before
 pub record ReadsAsBefore (old new : Life) : Type 0 where

@@ -4,6 +4,7 @@ ghost use Rattle.std.specs.Prelude.{IsTrue};
 ghost use Rattle.disk_core.specs.DiskImage.{reads};
 ghost use Rattle.control_core.specs.Decisions.{decision_of};
 ghost use Rattle.control_core.specs.declared.event.Event.TheVariants as events;
+ghost use Rattle.engine_core.specs.Catalogued.{KeepsFound, register_made};
 ghost use Rattle.engine_core.specs.Shown.{AsksDecided};
 ghost use Rattle.engine_core.specs.Touching.{Touches, WantsMemory};
 
@@ -30,6 +31,8 @@ impl<D: Disk> Engine<D> {
             (decision_of self.old.desk.state request.now) result }
         ensures touches { Touches (seen D.life self.old) (events.Ask request.now) (D.life self.new.storage.disk) }
         ensures memory { WantsMemory self.old.desk.state (events.Ask request.now) result }
+        ensures catalogue { KeepsFound (seen D.life self.old) (seen D.life self.new)
+            (register_made self.old.desk.state (events.Ask request.now)) }
     {
         match decide(alloc, &self.desk, request) {
             Decision::Refused(refusal) => Err(refusal),

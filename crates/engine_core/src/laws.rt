@@ -1,6 +1,6 @@
 //! Laws of the definitions, each the contract of a function that does nothing.
 
-ghost use Rattle.std.specs.Prelude.{◌≡◌, ◌+◌, ◌++◌, ◌∷◌, IsFalse, IsTrue, List, [], Result, Ok, Err, length, unsigned_abs};
+ghost use Rattle.std.specs.Prelude.{◌≡◌, ◌+◌, ◌++◌, ◌∷◌, ℤ, IsFalse, IsTrue, List, [], Result, Ok, Err, length, unsigned_abs};
 ghost use Rattle.disk_core.specs.DiskImage.{DiskImage, Files, MayLeave, begun, reads};
 ghost use Rattle.disk_core.specs.Life.{LeavesOnly, Life, MayHaveLeft, moment};
 ghost use Rattle.frame_core.specs.declared.block.Block.{Block};
@@ -21,17 +21,20 @@ ghost use Rattle.catalogue_entries.specs.declared.entry.Entry.{Entry};
 ghost use Rattle.archive_model.specs.declared.version.BankVersion.{BankVersion};
 ghost use Rattle.catalogue_entries.specs.Fold.{AreAdmitted, after_entries, first_place};
 ghost use Rattle.catalogue_entries.specs.History.{IsRequested, entry_of};
+ghost use Rattle.catalogue_log.specs.declared.bank.BankHeader.{BankHeader};
+ghost use Rattle.catalogue_log.specs.Catalogue.{IsCatalogue};
 ghost use Rattle.catalogue_log.specs.Compacting.{HasRegister, LeavesRegister};
 ghost use Rattle.catalogue_log.specs.LogState.{LogState};
 ghost use Rattle.control_core.specs.declared.event.Event.{Event};
 ghost use Rattle.control_core.specs.Exact.{Archive, ArchiveEnds};
 ghost use Rattle.control_core.specs.Orderly.{AreLaid};
 ghost use Rattle.control_core.specs.Runs.{MayStand, StoodAmong};
-ghost use Rattle.engine_core.specs.Calls.{AnswersEvent, HasFailedOften, IsRun, LeavesAlone, Ran, faults_in};
+ghost use Rattle.engine_core.specs.Calls.{AnswersEvent, HasFailedOften, IsRun, KeepsStanding, LeavesAlone, Ran, StoodIn, WorksOn, faults_in};
+ghost use Rattle.engine_core.specs.Catalogued.{IsCatalogued, MakesRegister};
 ghost use Rattle.engine_core.specs.Consistent.{IsCrashConsistent, Stands};
 ghost use Rattle.engine_core.specs.Engine.{Content, EngineState, DiskGoesOn, archive_of};
 ghost use Rattle.engine_core.specs.Moves.{Enters, EntryLeads};
-ghost use Rattle.engine_core.specs.Opened.{LeavesEither};
+ghost use Rattle.engine_core.specs.Opened.{HasOpened, LeavesEither};
 ghost use Rattle.engine_core.specs.Recovery.{IsDurable, IsSound, Recovers, last_of};
 ghost use Rattle.recording_reads.specs.Recording.{layout_of};
 
@@ -108,6 +111,26 @@ pub fn a_run_keeps_the_archive()
         (Result Reply Refusal)) →
         IsRun old events outcomes new → IsCrashConsistent old.life old.log (archive_of old c) →
         IsTrue new.life.obeys → Ran old new (archive_of old c) events outcomes }
+{}
+
+/// Whatever the segment files hold, a run up to a write that fails keeps the catalogue: a crash at any moment of it leaves
+/// recordings that stood then, or what the write was to make.
+pub fn a_run_keeps_the_catalogue()
+    ensures { (old new : EngineState) (events : List Event) (outcomes : List (Result Reply Refusal))
+        (run : IsRun old events outcomes new) → WorksOn old events outcomes new run → IsCatalogued old →
+        KeepsStanding old new (StoodIn old events outcomes new run) }
+{}
+
+/// An archive that was opened over a whole catalogue keeps it, whatever the segment files hold.
+pub fn an_opened_catalogue_is_kept()
+    ensures { (old : Life) (new : EngineState) (stopped : ℤ) (h : BankHeader) (es : List Entry) →
+        HasOpened old new stopped → IsTrue new.life.obeys → IsCatalogue (reads old.now) h es → IsCatalogued new }
+{}
+
+/// The catalogue of a log at rest is what a crash leaves: an opening finds it, and its recordings.
+pub fn a_kept_catalogue_is_found()
+    ensures { (e : EngineState) (image : DiskImage) → IsCatalogued e → MayLeave e.life.now image →
+        MakesRegister e.log.header e.desk.register image }
 {}
 
 /// Once a call is answered, a crash leaves the state after it alone; refused, while no write has failed, the one before it

@@ -6,9 +6,10 @@ ghost use Rattle.archive_model.specs.Accepting.{Accepts};
 ghost use Rattle.catalogue_log.specs.Banks.{bank_file};
 ghost use Rattle.catalogue_log.specs.Catalogue.{ChangesBank};
 ghost use Rattle.catalogue_entries.specs.History.{IsRequested};
-ghost use Rattle.control_core.specs.Changes.{reply_after};
+ghost use Rattle.control_core.specs.Changes.{desk_after, reply_after};
 ghost use Rattle.control_core.specs.Decisions.{Allows};
 ghost use Rattle.control_core.specs.Exact.{archive_after, book_of};
+ghost use Rattle.engine_core.specs.Catalogued.{AddsCommand, KeepsFound};
 ghost use Rattle.engine_core.specs.Making.{CommitsEntry, Restarts, after_failure};
 ghost use Rattle.engine_core.specs.Moves.{ChangesThese};
 
@@ -39,6 +40,10 @@ impl<D: Disk> Engine<D> {
             (D.life self.new.storage.disk) }
         ensures touches { ChangesThese (λ file. file ≡ bank_file self.old.storage.log.bank) 4
             (D.life self.old.storage.disk) (D.life self.new.storage.disk) }
+        // Whatever the segment files hold.
+        ensures entries { AddsCommand (seen D.life self.old) (seen D.life self.new) command result }
+        ensures catalogue { KeepsFound (seen D.life self.old) (seen D.life self.new)
+            (desk_after self.old.desk.state command).register }
     {
         let entry = Entry::of_command(alloc, &self.desk.next_recording(), &command)?;
         self.desk.reserve(&command)?;

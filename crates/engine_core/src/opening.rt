@@ -1,20 +1,20 @@
 //! The files of an archive, opened or made anew: docs/STORAGE.md, "Opening" and "Recovery".
 
-ghost use Rattle.std.specs.Prelude.{◌≡◌, ◌⊎◌, ◌<◌, ◌≤◌, ◌^◌, ◌↔◌, ℕ, ℤ, IfErr, IfNone, IfOk, IfSome, IsErrOf, IsFalse, IsSome, IsTrue, List, OnOk, None};
+ghost use Rattle.std.specs.Prelude.{◌≡◌, ◌⊎◌, ◌+◌, ◌<◌, ◌≤◌, ◌^◌, ◌↔◌, ℕ, ℤ, length, IfErr, IfNone, IfOk, IfSome, IsErrOf, IsFalse, IsSome, IsTrue, List, OnOk, None};
 ghost use Rattle.frame_core.specs.declared.refusal.Refusal.TheVariants.{BadParameter, DeviceFault, NoMemory};
 ghost use Rattle.disk_core.specs.declared.file_id.FileId.{FileId};
 ghost use Rattle.disk_core.specs.declared.file_id.FileId.TheVariants.{BankB, Segment};
 ghost use Rattle.disk_core.specs.DiskImage.{durable, reads};
 ghost use Rattle.disk_core.specs.FileNames.{AreFilesWith};
-ghost use Rattle.disk_core.specs.Life.{HasFailed, IsQuiet};
+ghost use Rattle.disk_core.specs.Life.{HasFailed, IsQuiet, moment};
 ghost use Rattle.archive_model.specs.State.{State, empty, register_of};
 ghost use Rattle.archive_model.specs.Register.{no_recordings};
 ghost use Rattle.catalogue_entries.specs.declared.entry.Entry.{Entry};
 ghost use Rattle.catalogue_log.specs.Banks.{HasClosedGate};
 ghost use Rattle.catalogue_log.specs.Catalogue.{RefusesCatalogue};
 ghost use Rattle.catalogue_entries.specs.Fold.{after_entries};
-ghost use Rattle.catalogue_log.specs.LogState.{IsLogIn, banks_of};
-ghost use Rattle.engine_core.specs.Opening.{ReadsAsBefore, SyncsOnly};
+ghost use Rattle.catalogue_log.specs.LogState.{IsAtRest, IsLogIn, banks_of};
+ghost use Rattle.engine_core.specs.Opening.{AreOnDisk, ReadsAsBefore, SyncsOnly};
 ghost use Rattle.archive_model.specs.declared.version.BankVersion.TheVariants.{Two};
 ghost use Rattle.control_core.specs.Desk.{opened_desk};
 ghost use Rattle.control_core.specs.Orderly.{AreLaid};
@@ -53,6 +53,7 @@ pub(crate) fn read_desk<D: Disk>(
     // Of any catalogue, whatever the segment files hold.
     ensures log { IfOk result (λ opened. IsTrue (D.life disk.new).obeys →
         (entries : List Entry) × IsLogIn (reads (D.life disk.old).now) opened.0 entries
+        × IsAtRest (D.life disk.new).now opened.0 entries
         × (opened.1.state ≡ opened_desk (after_entries no_recordings entries) opened.0.counted opened.0.header.history_limit
         opened.0.header.version)) }
     ensures refused { IfErr result (λ refusal. IsTrue (D.life disk.new).obeys →
@@ -61,6 +62,8 @@ pub(crate) fn read_desk<D: Disk>(
         Recovers (reads (D.life disk.old).now) x → (refusal ≡ DeviceFault) ⊎ (refusal ≡ NoMemory)) }
     ensures before { ReadsAsBefore (D.life disk.old) (D.life disk.new) }
     ensures cause { IsErrOf result DeviceFault → HasFailed (D.life disk.old) (D.life disk.new) }
+    ensures synced { OnOk result (IsTrue (D.life disk.new).obeys → AreOnDisk (D.life disk.old) (D.life disk.new)) }
+    ensures calls { moment (D.life disk.new) ≤ moment (D.life disk.old) + length files.now + 2 }
 {
     let (log, register) = open_files(alloc, disk, files)?;
     let counted = log.counted() as u64;
@@ -84,12 +87,15 @@ fn open_files<D: Disk>(
     ensures laid { IfOk result (λ opened. AreLaid opened.1.state) }
     ensures log { IfOk result (λ opened. IsTrue (D.life disk.new).obeys →
         (entries : List Entry) × IsLogIn (reads (D.life disk.old).now) opened.0 entries
+        × IsAtRest (D.life disk.new).now opened.0 entries
         × (opened.1.state ≡ after_entries no_recordings entries)) }
     ensures works { IfOk result (λ opened. IsFalse opened.0.is_broken) }
     ensures refused { IfErr result (λ refusal. IsTrue (D.life disk.new).obeys →
         RefusesCatalogue (reads (D.life disk.old).now) refusal) }
     ensures before { ReadsAsBefore (D.life disk.old) (D.life disk.new) }
     ensures cause { IsErrOf result DeviceFault → HasFailed (D.life disk.old) (D.life disk.new) }
+    ensures synced { OnOk result (IsTrue (D.life disk.new).obeys → AreOnDisk (D.life disk.old) (D.life disk.new)) }
+    ensures calls { moment (D.life disk.new) ≤ moment (D.life disk.old) + length files.now + 2 }
 {
     sync_segments(disk, files)?;
     open_register(alloc, disk)
@@ -168,6 +174,7 @@ pub(crate) fn sync_segments<D: Disk>(disk: &mut D, files: &[FileId]) -> Result<(
     ensures only { SyncsOnly (D.life disk.old) (D.life disk.new) }
     ensures refused { IfErr result (λ refusal. refusal ≡ DeviceFault) }
     ensures cause { IsErrOf result DeviceFault → HasFailed (D.life disk.old) (D.life disk.new) }
+    ensures calls { moment (D.life disk.new) ≤ moment (D.life disk.old) + length files.now }
 {
     for file in files {
         sync_listed(disk, *file)?;
@@ -182,6 +189,7 @@ fn sync_listed<D: Disk>(disk: &mut D, file: FileId) -> Result<(), Refusal>
     ensures only { SyncsOnly (D.life disk.old) (D.life disk.new) }
     ensures refused { IfErr result (λ refusal. refusal ≡ DeviceFault) }
     ensures cause { IsErrOf result DeviceFault → HasFailed (D.life disk.old) (D.life disk.new) }
+    ensures calls { moment (D.life disk.new) ≤ moment (D.life disk.old) + 1 }
 {
     match file {
         FileId::BankA | FileId::BankB => {}

@@ -10,6 +10,7 @@ ghost use Rattle.control_core.specs.declared.event.Event.TheVariants as events;
 ghost use Rattle.control_core.specs.Exact.{Archive, asked_opening, opens_by_frames};
 ghost use Rattle.control_core.specs.Turns.{open_decision, opening_in};
 ghost use Rattle.engine_core.specs.Calls.{IfRead};
+ghost use Rattle.engine_core.specs.Catalogued.{KeepsFound};
 ghost use Rattle.engine_core.specs.Consistent.{IsCrashConsistent};
 ghost use Rattle.engine_core.specs.Replaying.{IsDecided, ShowsOpening};
 ghost use Rattle.engine_core.specs.Shown.{OpensShown};
@@ -22,7 +23,7 @@ use frame_core::Refusal;
 use recording_reads::is_boundary;
 
 impl<D: Disk> Engine<D> {
-    ghost use Rattle.engine_core.specs.Seen.{HasEnded};
+    ghost use Rattle.engine_core.specs.Seen.{HasEnded, seen};
 
     /// Opens a replay of a recording, from a position of its stream on and over so many bytes: position -1 means the start,
     /// length -1 that there is no end. Answers the replay's number. Where the position lies strictly inside the recording,
@@ -43,6 +44,7 @@ impl<D: Disk> Engine<D> {
             OpensShown (reads (D.life self.old.storage.disk).now) self.old.desk.state recording.now
             (open_decision self.old.desk.state recording.now position.now length.now) result }
         ensures quiet { IsQuiet (D.life self.old.storage.disk) (D.life self.new.storage.disk) }
+        ensures catalogue { KeepsFound (seen D.life self.old) (seen D.life self.new) self.old.desk.state.register }
     {
         let opening = decided_opening(
             &mut self.storage.disk,

@@ -5,6 +5,7 @@ ghost use Rattle.disk_core.specs.DiskImage.{reads};
 ghost use Rattle.disk_core.specs.Life.{IsQuiet};
 ghost use Rattle.control_core.specs.declared.event.Event.TheVariants as events;
 ghost use Rattle.control_core.specs.Turns.{is_done_at, poll_decision};
+ghost use Rattle.engine_core.specs.Catalogued.{KeepsFound};
 ghost use Rattle.engine_core.specs.Shown.{PollsDecided};
 
 use crate::Engine;
@@ -16,7 +17,7 @@ use recording_reads::poll_frames;
 use std::alloc::Global;
 
 impl<D: Disk> Engine<D> {
-    ghost use Rattle.engine_core.specs.Seen.{HasEnded};
+    ghost use Rattle.engine_core.specs.Seen.{HasEnded, seen};
 
     /// Takes the next frames of a replay, at most so many, and where it goes on, or that it is done: at its bound, or at the
     /// end of a recording that isn't active. What is written and not settled is not given.
@@ -30,6 +31,7 @@ impl<D: Disk> Engine<D> {
             PollsDecided (reads (D.life self.old.storage.disk).now) self.old.desk.state
             (poll_decision self.old.desk.state replay.now most.now) most.now result }
         ensures quiet { IsQuiet (D.life self.old.storage.disk) (D.life self.new.storage.disk) }
+        ensures catalogue { KeepsFound (seen D.life self.old) (seen D.life self.new) self.old.desk.state.register }
     {
         let reader = decide_poll(&self.desk, replay, most)?;
         let found = reader.found;

@@ -8,10 +8,12 @@ ghost use Rattle.archive_model.specs.Register.{registration_in};
 ghost use Rattle.catalogue_log.specs.Banks.{bank_file};
 ghost use Rattle.control_core.specs.declared.event.Event.TheVariants as events;
 ghost use Rattle.control_core.specs.declared.turns.Settling.TheVariants.{Blocks};
+ghost use Rattle.control_core.specs.Changes.{settled};
 ghost use Rattle.control_core.specs.Exact.{settled_archive};
 ghost use Rattle.control_core.specs.Orderly.{KeepsDesk};
 ghost use Rattle.control_core.specs.Seats.{IsFoundSession};
-ghost use Rattle.control_core.specs.Turns.{settle_decision};
+ghost use Rattle.control_core.specs.Turns.{session_in, settle_decision};
+ghost use Rattle.engine_core.specs.Catalogued.{KeepsFound, register_made};
 ghost use Rattle.engine_core.specs.Making.{CommitsEntry};
 ghost use Rattle.engine_core.specs.Moves.{SettlesAt};
 ghost use Rattle.engine_core.specs.Touching.{SettlesBlocks, WantsMemory};
@@ -40,6 +42,8 @@ impl<D: Disk> Engine<D> {
         ensures ends { HasEnded D.life self.old self.new (events.Settle session.now) result }
         ensures touches { SettlesBlocks (seen D.life self.old) session.now (D.life self.new.storage.disk) }
         ensures memory { WantsMemory self.old.desk.state (events.Settle session.now) result }
+        ensures catalogue { KeepsFound (seen D.life self.old) (seen D.life self.new)
+            (register_made self.old.desk.state (events.Settle session.now)) }
     {
         let decided = decide_settle(&self.desk, session)?;
         match decided.settling {
@@ -74,6 +78,8 @@ impl<D: Disk> Engine<D> {
             (replies.Settled written.now.last) (λ a. settled_archive a session.now recording.now) result }
         ensures touches { SettlesAt (D.life self.old.storage.disk) (D.life self.new.storage.disk)
             (file_of layout.now (unsigned_abs written.now.first)) (bank_file self.old.storage.log.bank) }
+        ensures catalogue { KeepsFound (seen D.life self.old) (seen D.life self.new)
+            (settled (session_in self.old.desk.state session.now) self.old.desk.state).register }
     {
         let position = written.last;
         let entry = Entry::Settle {

@@ -5,6 +5,7 @@ ghost use Rattle.segment_store.specs.declared.keep.Keep.TheVariants.{Below};
 ghost use Rattle.frame_core.specs.declared.refusal.Refusal.TheVariants.{NoMemory};
 ghost use Rattle.segment_store.specs.Stale.{IsKeep};
 ghost use Rattle.control_core.specs.declared.event.Event.TheVariants as events;
+ghost use Rattle.engine_core.specs.Catalogued.{KeepsFound};
 ghost use Rattle.engine_core.specs.Moves.{registered_keep, registered_keeps};
 ghost use Rattle.engine_core.specs.Touching.{Touches};
 
@@ -28,6 +29,7 @@ impl<D: Disk> Engine<D> {
     pub(crate) fn sweep(&mut self, alloc: Global) -> Result<Reply, Refusal>
         ensures ends { HasEnded D.life self.old self.new events.Sweep result }
         ensures touches { Touches (seen D.life self.old) events.Sweep (D.life self.new.storage.disk) }
+        ensures catalogue { KeepsFound (seen D.life self.old) (seen D.life self.new) self.old.desk.state.register }
     {
         decide_sweep(&self.desk)?;
         let keeps = keeps_of(alloc, &self.desk)?;

@@ -5,6 +5,7 @@ ghost use Rattle.disk_core.specs.DiskImage.{reads};
 ghost use Rattle.disk_core.specs.Life.{IsQuiet};
 ghost use Rattle.archive_model.specs.Register.{registration_in};
 ghost use Rattle.control_core.specs.declared.event.Event.TheVariants as events;
+ghost use Rattle.engine_core.specs.Catalogued.{KeepsFound};
 ghost use Rattle.engine_core.specs.Shown.{CountsShown};
 
 use crate::Engine;
@@ -16,7 +17,7 @@ use recording_reads::count_frames;
 use std::alloc::Global;
 
 impl<D: Disk> Engine<D> {
-    ghost use Rattle.engine_core.specs.Seen.{HasEnded};
+    ghost use Rattle.engine_core.specs.Seen.{HasEnded, seen};
 
     /// Reads each recorded frame of a recording, and answers how many there are.
     ///
@@ -28,6 +29,7 @@ impl<D: Disk> Engine<D> {
             IfSome (registration_in self.old.desk.state.register recording.now) (λ g.
             CountsShown (reads (D.life self.old.storage.disk).now) g result) }
         ensures quiet { IsQuiet (D.life self.old.storage.disk) (D.life self.new.storage.disk) }
+        ensures catalogue { KeepsFound (seen D.life self.old) (seen D.life self.new) self.old.desk.state.register }
     {
         let known = decide_verify(&self.desk, recording)?;
         let frames = count_frames(alloc, &mut self.storage.disk, known)?;

@@ -4,6 +4,7 @@ ghost use Rattle.std.specs.Prelude.{◌≡◌, IfSome, MatchOption, Some};
 ghost use Rattle.frame_core.specs.Block.{IsBlock, end_position};
 ghost use Rattle.archive_model.specs.State.{geometry_of, publication_of};
 ghost use Rattle.control_core.specs.declared.event.Event.TheVariants as events;
+ghost use Rattle.engine_core.specs.Catalogued.{KeepsFound};
 ghost use Rattle.engine_core.specs.Touching.{WantsMemory, WritesBlock};
 
 use crate::Engine;
@@ -22,7 +23,7 @@ struct Target<'a> {
 }
 
 impl<D: Disk> Engine<D> {
-    ghost use Rattle.engine_core.specs.Seen.{HasEnded};
+    ghost use Rattle.engine_core.specs.Seen.{HasEnded, seen};
 
     /// Writes a recorder session's block behind what it wrote before, or behind what is recorded, by one call of the disk,
     /// and answers where it ends, in bytes of the stream. It is durable once it is settled, with what was written before.
@@ -34,6 +35,7 @@ impl<D: Disk> Engine<D> {
         ensures touches { WritesBlock self.old.desk.state session.now block.now
             (D.life self.old.storage.disk) (D.life self.new.storage.disk) }
         ensures memory { WantsMemory self.old.desk.state (events.Write session.now block.now) result }
+        ensures catalogue { KeepsFound (seen D.life self.old) (seen D.life self.new) self.old.desk.state.register }
     {
         let writer = self.desk.session(session);
         let Some(target) = target_of(&writer, block) else {

@@ -1,41 +1,24 @@
 -- How a request is answered.
 use Rattle.std.proofs.Common.{◌≡◌, ◌++◌, ◌∙◌, inl, inr, sym, ap, subst, refl, Bool, true, false, true≢false, cond, Option, Some, None, IsTrue, IsFalse, List, [], ◌∷◌, ℤ}
 use Rattle.std.specs.Prelude.{IfOk, Result, Ok, Err, is_some}
-use Rattle.frame_core.specs.declared.refusal.Refusal.{Refusal}
-use Rattle.frame_core.specs.declared.refusal.Refusal.TheVariants.{BadPosition, DeviceFault, NoMemory}
-use Rattle.disk_core.specs.Life.{HasFailed}
-use Rattle.archive_model.specs.declared.command.Command.{Command}
+use Rattle.engine_core.proofs.Words.{Accepts, Allows, Archive, ArchiveEnds, BadPosition, CallEnds, Command, CommitEnds, CommitsEntry, Content, Decides, Decision, DeskState, DeviceFault, EndsAs, EndsEvent, EngineState, Event, HasFailed, IsRequested, NoMemory, Outcome, Recording, Refusal, Registration, Reply, Request, Stepped, Tests, archive_after, archive_of, begins_frame, block_checks, book_of, checked, checks, command_in, decision_of, first_checks, is_end, last_checks, passes, recording_at, registration_in, registration_of, reply_after, takes_memory}
 use Rattle.archive_model.specs.declared.command.Command.TheVariants as commands
-use Rattle.archive_model.specs.declared.registration.Registration.{Registration}
-use Rattle.archive_model.specs.declared.reply.Reply.{Reply}
 use Rattle.archive_model.specs.declared.reply.Reply.TheVariants as replies
-use Rattle.archive_model.specs.Accepting.{Accepts, begins_in}
-use Rattle.archive_model.specs.Checks.{Tests, block_checks, checked, checks, first_checks, last_checks, passes}
-use Rattle.archive_model.specs.Register.{is_end, registration_in}
-use Rattle.archive_model.specs.Replay.{begins_frame}
-use Rattle.archive_model.specs.State.{Recording, registration_of}
-use Rattle.catalogue_entries.specs.History.{IsRequested}
+use Rattle.archive_model.specs.Accepting.{begins_in}
 use Rattle.control_core.specs.declared.asked.Asked.TheVariants as calls
 use Rattle.control_core.specs.declared.asked.Told.TheVariants as told
-use Rattle.control_core.specs.Decided.{Decision}
 use Rattle.control_core.specs.Decided as decisions
-use Rattle.control_core.specs.declared.event.Event.{Event}
 use Rattle.control_core.specs.declared.event.Event.TheVariants as events
-use Rattle.control_core.specs.declared.request.Request.{Request}
 use Rattle.control_core.specs.declared.request.Request.TheVariants as requests
 use Rattle.control_core.specs.Agreement.{Agrees}
-use Rattle.control_core.specs.Changes.{reply_after}
 use Rattle.control_core.specs.Consistent.{is_asked}
-use Rattle.control_core.specs.Decisions.{Allows, Decides, accepted, answered, command_in, command_tests, decided, decision_of, extend_tests, find_tests, greatest, if_boundary, list_tests, listed, on_truncate, positions_reply, positions_tests, source_reply, source_tests, purge_segments_tests, purge_tests, start_tests, stop_tests, takes_memory, truncate_tests}
-use Rattle.control_core.specs.Desk.{DeskState}
-use Rattle.control_core.specs.Exact.{Archive, ArchiveEnds, CallEnds, DecisionEnds, archive_after, asked_frames, book_of, plain, reads_files, recording_at, waits_for_frames, writes_files}
-use Rattle.control_core.specs.Machine.{Decided, OrOutside, Outcome, Outside, Stepped}
+use Rattle.control_core.specs.Decisions.{accepted, answered, command_tests, decided, extend_tests, find_tests, greatest, if_boundary, list_tests, listed, on_truncate, positions_reply, positions_tests, source_reply, source_tests, purge_segments_tests, purge_tests, start_tests, stop_tests, truncate_tests}
+use Rattle.control_core.specs.Exact.{DecisionEnds, asked_frames, plain, reads_files, waits_for_frames, writes_files}
+use Rattle.control_core.specs.Machine.{Decided, OrOutside, Outside}
 use Rattle.control_core.proofs.AgreementLemmas.{allowed, answered_none, at_boundary, in_front, passing}
 use Rattle.control_core.proofs.CallLemmas.{asked_works}
 use Rattle.control_core.proofs.DecidedLemmas.{decided_accepted}
-use Rattle.engine_core.specs.Calls.{EndsEvent, CommitEnds, EndsAs, is_cut}
-use Rattle.engine_core.specs.Engine.{Content, EngineState, archive_of}
-use Rattle.engine_core.specs.Making.{CommitsEntry}
+use Rattle.engine_core.specs.Calls.{is_cut}
 use Rattle.engine_core.proofs.calls.EndedLemmas.{ended_as, spared_by}
 use Rattle.engine_core.proofs.calls.InsideLemmas.{BegunEnds, InsideEnds, MakesInside, commit_cause, commit_step, some_content}
 use Rattle.engine_core.proofs.calls.KnownLemmas.{known_recording}

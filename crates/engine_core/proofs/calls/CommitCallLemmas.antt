@@ -1,33 +1,10 @@
 -- How an operation ends that adds an entry for a command.
 use Rattle.std.proofs.Common.{◌≡◌, ◌≢◌, ◌⊎◌, ◌∙◌, ◌+◌, ◌<◌, sym, ap, subst, refl, ℕ, false, true≢false, IsTrue, inl, inr, arith, List}
 use Rattle.std.specs.Prelude.{Result, Ok, Err}
-use Rattle.frame_core.specs.declared.refusal.Refusal.{Refusal}
-use Rattle.frame_core.specs.declared.refusal.Refusal.TheVariants.{DeviceFault, NoMemory}
-use Rattle.disk_core.specs.declared.file_id.FileId.TheVariants.{Segment}
-use Rattle.disk_core.specs.DiskImage.{reads}
-use Rattle.disk_core.specs.Life.{HasFailed}
-use Rattle.disk_core.proofs.CallerLemmas.{weaker}
-use Rattle.archive_model.specs.declared.command.Command.{Command}
+use Rattle.engine_core.proofs.Words.{Allows, Archive, CallEnded, Command, CommitEnds, Content, DeskState, DeviceFault, Each, EngineState, Entry, HasEntryRoom, HasFailed, IsCrashConsistent, IsEither, IsTied, KeepsSegments, LogState, Moves, NoMemory, RecorderSession, RecoversTo, Refusal, Reply, Segment, StandsBehind, StaysConsistent, after_failure, archive_of, broken, broken_desk, content_of, counts, reads, weaker}
 use Rattle.archive_model.specs.declared.command.Command.TheVariants as commands
-use Rattle.archive_model.specs.declared.reply.Reply.{Reply}
 use Rattle.archive_model.specs.Acceptance as acceptance
-use Rattle.archive_model.specs.Keyed.{Each}
-use Rattle.catalogue_entries.specs.declared.entry.Entry.{Entry}
-use Rattle.catalogue_entries.specs.Fold.{counts}
-use Rattle.catalogue_log.specs.LogState.{LogState}
-use Rattle.control_core.specs.declared.callers.RecorderSession.{RecorderSession}
-use Rattle.control_core.specs.Changes.{broken_desk}
-use Rattle.control_core.specs.Consistent.{StaysConsistent}
-use Rattle.control_core.specs.Decisions.{Allows}
-use Rattle.control_core.specs.Desk.{DeskState}
-use Rattle.control_core.specs.Exact.{Archive, broken}
 use Rattle.control_core.proofs.AllowedLemmas.{room_of}
-use Rattle.engine_core.specs.Calls.{CommitEnds, CallEnded}
-use Rattle.engine_core.specs.Consistent.{IsCrashConsistent, StandsBehind}
-use Rattle.engine_core.specs.Engine.{Content, EngineState, IsTied, archive_of, content_of}
-use Rattle.engine_core.specs.Making.{after_failure}
-use Rattle.engine_core.specs.Moves.{HasEntryRoom, KeepsSegments, Moves}
-use Rattle.engine_core.specs.Recovery.{IsEither, RecoversTo}
 use Rattle.engine_core.proofs.calls.EndedLemmas.{done, failed, recovers_as, sound_consistent}
 use Rattle.engine_core.proofs.calls.StandLemmas.{stand_on}
 

@@ -1,26 +1,11 @@
 -- How a call of an archive ends: nothing has changed, or an operation on its files has succeeded, or has failed.
 use Rattle.std.proofs.Common.{◌≡◌, ◌∙◌, sym, ap, subst, refl, IsTrue, true≢false, false, Option, Some, None, inl, inr, arith}
 use Rattle.std.specs.Prelude.{◌≢◌, ◌⊎◌, IsFalse, Result, Ok, Err, is_some}
-use Rattle.frame_core.specs.declared.refusal.Refusal.{Refusal}
-use Rattle.frame_core.specs.declared.refusal.Refusal.TheVariants.{DeviceFault, NoMemory}
-use Rattle.archive_model.specs.declared.reply.Reply.{Reply}
-use Rattle.disk_core.specs.DiskImage.{DiskImage, Files, MayLeave, reads}
-use Rattle.disk_core.specs.Life.{IsQuiet, Life, LeavesOnly}
-use Rattle.disk_core.proofs.CallerLemmas.{goes_quiet, now_leaves, started, weaker}
-use Rattle.archive_model.specs.Keyed.{Each}
-use Rattle.archive_model.specs.State.{State}
-use Rattle.catalogue_log.specs.LogState.{LogState}
-use Rattle.control_core.specs.Changes.{broken_desk}
-use Rattle.control_core.specs.Consistent.{AreAtBoundaries, IsConsistent}
-use Rattle.control_core.specs.Desk.{DeskState}
-use Rattle.control_core.specs.Exact.{Archive, broken}
+use Rattle.engine_core.proofs.Words.{Archive, CallEnded, DeskState, DeviceFault, DiskGoesOn, DiskImage, Each, EngineState, Files, IsConsistent, IsCrashConsistent, IsDurable, IsEither, IsQuiet, IsSound, KeepsBank, LeavesOnly, Life, LogState, MayLeave, MayStandIn, NoMemory, RecoversTo, Refusal, Reply, StandsBehind, State, after_failure, broken, broken_desk, content_of, goes_quiet, now_leaves, reads, started, weaker}
+use Rattle.control_core.specs.Consistent.{AreAtBoundaries}
 use Rattle.control_core.specs.Runs.{MayStand}
 use Rattle.control_core.proofs.ConsistentLemmas.{breaks}
-use Rattle.engine_core.specs.Calls.{CallEnded}
-use Rattle.engine_core.specs.Consistent.{IsCrashConsistent, MayStandIn, StandsBehind}
-use Rattle.engine_core.specs.Engine.{DiskGoesOn, EngineState, IsAsBefore, IsSpared, KeepsBank, content_of}
-use Rattle.engine_core.specs.Making.{after_failure}
-use Rattle.engine_core.specs.Recovery.{IsDurable, IsEither, IsSound, RecoversTo}
+use Rattle.engine_core.specs.Engine.{IsAsBefore, IsSpared}
 use Rattle.engine_core.proofs.files.RecoveryLemmas.{sound_recovers}
 
 pub recovers_as : (P Q : State → Type 0) (image : DiskImage) → ((s : State) → P s → Q s)
@@ -61,7 +46,7 @@ goes_on_here life = record { obeyed = λ obeys. obeys; faults = omega arith }
 -- ---- what the log adds to
 
 pub same_bank : (old new : LogState) → new ≡ old → KeepsBank old new
-same_bank old new same = record { header = ap (λ (log : LogState). log.header) same; spare = ap (λ (log : LogState). log.spare) same }
+same_bank old new same = record { bank = ap (λ (log : LogState). log.bank) same; header = ap (λ (log : LogState). log.header) same; spare = ap (λ (log : LogState). log.spare) same }
 
 -- ---- what a refusal left
 

@@ -1,32 +1,13 @@
 -- A command whose position lies strictly inside a recording: frames are read first.
 use Rattle.std.proofs.Common.{◌≡◌, ◌⊎◌, ◌∙◌, inl, inr, sym, ap, subst, refl, ℤ, [], Bool, true, false, Some, None, IsTrue, arith}
 use Rattle.std.specs.Prelude.{IfOk, IsErrOf, Result, Ok, Err}
-use Rattle.frame_core.specs.declared.refusal.Refusal.{Refusal}
-use Rattle.frame_core.specs.declared.refusal.Refusal.TheVariants.{BadPosition, Damaged, DeviceFault, NoMemory}
-use Rattle.disk_core.specs.DiskImage.{DiskImage, MayLeave, reads}
-use Rattle.disk_core.specs.Life.{HasFailed, IsQuiet, Life}
-use Rattle.disk_core.proofs.CallerLemmas.{goes_on_part}
+use Rattle.engine_core.proofs.Words.{Accepts, Archive, BadPosition, CallEnded, Command, CommitEnds, CommitsEntry, Content, Damaged, DeskState, DeviceFault, DiskGoesOn, DiskImage, EngineState, HasFailed, IsCrashConsistent, IsQuiet, KeepsBank, Life, MayLeave, MayStandIn, NoMemory, Outcome, Recording, RecordingIsRead, RecoversTo, Refusal, RefusesBoundaryIn, Registration, Reply, archive_after, archive_of, begins_frame, book_of, empty, goes_on_part, is_end, reads, recording_at, registration_in, registration_of, reply_after}
 use Rattle.segment_store.proofs.ChainLemmas.{quiet_on}
-use Rattle.archive_model.specs.declared.command.Command.{Command}
-use Rattle.archive_model.specs.declared.registration.Registration.{Registration}
-use Rattle.archive_model.specs.declared.reply.Reply.{Reply}
-use Rattle.archive_model.specs.Accepting.{Accepts}
-use Rattle.archive_model.specs.Register.{is_end, registration_in}
-use Rattle.archive_model.specs.Replay.{begins_frame}
-use Rattle.archive_model.specs.State.{Recording, empty, registration_of}
 use Rattle.control_core.specs.declared.asked.Told.TheVariants as told
-use Rattle.control_core.specs.Changes.{reply_after}
-use Rattle.control_core.specs.Desk.{DeskState}
-use Rattle.control_core.specs.Exact.{Archive, ArchiveEnd, Is, archive_after, book_of, plain, recording_at}
+use Rattle.control_core.specs.Exact.{ArchiveEnd, Is, plain}
 use Rattle.control_core.specs.Machine as machine
-use Rattle.control_core.specs.Machine.{Does, Ends, OrOutside, Outcome, UnlessBoundary, Unread}
-use Rattle.recording_reads.specs.Reading.{RefusesBoundaryIn}
-use Rattle.engine_core.specs.Calls.{CommitEnds, CallEnded}
-use Rattle.engine_core.specs.Consistent.{IsCrashConsistent, MayStandIn}
-use Rattle.engine_core.specs.Engine.{Content, DiskGoesOn, EngineState, IsAsBefore, IsSpared, KeepsBank, archive_of}
-use Rattle.engine_core.specs.Making.{CommitsEntry}
-use Rattle.engine_core.specs.Reading.{RecordingIsRead}
-use Rattle.engine_core.specs.Recovery.{RecoversTo}
+use Rattle.control_core.specs.Machine.{Does, Ends, OrOutside, UnlessBoundary, Unread}
+use Rattle.engine_core.specs.Engine.{IsAsBefore, IsSpared}
 use Rattle.engine_core.proofs.calls.EndedLemmas.{ended_as, quiet_consistent, quiet_goes_on, quiet_moments, same_bank, still}
 use Rattle.engine_core.proofs.calls.KnownLemmas.{is_read}
 use Rattle.engine_core.proofs.calls.SweepCallLemmas.{one_refusal}

@@ -4,37 +4,18 @@ use Rattle.std.proofs.lemmas.Int.{ints}
 use Rattle.std.proofs.lemmas.List.Elements.{All-cons, All-nil}
 use Rattle.std.proofs.lemmas.Simd.{map-map}
 use Rattle.std.specs.Prelude.{IfSome, IsSomeAnd, IsTrue, option_map}
-use Rattle.disk_core.specs.DiskImage.{MayLeave, reads}
-use Rattle.disk_core.specs.Life.{Life}
-use Rattle.segment_store.specs.declared.keep.Keep.{Keep}
-use Rattle.segment_store.specs.declared.keep.Keep.TheVariants.{Below}
-use Rattle.segment_store.specs.Layout.{IsFromStart, IsGeometryOf, IsLayout}
+use Rattle.engine_core.proofs.Words.{Archive, Below, DeskState, Each, HoldsRecording, IsCrashConsistent, IsFromStart, IsKept, IsLaid, IsLayout, IsWriting, Keep, KeepsDesk, LiesBehind, Life, LogState, MayLeave, OpenReplay, RecorderSession, Recording, RecordingIsRead, RegisterState, Registration, State, Written, each_found, geometry_of, id_of, is_of, keeps_of, layout_of, open_replay_in, reads, recording_at, register_of, registered_keeps, registration_in, registration_of, replay_number, session_in, session_number, written_to}
+use Rattle.segment_store.specs.Layout.{IsGeometryOf}
 use Rattle.segment_store.specs.Stale.{IsKeep}
-use Rattle.archive_model.specs.declared.registration.Registration.{Registration}
-use Rattle.archive_model.specs.Checks.{is_of}
-use Rattle.archive_model.specs.Keyed.{Each}
 use Rattle.archive_model.specs.Register as register
-use Rattle.archive_model.specs.Register.{RegisterState, is_active, registration_in}
-use Rattle.archive_model.specs.State.{Recording, State, geometry_of, id_of, register_of, registration_of}
-use Rattle.archive_model.specs.WellFormed.{IsKept}
-use Rattle.archive_model.proofs.StateLemmas.{each_found, found_registration}
-use Rattle.catalogue_log.specs.LogState.{LogState}
-use Rattle.control_core.specs.declared.callers.OpenReplay.{OpenReplay}
-use Rattle.control_core.specs.declared.callers.RecorderSession.{RecorderSession}
-use Rattle.control_core.specs.declared.callers.Written.{Written}
+use Rattle.archive_model.specs.Register.{is_active}
+use Rattle.archive_model.proofs.StateLemmas.{found_registration}
 use Rattle.control_core.specs.Agreement.{Agrees}
-use Rattle.control_core.specs.Callers.{replay_number, session_number, written_to}
 use Rattle.control_core.specs.Changes.{next_position, recorded_of}
-use Rattle.control_core.specs.Desk.{DeskState}
-use Rattle.control_core.specs.Exact.{Archive, recording_at}
-use Rattle.control_core.specs.Orderly.{IsLaid, IsLaidOut, KeepsDesk, LiesBehind, ReadsFromStart, WroteBehind}
-use Rattle.control_core.specs.Seats.{IsWriting, KeepsSeats}
-use Rattle.control_core.specs.Turns.{continues, open_replay_in, session_in}
-use Rattle.engine_core.specs.Consistent.{IsCrashConsistent}
-use Rattle.engine_core.specs.Moves.{keeps_of, registered_keep, registered_keeps}
-use Rattle.engine_core.specs.Reading.{RecordingIsRead}
-use Rattle.engine_core.specs.Recovery.{HoldsRecording}
-use Rattle.recording_reads.specs.Recording.{layout_of}
+use Rattle.control_core.specs.Orderly.{IsLaidOut, ReadsFromStart, WroteBehind}
+use Rattle.control_core.specs.Seats.{KeepsSeats}
+use Rattle.control_core.specs.Turns.{continues}
+use Rattle.engine_core.specs.Moves.{registered_keep}
 use Rattle.engine_core.proofs.files.RecoveryLemmas.{durable_hold}
 use Rattle.std.proofs.lemmas.Bool.Decides.{Decides-int_eq}
 

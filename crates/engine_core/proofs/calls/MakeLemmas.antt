@@ -1,44 +1,16 @@
 -- How a command is made.
 use Rattle.std.proofs.Common.{◌≢◌, rules, ◌≡◌, ◌⊎◌, ◌∙◌, ◌+◌, sym, ap, subst, refl, pos, [], cond, inl, inr}
 use Rattle.std.specs.Prelude.{IsFalse, IsTrue, Result, Ok, Err, Some, is_some}
-use Rattle.frame_core.specs.declared.refusal.Refusal.{Refusal}
-use Rattle.frame_core.specs.declared.refusal.Refusal.TheVariants.{DeviceFault, NoMemory}
-use Rattle.disk_core.specs.DiskImage.{DiskImage, FileState, reads}
-use Rattle.disk_core.specs.Life.{HasFailed, Life}
-use Rattle.archive_model.specs.declared.version.BankVersion.{BankVersion}
-use Rattle.archive_model.specs.declared.command.Command.{Command}
+use Rattle.engine_core.proofs.Words.{Accepts, AddsEntry, Allows, Archive, BankVersion, CallEnded, ChangesBank, Command, CommitEnds, CommitsEntry, Content, DeskState, DeviceFault, DiskImage, Each, EngineState, Entry, EntryLeads, FileState, HasEntryRoom, HasFailed, IsConsistent, IsCrashConsistent, IsRequested, IsSound, IsTied, KeepsSegments, Life, LogState, Moves, NoMemory, Refusal, Reply, StandsBehind, State, StaysConsistent, StaysOpen, after, after_failure, archive_after, archive_of, book_of, counts, desk_after, each_found, entry_of, reads, reply_after, session_in, session_number}
 use Rattle.archive_model.specs.declared.command.Command.TheVariants as commands
-use Rattle.archive_model.specs.declared.reply.Reply.{Reply}
 use Rattle.archive_model.specs.Acceptance as acceptance
-use Rattle.archive_model.specs.Accepting.{Accepts}
-use Rattle.archive_model.specs.Commands.{after}
-use Rattle.archive_model.specs.Keyed.{Each}
-use Rattle.archive_model.specs.State.{State}
-use Rattle.archive_model.proofs.StateLemmas.{each_found}
-use Rattle.catalogue_entries.specs.declared.entry.Entry.{Entry}
-use Rattle.catalogue_log.specs.Catalogue.{ChangesBank}
 use Rattle.catalogue_entries.specs.EntryBytes.{is_held}
-use Rattle.catalogue_entries.specs.Fold.{counts}
-use Rattle.catalogue_entries.specs.History.{IsRequested, entry_of}
-use Rattle.catalogue_log.specs.LogState.{LogState}
 use Rattle.control_core.specs.Agreement.{HasWritten}
-use Rattle.control_core.specs.Callers.{session_number}
-use Rattle.control_core.specs.Changes.{desk_after, reply_after}
-use Rattle.control_core.specs.Consistent.{IsAcceptable, IsConsistent, StaysConsistent, StaysOpen, WroteNothing, is_append}
-use Rattle.control_core.specs.Decisions.{Allows}
-use Rattle.control_core.specs.Desk.{DeskState}
-use Rattle.control_core.specs.Exact.{Archive, archive_after, book_of}
-use Rattle.control_core.specs.Turns.{session_in}
+use Rattle.control_core.specs.Consistent.{IsAcceptable, WroteNothing, is_append}
 use Rattle.control_core.proofs.AllowedLemmas.{start_held}
 use Rattle.control_core.proofs.CommandLemmas.{consistent_after, sessions_stay}
 use Rattle.control_core.proofs.FoundLemmas.{each_both}
 use Rattle.control_core.proofs.StayLemmas.{each_itself, open_blocks}
-use Rattle.engine_core.specs.Calls.{CommitEnds, CallEnded}
-use Rattle.engine_core.specs.Consistent.{IsCrashConsistent, StandsBehind}
-use Rattle.engine_core.specs.Engine.{Content, EngineState, IsTied, archive_of}
-use Rattle.engine_core.specs.Making.{CommitsEntry, after_failure}
-use Rattle.engine_core.specs.Moves.{AddsEntry, HasEntryRoom, KeepsSegments, EntryLeads, Moves}
-use Rattle.engine_core.specs.Recovery.{IsSound}
 use Rattle.engine_core.proofs.calls.CommitCallLemmas.{commit_done, commit_refused, exact_commit, room_for, tied_behind}
 use Rattle.engine_core.proofs.calls.EndedLemmas.{as_before, goes_on_here, no_doubt, quiet_life, same_bank, spared, spared_unbroken, still}
 use Rattle.engine_core.proofs.calls.StandLemmas.{stands_either, stands_nothing}

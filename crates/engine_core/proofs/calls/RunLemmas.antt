@@ -4,25 +4,17 @@ use Rattle.std.specs.Prelude.{IsFalse, Result, Ok, Err}
 use Rattle.std.proofs.lemmas.List.Sums.{sum_by-cons}
 use Rattle.std.proofs.Math.Path.{fun_ext}
 use Rattle.std.proofs.Math.Seq.{take-suc}
-use Rattle.frame_core.specs.declared.refusal.Refusal.{Refusal}
-use Rattle.frame_core.specs.declared.refusal.Refusal.TheVariants.{DeviceFault, NoMemory}
-use Rattle.disk_core.specs.DiskImage.{DiskImage, Files, MayLeave, begun, durable}
-use Rattle.disk_core.specs.Life.{HasFailed, Life, MayHaveLeft, moment}
-use Rattle.disk_core.proofs.CallerLemmas.{durable_left, goes_on_part, started, weaker}
-use Rattle.archive_model.specs.declared.reply.Reply.{Reply}
-use Rattle.archive_model.specs.State.{State}
-use Rattle.catalogue_log.specs.LogState.{LogState}
-use Rattle.control_core.specs.declared.event.Event.{Event}
-use Rattle.control_core.specs.Exact.{Archive, ArchiveEnds, LeftByFault}
+use Rattle.engine_core.proofs.Words.{Archive, ArchiveEnds, Content, DeviceFault, DiskGoesOn, DiskImage, EngineState, Event, Files, HasFailed, IsCrashConsistent, IsRun, Life, LogState, MayLeave, MayStandIn, NoMemory, Recovers, RecoversTo, Refusal, Reply, State, archive_of, durable, goes_on_part, moment, started, weaker}
+use Rattle.disk_core.specs.DiskImage.{begun}
+use Rattle.disk_core.specs.Life.{MayHaveLeft}
+use Rattle.disk_core.proofs.CallerLemmas.{durable_left}
+use Rattle.control_core.specs.Exact.{LeftByFault}
 use Rattle.control_core.specs.Machine.{Outside}
 use Rattle.control_core.specs.Runs.{MayStand, StoodAmong}
 use Rattle.control_core.proofs.CallLemmas.{refused_unchanged}
 use Rattle.control_core.proofs.FaultLemmas.{other_cause}
-use Rattle.engine_core.specs.Calls.{AnswersEvent, HasFailedOften, IsRun, LeavesAlone, Ran, faults_in, is_fault}
-use Rattle.engine_core.specs.Consistent.{IsCrashConsistent, MayStandIn}
-use Rattle.engine_core.specs.Engine.{Content, EngineState, DiskGoesOn, archive_of}
+use Rattle.engine_core.specs.Calls.{AnswersEvent, HasFailedOften, LeavesAlone, Ran, faults_in, is_fault}
 use Rattle.engine_core.specs.Opened.{LeavesEither}
-use Rattle.engine_core.specs.Recovery.{Recovers, RecoversTo}
 use Rattle.engine_core.proofs.calls.EndedLemmas.{goes_on_here, no_doubt, recovers_as}
 
 -- ---- whatever the archive is

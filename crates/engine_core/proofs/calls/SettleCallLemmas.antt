@@ -1,66 +1,32 @@
 -- How a call ends that settles what a session wrote.
 use Rattle.std.proofs.Common.{rules, ◌≡◌, ◌≢◌, ◌⊎◌, ◌∙◌, ◌+◌, ◌<◌, sym, ap, subst, refl, ℤ, pos, ◌+ℤ◌, ◌&&◌, ◌||◌, not, Bool, true, false, cond, true≢false, inl, inr, List, [], ◌∷◌, Option, Some, Result, Ok, Err, unsigned_abs, arith}
 use Rattle.std.specs.Prelude.{IsFalse, IsTrue, is_some}
-use Rattle.disk_core.specs.DiskImage.{DiskImage, reads}
-use Rattle.disk_core.specs.Life.{HasFailed, Life}
-use Rattle.frame_core.specs.declared.block.Block.{Block}
-use Rattle.frame_core.specs.declared.refusal.Refusal.{Refusal}
-use Rattle.frame_core.specs.declared.refusal.Refusal.TheVariants.{DeviceFault, NoMemory}
-use Rattle.frame_core.specs.Block.{covered}
-use Rattle.segment_store.specs.declared.layout.Layout.{Layout}
-use Rattle.segment_store.specs.Layout.{IsFromStart, IsLayout, file_of}
+use Rattle.engine_core.proofs.Words.{AddsEntry, Archive, ArchiveEnds, Block, CallEnded, CallEnds, Command, CommitEnds, CommitsEntry, Content, DeskState, DeviceFault, DiskImage, Each, EndsAs, EndsEvent, EngineState, Enters, Entry, Event, FileId, HasBlocks, HasEntryRoom, HasFailed, IsConsistent, IsCrashConsistent, IsFromStart, IsLayout, IsSound, IsTied, KeepsDesk, KeepsSegments, Layout, Life, LogState, Moves, NoMemory, RecorderSession, Recording, Refusal, Registration, Reply, SettlesAt, Stands, StandsBehind, State, StaysConsistent, StaysOpen, Tests, Written, after, after_failure, archive_of, bank_file, book_of, both, call_is_allowed, checked, checks, content_of, counts, covered, each_found, empty, entry_of, file_of, find, found_number, frames_of, held, id_of, last_of, layout_of, opened_archive, reads, recorded_position, recording_at, registration_in, session_in, session_number, settle_decision, settled}
 use Rattle.archive_model.specs.declared.version.BankVersion.TheVariants.{Two}
-use Rattle.archive_model.specs.declared.command.Command.{Command}
 use Rattle.archive_model.specs.declared.command.Command.TheVariants as commands
-use Rattle.archive_model.specs.declared.registration.Registration.{Registration}
-use Rattle.archive_model.specs.declared.reply.Reply.{Reply}
 use Rattle.archive_model.specs.declared.reply.Reply.TheVariants as replies
-use Rattle.archive_model.specs.Checks.{Tests, checked, checks}
-use Rattle.archive_model.specs.Commands.{after, frames_of, recorded_in}
-use Rattle.archive_model.specs.Keyed.{Each, find}
-use Rattle.archive_model.specs.Register.{registration_in}
-use Rattle.archive_model.specs.State.{Recording, State, empty, id_of, recorded_position}
-use Rattle.archive_model.proofs.RegisterLemmas.{found_number}
-use Rattle.archive_model.proofs.StateLemmas.{each_found}
-use Rattle.archive_model.proofs.WellLemmas.{both}
-use Rattle.catalogue_entries.specs.declared.entry.Entry.{Entry}
+use Rattle.archive_model.specs.Commands.{recorded_in}
 use Rattle.catalogue_entries.specs.declared.entry.Entry.TheVariants as entries
-use Rattle.catalogue_entries.specs.Fold.{counts}
-use Rattle.catalogue_entries.specs.History.{entry_of}
-use Rattle.catalogue_log.specs.LogState.{LogState}
-use Rattle.control_core.specs.declared.callers.RecorderSession.{RecorderSession}
 use Rattle.control_core.specs.declared.callers.Writer.{Writer}
-use Rattle.control_core.specs.declared.callers.Written.{Written}
-use Rattle.control_core.specs.declared.event.Event.{Event}
 use Rattle.control_core.specs.declared.event.Event.TheVariants as events
 use Rattle.control_core.specs.declared.turns.Settling.{Settling}
 use Rattle.control_core.specs.declared.turns.Settling.TheVariants as settling
-use Rattle.control_core.specs.Callers.{session_number}
-use Rattle.control_core.specs.Changes.{settled, settled_by}
-use Rattle.control_core.specs.Consistent.{HasBlocks, IsConsistent, SettlesByAppend, StaysConsistent, StaysOpen, Wrote, WroteNothing}
-use Rattle.control_core.specs.Desk.{DeskState, has_room}
-use Rattle.control_core.specs.Exact.{Archive, ArchiveEnds, CallEnds, SettlingEnds, book_of, has_blocks, is_poll, opened_archive, recording_at, settled_archive, writes_files}
-use Rattle.control_core.specs.Orderly.{KeepsDesk}
+use Rattle.control_core.specs.Changes.{settled_by}
+use Rattle.control_core.specs.Consistent.{SettlesByAppend, Wrote, WroteNothing}
+use Rattle.control_core.specs.Desk.{has_room}
+use Rattle.control_core.specs.Exact.{SettlingEnds, has_blocks, is_poll, settled_archive, writes_files}
 use Rattle.control_core.specs.Seats.{IsWriter}
-use Rattle.control_core.specs.Turns.{has_written, session_in, settle_decision, settle_tests, settling_of}
+use Rattle.control_core.specs.Turns.{has_written, settle_tests, settling_of}
 use Rattle.control_core.proofs.ConsistentLemmas.{consistent_call, settling_sessions}
-use Rattle.control_core.proofs.DecidedLemmas.{IsSettled, held, settling_accepted, settling_session}
-use Rattle.control_core.proofs.FaultLemmas.{call_is_allowed, other_cause}
-use Rattle.engine_core.specs.Calls.{EndsEvent, CommitEnds, CallEnded, EndsAs, Keeps}
-use Rattle.engine_core.specs.Consistent.{IsCrashConsistent, Stands, StandsBehind}
-use Rattle.engine_core.specs.Engine.{Content, EngineState, IsTied, archive_of, content_of}
-use Rattle.engine_core.specs.Making.{CommitsEntry, after_failure}
-use Rattle.engine_core.specs.Moves.{AddsEntry, Enters, HasEntryRoom, KeepsSegments, Moves, SettlesAt}
-use Rattle.engine_core.specs.Recovery.{IsSound, last_of}
-use Rattle.recording_reads.specs.Recording.{layout_of}
+use Rattle.control_core.proofs.DecidedLemmas.{IsSettled, settling_accepted, settling_session}
+use Rattle.control_core.proofs.FaultLemmas.{other_cause}
+use Rattle.engine_core.specs.Calls.{Keeps}
 use Rattle.engine_core.proofs.calls.CommitCallLemmas.{commit_done, commit_refused, exact_commit, tied_behind}
 use Rattle.engine_core.proofs.calls.EndedLemmas.{as_before, ended_as, goes_on_here, no_doubt, quiet_life, same_bank, spared, spared_by, spared_unbroken, still}
 use Rattle.engine_core.proofs.files.FrameLemmas.{each_then}
 use Rattle.engine_core.proofs.calls.KnownLemmas.{IsKnown, known_recording, laid_found, layout_laid, written_from_start}
 use Rattle.engine_core.proofs.calls.StandLemmas.{stands_nothing, stands_open}
 use Rattle.engine_core.proofs.files.StayLemmas.{enters}
-use Rattle.disk_core.specs.declared.file_id.FileId.{FileId}
-use Rattle.catalogue_log.specs.Banks.{bank_file}
 use Rattle.engine_core.specs.Touching.{IsSegmentAt, IsSettledFile, SettlesBlocks, written_by}
 use Rattle.std.proofs.Common.{IsSomeAnd}
 

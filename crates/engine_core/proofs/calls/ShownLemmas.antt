@@ -1,30 +1,11 @@
 -- What a call tells of frames, whatever the files hold.
 use Rattle.std.proofs.Common.{◌≡◌, ◌∙◌, ◌&&◌, ◌||◌, sym, ap, subst, refl, Bool, true, false, true≢false, cond, Option, Some, None, ℤ, List, [], ◌∷◌}
 use Rattle.std.specs.Prelude.{IfSome, IsErrOf, Result, Ok, Err, unsigned_abs}
-use Rattle.frame_core.specs.declared.refusal.Refusal.{Refusal}
-use Rattle.frame_core.specs.declared.refusal.Refusal.TheVariants.{BadPosition, Damaged, DeviceFault, NoMemory}
-use Rattle.disk_core.specs.DiskImage.{DiskImage}
-use Rattle.archive_model.specs.declared.command.Command.{Command}
-use Rattle.archive_model.specs.declared.registration.Registration.{Registration}
-use Rattle.archive_model.specs.declared.reply.Reply.{Reply}
-use Rattle.archive_model.specs.Checks.{Tests, checked, passes}
-use Rattle.archive_model.specs.Register.{registration_in}
-use Rattle.archive_model.specs.State.{geometry_of}
-use Rattle.replay_core.specs.Poll.{RefusesPoll}
-use Rattle.recording_reads.specs.Reading.{RefusesBoundaryIn, RefusesCount, TellsBoundaryIn}
-use Rattle.recording_reads.specs.Recording.{layout_of}
-use Rattle.control_core.specs.declared.request.Request.{Request}
-use Rattle.control_core.specs.Decided.{Decision}
+use Rattle.engine_core.proofs.Words.{Archive, BadPosition, Command, CommitEnds, Damaged, Decides, Decision, DeskState, DeviceFault, DiskImage, NoMemory, OpenReplay, Refusal, RefusesBoundaryIn, RefusesCount, RefusesPoll, Registration, Reply, Request, TellsBoundaryIn, Tests, checked, decision_of, geometry_of, layout_of, passes, poll_decision, registration_in}
 use Rattle.control_core.specs.Decided as decisions
-use Rattle.control_core.specs.Decisions.{Decides, decision_of}
-use Rattle.control_core.specs.Desk.{DeskState}
-use Rattle.control_core.specs.declared.callers.OpenReplay.{OpenReplay}
-use Rattle.control_core.specs.Turns.{poll_decision}
 use Rattle.control_core.specs.declared.turns.Opening.{Opening}
 use Rattle.control_core.specs.Opened.{OpeningDecision}
 use Rattle.control_core.specs.Opened as opening
-use Rattle.control_core.specs.Exact.{Archive}
-use Rattle.engine_core.specs.Calls.{CommitEnds}
 use Rattle.engine_core.specs.Replaying.{ShowsBegin, ShowsOpening}
 use Rattle.engine_core.specs.Shown.{AsksDecided, AsksShown, CountsShown, OpensShown, PollsDecided, PollsShown}
 

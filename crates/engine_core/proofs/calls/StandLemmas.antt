@@ -2,32 +2,11 @@
 use Rattle.std.proofs.Common.{rules, ◌&&◌, nat_lt, int_le, ◌≡◌, ◌⊎◌, ◌∙◌, ◌+◌, ◌≤ℤ◌, ◌≤◌, ◌-◌, sym, ap, subst, refl, ℕ, ℤ, pos, negsuc, true, true≢false, Option, Some, List, [], ◌∷◌, inl, inr, arith}
 use Rattle.std.proofs.lemmas.Int.{ints}
 use Rattle.std.specs.Prelude.{unsigned_abs}
-use Rattle.disk_core.specs.declared.file_id.FileId.{FileId}
-use Rattle.disk_core.specs.declared.file_id.FileId.TheVariants.{Segment}
-use Rattle.disk_core.specs.DiskImage.{DiskImage, bytes_of}
-use Rattle.disk_core.specs.Standing.{Holds}
-use Rattle.frame_core.specs.declared.block.Block.{Block}
-use Rattle.frame_core.specs.declared.frame.Frame.{Frame}
-use Rattle.frame_core.specs.Block.{covered}
-use Rattle.frame_core.specs.FrameEncoding.{aligned_length, stored}
-use Rattle.segment_store.specs.declared.layout.Layout.{Layout}
-use Rattle.segment_store.specs.Layout.{base_of, file_of, offset_of}
-use Rattle.segment_store.specs.Stored.{HoldsFrames}
-use Rattle.archive_model.specs.Commands.{frames_of, purged}
-use Rattle.archive_model.specs.Keyed.{Each}
-use Rattle.archive_model.specs.Register.{is_active, is_later_base, registration_in}
-use Rattle.archive_model.specs.State.{Recording, id_of, recorded_position, registration_of}
-use Rattle.archive_model.specs.WellFormed.{IsKept}
-use Rattle.archive_model.proofs.StateLemmas.{each_found, purged_ends}
-use Rattle.archive_model.proofs.WellLemmas.{both}
-use Rattle.control_core.specs.declared.callers.RecorderSession.{RecorderSession}
-use Rattle.control_core.specs.Callers.{session_number}
-use Rattle.control_core.specs.Consistent.{IsConsistent, IsSameOrLater, StaysOpen}
-use Rattle.control_core.specs.Exact.{Archive}
-use Rattle.control_core.specs.Seats.{IsWriting}
-use Rattle.engine_core.specs.Consistent.{LieIn, Stands, StandsBehind}
-use Rattle.engine_core.specs.Recovery.{last_of}
-use Rattle.recording_reads.specs.Recording.{layout_of}
+use Rattle.engine_core.proofs.Words.{Archive, Block, DiskImage, Each, FileId, Frame, Holds, HoldsFrames, IsConsistent, IsKept, IsWriting, Layout, LieIn, RecorderSession, Recording, Segment, Stands, StandsBehind, StaysOpen, aligned_length, base_of, both, bytes_of, covered, each_found, file_of, frames_of, id_of, is_later_base, last_of, layout_of, offset_of, recorded_position, registration_in, registration_of, session_number, stored}
+use Rattle.archive_model.specs.Commands.{purged}
+use Rattle.archive_model.specs.Register.{is_active}
+use Rattle.archive_model.proofs.StateLemmas.{purged_ends}
+use Rattle.control_core.specs.Consistent.{IsSameOrLater}
 use Rattle.engine_core.proofs.files.FrameLemmas.{each_then}
 use Rattle.engine_core.proofs.calls.KnownLemmas.{is_there, known_recording}
 use Rattle.engine_core.proofs.files.StayLemmas.{IsLater, is_later, same_bases}

@@ -2,46 +2,18 @@
 use Rattle.std.proofs.Common.{◌≡◌, ◌∙◌, inl, inr, sym, ap, subst, refl, ℕ, ℤ, pos, ◌+◌, ◌≤◌, Bool, true, true≢false, false, List, Option, Some, arith}
 use Rattle.std.proofs.lemmas.Int.{ints}
 use Rattle.std.specs.Prelude.{◌⊎◌, IsTrue, IsErrOf, Result, Ok, Err, not}
-use Rattle.frame_core.specs.declared.refusal.Refusal.{Refusal}
-use Rattle.frame_core.specs.declared.refusal.Refusal.TheVariants.{DeviceFault, NoMemory}
-use Rattle.frame_core.specs.Block.{covered}
-use Rattle.disk_core.specs.DiskImage.{FileState, reads}
-use Rattle.disk_core.specs.Life.{HasFailed, IsQuiet, Life}
-use Rattle.disk_core.proofs.CallerLemmas.{weaker}
-use Rattle.segment_store.specs.declared.keep.Keep.{Keep}
-use Rattle.segment_store.specs.Layout.{file_of}
+use Rattle.engine_core.proofs.Words.{Archive, CallEnded, CallEnds, Content, DeskState, DeviceFault, Each, EndsAs, EndsEvent, EngineState, Event, FileState, HasFailed, IsCrashConsistent, IsEither, IsKept, IsOutside, IsQuiet, IsSound, IsWell, IsWriting, Keep, Life, NoMemory, RecorderSession, Recording, RecoversTo, Refusal, Registration, Reply, StandsBehind, State, Stepped, archive_of, asked_of, both, checked, checks, covered, each_found, file_of, find, first_of, frames_of, held, id_of, is_active, is_of, keeps_of, last_of, layout_of, passes, reads, recorded_position, recording_at, registered_keeps, told_of, weaker}
 use Rattle.segment_store.specs.Stale.{HasSwept}
-use Rattle.archive_model.specs.declared.registration.Registration.{Registration}
-use Rattle.archive_model.specs.declared.reply.Reply.{Reply}
 use Rattle.archive_model.specs.declared.reply.Reply.TheVariants as replies
-use Rattle.archive_model.specs.Checks.{checked, checks, is_of, passes}
-use Rattle.archive_model.specs.Commands.{frames_of}
-use Rattle.archive_model.specs.Keyed.{Each, find}
 use Rattle.archive_model.specs.Register as register
-use Rattle.archive_model.specs.State.{Recording, State, id_of, is_active, recorded_position}
-use Rattle.archive_model.specs.WellFormed.{IsKept, IsWell}
-use Rattle.archive_model.proofs.StateLemmas.{each_found}
-use Rattle.archive_model.proofs.WellLemmas.{both}
 use Rattle.control_core.specs.declared.asked.Asked.TheVariants as calls
 use Rattle.control_core.specs.declared.asked.Told.TheVariants as told
-use Rattle.control_core.specs.declared.callers.RecorderSession.{RecorderSession}
-use Rattle.control_core.specs.declared.event.Event.{Event}
 use Rattle.control_core.specs.declared.event.Event.TheVariants as events
 use Rattle.control_core.specs.ByDecision.{SweepsBy}
-use Rattle.control_core.specs.Desk.{DeskState}
-use Rattle.control_core.specs.Exact.{Archive, CallEnds, SweepEnds, asked_of, recording_at, told_of}
-use Rattle.control_core.specs.Machine.{Stepped}
-use Rattle.control_core.specs.Seats.{IsWriting}
+use Rattle.control_core.specs.Exact.{SweepEnds}
 use Rattle.control_core.specs.Turns.{sweep_tests}
-use Rattle.control_core.proofs.DecidedLemmas.{held}
 use Rattle.control_core.proofs.StepLemmas.{sweep_step}
-use Rattle.engine_core.specs.Calls.{EndsEvent, CallEnded, EndsAs}
-use Rattle.engine_core.specs.Consistent.{IsCrashConsistent, StandsBehind}
-use Rattle.engine_core.specs.Engine.{Content, EngineState, archive_of}
-use Rattle.engine_core.specs.Moves.{SparesKept, StaysSound, keeps_of, registered_keeps}
-use Rattle.engine_core.specs.Reading.{IsOutside}
-use Rattle.engine_core.specs.Recovery.{IsEither, IsSound, RecoversTo, first_of, last_of}
-use Rattle.recording_reads.specs.Recording.{layout_of}
+use Rattle.engine_core.specs.Moves.{SparesKept, StaysSound}
 use Rattle.engine_core.proofs.calls.EndedLemmas.{as_before, done, no_doubt, quiet_goes_on, quiet_life, recovers_as, same_bank, sound_consistent, spared, still}
 use Rattle.engine_core.proofs.files.FrameLemmas.{each_both, each_then}
 use Rattle.engine_core.proofs.calls.KnownLemmas.{keeps_same, registered_of}

@@ -1,16 +1,6 @@
 -- Where a recorder session's block is written: docs/CONTROL.md, "Recorder sessions".
 use Rattle.std.specs.Prelude.{◌≡◌, ℤ, Some}
-use Rattle.frame_core.specs.declared.block.Block.{Block}
-use Rattle.frame_core.specs.Block.{IsBlock, end_position}
-use Rattle.segment_store.specs.declared.layout.Layout.{Layout}
-use Rattle.archive_model.specs.declared.registration.Registration.{Registration}
-use Rattle.archive_model.specs.Register.{registration_in}
-use Rattle.archive_model.specs.State.{geometry_of, publication_of}
-use Rattle.control_core.specs.declared.callers.RecorderSession.{RecorderSession}
-use Rattle.control_core.specs.Desk.{DeskState}
-use Rattle.control_core.specs.Orderly.{KeepsDesk}
-use Rattle.control_core.specs.Turns.{session_in}
-use Rattle.recording_reads.specs.Recording.{layout_of}
+use Rattle.engine_core.proofs.Words.{Block, DeskState, IsBlock, KeepsDesk, Layout, RecorderSession, Registration, end_position, geometry_of, layout_of, publication_of, registration_in, session_in}
 
 -- The session of a number writes a recording of this layout, and the block is one of its terms, session and stream, and
 -- ends there.

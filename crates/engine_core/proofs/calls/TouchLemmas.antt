@@ -2,32 +2,10 @@
 use Rattle.std.proofs.Common.{◌≡◌, ◌∙◌, ◌⊎◌, inl, inr, sym, ap, subst, refl, ◌+◌, ◌≤◌, ℕ, ℤ, Bool, true, true≢false, List, length, Option, Some, None, arith}
 use Rattle.std.proofs.lemmas.Bool.{or_left, or_right}
 use Rattle.std.specs.Prelude.{MatchOption, IfSome, IsSomeAnd, IsErrOf, Result, Ok, Err, is_some, unsigned_abs}
-use Rattle.disk_core.specs.declared.file_id.FileId.{FileId}
-use Rattle.disk_core.specs.DiskImage.{DiskImage, FileState, Files}
-use Rattle.disk_core.specs.Life.{IsQuiet, Life, moment}
+use Rattle.engine_core.proofs.Words.{Block, ChangesFile, ChangesThese, Command, Decides, DeskState, DiskImage, EngineState, FileId, FileState, Files, IsQuiet, Keep, KeepsSegments, Layout, Life, NoMemory, Refusal, RefusesBoundaryIn, Registration, Reply, Request, SettlesAt, SweepsAtMost, Tests, checked, checks, command_in, decision_of, file_of, layout_of, moment, offset_of, registered_keeps, session_in, takes_memory}
 use Rattle.disk_core.specs.Standing.{KeepsBelow}
-use Rattle.frame_core.specs.declared.block.Block.{Block}
-use Rattle.frame_core.specs.declared.refusal.Refusal.{Refusal}
-use Rattle.frame_core.specs.declared.refusal.Refusal.TheVariants.{NoMemory}
-use Rattle.segment_store.specs.declared.layout.Layout.{Layout}
-use Rattle.segment_store.specs.Layout.{file_of, offset_of}
-use Rattle.segment_store.specs.declared.keep.Keep.{Keep}
-use Rattle.segment_store.specs.Stale.{SweepsAtMost}
-use Rattle.segment_store.specs.Stored.{ChangesFile}
-use Rattle.archive_model.specs.declared.command.Command.{Command}
-use Rattle.archive_model.specs.declared.reply.Reply.{Reply}
-use Rattle.archive_model.specs.Checks.{Tests, checked, checks}
-use Rattle.archive_model.specs.declared.registration.Registration.{Registration}
-use Rattle.recording_reads.specs.Reading.{RefusesBoundaryIn}
-use Rattle.recording_reads.specs.Recording.{layout_of}
 use Rattle.control_core.specs.declared.event.Event.TheVariants as events
-use Rattle.control_core.specs.declared.request.Request.{Request}
 use Rattle.control_core.specs.Decided as decisions
-use Rattle.control_core.specs.Decisions.{Decides, command_in, decision_of, takes_memory}
-use Rattle.control_core.specs.Desk.{DeskState}
-use Rattle.control_core.specs.Turns.{session_in}
-use Rattle.engine_core.specs.Engine.{EngineState}
-use Rattle.engine_core.specs.Moves.{ChangesThese, KeepsSegments, SettlesAt, registered_keeps}
 use Rattle.engine_core.specs.Touching.{SettlesBlocks, Touches, WantsMemory, WritesBlock, written_by}
 use Rattle.engine_core.proofs.calls.ShownLemmas.{checked_not, comes_behind, is_memory}
 use Rattle.engine_core.proofs.calls.SweepCallLemmas.{one_refusal}

@@ -4,48 +4,16 @@ use Rattle.std.proofs.lemmas.Int.{ints}
 use Rattle.std.proofs.lemmas.Bool.Decides.{Decides-int_eq}
 use Rattle.std.specs.Ordering.{int_eq}
 use Rattle.std.specs.Prelude.{IsSomeAnd}
-use Rattle.disk_core.specs.DiskImage.{reads}
-use Rattle.disk_core.specs.Life.{HasFailed, Life}
-use Rattle.frame_core.specs.declared.block.Block.{Block}
-use Rattle.frame_core.specs.declared.refusal.Refusal.{Refusal}
-use Rattle.frame_core.specs.declared.refusal.Refusal.TheVariants.{DeviceFault}
-use Rattle.frame_core.specs.declared.frame.Frame.{Frame}
-use Rattle.frame_core.specs.Block.{AreEncodable, IsBlock, covered}
-use Rattle.segment_store.specs.declared.layout.Layout.{Layout}
-use Rattle.segment_store.specs.Layout.{IsFromStart, IsLayout, base_of, file_of}
-use Rattle.segment_store.specs.Stored.{ChangesFile, HoldsFrames}
-use Rattle.archive_model.specs.declared.descriptor.Descriptor.{Descriptor}
-use Rattle.archive_model.specs.declared.registration.Registration.{Registration}
-use Rattle.archive_model.specs.declared.reply.Reply.{Reply}
+use Rattle.engine_core.proofs.Words.{Archive, ArchiveEnds, AreEncodable, Block, CallEnded, CallEnds, ChangesFile, Content, Descriptor, DeskState, DeviceFault, Each, EndsAs, EndsEvent, EngineState, Event, Frame, HasBlocks, HasFailed, HoldsFrames, IsBlock, IsCrashConsistent, IsFromStart, IsKept, IsLayout, IsSound, Layout, Life, Moves, RecorderSession, Recording, Refusal, Registration, Reply, Stands, StandsBehind, State, StaysConsistent, Stepped, Written, archive_of, asked_of, base_of, broken, broken_desk, call_is_allowed, covered, each_found, file_of, find, found_number, frames_of, geometry_of, id_of, last_of, layout_of, publication_of, reads, recorded_position, recording_at, registration_of, session_in, session_number, told_of, with_block, write_decision, write_tests, written_to}
 use Rattle.archive_model.specs.declared.reply.Reply.TheVariants.{Written as WrittenReply}
-use Rattle.archive_model.specs.Commands.{frames_of}
-use Rattle.archive_model.specs.Keyed.{Each, find}
 use Rattle.archive_model.specs.Register as register
-use Rattle.archive_model.specs.State.{Recording, State, geometry_of, id_of, publication_of, recorded_position, registration_of}
-use Rattle.archive_model.specs.WellFormed.{IsKept}
-use Rattle.archive_model.proofs.RegisterLemmas.{found_number}
-use Rattle.archive_model.proofs.StateLemmas.{each_found}
-use Rattle.control_core.specs.declared.callers.RecorderSession.{RecorderSession}
-use Rattle.control_core.specs.declared.callers.Written.{Written}
-use Rattle.control_core.specs.declared.event.Event.{Event}
 use Rattle.control_core.specs.declared.event.Event.TheVariants as events
-use Rattle.control_core.specs.Callers.{session_number, with_written, written_to}
-use Rattle.control_core.specs.Changes.{after_write, broken_desk, with_block, written_of}
-use Rattle.control_core.specs.Consistent.{HasBlocks, StaysConsistent}
-use Rattle.control_core.specs.Desk.{DeskState}
-use Rattle.control_core.specs.Exact.{Archive, ArchiveEnds, CallEnds, IsBlockOf, Leaves, asked_of, broken, recording_at, span_of, told_of, written}
-use Rattle.control_core.specs.Machine.{Stepped}
-use Rattle.control_core.specs.Turns.{session_in, write_decision, write_tests}
+use Rattle.control_core.specs.Callers.{with_written}
+use Rattle.control_core.specs.Changes.{after_write, written_of}
+use Rattle.control_core.specs.Exact.{IsBlockOf, Leaves, span_of, written}
 use Rattle.control_core.proofs.ConsistentLemmas.{consistent_call}
 use Rattle.control_core.proofs.DeskLemmas.{not_same}
-use Rattle.control_core.proofs.FaultLemmas.{call_is_allowed}
 use Rattle.control_core.proofs.WriteLemmas.{blocks_follow, other_blocks, this_session, written_end}
-use Rattle.engine_core.specs.Calls.{EndsEvent, CallEnded, EndsAs}
-use Rattle.engine_core.specs.Consistent.{IsCrashConsistent, Stands, StandsBehind}
-use Rattle.engine_core.specs.Engine.{Content, EngineState, archive_of}
-use Rattle.engine_core.specs.Moves.{Moves}
-use Rattle.engine_core.specs.Recovery.{IsSound, last_of}
-use Rattle.recording_reads.specs.Recording.{layout_of}
 use Rattle.engine_core.proofs.calls.Targets.{HasNoTarget, IsTarget}
 use Rattle.engine_core.proofs.files.BlockLemmas.{blocks_encodable, stands_more}
 use Rattle.engine_core.proofs.calls.EndedLemmas.{done, failed, no_doubt, same_bank, sound_consistent}

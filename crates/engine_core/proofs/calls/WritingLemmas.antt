@@ -4,49 +4,23 @@ use Rattle.std.proofs.lemmas.Int.{ints}
 use Rattle.std.proofs.lemmas.Bool.Decides.{Decides-int_eq, nat_tests}
 use Rattle.std.specs.Prelude.{◌==◌, IfSome, IsSomeAnd, MatchOption, is_some}
 use Rattle.std.specs.Ordering.{int_eq}
-use Rattle.disk_core.specs.DiskImage.{FileState, reads}
-use Rattle.disk_core.specs.Life.{Life}
-use Rattle.frame_core.specs.declared.block.Block.{Block}
+use Rattle.engine_core.proofs.Words.{Archive, Block, ChangesFile, DeskState, Each, FileState, Frame, Geometry, IsAligned, IsBlock, IsFromStart, IsLayout, KeepsDesk, Layout, LiesBehind, Life, RecorderSession, Refusal, Registration, Reply, Stands, StandsBehind, Written, block_checks, change, checks, covered, each_found, end_position, file_of, find, first_checks, found_number, frames_of, geometry_of, held, id_of, is_of, last_checks, last_of, layout_of, passes, publication_of, reads, recording_at, registration_in, session_in, session_number, with_block, write_decision, write_tests, written_to}
 use Rattle.frame_core.specs.declared.block.Publication.{Publication}
-use Rattle.frame_core.specs.declared.frame.Frame.{Frame}
-use Rattle.frame_core.specs.declared.geometry.Geometry.{Geometry}
-use Rattle.frame_core.specs.declared.refusal.Refusal.{Refusal}
 use Rattle.frame_core.specs.declared.refusal.Refusal.TheVariants.{ActiveReplay, BadBlock, BadExtension, Broken, HistoryFull, MaxRecordings, MaxReplays, NeedCompact, NeedSettle, StaleSession}
-use Rattle.frame_core.specs.FrameEncoding.{IsAligned}
-use Rattle.frame_core.specs.Block.{AreBlockOf, IsBlock, block_ids, covered, end_position}
-use Rattle.segment_store.specs.declared.layout.Layout.{Layout}
-use Rattle.segment_store.specs.Layout.{IsFromStart, IsLayout, file_of}
-use Rattle.segment_store.specs.Stored.{ChangesFile}
+use Rattle.frame_core.specs.Block.{AreBlockOf, block_ids}
 use Rattle.segment_store.proofs.StoredLemmas.{run_covers}
-use Rattle.archive_model.specs.declared.registration.Registration.{Registration}
-use Rattle.archive_model.specs.declared.reply.Reply.{Reply}
 use Rattle.archive_model.specs.declared.reply.Reply.TheVariants.{Written as WrittenReply}
-use Rattle.archive_model.specs.Checks.{block_checks, checks, first_checks, is_of, last_checks, passes}
-use Rattle.archive_model.specs.Commands.{frames_of}
-use Rattle.archive_model.specs.Keyed.{Each, Rise, change, find}
+use Rattle.archive_model.specs.Keyed.{Rise}
 use Rattle.archive_model.specs.Register as register
-use Rattle.archive_model.specs.Register.{registration_in}
-use Rattle.archive_model.specs.State.{geometry_of, id_of, publication_of}
-use Rattle.archive_model.proofs.RegisterLemmas.{found_number}
-use Rattle.archive_model.proofs.StateLemmas.{each_found}
 use Rattle.archive_model.proofs.StreamLemmas.{ends_in_stream}
-use Rattle.control_core.specs.declared.callers.RecorderSession.{RecorderSession}
 use Rattle.control_core.specs.declared.callers.Writer.{Writer}
-use Rattle.control_core.specs.declared.callers.Written.{Written}
 use Rattle.record_core.specs.Writing.{needs_settle}
-use Rattle.control_core.specs.Callers.{session_number, written_to}
-use Rattle.control_core.specs.Changes.{with_block}
-use Rattle.control_core.specs.Desk.{DeskState}
-use Rattle.control_core.specs.Exact.{Archive, recording_at, span_of}
-use Rattle.control_core.specs.Orderly.{KeepsDesk, LiesBehind, stream_end}
+use Rattle.control_core.specs.Exact.{span_of}
+use Rattle.control_core.specs.Orderly.{stream_end}
 use Rattle.control_core.specs.Seats.{AreApart, IsWriter}
-use Rattle.control_core.specs.Turns.{continues, is_waiting, part_of, session_in, write_decision, write_tests}
+use Rattle.control_core.specs.Turns.{continues, is_waiting, part_of}
 use Rattle.control_core.proofs.AllowedLemmas.{both, passes_at}
-use Rattle.control_core.proofs.DecidedLemmas.{held}
 use Rattle.control_core.proofs.WriteLemmas.{span_ends}
-use Rattle.engine_core.specs.Consistent.{Stands, StandsBehind}
-use Rattle.engine_core.specs.Recovery.{last_of}
-use Rattle.recording_reads.specs.Recording.{layout_of}
 use Rattle.engine_core.proofs.calls.Targets.{HasNoTarget, IsTarget}
 use Rattle.engine_core.proofs.files.FrameLemmas.{apart}
 use Rattle.engine_core.proofs.files.BlockLemmas.{block_aligned, block_some}

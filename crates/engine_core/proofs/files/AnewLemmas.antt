@@ -1,17 +1,7 @@
 -- A catalogue that is written anew and makes the same register keeps the state.
 use Rattle.std.proofs.Common.{◌+◌, ◌∷◌, [], ℕ, List}
-use Rattle.disk_core.specs.declared.file_id.FileId.TheVariants.{BankA, BankB, Segment}
-use Rattle.disk_core.specs.DiskImage.{DiskImage, Files, MayLeave, reads}
-use Rattle.disk_core.specs.Life.{LeavesOnly, Life}
-use Rattle.disk_core.proofs.CallerLemmas.{weaker}
-use Rattle.frame_core.specs.declared.frame.Frame.{Frame}
-use Rattle.frame_core.specs.FrameEncoding.{aligned_length}
-use Rattle.segment_store.specs.declared.layout.Layout.{Layout}
-use Rattle.segment_store.specs.Stored.{HoldsFrames}
-use Rattle.archive_model.specs.State.{State, register_of}
+use Rattle.engine_core.proofs.Words.{BankA, BankB, DiskImage, Files, Frame, HoldsFrames, HoldsRecording, Layout, LeavesOnly, Life, MayLeave, Recovers, Segment, State, aligned_length, first_of, last_of, layout_of, reads, register_of, weaker}
 use Rattle.catalogue_log.specs.Compacting.{HasRegister, LeavesRegister}
-use Rattle.engine_core.specs.Recovery.{HoldsRecording, Recovers, first_of, last_of}
-use Rattle.recording_reads.specs.Recording.{layout_of}
 use Rattle.engine_core.proofs.files.FrameLemmas.{each_then}
 
 -- an image with these banks and those segment files

@@ -2,34 +2,17 @@
 use Rattle.std.proofs.Common.{◌≡◌, ◌∙◌, inl, inr, sym, ap, subst, refl, ℕ, ℤ, pos, negsuc, ◌+◌, ◌-◌, ◌*◌, ◌/◌, ◌%◌, ◌^◌, ◌<◌, ◌≤◌, ◌+ℤ◌, ◌*ℤ◌, ◌≤ℤ◌, true, List, [], ◌∷◌, ◌++◌, append-nil, append_assoc, unsigned_abs, arith}
 use Rattle.std.proofs.lemmas.Int.{ints}
 use Rattle.std.proofs.lemmas.Nat.{pow-add}
-use Rattle.disk_core.specs.declared.file_id.FileId.{FileId}
-use Rattle.disk_core.specs.declared.file_id.FileId.TheVariants.{Segment}
-use Rattle.disk_core.specs.DiskImage.{DiskImage}
-use Rattle.frame_core.specs.declared.block.Block.{Block}
+use Rattle.engine_core.proofs.Words.{AreEncodable, Block, DiskImage, FileId, Frame, FrameKind, Geometry, Heartbeat, HoldsFrames, IsAligned, IsFromStart, IsLayout, Layout, LieIn, Message, Pad, Recording, Segment, Stands, aligned_length, base_of, covered, covered-append, end_position, file_of, frames_of, is_power, is_term_length, last_of, layout_of}
 use Rattle.frame_core.specs.declared.block.Publication.{Publication}
-use Rattle.frame_core.specs.declared.frame.Frame.{Frame}
-use Rattle.frame_core.specs.declared.frame.FrameKind.{FrameKind}
-use Rattle.frame_core.specs.declared.frame.FrameKind.TheVariants.{Heartbeat, Message, Pad}
-use Rattle.frame_core.specs.declared.geometry.Geometry.{Geometry}
-use Rattle.frame_core.specs.Block.{AreBlockOf, AreEncodable, block_ids, covered, end_position}
-use Rattle.frame_core.specs.FrameEncoding.{HasLength, IsAligned, aligned_length}
-use Rattle.frame_core.specs.Limits.{is_term_length}
+use Rattle.frame_core.specs.Block.{AreBlockOf, block_ids}
+use Rattle.frame_core.specs.FrameEncoding.{HasLength}
 use Rattle.frame_core.specs.Position.{terms_since}
-use Rattle.frame_core.proofs.LimitsLemmas.{is_power}
 use Rattle.frame_core.proofs.SegmentLemmas.{same_part}
-use Rattle.segment_store.specs.declared.layout.Layout.{Layout}
-use Rattle.segment_store.specs.Layout.{IsBlockIn, IsFromStart, IsLayout, base_of, file_of}
-use Rattle.segment_store.specs.Stored.{HoldsFrames}
+use Rattle.segment_store.specs.Layout.{IsBlockIn}
 use Rattle.segment_store.proofs.BlockPositionLemmas.{position_in_term}
 use Rattle.segment_store.proofs.LayoutLemmas.{same_base, start_before}
 use Rattle.segment_store.proofs.StoredLemmas.{AreMessages, message_some, run_covers}
 use Rattle.archive_model.specs.Acceptance.{AreBlocksFrom}
-use Rattle.archive_model.specs.Commands.{frames_of}
-use Rattle.archive_model.proofs.HistoriesLemmas.{covered-append}
-use Rattle.archive_model.specs.State.{Recording}
-use Rattle.engine_core.specs.Consistent.{LieIn, Stands}
-use Rattle.engine_core.specs.Recovery.{last_of}
-use Rattle.recording_reads.specs.Recording.{layout_of}
 use Rattle.engine_core.proofs.files.FrameLemmas.{holds_append}
 
 -- data frames of one term lie in the segment of the first

@@ -3,21 +3,11 @@ use Rattle.std.proofs.Common.{◌≡◌, ◌≢◌, ◌∙◌, ap, sym, subst, r
 use Rattle.std.proofs.lemmas.Int.{ints}
 use Rattle.std.proofs.lemmas.Bool.Decides.{Decides-int_eq}
 use Rattle.std.specs.Ordering.{int_eq}
-use Rattle.disk_core.specs.declared.file_id.FileId.{FileId}
-use Rattle.disk_core.specs.declared.file_id.FileId.TheVariants.{BankA, BankB}
-use Rattle.disk_core.specs.DiskImage.{DiskImage, FileState, Files, LeavesFile, bytes_of, durable}
-use Rattle.disk_core.specs.Standing.{Holds}
+use Rattle.engine_core.proofs.Words.{AreDurableBytes, AreDurableFrames, BankA, BankB, DiskImage, Each, FileId, FileState, Files, Frame, Holds, HoldsFrames, Layout, LeavesFile, Recording, aligned_length, bytes_of, durable, file_of, find, id_of, layout_of, offset_of, stored}
 use Rattle.disk_core.proofs.CallerLemmas.{unsynced_keeps}
-use Rattle.frame_core.specs.declared.frame.Frame.{Frame}
-use Rattle.frame_core.specs.FrameEncoding.{aligned_length, stored}
-use Rattle.segment_store.specs.declared.layout.Layout.{Layout}
-use Rattle.segment_store.specs.Layout.{file_of, offset_of}
-use Rattle.segment_store.specs.Stored.{AreDurableBytes, AreDurableFrames, HoldsFrames}
 use Rattle.segment_store.proofs.DurableLemmas.{durable_bytes}
-use Rattle.archive_model.specs.Keyed.{find, Each, Rise}
-use Rattle.archive_model.specs.State.{Recording, id_of}
+use Rattle.archive_model.specs.Keyed.{Rise}
 use Rattle.engine_core.specs.Consistent.{Lie}
-use Rattle.recording_reads.specs.Recording.{layout_of}
 
 -- a bank is no segment file
 

@@ -4,33 +4,15 @@ use Rattle.std.proofs.lemmas.Int.{ints}
 use Rattle.std.proofs.lemmas.Bool.Decides.{nat_tests, Decides-int_eq}
 use Rattle.std.specs.Prelude.{int_le, unsigned_abs}
 use Rattle.std.specs.Ordering.{int_eq}
-use Rattle.disk_core.specs.DiskImage.{DiskImage, Files, MayLeave}
-use Rattle.frame_core.specs.declared.frame.Frame.{Frame}
-use Rattle.frame_core.specs.declared.frame.FrameKind.{FrameKind}
-use Rattle.frame_core.specs.declared.frame.FrameKind.TheVariants.{Pad, Message, Heartbeat}
-use Rattle.frame_core.specs.declared.geometry.Geometry.{Geometry}
-use Rattle.frame_core.specs.Block.{covered}
-use Rattle.frame_core.specs.FrameEncoding.{aligned_length}
+use Rattle.engine_core.proofs.Words.{Descriptor, DiskImage, Each, Files, Frame, FrameKind, Geometry, Heartbeat, HoldsRecording, IsDurable, IsKept, IsOfStream, IsSound, Layout, LogState, MayLeave, Message, Pad, Recording, Recovers, RegisterState, Registration, State, after_entries, aligned_length, covered, first_of, geometry_of, last_of, layout_of, no_recordings, one_catalogue, recorded_position, register_of, registration_of, rest_left}
 use Rattle.frame_core.specs.Position.{frame_position}
 use Rattle.frame_core.proofs.PositionLemmas.{is_given}
-use Rattle.segment_store.specs.declared.layout.Layout.{Layout}
 use Rattle.segment_store.specs.Boundary.{IsChain}
 use Rattle.segment_store.specs.DamagedFrame.{belongs_at, is_at, is_stored}
 use Rattle.segment_store.proofs.DurableLemmas.{durable_stand, one_shown}
 use Rattle.replay_core.specs.Poll.{Belong}
 use Rattle.replay_core.proofs.GivenLemmas.{covers, held_shown, rises}
-use Rattle.archive_model.specs.declared.descriptor.Descriptor.{Descriptor}
-use Rattle.archive_model.specs.declared.registration.Registration.{Registration}
 use Rattle.archive_model.specs.Histories.{AreContiguous}
-use Rattle.archive_model.specs.Keyed.{Each}
-use Rattle.archive_model.specs.Register.{RegisterState, no_recordings}
-use Rattle.archive_model.specs.State.{Recording, State, geometry_of, recorded_position, register_of, registration_of}
-use Rattle.archive_model.specs.WellFormed.{IsKept, IsOfStream}
-use Rattle.catalogue_entries.specs.Fold.{after_entries}
-use Rattle.catalogue_log.specs.LogState.{LogState}
-use Rattle.catalogue_log.proofs.CallerLemmas.{one_catalogue, rest_left}
-use Rattle.engine_core.specs.Recovery.{HoldsRecording, IsDurable, IsSound, Recovers, first_of, last_of}
-use Rattle.recording_reads.specs.Recording.{layout_of}
 
 pub durable_hold : (files : Files) (image : DiskImage) (rs : List Recording) → MayLeave files image
     → Each (IsDurable files) rs → Each (HoldsRecording image) rs

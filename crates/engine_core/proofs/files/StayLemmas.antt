@@ -5,37 +5,19 @@ use Rattle.std.proofs.lemmas.Bool.Decides.{nat_tests}
 use Rattle.std.proofs.lemmas.Nat.{div-add-mod'}
 use Rattle.std.proofs.Math.Nat.{mul-add-mod_self_right, mul-mod_left}
 use Rattle.std.specs.Prelude.{◌==◌, ◌^◌}
-use Rattle.disk_core.specs.declared.file_id.FileId.TheVariants.{Segment}
-use Rattle.disk_core.specs.DiskImage.{Files}
-use Rattle.frame_core.specs.declared.frame.Frame.{Frame}
-use Rattle.frame_core.specs.Block.{covered}
-use Rattle.frame_core.specs.FrameEncoding.{aligned_length, stored}
+use Rattle.engine_core.proofs.Words.{Accepts, Append, AreDurableBytes, AreDurableFrames, Command, Each, Enters, EntryLeads, Files, Frame, IsDurable, IsKept, IsRequested, IsWell, Layout, PolledFrame, Recording, Restart, Segment, after, aligned_length, base_of, both, covered, each_change, each_found, entry_of, first_of, id_of, is_active, is_later_base, is_power, last_of, layout_of, recorded_position, registration_of, stored}
 use Rattle.frame_core.specs.Segment.{first_base, segment_base}
-use Rattle.frame_core.proofs.LimitsLemmas.{is_power, exponent_le}
-use Rattle.segment_store.specs.declared.layout.Layout.{Layout}
-use Rattle.segment_store.specs.Layout.{base_of}
-use Rattle.segment_store.specs.Stored.{AreDurableBytes, AreDurableFrames}
-use Rattle.archive_model.specs.declared.command.Command.{Command}
-use Rattle.archive_model.specs.declared.command.Command.TheVariants.{Start, Append, Stop, Extend, Truncate, PurgeSegments, PurgeRecording, Restart}
+use Rattle.frame_core.proofs.LimitsLemmas.{exponent_le}
+use Rattle.archive_model.specs.declared.command.Command.TheVariants.{Start, Stop, Extend, Truncate, PurgeSegments, PurgeRecording}
 use Rattle.archive_model.specs.declared.command.StartFields.{StartFields}
-use Rattle.archive_model.specs.declared.reply.PolledFrame.{PolledFrame}
 use Rattle.archive_model.specs.Acceptance.{BookState}
-use Rattle.archive_model.specs.Accepting.{Accepts}
-use Rattle.archive_model.specs.Commands.{after, ends_by, fresh, purged, restarted, stopped, truncated}
-use Rattle.archive_model.specs.Keyed.{Each}
-use Rattle.archive_model.specs.Register.{is_later_base}
+use Rattle.archive_model.specs.Commands.{ends_by, fresh, purged, restarted, stopped, truncated}
 use Rattle.archive_model.specs.Replay.{frames_in, placed}
-use Rattle.archive_model.specs.State.{Recording, id_of, is_active, recorded_position, registration_of}
-use Rattle.archive_model.specs.WellFormed.{IsKept, IsWell}
 use Rattle.archive_model.proofs.CutLemmas.{begun_all}
 use Rattle.archive_model.proofs.RegisterLemmas.{each_map, each_push}
-use Rattle.archive_model.proofs.StateLemmas.{base_of_purge, each_change, each_found, each_without, purge, well_after}
-use Rattle.archive_model.proofs.WellLemmas.{base_is_term, both}
-use Rattle.catalogue_entries.specs.History.{IsRequested, entry_of}
+use Rattle.archive_model.proofs.StateLemmas.{base_of_purge, each_without, purge, well_after}
+use Rattle.archive_model.proofs.WellLemmas.{base_is_term}
 use Rattle.catalogue_entries.proofs.CallerLemmas.{entry_admitted, register_kept}
-use Rattle.engine_core.specs.Moves.{Enters, EntryLeads}
-use Rattle.engine_core.specs.Recovery.{IsDurable, first_of, last_of}
-use Rattle.recording_reads.specs.Recording.{layout_of}
 
 -- where frames end, written in another way
 ends_at : (files : Files) (l : Layout) (fs : List Frame) (from to end : ℕ) → to ≡ end

@@ -7,36 +7,14 @@ use Rattle.std.proofs.lemmas.Bool.Decides.{nat_tests, Decides-int_eq}
 use Rattle.std.specs.Prelude.{◌==◌, not}
 use Rattle.std.specs.List.{list_any}
 use Rattle.std.specs.Ordering.{int_eq}
-use Rattle.disk_core.specs.declared.file_id.FileId.{FileId}
-use Rattle.disk_core.specs.declared.file_id.FileId.TheVariants.{BankA, BankB}
-use Rattle.disk_core.specs.DiskImage.{DiskImage, Files, LeavesFile}
-use Rattle.disk_core.specs.Life.{IsQuiet, Life, LeavesOnly}
-use Rattle.disk_core.proofs.CallerLemmas.{goes_quiet, started, weaker}
-use Rattle.frame_core.specs.declared.frame.Frame.{Frame}
-use Rattle.frame_core.specs.declared.frame.FrameKind.{FrameKind}
-use Rattle.frame_core.specs.declared.frame.FrameKind.TheVariants.{Pad, Message, Heartbeat}
-use Rattle.frame_core.specs.Block.{AreEncodable, covered}
-use Rattle.frame_core.specs.FrameEncoding.{HasLength, aligned_length}
-use Rattle.frame_core.specs.Limits.{is_term_length}
-use Rattle.frame_core.proofs.LimitsLemmas.{is_power}
+use Rattle.engine_core.proofs.Words.{AreEncodable, BankA, BankB, Below, DiskImage, Each, FileId, Files, Frame, FrameKind, Heartbeat, HoldsRecording, IsDurable, IsKept, IsOfStream, IsQuiet, IsSound, IsWell, Keep, Layout, LeavesFile, LeavesOnly, Life, LogState, Message, Pad, Recording, RecoversTo, State, SweepsAtMost, aligned_length, banks_left, base_of, covered, each_found, file_of, find, first_of, goes_quiet, id_of, is_active, is_power, is_term_length, keeps_of, last_of, layout_of, other_files, recorded_position, started, weaker}
+use Rattle.frame_core.specs.FrameEncoding.{HasLength}
 use Rattle.frame_core.specs.Segment.{first_base, segment_base}
 use Rattle.frame_core.proofs.SegmentLemmas.{base_between}
-use Rattle.segment_store.specs.declared.keep.Keep.{Keep}
-use Rattle.segment_store.specs.declared.keep.Keep.TheVariants.{Below}
-use Rattle.segment_store.specs.declared.layout.Layout.{Layout}
-use Rattle.segment_store.specs.Layout.{base_of, file_of}
-use Rattle.segment_store.specs.Stale.{SweepsAtMost, is_base_of_recorded, is_kept, is_stale, keeps_base}
+use Rattle.segment_store.specs.Stale.{is_base_of_recorded, is_kept, is_stale, keeps_base}
 use Rattle.segment_store.proofs.LayoutLemmas.{base_before, length_positive}
-use Rattle.archive_model.specs.Keyed.{find, Each}
-use Rattle.archive_model.specs.State.{Recording, State, id_of, is_active, recorded_position}
-use Rattle.archive_model.specs.WellFormed.{IsKept, IsOfStream, IsWell}
-use Rattle.archive_model.proofs.StateLemmas.{each_found}
-use Rattle.catalogue_log.specs.LogState.{LogState}
-use Rattle.catalogue_log.proofs.CallerLemmas.{banks_left, other_files}
-use Rattle.engine_core.specs.Moves.{SparesKept, StaysSound, keep_of, keeps_of}
+use Rattle.engine_core.specs.Moves.{SparesKept, StaysSound, keep_of}
 use Rattle.engine_core.specs.Consistent.{Lie}
-use Rattle.engine_core.specs.Recovery.{HoldsRecording, IsDurable, IsSound, RecoversTo, first_of, last_of}
-use Rattle.recording_reads.specs.Recording.{layout_of}
 use Rattle.engine_core.proofs.files.FrameLemmas.{each_both, each_then, frames_left, frames_same, lie_then}
 use Rattle.engine_core.proofs.files.WriteLemmas.{natural}
 

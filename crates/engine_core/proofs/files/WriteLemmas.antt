@@ -2,31 +2,12 @@
 use Rattle.std.proofs.Common.{◌≡◌, ◌≢◌, ◌∙◌, inl, inr, sym, ap, subst, refl, ℕ, ℤ, pos, negsuc, ◌+◌, ◌≤◌, ◌≤ℤ◌, List, [], ◌∷◌, Some, length, unsigned_abs, arith}
 use Rattle.std.proofs.lemmas.Int.{ints}
 use Rattle.std.specs.Prelude.{IfErr, Result, Ok, Err}
-use Rattle.disk_core.specs.declared.file_id.FileId.{FileId}
-use Rattle.disk_core.specs.declared.file_id.FileId.TheVariants.{BankA, BankB}
-use Rattle.disk_core.specs.DiskImage.{DiskImage, FileState, Files, bytes_of, reads}
-use Rattle.disk_core.specs.Life.{Life, LeavesOnly}
-use Rattle.disk_core.specs.Standing.{Holds, KeepsBelow}
-use Rattle.disk_core.proofs.CallerLemmas.{keeps_holds, same_file, weaker}
-use Rattle.frame_core.specs.declared.frame.Frame.{Frame}
-use Rattle.frame_core.specs.declared.refusal.Refusal.{Refusal}
-use Rattle.frame_core.specs.declared.refusal.Refusal.TheVariants.{DeviceFault}
-use Rattle.frame_core.specs.Block.{AreEncodable}
-use Rattle.frame_core.specs.FrameEncoding.{aligned_length, stored}
-use Rattle.segment_store.specs.declared.layout.Layout.{Layout}
-use Rattle.segment_store.specs.Layout.{file_of, offset_of}
-use Rattle.segment_store.specs.Stored.{ChangesFile, HoldsFrames, IsLeftBelow}
+use Rattle.engine_core.proofs.Words.{AreEncodable, BankA, BankB, ChangesFile, DeviceFault, DiskImage, Each, FileId, FileState, Files, Frame, Holds, HoldsFrames, HoldsRecording, IsDurable, IsEither, IsKept, IsSound, IsWell, Layout, LeavesOnly, Life, LogState, Moves, Recording, RecoversTo, Refusal, RestsAfter, State, aligned_length, banks_left, bytes_of, each_found, file_of, find, first_of, id_of, last_of, layout_of, offset_of, other_files, reads, recorded_position, same_file, stored, weaker}
+use Rattle.disk_core.specs.Standing.{KeepsBelow}
+use Rattle.disk_core.proofs.CallerLemmas.{keeps_holds}
+use Rattle.segment_store.specs.Stored.{IsLeftBelow}
 use Rattle.segment_store.proofs.DurableLemmas.{durable_below, frames_kept, lies_below}
 use Rattle.segment_store.proofs.StoredLemmas.{stored_no_longer}
-use Rattle.archive_model.specs.Keyed.{find, Each}
-use Rattle.archive_model.specs.State.{Recording, State, id_of, recorded_position}
-use Rattle.archive_model.specs.WellFormed.{IsKept, IsWell}
-use Rattle.archive_model.proofs.StateLemmas.{each_found}
-use Rattle.catalogue_log.specs.LogState.{LogState}
-use Rattle.catalogue_log.proofs.CallerLemmas.{banks_left, other_files}
-use Rattle.engine_core.specs.Moves.{Moves, RestsAfter}
-use Rattle.engine_core.specs.Recovery.{HoldsRecording, IsDurable, IsEither, IsSound, RecoversTo, first_of, last_of}
-use Rattle.recording_reads.specs.Recording.{layout_of}
 use Rattle.engine_core.proofs.files.FrameLemmas.{a_not_segment, apart, b_not_segment, each_both, each_by, left_frames, same_frames}
 
 -- what a write at a position of a recording does

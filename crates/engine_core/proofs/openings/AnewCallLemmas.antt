@@ -1,12 +1,8 @@
 -- A compaction that was refused.
 use Rattle.std.proofs.Common.{◌≡◌, ◌⊎◌, inl, inr}
 use Rattle.std.specs.Prelude.{IfErr, Result, Ok, Err}
-use Rattle.disk_core.specs.DiskImage.{MayLeave}
-use Rattle.disk_core.specs.Life.{LeavesOnly, Life}
-use Rattle.frame_core.specs.declared.refusal.Refusal.{Refusal}
-use Rattle.frame_core.specs.declared.refusal.Refusal.TheVariants.{DeviceFault}
+use Rattle.engine_core.proofs.Words.{DeviceFault, LeavesOnly, Life, MayLeave, ReadsAsBefore, Refusal}
 use Rattle.catalogue_log.specs.Catalogue.{KeepsReads}
-use Rattle.engine_core.specs.Opening.{ReadsAsBefore}
 
 -- each file reads as before
 pub kept_as_before : (result : Result (Unit {0}) Refusal) (old new : Life) → IfErr result (λ refusal. (refusal ≡ DeviceFault) ⊎ (KeepsReads old new × LeavesOnly old new (MayLeave old.now)))

@@ -3,19 +3,16 @@ use Rattle.std.proofs.Common.{◌≡◌, ◌<ℤ◌, ◌≤ℤ◌, ◌*◌, ◌/
 use Rattle.std.proofs.lemmas.Int.{ints}
 use Rattle.std.proofs.lemmas.Bool.Decides.{nat_tests}
 use Rattle.std.specs.Prelude.{IsTrue, not}
-use Rattle.frame_core.specs.Limits.{is_mtu, is_term_length}
+use Rattle.engine_core.proofs.Words.{Descriptor, Entry, IsLaid, RegisterState, Registration, after_entries, after_entry, both, is_later_base, is_term_length, registration_in}
+use Rattle.frame_core.specs.Limits.{is_mtu}
 use Rattle.std.specs.Ordering.{int_eq}
 use Rattle.archive_model.specs.declared.registration.Change.TheVariants as changes
-use Rattle.archive_model.specs.declared.descriptor.Descriptor.{Descriptor}
-use Rattle.archive_model.specs.declared.registration.Registration.{Registration}
 use Rattle.archive_model.specs.Descriptor.{is_in_range, is_negative, is_origin}
-use Rattle.archive_model.specs.Register.{RegisterState, changed_by, is_active, is_behind, is_later_base, is_within, may_begin, may_record, registered, registration_in}
-use Rattle.archive_model.proofs.WellLemmas.{both}
-use Rattle.catalogue_entries.specs.declared.entry.Entry.{Entry}
+use Rattle.archive_model.specs.Register.{changed_by, is_active, is_behind, is_within, may_begin, may_record, registered}
 use Rattle.catalogue_entries.specs.declared.entry.Entry.TheVariants.{Start, Settle, Stop, Extend, Truncate, PurgeSegments, PurgeRecording, Restart, Whole, NextId}
-use Rattle.catalogue_entries.specs.Fold.{AreAdmitted, Place, after_entries, after_entry, has_limits, is_aligned, is_in_stream, is_recorded_to, is_stopped, as_kept, may_settle, may_truncate, place_behind, restores, takes}
+use Rattle.catalogue_entries.specs.Fold.{AreAdmitted, Place, has_limits, is_aligned, is_in_stream, is_recorded_to, is_stopped, as_kept, may_settle, may_truncate, place_behind, restores, takes}
 use Rattle.catalogue_entries.proofs.CallerLemmas.{stands_takes}
-use Rattle.control_core.specs.Orderly.{AreLaid, IsLaid}
+use Rattle.control_core.specs.Orderly.{AreLaid}
 use Rattle.control_core.proofs.LaidLemmas.{all_stopped_laid, changed_laid, laid_begun, laid_extended, laid_purged, laid_settled, laid_stopped, laid_truncated, one_less_laid, one_more_laid, test_of}
 
 lt_true : (a b : ℤ) → int_lt a b ≡ true → a <ℤ b

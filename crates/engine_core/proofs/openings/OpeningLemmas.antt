@@ -1,40 +1,20 @@
 -- Files that are synced before they are read.
-use Rattle.std.proofs.Common.{take_all, ◌≡◌, ◌≢◌, ◌⊎◌, ◌∙◌, inl, inr, sym, ap, subst, refl, ℕ, ℤ, pos, ◌+◌, ◌<◌, ◌≤◌, IsSome, List, [], ◌∷◌, ◌++◌, Option, None, Some, Contains, get_or, length, length-append, replicate, take, ◌-◌, add-one, arith}
+use Rattle.std.proofs.Common.{take_all, ◌≡◌, ◌≢◌, ◌⊎◌, ◌∙◌, inl, inr, sym, ap, subst, refl, ℕ, ℤ, pos, ◌+◌, ◌<◌, ◌≤◌, IsSome, List, [], ◌∷◌, ◌++◌, Option, None, Some, Contains, get_or, length, length-append, length-take, replicate, take, ◌-◌, add-one, arith}
 use Rattle.std.proofs.lemmas.Int.{ints}
 use Rattle.std.specs.Prelude.{◌↔◌, IfErr, IfOk, IsErrOf, Result, Ok, Err}
 use Rattle.std.proofs.lemmas.List.Elements.{Contains-push_cases}
 use Rattle.std.proofs.Math.Seq.{take-suc}
-use Rattle.disk_core.specs.declared.file_id.FileId.{FileId}
-use Rattle.disk_core.specs.declared.file_id.FileId.TheVariants.{Segment}
+use Rattle.engine_core.proofs.Words.{AreDurableFrames, AreFilesWith, BankA, BankB, BankHeader, DeviceFault, DiskImage, Each, Entry, FileId, FileState, Files, Frame, FrameKind, HasFailed, Heartbeat, Holds, HoldsFrames, HoldsRecording, IsAtRest, IsCatalogue, IsDurable, IsKept, IsLogIn, IsOfStream, IsQuiet, IsSound, Layout, LeavesOnly, Life, LogState, MayLeave, Message, NoMemory, Pad, ReadsAsBefore, Recovers, Refusal, Segment, State, after_entries, aligned_length, base_of, bytes_of, durable, empty, file_of, first_of, goes_on_part, goes_quiet, last_of, layout_of, moment, no_recordings, now_leaves, offset_of, one_catalogue, reads, same_file, started, stored}
 use Rattle.disk_core.specs.Calls.{IsSynced}
-use Rattle.disk_core.specs.DiskImage.{DiskImage, FileState, Files, MayLeave, bytes_of, durable, reads}
-use Rattle.disk_core.specs.FileNames.{AreFilesWith}
-use Rattle.disk_core.specs.Life.{HasFailed, IsQuiet, Life, LeavesOnly, Steps}
-use Rattle.disk_core.specs.Standing.{Holds}
-use Rattle.disk_core.proofs.CallerLemmas.{goes_on_part, goes_quiet, now_leaves, same_file, started, sync_moments}
-use Rattle.frame_core.specs.declared.frame.Frame.{Frame}
-use Rattle.frame_core.specs.declared.frame.FrameKind.{FrameKind}
-use Rattle.frame_core.specs.declared.frame.FrameKind.TheVariants.{Pad, Message, Heartbeat}
-use Rattle.frame_core.specs.declared.refusal.Refusal.{Refusal}
-use Rattle.frame_core.specs.declared.refusal.Refusal.TheVariants.{BadParameter, DeviceFault, NoMemory}
-use Rattle.frame_core.specs.FrameEncoding.{aligned_length, encoded, header_of, stored, stored_as}
+use Rattle.disk_core.specs.Life.{Steps, moments}
+use Rattle.disk_core.proofs.CallerLemmas.{sync_moments}
+use Rattle.frame_core.specs.declared.refusal.Refusal.TheVariants.{BadParameter}
+use Rattle.frame_core.specs.FrameEncoding.{encoded, header_of, stored_as}
 use Rattle.frame_core.proofs.FrameEncodingLemmas.{length-header_of}
-use Rattle.segment_store.specs.declared.layout.Layout.{Layout}
-use Rattle.segment_store.specs.Layout.{base_of, file_of, offset_of}
-use Rattle.segment_store.specs.Stored.{AreDurableFrames, HoldsFrames}
-use Rattle.archive_model.specs.Keyed.{Each}
-use Rattle.archive_model.specs.Register.{no_recordings}
-use Rattle.archive_model.specs.State.{State, empty}
-use Rattle.archive_model.specs.WellFormed.{IsKept, IsOfStream}
-use Rattle.catalogue_log.specs.declared.bank.BankHeader.{BankHeader}
-use Rattle.catalogue_entries.specs.declared.entry.Entry.{Entry}
-use Rattle.catalogue_log.specs.Catalogue.{IsCatalogue, KeepsReads, RefusesCatalogue}
-use Rattle.catalogue_entries.specs.Fold.{after_entries}
-use Rattle.catalogue_log.specs.LogState.{IsAtRest, IsLogIn, LogState}
-use Rattle.catalogue_log.proofs.CallerLemmas.{not_refused, one_catalogue, rests_in, same_image}
-use Rattle.engine_core.specs.Opening.{ReadsAsBefore, SyncsOnly}
-use Rattle.engine_core.specs.Recovery.{Folds, HoldsRecording, IsDurable, IsSound, Recovers, first_of, last_of}
-use Rattle.recording_reads.specs.Recording.{layout_of}
+use Rattle.catalogue_log.specs.Catalogue.{KeepsReads, RefusesCatalogue}
+use Rattle.catalogue_log.proofs.CallerLemmas.{not_refused, rests_in, same_image}
+use Rattle.engine_core.specs.Opening.{AreOnDisk, SyncsOnly}
+use Rattle.engine_core.specs.Recovery.{Folds}
 use Rattle.engine_core.proofs.files.FrameLemmas.{each_both, each_then, read_durable}
 
 -- a file reads as before
@@ -99,14 +79,18 @@ pub record AreSynced (old new : Life) (files : List FileId) : Type 0 where
   pub only : SyncsOnly old new
   pub synced : (recording base : ℤ) → Contains files (Segment recording base)
       → new.now (Segment recording base) ≡ durable (reads old.now (Segment recording base))
+  pub calls : moment new ≤ moment old + length files
 
 pub none_synced : (life : Life) → AreSynced life life []
-none_synced life = record { only = unchanged life; synced = λ recording base has. absurd (omega (arith, has.1)) }
+none_synced life = record { only = unchanged life; synced = λ recording base has. absurd (omega (arith, has.1)); calls = omega arith }
 
 pub next_synced : (old mid new : Life) (files : List FileId) (i : ℕ) (d : FileId)
     → i < length files → AreSynced old mid (take i files) → SyncsOnly mid new
-    → ((recording base : ℤ) → get_or files i d ≡ Segment recording base → new.now (get_or files i d) ≡ durable (reads mid.now (get_or files i d))) → AreSynced old new (take (i + 1) files)
-next_synced old mid new files i d within so_far only here = record {
+    → ((recording base : ℤ) → get_or files i d ≡ Segment recording base → new.now (get_or files i d) ≡ durable (reads mid.now (get_or files i d))) → moment new ≤ moment mid + 1 → AreSynced old new (take (i + 1) files)
+next_synced old mid new files i d within so_far only here one = record {
+  calls = (let more : take (i + 1) files ≡ take i files ++ get_or files i d ∷ [] = rw (add-one, take-suc files i d within) refl in
+      let longer : length (take (i + 1) files) ≡ length (take i files) + 1 = ap (λ (xs : List FileId). length xs) more ∙ length-append (take i files) (get_or files i d ∷ []) in
+      let before = so_far.calls in omega (arith, longer, before, one));
   only = synced_more old mid new so_far.only only;
   synced = λ recording base has.
       let more : take (i + 1) files ≡ take i files ++ get_or files i d ∷ [] = rw (add-one, take-suc files i d within) refl in
@@ -250,3 +234,27 @@ only_fault (Err refusal) old new limit some most range (inr fault) = fault
 pub empty_list : (files : List FileId) → length files ≡ 0 → files ≡ []
 empty_list [] none = refl
 empty_list (file ∷ files) none = absurd (omega (arith, none))
+
+-- ---- what an opening asks of the disk
+
+-- the calls of so many files are at most those of all
+pub few_calls : (old new : Life) (files : List FileId) (i : ℕ) → AreSynced old new (take i files) → moment new ≤ moment old + length files
+few_calls old new files i so_far =
+    let calls = so_far.calls in
+    let some = length-take i files in
+    omega (arith, calls, some)
+
+-- a step is one call, or none
+pub one_call : (file : FileId) (old new : Life) → Steps file IsSynced old new → moment new ≤ moment old + 1
+one_call file old new step = elim step.time [
+  | inl later ↦ (let long : length (moments new) ≡ length (moments old) + 1 = ap (λ (x : List Files). length x) later ∙ length-append (moments old) (new.now ∷ []) in
+      let new_long : length (moments new) ≡ moment new + 1 = length-append new.past (new.now ∷ []) in
+      let old_long : length (moments old) ≡ moment old + 1 = length-append old.past (old.now ∷ []) in omega (arith, long, new_long, old_long))
+  | inr same ↦ (let still : moment new ≡ moment old = ap (λ (x : List Files). length x) same.0 in omega (arith, still))
+]
+
+-- the segment files stay on the disk while the banks are read
+pub on_disk : (old mid new : Life) → Durable old mid → KeepsReads mid new → AreOnDisk old new
+on_disk old mid new all same BankA not_a not_b there = absurd (not_a refl)
+on_disk old mid new all same BankB not_a not_b there = absurd (not_b refl)
+on_disk old mid new all same (Segment recording base) not_a not_b there = same.others (Segment recording base) not_a not_b ∙ all recording base there

@@ -1,34 +1,19 @@
 -- How an archive is opened: what its files give.
-use Rattle.std.proofs.Common.{◌≡◌, ◌≢◌, ◌⊎◌, ◌∙◌, inl, inr, sym, ap, subst, ℕ, ℤ, pos, IsSome, List, [], arith}
+use Rattle.std.proofs.Common.{◌≡◌, ◌≢◌, ◌⊎◌, ◌∙◌, inl, inr, sym, ap, subst, ℕ, ℤ, pos, IsSome, List, [], length, arith}
 use Rattle.std.specs.Prelude.{IsTrue, MatchResult, Result, Ok, Err}
-use Rattle.frame_core.specs.declared.refusal.Refusal.{Refusal}
-use Rattle.frame_core.specs.declared.refusal.Refusal.TheVariants.{BadParameter, DeviceFault, NoMemory}
-use Rattle.disk_core.specs.declared.file_id.FileId.{FileId}
-use Rattle.disk_core.specs.declared.file_id.FileId.TheVariants.{BankA, BankB}
-use Rattle.disk_core.specs.DiskImage.{DiskImage, FileState, Files, MayLeave, reads}
-use Rattle.disk_core.specs.FileNames.{AreFilesWith}
-use Rattle.disk_core.specs.Life.{HasFailed, IsQuiet, Life, LeavesOnly}
-use Rattle.disk_core.proofs.CallerLemmas.{goes_on_part, now_leaves, weaker}
-use Rattle.archive_model.specs.declared.version.BankVersion.{BankVersion}
-use Rattle.archive_model.specs.declared.command.Command.TheVariants.{Restart}
-use Rattle.archive_model.specs.Commands.{after}
+use Rattle.engine_core.proofs.Words.{AreFilesWith, BankA, BankB, BankHeader, BankVersion, ChangesBank, DeskState, DeviceFault, DiskGoesOn, DiskImage, EngineState, Entry, FileId, FileState, Files, HasEntries, HasFailed, IsCatalogue, IsEither, IsLogIn, IsQuiet, IsSound, KeepsBank, LeavesOnly, Life, LogState, MayLeave, NoMemory, ReadsAsBefore, Recovers, RecoversTo, Refusal, RegisterState, Restart, Restarts, State, after, after_entries, all_stopped, bank_file, durable, goes_on_part, log_catalogue, moment, no_recordings, now_leaves, opened_archive, opened_desk, reads, register_of, rest_left, weaker}
+use Rattle.frame_core.specs.declared.refusal.Refusal.TheVariants.{BadParameter}
 use Rattle.archive_model.specs.Register as register
-use Rattle.archive_model.specs.Register.{RegisterState, all_stopped, no_recordings}
-use Rattle.archive_model.specs.State.{State, register_of}
-use Rattle.catalogue_entries.specs.declared.entry.Entry.{Entry}
-use Rattle.catalogue_log.specs.Catalogue.{ChangesBank, IsCatalogue, RefusesCatalogue}
-use Rattle.catalogue_entries.specs.Fold.{after_entries}
-use Rattle.catalogue_log.specs.declared.bank.BankHeader.{BankHeader}
+use Rattle.catalogue_entries.specs.declared.entry.Entry.TheVariants as entries
+use Rattle.catalogue_log.specs.Banks.{other_of}
+use Rattle.catalogue_log.specs.Catalogue.{RefusesCatalogue}
 use Rattle.catalogue_log.specs.declared.banks.Spare.{Spare}
-use Rattle.catalogue_log.specs.LogState.{IsLogIn, LogState, TellsBanks, banks_of, is_usable}
-use Rattle.catalogue_log.proofs.CallerLemmas.{fault_refuses, log_catalogue, rest_left, same_image, told_in}
-use Rattle.control_core.specs.Desk.{DeskState, opened_desk}
-use Rattle.control_core.specs.Exact.{opened_archive}
-use Rattle.engine_core.specs.Engine.{EngineState, DiskGoesOn, KeepsBank}
-use Rattle.engine_core.specs.Making.{HasNotStarted, Restarts}
-use Rattle.engine_core.specs.Opened.{HadFiles, HasNotOpened, HasOpened, IsDeskOf, IsFresh, IsNear, IsNotOpened, IsOpened, LeavesEither, NeitherMadeNorOpened}
-use Rattle.engine_core.specs.Opening.{ReadsAsBefore, RefusesNew, RefusesOpening}
-use Rattle.engine_core.specs.Recovery.{IsEither, IsSound, Recovers, RecoversTo}
+use Rattle.catalogue_log.specs.LogState.{TellsBanks, banks_of, is_usable}
+use Rattle.catalogue_log.proofs.CallerLemmas.{fault_refuses, same_image, told_in}
+use Rattle.engine_core.specs.Catalogued.{LeavesCatalogue, OpensCatalogue}
+use Rattle.engine_core.specs.Making.{HasNotStarted}
+use Rattle.engine_core.specs.Opened.{HadFiles, HasNotOpened, HasOpened, IsDeskOf, IsFresh, IsNear, IsNotOpened, IsOpened, LeavesEither, NeitherMadeNorOpened, OpensBy}
+use Rattle.engine_core.specs.Opening.{RefusesNew, RefusesOpening}
 use Rattle.engine_core.proofs.calls.EndedLemmas.{recovers_as}
 use Rattle.engine_core.proofs.openings.OpeningLemmas.{none_there, nothing_synced, one_there, read_synced}
 use Rattle.engine_core.proofs.openings.RestartLemmas.{active_same, opened_consistent, register_restarted}
@@ -199,6 +184,30 @@ module _ (old mid : Life) (quiet : IsQuiet old mid) where
   goes_still : (new : Life) → DiskGoesOn mid new → DiskGoesOn old new
   goes_still new goes = record { obeyed = λ obeys. quiet.obeyed (goes.obeyed obeys); faults = omega (arith, quiet.faults, goes.faults) }
 
+  still_calls : (new : Life) → OpensBy mid new → OpensBy old new
+  still_calls new by = record {
+    files = by.files;
+    are = λ obeys. subst (λ (files : Files). AreFilesWith (λ file. IsSome (reads files file)) by.files) quiet.now (by.are obeys);
+    calls = (let calls = by.calls in let same : moment mid ≡ moment old = ap (λ (past : List Files). length past) quiet.past in omega (arith, calls, same));
+  }
+
+  still_leaves : (new : Life) (h : BankHeader) (es : List Entry) → LeavesCatalogue mid new h es → LeavesCatalogue old new h es
+  still_leaves new h es left =
+      let P : DiskImage → Type 0 = λ image. MayLeave old.now image ⊎ HasEntries h es entries.Restart image in
+      goes_on_part old mid new P (λ image. MayLeave mid.now image ⊎ HasEntries h es entries.Restart image) (weaker old mid P (MayLeave old.now) listed.any_moment (λ image may. inl may)) left
+      (λ image has. elim has [ inl may ↦ inl (subst (λ (files : Files). MayLeave files image) quiet.now may) | inr entries ↦ inr entries ])
+
+  still_whole : (h : BankHeader) (es : List Entry) → IsCatalogue (reads old.now) h es → IsCatalogue (reads mid.now) h es
+  still_whole h es has = subst (λ (files : Files). IsCatalogue (reads files) h es) (sym quiet.now) has
+
+  still_opens : (new : EngineState) (stopped : ℤ) (h : BankHeader) (es : List Entry) → OpensCatalogue mid new stopped h es → OpensCatalogue old new stopped h es
+  still_opens new stopped h es opens = record {
+    any_moment = still_leaves new.life h es opens.any_moment;
+    header = opens.header;
+    rests = opens.rests;
+    synced = subst (λ (files : Files). (file : FileId) → file ≢ BankA → file ≢ BankB → IsSome (reads files file) → new.life.now file ≡ durable (reads files file)) quiet.now opens.synced;
+  }
+
   pub opened_behind : (new : EngineState) (stopped : ℤ) → HasOpened mid new stopped
       → HasOpened old new stopped
   opened_behind new stopped is = record {
@@ -217,7 +226,10 @@ module _ (old mid : Life) (quiet : IsQuiet old mid) where
     banks = λ obeys. subst (λ (files : Files). TellsBanks (reads files) (banks_of new.log)) quiet.now (is.banks obeys);
     goes_on = goes_still new.life is.goes_on;
     others = λ file not_a not_b. is.others file not_a not_b ∙ ap (λ (files : Files). reads files file) quiet.now;
+    other_bank = is.other_bank ∙ ap (λ (files : Files). reads files (bank_file (other_of new.log.bank))) quiet.now;
     idle = λ none. still_before new.life (is.idle none);
+    calls = still_calls new.life is.calls;
+    catalogue = λ obeys h es has. still_opens new stopped h es (is.catalogue obeys h es (still_whole h es has));
   }
 
   pub refused_behind : (new : Life) (refusal : Refusal) → HasNotOpened mid new refusal
@@ -231,6 +243,11 @@ module _ (old mid : Life) (quiet : IsQuiet old mid) where
     };
     goes_on = goes_still new is.goes_on;
     others = λ file not_a not_b. is.others file not_a not_b ∙ ap (λ (files : Files). reads files file) quiet.now;
+    calls = elim is.calls [
+      | inl same ↦ inl (record { obeyed = λ obeys. quiet.obeyed (same.obeyed obeys); past = same.past ∙ quiet.past; now = same.now ∙ quiet.now; faults = (let first = quiet.faults in let then = same.faults in omega (arith, first, then)) })
+      | inr by ↦ inr (still_calls new by)
+    ];
+    catalogue = λ obeys h es has. still_leaves new h es (is.catalogue obeys h es (still_whole h es has));
   }
 
   -- nothing was listed
@@ -246,6 +263,8 @@ module _ (old mid : Life) (quiet : IsQuiet old mid) where
         };
         goes_on = record { obeyed = quiet.obeyed; faults = quiet.faults };
         others = λ file not_a not_b. listed.same file;
+        calls = inl quiet;
+        catalogue = λ obeys h es has. weaker old mid (λ image. MayLeave old.now image ⊎ HasEntries h es entries.Restart image) (MayLeave old.now) listed.any_moment (λ image may. inl may);
       }
 
   -- no archive is made where no file is

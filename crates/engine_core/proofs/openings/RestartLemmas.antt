@@ -1,36 +1,22 @@
 -- How the recordings of an archive that is opened stop.
-use Rattle.std.proofs.Common.{◌≡◌, ◌≢◌, ◌⊎◌, ◌∙◌, ◌+◌, inl, inr, sym, ap, subst, refl, ℕ, ℤ, pos, negsuc, Bool, true, false, cond, List, [], ◌∷◌, None, Some, map, arith}
+use Rattle.std.proofs.Common.{◌≡◌, ◌≢◌, ◌⊎◌, ◌∙◌, ◌+◌, inl, inr, sym, ap, subst, refl, ℕ, ℤ, pos, negsuc, Bool, true, false, cond, List, [], ◌∷◌, ◌++◌, None, Some, map, arith}
 use Rattle.std.specs.Prelude.{Result, Ok, Err, count_by}
+use Rattle.std.specs.Ordering.{int_eq}
+use Rattle.std.proofs.lemmas.Bool.Decides.{Decides-int_eq}
 use Rattle.std.proofs.lemmas.List.{map-id}
 use Rattle.std.proofs.lemmas.List.Sums.{sum_by-cons}
-use Rattle.frame_core.specs.declared.refusal.Refusal.{Refusal}
-use Rattle.frame_core.specs.declared.refusal.Refusal.TheVariants.{DeviceFault, NoMemory}
-use Rattle.disk_core.specs.Life.{HasFailed, Life, LeavesOnly}
-use Rattle.disk_core.proofs.CallerLemmas.{started, weaker}
-use Rattle.archive_model.specs.declared.version.BankVersion.{BankVersion}
-use Rattle.archive_model.specs.declared.command.Command.TheVariants.{Restart}
+use Rattle.engine_core.proofs.Words.{Accepts, AddsBehind, Archive, BankVersion, CallEnded, ChangesBank, ChangesThese, CommitEnds, CommitsEntry, Content, DeskState, DeviceFault, EngineState, Entry, HasEntries, HasFailed, IsAtRest, IsCrashConsistent, IsEither, IsSound, IsWell, LeavesOnly, Life, LogState, MayStandIn, NoMemory, Recording, RecoversTo, Refusal, RegisterState, Registration, Reply, Restart, Restarts, State, after, all_stopped, archive_after, archive_of, bank_file, book_of, broken, content_of, empty, is_active, opened_archive, opened_desk, register_of, registration_of, reply_after, rest_left, started, weaker}
 use Rattle.archive_model.specs.declared.registration.Change.TheVariants as changes
-use Rattle.archive_model.specs.declared.registration.Registration.{Registration}
-use Rattle.archive_model.specs.declared.reply.Reply.{Reply}
 use Rattle.archive_model.specs.Acceptance.{BookState}
-use Rattle.archive_model.specs.Accepting.{Accepts}
-use Rattle.archive_model.specs.Commands.{after, restarted, stopped}
+use Rattle.archive_model.specs.Commands.{restarted, stopped}
 use Rattle.archive_model.specs.Register as register
-use Rattle.archive_model.specs.Register.{RegisterState, all_stopped}
-use Rattle.archive_model.specs.State.{Recording, State, active_count, empty, is_active, register_of, registration_of}
-use Rattle.archive_model.specs.WellFormed.{IsWell}
+use Rattle.archive_model.specs.State.{active_count}
 use Rattle.archive_model.proofs.StateLemmas.{register_follows}
-use Rattle.catalogue_log.specs.Catalogue.{ChangesBank}
-use Rattle.catalogue_log.specs.LogState.{LogState}
-use Rattle.control_core.specs.Changes.{reply_after}
-use Rattle.control_core.specs.Desk.{DeskState, opened_desk}
-use Rattle.control_core.specs.Exact.{Archive, archive_after, book_of, broken, opened_archive}
 use Rattle.control_core.proofs.ConsistentLemmas.{consistent_opened}
-use Rattle.engine_core.specs.Calls.{CommitEnds, CallEnded}
-use Rattle.engine_core.specs.Consistent.{IsCrashConsistent, MayStandIn}
-use Rattle.engine_core.specs.Engine.{Content, EngineState, archive_of, content_of}
-use Rattle.engine_core.specs.Making.{CommitsEntry, Restarts}
-use Rattle.engine_core.specs.Recovery.{IsEither, IsSound, RecoversTo}
+use Rattle.catalogue_entries.specs.declared.entry.Entry.TheVariants as entries
+use Rattle.engine_core.specs.Catalogued.{AddsCommand, restarted_entries}
+use Rattle.engine_core.proofs.calls.TouchLemmas.{quiet_these, still_quiet}
+use Rattle.engine_core.specs.Making.{RestartsBehind}
 use Rattle.engine_core.proofs.calls.EndedLemmas.{recovers_as, same_bank, sound_consistent}
 
 -- ---- an archive at which nobody calls yet
@@ -143,9 +129,32 @@ desk_restarted old new told made g counted limit version is =
     let made_here : RestartsBy (with_desk (opened_desk g counted limit version) old) new (Ok told) = subst (λ (d : DeskState). RestartsBy (with_desk d old) new (Ok told)) is made in
     ap (λ (b : Archive). b.desk) (made_here.exact nothing_known).1.1
 
-pub restarts_done : (old new : EngineState) (told : Reply) (count : ℤ) → RestartsBy old new (Ok told) → ChangesBank old.life new.life → count ≢ pos 0 → count ≡ pos (register.active_count old.desk.register) → Restarts old new (Ok count)
-restarts_done old new told count made changes some is = record {
+-- the entry of a restart was added
+abbrev AddsRestart : EngineState → EngineState → Result Reply Refusal → Type 0
+AddsRestart old new result = AddsCommand old new Restart result
+
+abbrev TouchesBank : EngineState → EngineState → Type 0
+TouchesBank old new = ChangesThese (λ file. file ≡ bank_file old.log.bank) 4 old.life new.life
+
+-- with the entry, where some were stopped
+some_stopped : (count : ℤ) (es : List Entry) → count ≢ pos 0 → restarted_entries count es ≡ es ++ entries.Restart ∷ []
+some_stopped count es some = by (int_eq count (pos 0)) refl
+  where
+    by : (b : Bool) → int_eq count (pos 0) ≡ b → cond b es (es ++ entries.Restart ∷ []) ≡ es ++ entries.Restart ∷ []
+    by true is = absurd (some ((Decides-int_eq count (pos 0)).0 is))
+    by false is = refl
+
+none_stopped : (count : ℤ) (es : List Entry) → count ≡ pos 0 → restarted_entries count es ≡ es
+none_stopped count es none = ap (λ (z : ℤ). restarted_entries z es) none
+
+behind_done : (old new : EngineState) (told : Reply) (count : ℤ) (es : List Entry) → count ≢ pos 0 → AddsBehind old.life new.life old.log new.log es entries.Restart (Ok told) → RestartsBehind old new es (Ok count)
+behind_done old new told count es some adds = record { any_moment = adds.any_moment; rests = subst (IsAtRest new.life.now new.log) (sym (some_stopped count es some)) adds.rests }
+
+pub restarts_done : (old new : EngineState) (told : Reply) (count : ℤ) → RestartsBy old new (Ok told) → ChangesBank old.life new.life → TouchesBank old new → AddsRestart old new (Ok told) → count ≢ pos 0 → count ≡ pos (register.active_count old.desk.register) → Restarts old new (Ok count)
+restarts_done old new told count made changes touches adds some is = record {
   bank = made.bank;
+  touches = touches;
+  entries = λ es rests makes. behind_done old new told count es some (adds es rests makes);
   changes = changes;
   cause = λ fault. absurd cc;
   outside = tt;
@@ -174,13 +183,15 @@ commit_cause DeviceFault a b c reply faulted ends is = ends.0
 commit_cause NoMemory a b c reply faulted ends is = absurd cc
 commit_cause refusal a b c reply faulted ends is = absurd ends
 
-pub restarts_refused : (old new : EngineState) (refusal : Refusal) → RestartsBy old new (Err refusal) → ChangesBank old.life new.life → (refusal ≢ DeviceFault → new.life ≡ old.life) → Restarts old new (Err refusal)
-restarts_refused old new refusal made changes quiet =
+pub restarts_refused : (old new : EngineState) (refusal : Refusal) → RestartsBy old new (Err refusal) → ChangesBank old.life new.life → (refusal ≢ DeviceFault → new.life ≡ old.life) → TouchesBank old new → AddsRestart old new (Err refusal) → Restarts old new (Err refusal)
+restarts_refused old new refusal made changes quiet touches adds =
     let exact = made.exact nothing_known in
     let a : Archive = archive_of old nothing_known in
     let outside = commit_outside refusal a (archive_after a Restart) (archive_of new exact.0) (reply_after old.desk Restart) (HasFailed old.life new.life) exact.1 in
     record {
       bank = made.bank;
+      touches = touches;
+      entries = λ es rests makes. record { any_moment = (adds es rests makes).any_moment; rests = tt };
       changes = changes;
       cause = λ fault. commit_cause refusal a (archive_after a Restart) (archive_of new exact.0) (reply_after old.desk Restart) (HasFailed old.life new.life) exact.1 cc;
       outside = outside;
@@ -203,6 +214,11 @@ pub restarts_none : (old : EngineState) (count : ℤ) → count ≡ pos 0
     → register.active_count old.desk.register ≡ 0 → Restarts old old (Ok count)
 restarts_none old count zero none = record {
   bank = same_bank old.log old.log refl;
+  touches = quiet_these (λ file. file ≡ bank_file old.log.bank) 4 old.life old.life (still_quiet old.life);
+  entries = λ es rests makes. record {
+    any_moment = started old.life (HasEntries old.log.header es entries.Restart) (λ image left. inl (rest_left old.life.now old.log es image rests left));
+    rests = subst (IsAtRest old.life.now old.log) (sym (none_stopped count es zero)) rests;
+  };
   changes = record { others = λ file not_a not_b. refl; faults = omega arith; obeyed = λ obeys. obeys };
   cause = λ fault. absurd cc;
   outside = tt;

@@ -6,39 +6,20 @@ use Rattle.std.proofs.lemmas.Bool.Decides.{nat_tests, Decides-int_eq}
 use Rattle.std.specs.Prelude.{IsTrue, nat_le, nat_lt, int_lt, unsigned_abs, if◌then◌else◌}
 use Rattle.std.specs.Ordering.{int_eq}
 use Rattle.std.proofs.Math.Nat.{div-mul-le_self, le-max_left, max-eq_left, max-eq_right, max-le, mod-eq-sub-div-mul, mul-le-mul_right}
-use Rattle.disk_core.specs.DiskImage.{DiskImage, reads}
-use Rattle.disk_core.specs.Life.{Life}
-use Rattle.frame_core.specs.declared.frame.Frame.{Frame}
-use Rattle.frame_core.specs.declared.geometry.Geometry.{Geometry}
-use Rattle.frame_core.specs.declared.refusal.Refusal.{Refusal}
-use Rattle.frame_core.specs.declared.refusal.Refusal.TheVariants.{Damaged, DeviceFault, NoMemory}
-use Rattle.frame_core.specs.Block.{covered}
-use Rattle.frame_core.specs.FrameEncoding.{aligned_length}
+use Rattle.engine_core.proofs.Words.{Damaged, DeviceFault, DiskImage, Each, Frame, Geometry, HoldsRecording, IsKept, IsOutside, Layout, Life, NoMemory, OpenReplay, PolledFrame, Recording, RecordingIsRead, Refusal, RefusesBoundaryIn, RefusesCount, RefusesPoll, Registration, TellsBoundaryIn, aligned_length, begins_frame, covered, covered-append, first_of, geometry_of, is_boundary, is_end, last_of, layout_of, polled, reads, recorded_position, registration_of}
 use Rattle.frame_core.specs.Position.{HasPosition, terms_since}
-use Rattle.segment_store.specs.declared.layout.Layout.{Layout}
 use Rattle.segment_store.specs.Boundary.{BreaksAt, IsChain, IsReached}
 use Rattle.segment_store.specs.DamagedFrame.{IsDamaged}
 use Rattle.segment_store.proofs.ChainLemmas.{chain_rises}
 use Rattle.segment_store.proofs.DurableLemmas.{one_shown}
 use Rattle.segment_store.proofs.ReadLemmas.{belongs_ends}
-use Rattle.replay_core.specs.Poll.{ArePolled, RefusesPoll, before}
+use Rattle.replay_core.specs.Poll.{ArePolled, before}
 use Rattle.replay_core.proofs.GivenLemmas.{covers, given, goes_on}
-use Rattle.archive_model.specs.declared.reply.PolledFrame.{PolledFrame}
-use Rattle.archive_model.specs.declared.registration.Registration.{Registration}
-use Rattle.archive_model.specs.Keyed.{Each}
-use Rattle.archive_model.specs.Register.{is_end}
-use Rattle.archive_model.specs.Replay.{begins_frame, is_between, is_boundary, placed, polled}
-use Rattle.archive_model.specs.State.{Recording, geometry_of, recorded_position, registration_of}
+use Rattle.archive_model.specs.Replay.{is_between, placed}
 use Rattle.archive_model.specs.Histories.{AreContiguous}
-use Rattle.archive_model.specs.WellFormed.{IsKept}
 use Rattle.archive_model.proofs.CutLemmas.{IsEdge, edge_begins, edge_end, edge_start}
-use Rattle.archive_model.proofs.HistoriesLemmas.{covered-append}
 use Rattle.archive_model.proofs.ReplayLemmas.{begins_at, past_bound}
-use Rattle.control_core.specs.declared.callers.OpenReplay.{OpenReplay}
-use Rattle.engine_core.specs.Reading.{IsOutside, RecordingIsRead}
-use Rattle.recording_reads.specs.Reading.{BreaksIn, GivesShown, HasFrames, IsBoundaryIn, RefusesBoundaryIn, RefusesCount, TellsBoundaryIn, term_start}
-use Rattle.engine_core.specs.Recovery.{HoldsRecording, first_of, last_of}
-use Rattle.recording_reads.specs.Recording.{layout_of}
+use Rattle.recording_reads.specs.Reading.{BreaksIn, GivesShown, HasFrames, IsBoundaryIn, term_start}
 use Rattle.engine_core.proofs.files.RecoveryLemmas.{one_chain, shown}
 
 -- ---- edges: positions where a frame begins or the last one ends

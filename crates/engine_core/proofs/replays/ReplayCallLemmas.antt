@@ -2,49 +2,23 @@
 use Rattle.std.proofs.Common.{rules, ◌≡◌, ◌∙◌, ◌&&◌, ◌<◌, inl, inr, sym, ap, subst, refl, ℕ, ℤ, pos, Bool, true, false, IsTrue, List, Option, None, Some, int_le, ◌≤ℤ◌, arith}
 use Rattle.std.proofs.lemmas.Int.{ints}
 use Rattle.std.specs.Prelude.{IsErrOf, Result, Ok, Err, is_none, length, if◌then◌else◌, unsigned_abs}
-use Rattle.frame_core.specs.declared.refusal.Refusal.{Refusal}
-use Rattle.frame_core.specs.declared.refusal.Refusal.TheVariants.{Damaged, DeviceFault, NoMemory}
-use Rattle.frame_core.specs.declared.geometry.Geometry.{Geometry}
-use Rattle.disk_core.specs.DiskImage.{DiskImage, MayLeave, reads}
-use Rattle.disk_core.specs.Life.{HasFailed, IsQuiet}
-use Rattle.segment_store.specs.declared.layout.Layout.{Layout}
-use Rattle.replay_core.specs.Poll.{MovesTo, RefusesPoll}
-use Rattle.archive_model.specs.declared.registration.Registration.{Registration}
-use Rattle.archive_model.specs.declared.reply.Reply.{Reply}
-use Rattle.archive_model.specs.declared.reply.PolledFrame.{PolledFrame}
+use Rattle.engine_core.proofs.Words.{Content, Damaged, DeskState, DeviceFault, DiskImage, EndsEvent, EngineState, Geometry, HasFailed, IsAtBoundary, IsOutside, IsQuiet, KeepsDesk, Layout, MayLeave, NoMemory, OpenReplay, Outcome, PolledFrame, Recording, RecordingIsRead, Refusal, RefusesCount, RefusesPoll, Registration, Reply, Stepped, Written, archive_of, both, call_is_allowed, change, checked, checks, found_number, held, is_boundary, open_replay_in, passes, poll_decision, polled, polled_open, reads, recording_at, registration_in, replay_number, with_desk}
+use Rattle.replay_core.specs.Poll.{MovesTo}
 use Rattle.archive_model.specs.declared.reply.Reply.TheVariants as replies
-use Rattle.archive_model.specs.Checks.{checked, checks, passes}
-use Rattle.archive_model.specs.Keyed.{change, without}
-use Rattle.archive_model.specs.Register.{registration_in}
-use Rattle.archive_model.specs.Replay.{is_boundary, polled}
-use Rattle.archive_model.specs.State.{Recording}
-use Rattle.archive_model.proofs.RegisterLemmas.{found_number}
+use Rattle.archive_model.specs.Keyed.{without}
 use Rattle.archive_model.proofs.StateLemmas.{each_without}
-use Rattle.archive_model.proofs.WellLemmas.{both}
 use Rattle.control_core.specs.declared.asked.Asked.TheVariants as calls
 use Rattle.control_core.specs.declared.asked.Told.TheVariants as told
-use Rattle.control_core.specs.declared.callers.OpenReplay.{OpenReplay}
-use Rattle.control_core.specs.declared.callers.Written.{Written}
 use Rattle.control_core.specs.declared.event.Event.TheVariants as events
 use Rattle.control_core.specs.ByDecision.{PollsBy, VerifiesBy}
-use Rattle.control_core.specs.Callers.{moved_to, replay_number}
+use Rattle.control_core.specs.Callers.{moved_to}
 use Rattle.control_core.specs.Changes.{after_close, after_poll}
-use Rattle.control_core.specs.Consistent.{IsAtBoundary}
-use Rattle.control_core.specs.Desk.{DeskState}
-use Rattle.control_core.specs.Exact.{frames_end, frames_of_one, from_position, goes_on, plain_poll, recording_at, with_desk}
-use Rattle.control_core.specs.Machine.{GivesFrames, MovesReplay, Outcome, Stepped}
-use Rattle.control_core.specs.Turns.{close_decision, close_tests, is_done_at, poll_decision, open_replay_in, verify_tests}
-use Rattle.control_core.proofs.ConsistentLemmas.{polled_open}
-use Rattle.control_core.proofs.DecidedLemmas.{held}
+use Rattle.control_core.specs.Exact.{frames_end, frames_of_one, from_position, goes_on, plain_poll}
+use Rattle.control_core.specs.Machine.{GivesFrames, MovesReplay}
+use Rattle.control_core.specs.Turns.{close_decision, close_tests, is_done_at, verify_tests}
 use Rattle.control_core.proofs.DeskLemmas.{keeps_closed, keeps_moved}
-use Rattle.control_core.proofs.FaultLemmas.{call_is_allowed}
 use Rattle.control_core.proofs.StepLemmas.{poll_step, verify_step}
-use Rattle.engine_core.specs.Calls.{EndsEvent}
-use Rattle.engine_core.specs.Engine.{Content, EngineState, archive_of}
-use Rattle.engine_core.specs.Reading.{IsOutside, RecordingIsRead}
-use Rattle.recording_reads.specs.Reading.{RefusesCount}
 use Rattle.engine_core.proofs.calls.EndedLemmas.{quiet_life}
-use Rattle.control_core.specs.Orderly.{KeepsDesk}
 use Rattle.engine_core.proofs.calls.KnownLemmas.{laid_found, one_known, read_known, replay_recording}
 use Rattle.engine_core.proofs.replays.ReplayLemmas.{answer_no_fault, leaves_refused, leaves_told, moved_at, no_content, open_at, outside_read, poll_no_fault, poll_passes, polled_ends, polling_refused, reads_on, reads_only, checked_err, checked_ok}
 

@@ -1,38 +1,18 @@
 -- Calls that only read: how they end, and what becomes of the open replays.
 use Rattle.std.proofs.Common.{◌≡◌, ◌≢◌, ◌∙◌, ◌||◌, inl, inr, sym, ap, subst, refl, cond, ℤ, Bool, true, false, true≢false, IsTrue, List, [], ◌∷◌, Option, None, Some}
 use Rattle.std.specs.Prelude.{IsErrOf, IsFalse, IsSomeAnd, Result, Ok, Err, unsigned_abs}
-use Rattle.frame_core.specs.declared.refusal.Refusal.{Refusal}
-use Rattle.frame_core.specs.declared.refusal.Refusal.TheVariants.{DeviceFault, NoMemory}
-use Rattle.disk_core.specs.Life.{HasFailed, IsQuiet}
-use Rattle.archive_model.specs.declared.reply.Reply.{Reply}
-use Rattle.archive_model.specs.declared.reply.PolledFrame.{PolledFrame}
+use Rattle.engine_core.proofs.Words.{Archive, ArchiveEnds, CallEnds, Content, DeskState, DeviceFault, Each, EndsAs, EndsEvent, EngineState, Event, HasBlocks, HasFailed, IsAtBoundary, IsConsistent, IsCrashConsistent, IsOutside, IsQuiet, IsTied, LogState, NoMemory, OpenReplay, PolledFrame, Recording, Refusal, Reply, Stepped, Tests, archive_of, asked_of, change, checked, checks, each_change, each_found, empty, found_number, is_boundary, open_replay_in, passes, poll_decision, polled, polled_open, recording_at, replay_number, told_of, with_desk}
 use Rattle.archive_model.specs.declared.reply.Reply.TheVariants as replies
-use Rattle.archive_model.specs.Checks.{Tests, checked, checks, passes}
-use Rattle.archive_model.specs.Keyed.{Each, change}
-use Rattle.archive_model.specs.Replay.{is_boundary, polled}
-use Rattle.archive_model.specs.State.{Recording, empty}
 use Rattle.archive_model.proofs.AnswerLemmas.{all_hold}
-use Rattle.archive_model.proofs.RegisterLemmas.{found_number}
-use Rattle.archive_model.proofs.StateLemmas.{each_change, each_found}
-use Rattle.catalogue_log.specs.LogState.{LogState}
-use Rattle.control_core.specs.declared.callers.OpenReplay.{OpenReplay}
-use Rattle.control_core.specs.declared.event.Event.{Event}
 use Rattle.control_core.specs.declared.event.Event.TheVariants as events
-use Rattle.control_core.specs.Callers.{CallersState, moved_to, replay_number}
+use Rattle.control_core.specs.Callers.{CallersState, moved_to}
 use Rattle.control_core.specs.Changes.{after_poll}
-use Rattle.control_core.specs.Consistent.{HasBlocks, IsAtBoundary, IsConsistent}
-use Rattle.control_core.specs.Desk.{DeskState}
-use Rattle.control_core.specs.Exact.{Archive, ArchiveEnds, CallEnds, Leaves, PolledEnds, PollingEnds, asked_of, frames_end, goes_on, reads_files, recording_at, told_of, with_desk}
-use Rattle.control_core.specs.Machine.{Stepped}
+use Rattle.control_core.specs.Exact.{Leaves, PolledEnds, PollingEnds, frames_end, goes_on, reads_files}
 use Rattle.control_core.specs.Seats.{KeepsSeats}
-use Rattle.control_core.specs.Turns.{poll_decision, poll_tests, open_replay_in, open_replay_of}
-use Rattle.control_core.proofs.ConsistentLemmas.{polled_open}
+use Rattle.control_core.specs.Turns.{poll_tests, open_replay_of}
 use Rattle.control_core.proofs.FoundLemmas.{each_weaker}
 use Rattle.control_core.proofs.StayLemmas.{blocks_stay, same_recording}
-use Rattle.engine_core.specs.Calls.{EndsEvent, EndsAs, is_fault}
-use Rattle.engine_core.specs.Consistent.{IsCrashConsistent}
-use Rattle.engine_core.specs.Engine.{Content, EngineState, IsTied, archive_of}
-use Rattle.engine_core.specs.Reading.{IsOutside}
+use Rattle.engine_core.specs.Calls.{is_fault}
 use Rattle.engine_core.proofs.files.CommitLemmas.{memory_is_no_fault}
 use Rattle.engine_core.proofs.calls.EndedLemmas.{quiet_goes_on, reread, same_bank, spared, still}
 

@@ -1,41 +1,25 @@
 -- How a replay is opened.
 use Rattle.std.proofs.Common.{◌≡◌, ◌∙◌, inl, inr, sym, ap, subst, refl, cond, ℤ, pos, ◌+ℤ◌, Bool, true, false, true≢false, ◌&&◌, IsTrue, List, [], ◌∷◌, ◌++◌, Option, None, Some}
 use Rattle.std.specs.Prelude.{IfErr, IfOk, IsErrOf, Result, Ok, Err, int_le, is_some, negsuc}
-use Rattle.frame_core.specs.declared.refusal.Refusal.{Refusal}
-use Rattle.frame_core.specs.declared.refusal.Refusal.TheVariants.{BadPosition, DeviceFault, NoMemory}
-use Rattle.disk_core.specs.DiskImage.{MayLeave, reads}
-use Rattle.disk_core.specs.Life.{HasFailed, IsQuiet, Life}
-use Rattle.archive_model.specs.declared.registration.Registration.{Registration}
+use Rattle.engine_core.proofs.Words.{Archive, BadPosition, CallEnds, Content, DeskState, DeviceFault, EndsEvent, EngineState, HasFailed, IsAtBoundary, IsCrashConsistent, IsQuiet, Life, LogState, MayLeave, NoMemory, OpenReplay, Recording, RecordingIsRead, Refusal, Registration, Tests, archive_of, begins_frame, block_checks, both, checked, first_checks, held, is_end, is_of, last_checks, open_decision, passes, reads, registration_in, with_desk}
 use Rattle.archive_model.specs.declared.reply.Reply.TheVariants as replies
 use Rattle.archive_model.specs.Accepting.{begins_in}
-use Rattle.archive_model.specs.Checks.{Tests, block_checks, checked, first_checks, is_boundary_by, is_of, last_checks, passes}
-use Rattle.archive_model.specs.Register.{is_end, registration_in}
-use Rattle.archive_model.specs.Replay.{begins_frame}
-use Rattle.archive_model.specs.State.{Recording}
+use Rattle.archive_model.specs.Checks.{is_boundary_by}
 use Rattle.archive_model.proofs.RegisterLemmas.{each_push}
-use Rattle.archive_model.proofs.WellLemmas.{both}
-use Rattle.catalogue_log.specs.LogState.{LogState}
 use Rattle.control_core.specs.declared.asked.Told.TheVariants as told
-use Rattle.control_core.specs.declared.callers.OpenReplay.{OpenReplay}
 use Rattle.control_core.specs.declared.event.Event.TheVariants as events
 use Rattle.control_core.specs.declared.turns.Opening.{Opening}
 use Rattle.control_core.specs.Opened.{OpeningDecision}
 use Rattle.control_core.specs.Opened as opening
 use Rattle.control_core.specs.ByDecision.{OpensBy}
 use Rattle.control_core.specs.Changes.{after_open}
-use Rattle.control_core.specs.Consistent.{IsAtBoundary}
-use Rattle.control_core.specs.Desk.{DeskState}
-use Rattle.control_core.specs.Exact.{Archive, CallEnds, OpeningEnds, asked_opening, opens_by_frames, with_desk}
-use Rattle.control_core.specs.Turns.{begins_at, open_decision, open_tests, opened_at, opening_decided, opening_in, opening_of}
+use Rattle.control_core.specs.Exact.{OpeningEnds, asked_opening, opens_by_frames}
+use Rattle.control_core.specs.Turns.{begins_at, open_tests, opened_at, opening_decided, opening_in, opening_of}
 use Rattle.control_core.proofs.CallLemmas.{opening_allowed}
 use Rattle.control_core.proofs.ConsistentLemmas.{opened_at_boundary}
-use Rattle.control_core.proofs.DecidedLemmas.{held}
 use Rattle.control_core.proofs.DeskLemmas.{keeps_opened}
 use Rattle.control_core.proofs.StepLemmas.{open_step}
-use Rattle.engine_core.specs.Calls.{EndsEvent, IfRead}
-use Rattle.engine_core.specs.Consistent.{IsCrashConsistent}
-use Rattle.engine_core.specs.Engine.{Content, EngineState, archive_of}
-use Rattle.engine_core.specs.Reading.{RecordingIsRead}
+use Rattle.engine_core.specs.Calls.{IfRead}
 use Rattle.engine_core.specs.Replaying.{IsDecided}
 use Rattle.engine_core.proofs.calls.KnownLemmas.{one_known, read_known}
 use Rattle.engine_core.proofs.replays.ReplayLemmas.{checked_fault, has_fault, reads_on, reads_only, unkept}

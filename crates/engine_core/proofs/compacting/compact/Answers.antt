@@ -1,14 +1,9 @@
 use Rattle.std.proofs.Common.{IsTrue, refl}
 use Rattle.std.proofs.lemmas.Result.{on_ok_weaker}
-use Rattle.disk_core.specs.Life.{LeavesOnly}
-use Rattle.disk_core.proofs.CallerLemmas.{now_leaves}
-use Rattle.archive_model.specs.Register.{no_recordings}
-use Rattle.archive_model.specs.State.{State, register_of}
-use Rattle.catalogue_entries.specs.Fold.{after_entries}
+use Rattle.engine_core.proofs.Words.{LeavesOnly, Recovers, State, after_entries, no_recordings, now_leaves, register_of}
 use Rattle.catalogue_entries.specs.Snapshot.{snapshot_of}
 use Rattle.catalogue_log.specs.Compacting.{next_header}
 use Rattle.engine_core.specs.Calls.{LeavesAlone}
-use Rattle.engine_core.specs.Recovery.{Recovers}
 use Rattle.engine_core.proofs.openings.AnewCallLemmas.{kept_as_before}
 use Rattle.engine_core.proofs.compacting.compact.Goals as goal
 
@@ -21,6 +16,7 @@ returns g c =
     λ s leaves obeys. law.moments old new s (g.met.D.Disk.reads_may_stay c.args.disk.now) leaves (c.compact.ensures.any_moment (register_of s) (law.start old.now s leaves) obeys) in
     record {
       any_moment = moments;
+      any_register = c.compact.ensures.any_moment;
       migrated = on_ok_weaker c.compact.result (λ compacted obeys s leaves image left.
           let anew = compacted obeys in (
             now_leaves old new (λ image. Recovers image s) (moments s leaves obeys) image left,
@@ -32,4 +28,5 @@ returns g c =
       cause = c.compact.ensures.cause;
       segments = c.compact.ensures.changes.others;
       goes_on = record { obeyed = c.compact.ensures.changes.obeyed; faults = c.compact.ensures.changes.faults };
+      calls = c.compact.ensures.calls;
     }

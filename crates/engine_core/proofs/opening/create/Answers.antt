@@ -1,5 +1,5 @@
 use Rattle.std.proofs.lemmas.Result.{IfOk-weaker, on_ok_weaker}
-use Rattle.disk_core.specs.declared.file_id.FileId.TheVariants.{BankB}
+use Rattle.engine_core.proofs.Words.{BankB}
 use Rattle.disk_core.specs.Life.{bytes_now}
 use Rattle.catalogue_log.proofs.CallerLemmas.{gate_closed}
 use Rattle.engine_core.proofs.openings.OpeningLemmas.{new_sound, only_fault}

@@ -1,11 +1,10 @@
 use Rattle.std.proofs.Common.{◌∙◌, subst, sym}
 use Rattle.std.proofs.lemmas.Result.{IfOk-weaker}
-use Rattle.disk_core.specs.DiskImage.{reads}
+use Rattle.engine_core.proofs.Words.{log_catalogue, reads}
 use Rattle.catalogue_entries.specs.Fold.{first_place}
-use Rattle.catalogue_log.proofs.CallerLemmas.{log_catalogue}
 use Rattle.control_core.specs.Orderly.{AreLaid}
 use Rattle.engine_core.proofs.openings.EntryLaidLemmas.{entries_laid}
-use Rattle.engine_core.proofs.openings.OpeningLemmas.{err_then, log_read, open_sound, read_opened, same_refusal}
+use Rattle.engine_core.proofs.openings.OpeningLemmas.{err_then, log_read, on_disk, open_sound, read_opened, same_refusal}
 use Rattle.engine_core.proofs.opening.open_files.Goals as goal
 
 pub returns-clause-before : goal.returns-clause-before
@@ -36,6 +35,7 @@ returns-clause-log g c =
     (λ found opened obeys. (
       opened.entries,
       log_read old new found.0 opened.entries (read_opened old mid new c.sync_segments.ensures.only c.open_register.ensures.same c.open_register.ensures.any_moment) (opened.at_rest obeys),
+      opened.at_rest obeys,
       opened.makes,
     ))
     c.open_register.ensures.opened
@@ -45,3 +45,9 @@ returns-clause-refused g c =
     err_then c.open_register.result _ _
     (λ refusal refused obeys. same_refusal (g.D.Disk.life c.args.disk.now) (g.D.Disk.life c.sync_segments.new.disk) refusal c.sync_segments.ensures.only (refused obeys))
     c.open_register.ensures.refused
+
+pub returns-clause-synced : goal.returns-clause-synced
+returns-clause-synced g c =
+    IfOk-weaker c.open_register.result _ _
+    (λ found opened obeys. on_disk (g.D.Disk.life c.args.disk.now) (g.D.Disk.life c.sync_segments.new.disk) (g.D.Disk.life c.open_register.new.disk) (c.in_ok-sync_segments.ensures.synced (c.open_register.ensures.same.obeyed obeys)) c.open_register.ensures.same)
+    c.open_register.ensures.opened

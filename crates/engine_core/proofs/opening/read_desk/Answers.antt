@@ -1,11 +1,6 @@
 use Rattle.std.proofs.Common.{rules, ◌≡◌, ◌∙◌, ap, subst, sym}
 use Rattle.std.specs.Prelude.{Err}
-use Rattle.disk_core.specs.DiskImage.{reads}
-use Rattle.archive_model.specs.State.{register_of}
-use Rattle.archive_model.specs.Register.{no_recordings}
-use Rattle.catalogue_entries.specs.Fold.{after_entries}
-use Rattle.control_core.specs.Desk.{DeskState}
-use Rattle.engine_core.specs.Engine.{IsTied}
+use Rattle.engine_core.proofs.Words.{DeskState, IsTied, after_entries, no_recordings, reads, register_of}
 use Rattle.engine_core.proofs.openings.OpeningLemmas.{whole_refused}
 use Rattle.engine_core.proofs.openings.ReopenLemmas.{same_desk}
 use Rattle.engine_core.proofs.opening.read_desk.Goals as goal
@@ -34,8 +29,9 @@ returns-clause-log g c obeys =
     let counted = c.counted-counted.result in (
       found.0,
       found.1,
+      found.2,
       c.opened-desk.ensures ∙ same_desk c.in_ok-log.register.state (after_entries no_recordings found.0) counted log.counted c.limit-limit.result log.header.history_limit
-          c.version-version.result log.header.version found.2 is c.limit-limit.ensures c.version-version.ensures,
+          c.version-version.result log.header.version found.3 is c.limit-limit.ensures c.version-version.ensures,
     )
 
 pub returns-clause-tied : goal.returns-clause-tied

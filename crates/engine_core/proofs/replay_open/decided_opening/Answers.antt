@@ -1,15 +1,11 @@
 use Rattle.std.proofs.Common.{rules, ◌≡◌, ◌∙◌, sym, ap, inl, inr, cond, true, false, Err}
 use Rattle.std.proofs.Common.{to_z, of_z, w64}
-use Rattle.frame_core.specs.declared.refusal.Refusal.TheVariants.{BadPosition}
-use Rattle.archive_model.specs.Register.{registration_in}
+use Rattle.engine_core.proofs.Words.{BadPosition, RefusesBoundaryIn, TellsBoundaryIn, open_decision, reads, registration_in}
 use Rattle.control_core.specs.Exact.{opens_by_frames}
-use Rattle.control_core.specs.Turns.{open_decision}
 use Rattle.engine_core.proofs.calls.KnownLemmas.{laid_found, read_known}
 use Rattle.engine_core.proofs.replays.ReplayOpenLemmas.{allowed_alone, allowed_behind, allowed_nowhere, asked_alone, asked_read, leads_inside, leads_to, opening_no_fault, outcome_in}
 use Rattle.engine_core.proofs.replays.ReadLemmas.{fault_read, told_read}
 use Rattle.std.proofs.Common.{ℤ, Bool, subst}
-use Rattle.disk_core.specs.DiskImage.{reads}
-use Rattle.recording_reads.specs.Reading.{RefusesBoundaryIn, TellsBoundaryIn}
 use Rattle.engine_core.specs.Replaying.{ShowsBegin}
 use Rattle.engine_core.proofs.calls.ShownLemmas.{behind_begin, decided_begin, inside_begin, unread_begin}
 use Rattle.engine_core.proofs.replays.ReplayOpenLemmas.{opens_behind}

@@ -1,6 +1,6 @@
 use Rattle.std.proofs.Common.{rules}
 use Rattle.archive_model.specs.declared.version.BankVersion.TheVariants.{Two}
-use Rattle.archive_model.specs.State.{empty}
+use Rattle.engine_core.proofs.Words.{empty}
 use Rattle.engine_core.proofs.openings.RestartLemmas.{opened_consistent}
 use Rattle.engine_core.proofs.start.make.Goals as goal
 

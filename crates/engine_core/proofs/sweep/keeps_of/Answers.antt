@@ -2,10 +2,8 @@
 use Rattle.std.proofs.Common.{rules, ◌≡◌, List, All, Result, Vec, subst, sym}
 use Rattle.std.specs.declared.alloc.Global.{Global}
 use Rattle.std.specs.Prelude.{IfOk, Ok, Err}
-use Rattle.frame_core.specs.declared.refusal.Refusal.{Refusal}
-use Rattle.segment_store.specs.declared.keep.Keep.{Keep}
+use Rattle.engine_core.proofs.Words.{Keep, Refusal, registered_keeps}
 use Rattle.segment_store.specs.Stale.{IsKeep}
-use Rattle.engine_core.specs.Moves.{registered_keeps}
 use Rattle.engine_core.proofs.calls.KnownLemmas.{keeps_are}
 use Rattle.engine_core.proofs.sweep.keeps_of.Goals as goal
 

@@ -1,5 +1,5 @@
 use Rattle.std.proofs.Common.{◌≡◌, ◌∷◌, ◌++◌, map, drop}
-use Rattle.segment_store.specs.declared.keep.Keep.TheVariants.{Below}
+use Rattle.engine_core.proofs.Words.{Below}
 use Rattle.engine_core.specs.Moves.{registered_keep}
 use Rattle.engine_core.proofs.sweep.kept_by.Given as goal
 

@@ -1,23 +1,20 @@
-use Rattle.std.proofs.Common.{rules, ◌≡◌, ℤ, Bool, true, false, sym, ap, subst, Ok, Err}
+use Rattle.std.proofs.Common.{refl, rules, ◌≡◌, ℤ, Bool, true, false, sym, ap, subst, Ok, Err}
 use Rattle.std.proofs.Common.{to_z, of_z, w64}
 use Rattle.archive_model.specs.Register.{id_of}
-use Rattle.control_core.specs.Decisions.{command_in}
+use Rattle.engine_core.proofs.Words.{BadPosition, Decision, KeepsFound, NoMemory, RefusesBoundaryIn, TellsBoundaryIn, command_in, decision_of, reads, seen, takes_memory}
 use Rattle.engine_core.proofs.calls.AskLemmas.{ask_answered, ask_inside, ask_made, ask_refused, decided_requested, requested_inside}
 use Rattle.engine_core.proofs.calls.InsideLemmas.{Tells, inside_made, inside_none, inside_refused, inside_unread}
 use Rattle.engine_core.proofs.calls.KnownLemmas.{laid_found}
 use Rattle.engine_core.proofs.replays.ReadLemmas.{fault_read, told_read}
 use Rattle.std.proofs.Common.{Some}
-use Rattle.frame_core.specs.declared.refusal.Refusal.TheVariants.{BadPosition, NoMemory}
-use Rattle.disk_core.specs.DiskImage.{reads}
-use Rattle.recording_reads.specs.Reading.{RefusesBoundaryIn, TellsBoundaryIn}
-use Rattle.control_core.specs.Decided.{Decision}
-use Rattle.control_core.specs.Decisions.{decision_of, takes_memory}
 use Rattle.engine_core.specs.Shown.{AsksDecided, AsksShown}
 use Rattle.engine_core.proofs.calls.AskLemmas.{asks_inside, inside_leads}
 use Rattle.engine_core.proofs.calls.InsideLemmas.{some_content}
 use Rattle.engine_core.proofs.calls.ShownLemmas.{ComesBehind, behind_shown, comes_behind, inside_shown, made_shown, refused_shown, unread_shown}
 use Rattle.engine_core.proofs.calls.SweepCallLemmas.{one_refusal}
 use Rattle.engine_core.proofs.calls.TouchLemmas.{behind_memory, behind_these, command_memory, made_touches, quiet_either, refused_memory, still_quiet, unread_memory}
+use Rattle.engine_core.proofs.calls.KeepLemmas.{behind_keeps, quiet_keeps, still_keeps}
+use Rattle.engine_core.specs.Catalogued.{register_by}
 use Rattle.engine_core.proofs.engine.Engine.ask.Goals as goal
 
 pub make-requires-clause-requested : goal.make-requires-clause-requested
@@ -221,3 +218,38 @@ returns-in_ok-decided-in-IfBoundary-clause-memory g c =
     let decided : c.in-IfBoundary.decided ≡ Ok c.in_ok-decided-in-IfBoundary.field-0 = search rules in
     command_memory c.args.self.now.desk.state c.args.request.now c.in_ok-decided-in-IfBoundary.field-0 c.make-in-IfBoundary.result
     (inside_leads c.args.self.now.desk.state c.args.request.now _ _ c.in-IfBoundary.decided _ c.in-IfBoundary.ensures.decided decided)
+
+pub returns-in-Refused-clause-catalogue : goal.returns-in-Refused-clause-catalogue
+returns-in-Refused-clause-catalogue g c = still_keeps _ _
+
+pub returns-in-Answered-clause-catalogue : goal.returns-in-Answered-clause-catalogue
+returns-in-Answered-clause-catalogue g c = still_keeps _ _
+
+pub returns-in-Accepted-clause-catalogue : goal.returns-in-Accepted-clause-catalogue
+returns-in-Accepted-clause-catalogue g c =
+    let d = c.args.self.now.desk.state in
+    let leads : command_in (decision_of d c.args.request.now) ≡ Some c.in-Accepted.command = ap command_in (sym c.in-Accepted.ensures.decided) in
+    subst (KeepsFound _ _) (ap (register_by d) (sym leads)) c.make.ensures.catalogue
+
+pub returns-in_err-is_boundary-in-IfBoundary-clause-catalogue : goal.returns-in_err-is_boundary-in-IfBoundary-clause-catalogue
+returns-in_err-is_boundary-in-IfBoundary-clause-catalogue g c =
+    let e = seen g.D.Disk.life c.args.self.now in
+    quiet_keeps e (record { life = g.D.Disk.life c.is_boundary.new.disk; log = e.log; desk = e.desk }) _ c.is_boundary.ensures.quiet refl refl
+
+pub returns-then-not-branch-clause-catalogue : goal.returns-then-not-branch-clause-catalogue
+returns-then-not-branch-clause-catalogue g c =
+    let e = seen g.D.Disk.life c.args.self.now in
+    quiet_keeps e (record { life = g.D.Disk.life c.is_boundary.new.disk; log = e.log; desk = e.desk }) _ c.is_boundary.ensures.quiet refl refl
+
+pub returns-in_err-decided-in-IfBoundary-clause-catalogue : goal.returns-in_err-decided-in-IfBoundary-clause-catalogue
+returns-in_err-decided-in-IfBoundary-clause-catalogue g c =
+    let e = seen g.D.Disk.life c.args.self.now in
+    quiet_keeps e (record { life = g.D.Disk.life c.is_boundary.new.disk; log = e.log; desk = e.desk }) _ c.is_boundary.ensures.quiet refl refl
+
+pub returns-in_ok-decided-in-IfBoundary-clause-catalogue : goal.returns-in_ok-decided-in-IfBoundary-clause-catalogue
+returns-in_ok-decided-in-IfBoundary-clause-catalogue g c =
+    let d = c.args.self.now.desk.state in
+    let decided : c.in-IfBoundary.decided ≡ Ok c.in_ok-decided-in-IfBoundary.field-0 = search rules in
+    let leads : command_in (decision_of d c.args.request.now) ≡ Some c.in_ok-decided-in-IfBoundary.field-0 = inside_leads d c.args.request.now _ _ c.in-IfBoundary.decided _ c.in-IfBoundary.ensures.decided decided in
+    let e = seen g.D.Disk.life c.args.self.now in
+    subst (KeepsFound _ _) (ap (register_by d) (sym leads)) (behind_keeps e (record { life = g.D.Disk.life c.is_boundary.new.disk; log = e.log; desk = e.desk }) _ _ c.is_boundary.ensures.quiet refl refl c.make-in-IfBoundary.ensures.catalogue)

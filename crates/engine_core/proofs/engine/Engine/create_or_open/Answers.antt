@@ -1,6 +1,6 @@
 use Rattle.std.proofs.Common.{rules, ◌≡◌, ap, arith, inr, length, [], Err, to_z, of_z, w64}
 use Rattle.std.proofs.lemmas.Bool.Decides.{nat_tests}
-use Rattle.engine_core.specs.Seen.{seen}
+use Rattle.engine_core.proofs.Words.{seen}
 use Rattle.engine_core.proofs.openings.OpeningLemmas.{empty_list}
 use Rattle.engine_core.proofs.openings.ReopenLemmas.{had_files, opened_behind, refused_behind, unmade_behind}
 use Rattle.engine_core.proofs.engine.Engine.create_or_open.Goals as goal

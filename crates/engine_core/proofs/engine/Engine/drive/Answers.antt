@@ -1,7 +1,6 @@
 use Rattle.std.proofs.Common.{◌+◌, subst, sym, take, [], arith}
 use Rattle.std.proofs.lemmas.List.{take_all}
-use Rattle.engine_core.specs.Calls.{IsRun}
-use Rattle.engine_core.specs.Seen.{seen}
+use Rattle.engine_core.proofs.Words.{IsRun, seen}
 use Rattle.engine_core.proofs.calls.RunLemmas.{run_next, run_none}
 use Rattle.engine_core.proofs.engine.Engine.drive.Goals as goal
 

@@ -1,7 +1,6 @@
 use Rattle.std.proofs.Common.{◌≡◌, ◌≤◌, length, take}
 use Rattle.std.specs.Prelude.{vec_capacity, vec_len}
-use Rattle.engine_core.specs.Calls.{IsRun}
-use Rattle.engine_core.specs.Seen.{seen}
+use Rattle.engine_core.proofs.Words.{IsRun, seen}
 use Rattle.engine_core.proofs.engine.Engine.drive.Given as goal
 
 -- the first so many events are answered, and there is room for the answers to all of them

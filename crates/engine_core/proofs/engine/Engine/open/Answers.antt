@@ -1,7 +1,5 @@
 use Rattle.std.proofs.Common.{rules, ◌≡◌, IsSome, subst, sym}
-use Rattle.disk_core.specs.DiskImage.{Files, reads}
-use Rattle.disk_core.specs.FileNames.{AreFilesWith}
-use Rattle.engine_core.specs.Seen.{seen}
+use Rattle.engine_core.proofs.Words.{AreFilesWith, Files, reads, seen}
 use Rattle.engine_core.proofs.openings.ReopenLemmas.{either_then, opened_behind, refused_behind, unlisted}
 use Rattle.engine_core.proofs.engine.Engine.open.Goals as goal
 

@@ -5,13 +5,12 @@ use Rattle.control_core.specs.Changes.{after_open}
 use Rattle.control_core.specs.Orderly.{BeginsBy}
 use Rattle.control_core.specs.Turns.{MayOpen}
 use Rattle.control_core.proofs.CallLemmas.{opening_allowed}
-use Rattle.engine_core.specs.Calls.{EndsEvent}
+use Rattle.engine_core.proofs.Words.{EndsEvent, open_decision, reads}
 use Rattle.control_core.proofs.OpenedLemmas.{opens_from_start}
 use Rattle.engine_core.proofs.replays.ReplayOpenLemmas.{open_done, open_refused, open_unkept}
-use Rattle.disk_core.specs.DiskImage.{reads}
-use Rattle.control_core.specs.Turns.{open_decision}
 use Rattle.engine_core.specs.Shown.{OpensShown}
 use Rattle.engine_core.proofs.calls.ShownLemmas.{done_opening, memory_opening, refused_opening}
+use Rattle.engine_core.proofs.calls.KeepLemmas.{quiet_keeps}
 use Rattle.engine_core.proofs.engine.Engine.open_replay.Goals as goal
 
 pub returns-in_err-opening-clause-ends : goal.returns-in_err-opening-clause-ends
@@ -71,3 +70,12 @@ returns-clause-shows g c obeys =
     let image = reads (g.D.Disk.life c.args.self.now.storage.disk).now in
     let decision = open_decision d c.args.recording.now c.args.position.now c.args.length.now in
     done_opening image d c.args.recording.now decision c.in_ok-opening.opening _ (c.in_ok-opening.ensures.shows obeys)
+
+pub returns-in_err-opening-clause-catalogue : goal.returns-in_err-opening-clause-catalogue
+returns-in_err-opening-clause-catalogue g c = quiet_keeps _ _ _ c.decided_opening.ensures.quiet refl refl
+
+pub returns-in_err-reserve_replay-clause-catalogue : goal.returns-in_err-reserve_replay-clause-catalogue
+returns-in_err-reserve_replay-clause-catalogue g c = quiet_keeps _ _ _ c.decided_opening.ensures.quiet refl (ap (λ d. d.register) c.reserve_replay.ensures.state)
+
+pub returns-clause-catalogue : goal.returns-clause-catalogue
+returns-clause-catalogue g c = quiet_keeps _ _ _ c.decided_opening.ensures.quiet refl (ap (λ d. d.register) (c.open_replay.ensures ∙ ap (after_open c.in_ok-opening.opening.recording c.in_ok-opening.opening.next c.in_ok-opening.opening.bound) c.reserve_replay.ensures.state))

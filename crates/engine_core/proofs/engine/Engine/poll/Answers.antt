@@ -1,24 +1,19 @@
 use Rattle.std.proofs.Common.{rules, ◌≡◌, ◌∙◌, ◌<◌, ◌≤ℤ◌, ap, sym, subst, refl, None, Some, Err}
 use Rattle.std.proofs.Common.{to_z, of_z, w64}
 use Rattle.std.specs.Prelude.{IsSomeAnd, if◌then◌else◌, unsigned_abs}
-use Rattle.archive_model.specs.Replay.{polled}
+use Rattle.engine_core.proofs.Words.{EndsEvent, RefusesPoll, geometry_of, layout_of, polled, polled_open, reads}
 use Rattle.control_core.specs.declared.event.Event.TheVariants as events
 use Rattle.control_core.specs.Turns.{is_done_at}
-use Rattle.control_core.proofs.ConsistentLemmas.{polled_open}
-use Rattle.engine_core.specs.Calls.{EndsEvent}
 use Rattle.engine_core.proofs.calls.KnownLemmas.{laid_found, one_known, replay_recording}
 use Rattle.engine_core.proofs.replays.ReplayCallLemmas.{poll_refused, poll_unread, polled_on}
 use Rattle.engine_core.proofs.replays.ReadLemmas.{given_read, poll_read}
 use Rattle.engine_core.proofs.replays.ReplayLemmas.{tied_on}
 use Rattle.std.proofs.Common.{pos, true}
-use Rattle.disk_core.specs.DiskImage.{reads}
-use Rattle.replay_core.specs.Poll.{RefusesPoll}
-use Rattle.archive_model.specs.State.{geometry_of}
 use Rattle.recording_reads.specs.Reading.{GivesShown}
-use Rattle.recording_reads.specs.Recording.{layout_of}
 use Rattle.engine_core.specs.Shown.{PollsDecided}
 use Rattle.engine_core.proofs.calls.ShownLemmas.{poll_refused_shown, polled_shown, unpolled}
 use Rattle.engine_core.proofs.replays.ReplayCallLemmas.{next_low}
+use Rattle.engine_core.proofs.calls.KeepLemmas.{quiet_keeps, still_keeps}
 use Rattle.engine_core.proofs.engine.Engine.poll.Goals as goal
 
 pub returns-in_err-reader-clause-ends : goal.returns-in_err-reader-clause-ends
@@ -96,3 +91,12 @@ returns-clause-shows g c obeys =
     let most : to_z w64 (of_z w64 c.args.most.now) ≡ c.args.most.now = search rules in
     polled_shown image c.args.self.now.desk.state c.args.replay.now c.args.most.now replay known _ c.in_ok-reader.ensures.decided c.in_ok-reader.ensures.found.known
     (unsigned_abs c.in_ok-given.given.next, subst (λ n. GivesShown image known replay n c.in_ok-given.given.frames (unsigned_abs c.in_ok-given.given.next)) most (c.in_ok-given.ensures.shown obeys))
+
+pub returns-in_err-reader-clause-catalogue : goal.returns-in_err-reader-clause-catalogue
+returns-in_err-reader-clause-catalogue g c = still_keeps _ _
+
+pub returns-in_err-given-clause-catalogue : goal.returns-in_err-given-clause-catalogue
+returns-in_err-given-clause-catalogue g c = quiet_keeps _ _ _ c.poll_frames.ensures.quiet refl refl
+
+pub returns-clause-catalogue : goal.returns-clause-catalogue
+returns-clause-catalogue g c = quiet_keeps _ _ _ c.poll_frames.ensures.quiet refl (ap (λ d. d.register) c.move_replay.ensures)

@@ -10,7 +10,7 @@ pub returns-in_err-make : goal.returns-in_err-make
 returns-in_err-make g c =
     let went = c.in_err-make.ensures in
     let is : c.from_residual.result ≡ Err c.in_err-make.field-0.0 = search rules in
-    rw is (restarts_refused _ _ c.in_err-make.field-0.0 went.made went.changes went.quiet)
+    rw is (restarts_refused _ _ c.in_err-make.field-0.0 went.made went.changes went.quiet went.touches went.entries)
 
 pub returns-in_ok-make : goal.returns-in_ok-make
 returns-in_ok-make g c =
@@ -19,7 +19,7 @@ returns-in_ok-make g c =
     let few = c.active_count-stopped.ensures.few in
     let count : to_z w64 n ≡ pos n = search (rules, few) in
     let some : to_z w64 n ≢ pos 0 = λ zero. (let positive = c.if-stopped-gt0.true in absurd (grind (arith, ints, nat_tests, zero, positive))) in
-    restarts_done _ _ c.in_ok-make.field-0 (to_z w64 n) went.made went.changes some (count ∙ ap pos c.active_count-stopped.ensures.count)
+    restarts_done _ _ c.in_ok-make.field-0 (to_z w64 n) went.made went.changes went.touches went.entries some (count ∙ ap pos c.active_count-stopped.ensures.count)
 
 pub returns-else-stopped-gt0 : goal.returns-else-stopped-gt0
 returns-else-stopped-gt0 g c =

@@ -1,17 +1,16 @@
 use Rattle.std.proofs.Common.{rules, ◌≡◌, ◌∙◌, sym, subst, ap, Ok, Err, to_z, of_z, w64}
 use Rattle.control_core.specs.declared.event.Event.TheVariants as events
 use Rattle.control_core.specs.declared.turns.Settling.TheVariants as settling
-use Rattle.control_core.specs.Turns.{settle_decision}
-use Rattle.engine_core.specs.Calls.{EndsEvent}
-use Rattle.engine_core.specs.Seen.{seen}
+use Rattle.engine_core.proofs.Words.{EndsEvent, KeepsFound, NoMemory, seen, session_in, settle_decision}
 use Rattle.engine_core.proofs.calls.SettleCallLemmas.{settle_blocks, settle_nothing, settle_refuses, settled_known}
 use Rattle.std.proofs.Common.{refl}
-use Rattle.frame_core.specs.declared.refusal.Refusal.TheVariants.{NoMemory}
 use Rattle.control_core.specs.Exact.{has_blocks}
-use Rattle.control_core.specs.Turns.{session_in, settle_tests, settling_of}
+use Rattle.control_core.specs.Turns.{settle_tests, settling_of}
 use Rattle.engine_core.proofs.calls.SettleCallLemmas.{blocks_touch}
 use Rattle.engine_core.proofs.calls.SweepCallLemmas.{one_refusal}
 use Rattle.engine_core.proofs.calls.TouchLemmas.{checked_memory, nothing_settled}
+use Rattle.engine_core.specs.Catalogued.{register_settled}
+use Rattle.engine_core.proofs.calls.KeepLemmas.{still_keeps}
 use Rattle.engine_core.proofs.engine.Engine.settle.Goals as goal
 
 pub returns-in_err-decided-clause-ends : goal.returns-in_err-decided-clause-ends
@@ -87,3 +86,16 @@ returns-in-Blocks-clause-memory g c memory =
     let w = c.in-Blocks.written in
     let decided : settle_decision d n ≡ Ok (settling.Blocks c.in-Blocks.recording w) = c.in_ok-decided.ensures.decided ∙ ap Ok c.in-Blocks.is in
     ap has_blocks decided
+
+pub returns-in_err-decided-clause-catalogue : goal.returns-in_err-decided-clause-catalogue
+returns-in_err-decided-clause-catalogue g c = still_keeps _ _
+
+pub returns-in-Nothing-clause-catalogue : goal.returns-in-Nothing-clause-catalogue
+returns-in-Nothing-clause-catalogue g c = still_keeps _ _
+
+pub returns-in-Blocks-clause-catalogue : goal.returns-in-Blocks-clause-catalogue
+returns-in-Blocks-clause-catalogue g c =
+    let d = c.args.self.now.desk.state in
+    let n = c.args.session.now in
+    let decided : settle_decision d n ≡ Ok (settling.Blocks c.in-Blocks.recording c.in-Blocks.written) = c.in_ok-decided.ensures.decided ∙ ap Ok c.in-Blocks.is in
+    subst (KeepsFound _ _) (ap (register_settled d n) (sym decided)) c.settle_blocks.ensures.catalogue

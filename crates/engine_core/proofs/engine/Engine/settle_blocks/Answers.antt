@@ -1,16 +1,12 @@
-use Rattle.std.proofs.Common.{rules, ◌≡◌, sym, subst, ℤ, Ok, to_z, of_z, w64}
-use Rattle.segment_store.specs.declared.layout.Layout.{Layout}
-use Rattle.segment_store.specs.Layout.{IsFromStart, IsLayout}
+use Rattle.std.proofs.Common.{rules, ◌≡◌, ◌∙◌, ap, refl, sym, subst, ℤ, Ok, to_z, of_z, w64}
+use Rattle.engine_core.proofs.Words.{EngineState, IsFromStart, IsLayout, IsTied, Layout, Refusal, Reply, SettlesAt, admits, after_entry, bank_file, file_of, seen, session_in, settled}
 use Rattle.archive_model.specs.declared.reply.Reply.TheVariants as replies
 use Rattle.catalogue_entries.specs.declared.entry.Entry.TheVariants as entries
-use Rattle.engine_core.specs.Engine.{EngineState, IsTied}
-use Rattle.engine_core.specs.Seen.{seen}
 use Rattle.engine_core.proofs.calls.CommitCallLemmas.{tied_refused}
 use Rattle.engine_core.proofs.calls.SettleCallLemmas.{SettlesTo, asked, settled_layout, settled_start, settled_tied, settles, settling_done, settling_failed, settling_room, settling_works}
-use Rattle.std.specs.Prelude.{unsigned_abs}
-use Rattle.segment_store.specs.Layout.{file_of}
-use Rattle.catalogue_log.specs.Banks.{bank_file}
-use Rattle.engine_core.specs.Moves.{SettlesAt}
+use Rattle.std.specs.Prelude.{Err, Result, unsigned_abs}
+use Rattle.engine_core.proofs.calls.EntryLemmas.{settled_admitted, settled_makes}
+use Rattle.engine_core.proofs.calls.KeepLemmas.{added_keeps, failed_desk, refused_behind, told_behind}
 use Rattle.engine_core.proofs.engine.Engine.settle_blocks.Goals as goal
 
 pub settle-requires-clause-layout : goal.settle-requires-clause-layout
@@ -104,3 +100,40 @@ pub returns-clause-touches : goal.returns-clause-touches
 returns-clause-touches g c =
     let first : to_z w64 (of_z w64 c.args.written.now.first) ≡ c.args.written.now.first = search rules in
     subst (λ z. SettlesAt (g.D.Disk.life c.args.self.now.storage.disk) (g.D.Disk.life c.settle.new.self.disk) (file_of c.args.layout.now (unsigned_abs z)) (bank_file c.args.self.now.storage.log.bank)) first c.in-Err.ensures.touches
+
+pub returns-in-Ok-clause-catalogue : goal.returns-in-Ok-clause-catalogue
+returns-in-Ok-clause-catalogue g c =
+    let d = c.args.self.now.desk.state in
+    let n = c.args.session.now in
+    let id = c.args.recording.now in
+    let w = c.args.written.now in
+    let last = to_z w64 (of_z w64 w.last) in
+    let number = to_z w64 (of_z w64 id) in
+    let same_last : w.last ≡ last = search rules in
+    let same_id : id ≡ number = search rules in
+    let same : entries.Settle id w.last ≡ entries.Settle number last = ap (λ (z : ℤ). entries.Settle z w.last) same_id ∙ ap (entries.Settle number) same_last in
+    let old = seen g.D.Disk.life c.args.self.now in
+    let new : EngineState = record { life = g.D.Disk.life c.settle.new.self.disk; log = c.settle.new.self.log; desk = c.settle-in-Ok.new.self.state } in
+    let told : Reply = replies.Settled last in
+    added_keeps old new (entries.Settle number last) (settled (session_in d n) d).register (Ok told) (ap (after_entry d.register) (sym same) ∙ settled_makes d n id w c.requires.keeps c.requires.decided)
+    (λ es rests makes. told_behind old.life new.life old.log new.log es (entries.Settle number last) (entries.Settle number last) told refl (c.in-Ok.ensures.entries es rests (ap (λ r. admits r (entries.Settle number last)) makes ∙ ap (admits d.register) (sym same) ∙ settled_admitted d n id w c.requires.keeps c.requires.decided)))
+    (ap (λ s. s.register) c.settle-in-Ok.ensures)
+
+pub returns-clause-catalogue : goal.returns-clause-catalogue
+returns-clause-catalogue g c =
+    let d = c.args.self.now.desk.state in
+    let n = c.args.session.now in
+    let id = c.args.recording.now in
+    let w = c.args.written.now in
+    let last = to_z w64 (of_z w64 w.last) in
+    let number = to_z w64 (of_z w64 id) in
+    let same_last : w.last ≡ last = search rules in
+    let same_id : id ≡ number = search rules in
+    let same : entries.Settle id w.last ≡ entries.Settle number last = ap (λ (z : ℤ). entries.Settle z w.last) same_id ∙ ap (entries.Settle number) same_last in
+    let old = seen g.D.Disk.life c.args.self.now in
+    let new : EngineState = record { life = g.D.Disk.life c.settle.new.self.disk; log = c.settle.new.self.log; desk = c.failed.new.desk.state } in
+    let told : Result Reply Refusal = Err c.failed.result in
+    let same_told : told ≡ Err c.in-Err.refusal = ap (λ (r : Refusal). Err r) c.failed.ensures.same in
+    added_keeps old new (entries.Settle number last) (settled (session_in d n) d).register told (ap (after_entry d.register) (sym same) ∙ settled_makes d n id w c.requires.keeps c.requires.decided)
+    (λ es rests makes. refused_behind old.life new.life old.log new.log es (entries.Settle number last) (entries.Settle number last) c.in-Err.refusal told same_told refl (c.in-Err.ensures.entries es rests (ap (λ r. admits r (entries.Settle number last)) makes ∙ ap (admits d.register) (sym same) ∙ settled_admitted d n id w c.requires.keeps c.requires.decided)))
+    (failed_desk old new.desk (settled (session_in d n) d).register c.in-Err.refusal told same_told c.in-Err.ensures.adds.outside c.failed.ensures.state)

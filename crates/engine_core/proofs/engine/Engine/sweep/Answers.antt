@@ -1,9 +1,10 @@
 use Rattle.std.proofs.Common.{rules, ◌≡◌, refl, Err}
-use Rattle.engine_core.specs.Moves.{registered_keeps}
+use Rattle.engine_core.proofs.Words.{registered_keeps, seen}
 use Rattle.engine_core.proofs.calls.SweepCallLemmas.{sweep_refused, swept_answers, unkept_answers, unswept_answers}
 use Rattle.std.proofs.Common.{inl}
-use Rattle.engine_core.specs.Seen.{seen}
 use Rattle.engine_core.proofs.calls.TouchLemmas.{still_quiet, swept_touches}
+use Rattle.engine_core.proofs.calls.KeepLemmas.{banks_keep, still_keeps}
+use Rattle.engine_core.proofs.files.CatalogueLemmas.{swept_banks}
 use Rattle.engine_core.proofs.engine.Engine.sweep.Goals as goal
 
 pub returns-in_err-decide_sweep-clause-ends : goal.returns-in_err-decide_sweep-clause-ends
@@ -63,3 +64,15 @@ pub returns-clause-touches : goal.returns-clause-touches
 returns-clause-touches g c =
     let registered : c.as_slice.result.now ≡ registered_keeps c.args.self.now.desk.state.register = search rules in
     swept_touches (seen g.D.Disk.life c.args.self.now) (g.D.Disk.life c.sweep.new.self.disk) c.as_slice.result.now registered c.sweep.ensures.bounded c.sweep.ensures.calls
+
+pub returns-in_err-decide_sweep-clause-catalogue : goal.returns-in_err-decide_sweep-clause-catalogue
+returns-in_err-decide_sweep-clause-catalogue g c = still_keeps _ _
+
+pub returns-in_err-keeps-clause-catalogue : goal.returns-in_err-keeps-clause-catalogue
+returns-in_err-keeps-clause-catalogue g c = still_keeps _ _
+
+pub returns-in_err-removed-clause-catalogue : goal.returns-in_err-removed-clause-catalogue
+returns-in_err-removed-clause-catalogue g c = banks_keep _ _ _ (swept_banks _ _ c.as_slice.result.now c.sweep.ensures.bounded) c.sweep.ensures.log refl
+
+pub returns-clause-catalogue : goal.returns-clause-catalogue
+returns-clause-catalogue g c = banks_keep _ _ _ (swept_banks _ _ c.as_slice.result.now c.sweep.ensures.bounded) c.sweep.ensures.log refl

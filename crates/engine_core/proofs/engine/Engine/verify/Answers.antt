@@ -1,20 +1,18 @@
 use Rattle.std.proofs.Common.{rules, ◌≡◌, ◌∙◌, ap, sym, subst, refl, Err}
 use Rattle.std.proofs.Common.{to_z, of_z, w64}
 use Rattle.control_core.specs.declared.event.Event.TheVariants as events
-use Rattle.engine_core.specs.Calls.{EndsEvent}
+use Rattle.engine_core.proofs.Words.{EndsEvent, RefusesCount, checks, reads, registration_in}
 use Rattle.engine_core.proofs.calls.KnownLemmas.{laid_found}
 use Rattle.engine_core.proofs.replays.ReplayCallLemmas.{verified, verify_refused, verify_unread}
 use Rattle.engine_core.proofs.replays.ReadLemmas.{count_read, counted_read}
 use Rattle.std.proofs.Common.{false, Ok}
 use Rattle.archive_model.specs.declared.reply.Reply.TheVariants as replies
 use Rattle.std.specs.Prelude.{IfSome}
-use Rattle.disk_core.specs.DiskImage.{reads}
-use Rattle.archive_model.specs.Checks.{checks}
-use Rattle.archive_model.specs.Register.{registration_in}
-use Rattle.recording_reads.specs.Reading.{HasFrames, RefusesCount}
+use Rattle.recording_reads.specs.Reading.{HasFrames}
 use Rattle.control_core.specs.Turns.{verify_tests}
 use Rattle.engine_core.specs.Shown.{CountsShown}
 use Rattle.engine_core.proofs.calls.ShownLemmas.{checked_not, counted_shown, is_damage, uncounted_shown, unread_count}
+use Rattle.engine_core.proofs.calls.KeepLemmas.{quiet_keeps, still_keeps}
 use Rattle.engine_core.proofs.engine.Engine.verify.Goals as goal
 
 pub returns-in_err-known-clause-ends : goal.returns-in_err-known-clause-ends
@@ -65,3 +63,12 @@ returns-clause-shows g c obeys =
     let known = c.in_ok-known.known.now in
     let same : to_z w64 (of_z w64 c.in_ok-frames.frames) ≡ c.in_ok-frames.frames = search rules in
     counted_shown image c.args.self.now.desk.state c.args.recording.now known (Ok (replies.Verified (to_z w64 (of_z w64 c.in_ok-frames.frames)))) c.in_ok-known.ensures.found (subst (HasFrames image known) (sym same) (c.in_ok-frames.ensures.count obeys))
+
+pub returns-in_err-known-clause-catalogue : goal.returns-in_err-known-clause-catalogue
+returns-in_err-known-clause-catalogue g c = still_keeps _ _
+
+pub returns-in_err-frames-clause-catalogue : goal.returns-in_err-frames-clause-catalogue
+returns-in_err-frames-clause-catalogue g c = quiet_keeps _ _ _ c.count_frames.ensures.quiet refl refl
+
+pub returns-clause-catalogue : goal.returns-clause-catalogue
+returns-clause-catalogue g c = quiet_keeps _ _ _ c.count_frames.ensures.quiet refl refl
