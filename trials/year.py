@@ -1,9 +1,9 @@
 #!/usr/bin/env python3
 """One server through as many publications, and as many clients that die, as a year may bring.
 
-Usage: trials/year.py [--seed S] [--only TRIAL] [--publications N] [--clients N] [--memory MB] [program]
+Usage: trials/year.py [--seed S] [--only TRIAL] [--publications N] [--clients N] [--silent N] [--memory MB] [program]
 
-The server is `serve --aeron --record --clients 4`. Nobody sends `start`. In both trials it stays below its bound of memory
+The server is `serve --aeron --record --clients 4`. Nobody sends `start`. In all trials it stays below its bound of memory
 (`--memory`; 0 asks for none, as for a build with the address sanitizer), and `quit` ends it with status 0.
 - publications: so many of them, one after another, each with a session id of its own: a setup frame, one to five data frames, and
   then nothing. A client awaits that `positions` shows all of it, and replays it. A second client stops its recording meanwhile, and
@@ -12,6 +12,8 @@ The server is `serve --aeron --record --clients 4`. Nobody sends `start`. In bot
 - clients: so many of them open replays of a recording that goes on, poll, and die in the middle of the reply: by a reset, or by a
   close without reading. One to three die at once. After each time the next client is served. At the end no replay is left open, all
   that was sent is recorded, and the recording can be purged.
+- silence: so many of them, 60 at once, send a few frames each and then nothing, next to one that goes on as fast as it can. Each is
+  recorded whole, is stopped at its end ten seconds later, and its place and seat are free for the next ones.
 """
 import queue
 import random
@@ -24,6 +26,7 @@ from collections.abc import Iterator
 from contextlib import contextmanager
 from pathlib import Path
 
+from days import Recording, listed
 from flow_control import FaultySender, wait_for
 from serving import MOST_MEMORY, PATIENCE, STREAM, Client, Faults, Publication, Server, recorded_position, served
 from tool import MOST_AT_ONCE, STREAM_ID, Fault, conclude, expect, file_system, program, run_trials, trial_words
@@ -37,6 +40,8 @@ WAITING = 16  # publications that may wait to be stopped: less than the 64 place
 LENGTHS = 40, 200, 1_408  # of frames
 ENOUGH = 6_000  # frames of MTU: a poll's reply is longer than what the system keeps of it
 TIMESTAMP = 2_000
+SILENT = 60  # publications at once: with the one that goes on less than the 64 places of images
+MOST_SILENCE = 15.0  # seconds after which each is stopped: ten, and what the look at all of them takes
 
 
 @contextmanager
@@ -213,10 +218,80 @@ def clients(tool: Path, chance: random.Random, count: int, most_memory: int) -> 
           f"{len(sender.publication.frames)} frames recorded meanwhile, {most} MB at most", flush=True)
 
 
+# ---- silence
+
+
+def go_on_beside(sender: FaultySender, until: threading.Event, fault: list[Exception]) -> None:
+    """Sends as fast as the receiver takes it, until it is said that it is enough."""
+    try:
+        while not until.is_set():
+            sender.go_on(0.2)
+    except (Fault, OSError) as error:
+        fault.append(error)
+
+
+def ids_of(client: Client, session_ids: set[int]) -> dict[int, Recording]:
+    """The recordings of these sessions."""
+    return {recording.session_id: recording for recording in listed(client) if recording.session_id in session_ids}
+
+
+def fall_silent(server: Server, chance: random.Random, client: Client, session_ids: list[int]) -> float:
+    """So many publications at once, which say nothing more once all of each is recorded. Gives how long the last one's recording took
+    to be stopped then."""
+    senders = {session_id: FaultySender(server.address(), session_id, Faults(chance, 0.0)) for session_id in session_ids}
+    for sender in senders.values():
+        for _ in range(chance.randint(1, 5)):
+            sender.message(chance.choice(LENGTHS))
+    wait_for("all recordings", lambda: len(ids_of(client, set(senders))) == len(senders))
+    found = ids_of(client, set(senders))
+    for session_id, sender in senders.items():
+        sender.finish(client, found[session_id].number)
+        sender.socket.close()
+    silent = time.monotonic()
+    wait_for("a stop of each", lambda: all(recording.stop >= 0 for recording in ids_of(client, set(senders)).values()), 0.1)
+    took = time.monotonic() - silent
+    for session_id, recording in ids_of(client, set(senders)).items():
+        expect(f"the end of session {session_id}", recording.stop, senders[session_id].position)
+        expect_whole(client, recording.number, senders[session_id].publication)
+        expect("purge", one(client, f"purge {recording.number}"), "purged-recording")
+    return took
+
+
+def silence(tool: Path, chance: random.Random, count: int, most_memory: int) -> None:
+    """Publications that fall silent, nearly as many at once as there are places, next to one that goes on as fast as it can."""
+    begun, longest, enough, fault = time.monotonic(), 0.0, threading.Event(), []
+    session_ids = chance.sample(range(-(2**31), 2**31), count + 1)
+    with recorder(tool, most_memory) as (server, _):
+        loud, client, own = FaultySender(server.address(), session_ids.pop(), Faults(chance, 0.0)), server.client(), server.client()
+        loud.message(STREAM.mtu)
+        wait_for("the recording that goes on", lambda: len(ids_of(client, {loud.publication.session_id})) == 1)
+        recording = ids_of(client, {loud.publication.session_id})[loud.publication.session_id].number
+        speaker = threading.Thread(target=go_on_beside, args=(loud, enough, fault), daemon=True)
+        speaker.start()
+        while session_ids and not fault:
+            wave, session_ids = session_ids[:SILENT], session_ids[SILENT:]
+            longest = max(longest, fall_silent(server, chance, client, wave))
+        enough.set()
+        speaker.join(PATIENCE)
+        if fault or speaker.is_alive():
+            raise Fault(f"the sender that goes on: {fault}")
+        loud.finish(own, recording)
+        expect_whole(own, recording, loud.publication)
+        client.close()
+        own.close()
+        frames, took = len(loud.publication.frames), time.monotonic() - begun
+    if longest > MOST_SILENCE:
+        raise Fault(f"a recording was stopped {longest:.1f} s after its publication had fallen silent")
+    expect("images", server.counts()["images"], count + 1)
+    print(f"{count} publications that fall silent, {SILENT} at once, next to one of {frames} frames, {took:.0f} s: each is recorded, stopped "
+          f"at its end at most {longest:.1f} s later, and purged", flush=True)
+
+
 def main() -> int:
     words = trial_words(__doc__)
     words.add_argument("--publications", type=int, default=4_000, help="4,000, the default, take about 100 seconds")
     words.add_argument("--clients", type=int, default=200)
+    words.add_argument("--silent", type=int, default=180, help="publications that fall silent; 180, the default, take about 40 seconds")
     words.add_argument("--memory", type=int, default=MOST_MEMORY, help="megabytes of the server at most; 0 asks for none")
     words.add_argument("--only", help="one trial alone, by its name")
     asked = words.parse_args()
@@ -225,6 +300,7 @@ def main() -> int:
     all_trials = {
         "publications": lambda: publications(tool, chance, asked.publications, asked.memory),
         "clients": lambda: clients(tool, chance, asked.clients, asked.memory),
+        "silence": lambda: silence(tool, chance, asked.silent, asked.memory),
     }
     run_trials(all_trials, asked.only)
     return 0

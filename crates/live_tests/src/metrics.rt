@@ -2,6 +2,7 @@
 
 use crate::conversations::holds;
 use crate::server::{Told, bound, options};
+use crate::strict::failing;
 use disk_core::MemoryDisk;
 use metrics_text::{
     ArchiveMeasures, ClientMeasures, DatagramMeasures, ImageMeasures, Measures, RecordingMeasures,
@@ -65,10 +66,28 @@ const IMAGE: ImageMeasures = ImageMeasures {
     gap_micros: 0,
 };
 
-/// Whether the last measures were right, and whether any were told.
+/// The same call, answered by a device fault, and one behind it.
+const FAULTS: &str = "\
+asks start 1001 7 42 65536 1408 131072 0 1000 c: error 17 DeviceFault
+asks stop 0 5: error 16 Broken
+rests
+asks quit: bye
+";
+
+/// Whether the last measures were those of the first conversation, whether they said that the archive is broken, and whether
+/// any were told.
+#[derive(Clone, Copy, PartialEq, Eq)]
+struct Outcome {
+    is_right: bool,
+    is_broken: bool,
+    was_told: bool,
+}
+
+/// The same, as it is told.
 #[derive(Drop)]
 struct Seen {
     is_right: AtomicBool,
+    is_broken: AtomicBool,
     was_told: AtomicBool,
 }
 
@@ -84,6 +103,8 @@ impl Teller for Looking<'_> {
     fn measured(&self, measures: &Measures) {
         self.0.was_told.store(true, Ordering::SeqCst);
         self.0.is_right.store(is_right(measures), Ordering::SeqCst);
+        let is_broken = measures.archive.is_broken;
+        self.0.is_broken.store(is_broken, Ordering::SeqCst);
     }
 }
 
@@ -104,47 +125,72 @@ fn are_clients(clients: &ClientMeasures) -> bool {
     clients.polls == 1 && clients.replays == 1
 }
 
-/// Whether a server told right measures, and whether it told any, while a conversation was held that ends it.
+/// What a server of a disk told of its measures while a conversation was held that ends it.
 fn measured<R: Threads + Wait + Clock + Net<Listener = TcpListener, Stream = TcpStream> + Sync>(
     rt: &R,
     alloc: Global,
+    disk: MemoryDisk,
     is_measured: bool,
-) -> Option<(bool, bool)> {
+    lines: &'static str,
+) -> Option<Outcome> {
     let (listener, socket, ports) = bound(rt)?;
     let (told, seen) = (Told::new(), unseen());
     let (told, seen) = (&told, &seen);
     let mut options = options(60, SETTLE_EVERY);
     options.is_measured = is_measured;
-    let disk = MemoryDisk::new(alloc);
     let (has_ended, is_held) = thread::join(
         rt,
         move || { serve_with(rt, alloc, listener, socket, disk, &options, Looking(seen)).is_ok() },
-        move || holds(rt, alloc, ports, told, MEASURED),
+        move || holds(rt, alloc, ports, told, lines),
     );
-    let is_right = seen.is_right.load(Ordering::SeqCst);
-    let was_told = seen.was_told.load(Ordering::SeqCst);
+    let outcome = Outcome {
+        is_right: seen.is_right.load(Ordering::SeqCst),
+        is_broken: seen.is_broken.load(Ordering::SeqCst),
+        was_told: seen.was_told.load(Ordering::SeqCst),
+    };
     if has_ended && is_held {
-        Some((is_right, was_told))
+        Some(outcome)
     } else {
         None
     }
 }
 
+fn told_as(is_right: bool, is_broken: bool, was_told: bool) -> Option<Outcome> {
+    Some(Outcome {
+        is_right,
+        is_broken,
+        was_told,
+    })
+}
+
 fn unseen() -> Seen {
     Seen {
         is_right: AtomicBool::new(false),
+        is_broken: AtomicBool::new(false),
         was_told: AtomicBool::new(false),
     }
 }
 
 #[test]
 fn a_server_is_measured_each_second(rt: HostRuntime) -> Result<(), Fail> {
-    assert!(rt; measured(&rt, rt.alloc(), true) == Some((true, true)));
+    let disk = MemoryDisk::new(rt.alloc());
+    let told = measured(&rt, rt.alloc(), disk, true, MEASURED);
+    assert!(rt; told == told_as(true, false, true));
     Ok(())
 }
 
 #[test]
 fn a_server_is_not_measured_unasked(rt: HostRuntime) -> Result<(), Fail> {
-    assert!(rt; measured(&rt, rt.alloc(), false) == Some((false, false)));
+    let disk = MemoryDisk::new(rt.alloc());
+    let told = measured(&rt, rt.alloc(), disk, false, MEASURED);
+    assert!(rt; told == told_as(false, false, false));
+    Ok(())
+}
+
+#[test]
+fn a_broken_archive_is_measured(rt: HostRuntime) -> Result<(), Fail> {
+    let disk = failing(rt.alloc()).ok_or("disk")?;
+    let told = measured(&rt, rt.alloc(), disk, true, FAULTS);
+    assert!(rt; told == told_as(false, true, true));
     Ok(())
 }

@@ -119,7 +119,7 @@ fn of_limit(alloc: Global, limit: u32) -> Option<MemoryDisk> {
 }
 
 /// A new archive on a disk that fails once it was opened.
-fn failing(alloc: Global) -> Option<MemoryDisk> {
+pub(crate) fn failing(alloc: Global) -> Option<MemoryDisk> {
     let mut disk = of_limit(alloc, 64)?;
     disk.stop_after(FAILS_AFTER);
     Some(disk)
