@@ -230,9 +230,15 @@ def go_on_beside(sender: FaultySender, until: threading.Event, fault: list[Excep
         fault.append(error)
 
 
-def ids_of(client: Client, session_ids: set[int]) -> dict[int, Recording]:
-    """The recordings of these sessions."""
+def recordings_of(client: Client, session_ids: list[int]) -> dict[int, Recording]:
+    """The recordings of these sessions, as far as they are there."""
     return {recording.session_id: recording for recording in listed(client) if recording.session_id in session_ids}
+
+
+def awaited(client: Client, session_ids: list[int]) -> dict[int, Recording]:
+    """The recordings of these sessions, once all of them are there."""
+    wait_for("a recording of each session", lambda: len(recordings_of(client, session_ids)) == len(session_ids))
+    return recordings_of(client, session_ids)
 
 
 def fall_silent(server: Server, chance: random.Random, client: Client, session_ids: list[int]) -> float:
@@ -242,15 +248,13 @@ def fall_silent(server: Server, chance: random.Random, client: Client, session_i
     for sender in senders.values():
         for _ in range(chance.randint(1, 5)):
             sender.message(chance.choice(LENGTHS))
-    wait_for("all recordings", lambda: len(ids_of(client, set(senders))) == len(senders))
-    found = ids_of(client, set(senders))
-    for session_id, sender in senders.items():
-        sender.finish(client, found[session_id].number)
-        sender.socket.close()
+    for session_id, recording in awaited(client, session_ids).items():
+        senders[session_id].finish(client, recording.number)
+        senders[session_id].socket.close()
     silent = time.monotonic()
-    wait_for("a stop of each", lambda: all(recording.stop >= 0 for recording in ids_of(client, set(senders)).values()), 0.1)
+    wait_for("a stop of each", lambda: all(recording.stop >= 0 for recording in recordings_of(client, session_ids).values()), 0.1)
     took = time.monotonic() - silent
-    for session_id, recording in ids_of(client, set(senders)).items():
+    for session_id, recording in recordings_of(client, session_ids).items():
         expect(f"the end of session {session_id}", recording.stop, senders[session_id].position)
         expect_whole(client, recording.number, senders[session_id].publication)
         expect("purge", one(client, f"purge {recording.number}"), "purged-recording")
@@ -260,12 +264,11 @@ def fall_silent(server: Server, chance: random.Random, client: Client, session_i
 def silence(tool: Path, chance: random.Random, count: int, most_memory: int) -> None:
     """Publications that fall silent, nearly as many at once as there are places, next to one that goes on as fast as it can."""
     begun, longest, enough, fault = time.monotonic(), 0.0, threading.Event(), []
-    session_ids = chance.sample(range(-(2**31), 2**31), count + 1)
+    first, *session_ids = chance.sample(range(-(2**31), 2**31), count + 1)
     with recorder(tool, most_memory) as (server, _):
-        loud, client, own = FaultySender(server.address(), session_ids.pop(), Faults(chance, 0.0)), server.client(), server.client()
+        loud, client, own = FaultySender(server.address(), first, Faults(chance, 0.0)), server.client(), server.client()
         loud.message(STREAM.mtu)
-        wait_for("the recording that goes on", lambda: len(ids_of(client, {loud.publication.session_id})) == 1)
-        recording = ids_of(client, {loud.publication.session_id})[loud.publication.session_id].number
+        recording = awaited(client, [first])[first].number
         speaker = threading.Thread(target=go_on_beside, args=(loud, enough, fault), daemon=True)
         speaker.start()
         while session_ids and not fault:
@@ -291,7 +294,7 @@ def main() -> int:
     words = trial_words(__doc__)
     words.add_argument("--publications", type=int, default=4_000, help="4,000, the default, take about 100 seconds")
     words.add_argument("--clients", type=int, default=200)
-    words.add_argument("--silent", type=int, default=180, help="publications that fall silent; 180, the default, take about 40 seconds")
+    words.add_argument("--silent", type=int, default=180, help="publications that fall silent; 180, the default, take about 50 seconds")
     words.add_argument("--memory", type=int, default=MOST_MEMORY, help="megabytes of the server at most; 0 asks for none")
     words.add_argument("--only", help="one trial alone, by its name")
     asked = words.parse_args()

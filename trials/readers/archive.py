@@ -156,6 +156,7 @@ class Archive:
     def truncate(self, number: int, position: int) -> str:
         known = self.known(number)
         asks(not known.is_active, "error 2 ActiveRecording")
+        asks(position % 32 == 0, BAD_POSITION)
         self.at_boundary(known, position)
         self.take(TRUNCATE, number, position)
         return f"truncated {position}"
