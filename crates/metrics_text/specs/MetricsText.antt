@@ -1,5 +1,5 @@
 -- The text of measures, in the text format 0.0.4 of Prometheus: docs/SERVING.md, "Metrics".
-use Rattle.std.specs.Prelude.{◌++◌, ◌/◌, ◌%◌, ℕ, ℤ, Bool, true, false, List, [], ◌∷◌, codes, decimal}
+use Rattle.std.specs.Prelude.{◌++◌, ◌/◌, ◌%◌, ℕ, Bool, true, false, List, [], ◌∷◌, codes, decimal}
 use Rattle.std.specs.Fmt.{signed_decimal}
 use Rattle.std.specs.List.{flat_map}
 use Rattle.metrics_text.specs.declared.measures.ArchiveMeasures.{ArchiveMeasures}
@@ -9,6 +9,8 @@ use Rattle.metrics_text.specs.declared.measures.ClientMeasures.{ClientMeasures}
 use Rattle.metrics_text.specs.declared.measures.RecordingMeasures.{RecordingMeasures}
 use Rattle.metrics_text.specs.declared.measures.ImageMeasures.{ImageMeasures}
 use Rattle.metrics_text.specs.declared.measures.Measures.{Measures}
+use Rattle.metrics_text.specs.declared.image_family.ImageFamily.{ImageFamily}
+use Rattle.metrics_text.specs.declared.image_family.ImageFamily.TheVariants.{Rebuilt, Consumed, Gap}
 
 -- ---- numbers
 
@@ -115,39 +117,41 @@ client_families c =
     ∷ gauge (codes "aeron_recorder_open_replays") (codes "Replays that are open.") (decimal c.replays)
     ∷ []
 
--- lines of recordings and images
+-- where each recording is settled to
 unfoldable pub recorded_line : RecordingMeasures → List ℕ
 recorded_line r = line (codes "aeron_recorder_recorded_position_bytes") (recording_labels r) (signed_decimal r.recorded)
-
-unfoldable pub rebuilt_line : ImageMeasures → List ℕ
-rebuilt_line i = line (codes "aeron_recorder_rebuilt_position_bytes") (image_labels i) (signed_decimal i.rebuilt)
-
-unfoldable pub consumed_line : ImageMeasures → List ℕ
-consumed_line i = line (codes "aeron_recorder_consumed_position_bytes") (image_labels i) (signed_decimal i.consumed)
-
-unfoldable pub gap_line : ImageMeasures → List ℕ
-gap_line i = line (codes "aeron_recorder_gap_seconds") (image_labels i) (seconds i.gap_micros)
 
 abbrev pub recorded_family : List RecordingMeasures → Family
 recorded_family recordings =
     family (codes "gauge") (codes "aeron_recorder_recorded_position_bytes") (codes "Where an active recording is settled to.") (flat_map recorded_line recordings)
 
-abbrev pub rebuilt_family : List ImageMeasures → Family
-rebuilt_family images =
-    family (codes "gauge") (codes "aeron_recorder_rebuilt_position_bytes") (codes "Where all of an image is received to.") (flat_map rebuilt_line images)
+-- what is measured of each image: a family's name, what its numbers are, and the number of an image
+abbrev pub image_name : ImageFamily → List ℕ
+image_name Rebuilt = codes "aeron_recorder_rebuilt_position_bytes"
+image_name Consumed = codes "aeron_recorder_consumed_position_bytes"
+image_name Gap = codes "aeron_recorder_gap_seconds"
 
-abbrev pub consumed_family : List ImageMeasures → Family
-consumed_family images =
-    family (codes "gauge") (codes "aeron_recorder_consumed_position_bytes") (codes "Where an image is taken to, to be recorded.") (flat_map consumed_line images)
+abbrev pub image_help : ImageFamily → List ℕ
+image_help Rebuilt = codes "Where all of an image is received to."
+image_help Consumed = codes "Where an image is taken to, to be recorded."
+image_help Gap = codes "How long the first gap of an image has stood."
 
-abbrev pub gap_family : List ImageMeasures → Family
-gap_family images =
-    family (codes "gauge") (codes "aeron_recorder_gap_seconds") (codes "How long the first gap of an image has stood.") (flat_map gap_line images)
+abbrev pub image_number : ImageFamily → ImageMeasures → List ℕ
+image_number Rebuilt i = signed_decimal i.rebuilt
+image_number Consumed i = signed_decimal i.consumed
+image_number Gap i = seconds i.gap_micros
+
+unfoldable pub image_metric_line : ImageFamily → ImageMeasures → List ℕ
+image_metric_line f i = line (image_name f) (image_labels i) (image_number f i)
+
+abbrev pub image_family : ImageFamily → List ImageMeasures → Family
+image_family f images = family (codes "gauge") (image_name f) (image_help f) (flat_map (image_metric_line f) images)
 
 -- families of all recordings and images
 abbrev pub position_text : List RecordingMeasures → List ImageMeasures → List ℕ
 position_text recordings images =
-    family_text (recorded_family recordings) ++ (family_text (rebuilt_family images) ++ (family_text (consumed_family images) ++ family_text (gap_family images)))
+    family_text (recorded_family recordings)
+    ++ (family_text (image_family Rebuilt images) ++ (family_text (image_family Consumed images) ++ family_text (image_family Gap images)))
 
 -- the text: that of each family, one after another
 abbrev pub metrics_text : Measures → List ℕ

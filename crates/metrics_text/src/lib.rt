@@ -1,6 +1,7 @@
 //! What is measured of a server, and the text that a monitoring system reads it as: the text format 0.0.4 of Prometheus.
 #![tactic(auto)]
 
+mod image_family;
 mod measures;
 mod print;
 

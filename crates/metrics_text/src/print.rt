@@ -1,10 +1,10 @@
 //! Measures as text. docs/SERVING.md, "Metrics".
 
-ghost use Rattle.std.specs.Prelude.{◌≡◌, ◌++◌, [], OnOk, IfOk, codes, decimal, string_bytes};
-ghost use Rattle.std.specs.Fmt.{signed_decimal};
+ghost use Rattle.std.specs.Prelude.{◌≡◌, ◌++◌, OnOk, IfOk, decimal, string_bytes};
 ghost use Rattle.std.specs.List.{flat_map};
-ghost use Rattle.metrics_text.specs.MetricsText.{client_families, consumed_family, consumed_line, counter, family_text, gap_family, gap_line, gauge, head, history_families, image_labels, line, metrics_text, one_or_zero, position_text, rebuilt_family, rebuilt_line, received_families, recorded_family, recorded_line, recorder_families, recording_labels, seconds, sent_families, state_families, summary};
+ghost use Rattle.metrics_text.specs.MetricsText.{client_families, counter, family_text, gauge, head, history_families, image_family, image_labels, image_metric_line, image_number, metrics_text, one_or_zero, position_text, received_families, recorded_family, recorded_line, recorder_families, recording_labels, seconds, sent_families, state_families, summary};
 
+use crate::image_family::ImageFamily;
 use crate::measures::{
     ArchiveMeasures, ClientMeasures, DatagramMeasures, ImageMeasures, Measures, RecorderMeasures,
     RecordingMeasures,
@@ -36,16 +36,6 @@ fn put_seconds(out: &mut String, micros: u64) -> Result<(), AllocError>
         micros / 10 % 10,
         micros % 10,
     )
-}
-
-/// A line of a number of microseconds, as seconds.
-fn put_seconds_line(out: &mut String, name: &str, micros: u64) -> Result<(), AllocError>
-    ensures { OnOk result
-        (string_bytes out.new ≡ string_bytes out.old ++ line name.now [] (seconds micros)) }
-{
-    write!(out, "{name} ")?;
-    put_seconds(out, micros)?;
-    out.push_str("\n")
 }
 
 /// A family of a number that never falls.
@@ -89,7 +79,9 @@ fn put_time(out: &mut String, name: &str, help: &str, micros: u64) -> Result<(),
         (string_bytes out.new ≡ string_bytes out.old ++ family_text (gauge name.now help.now (seconds micros))) }
 {
     put_head(out, "gauge", name, help)?;
-    put_seconds_line(out, name, micros)
+    write!(out, "{name} ")?;
+    put_seconds(out, micros)?;
+    out.push_str("\n")
 }
 
 /// A family of how many there were, and how many microseconds they took.
@@ -261,42 +253,42 @@ fn put_clients(out: &mut String, clients: &ClientMeasures) -> Result<(), AllocEr
     )
 }
 
-fn put_recording_labels(out: &mut String, r: &RecordingMeasures) -> Result<(), AllocError>
+fn put_recording_labels(out: &mut String, recording: &RecordingMeasures) -> Result<(), AllocError>
     ensures { OnOk result
-        (string_bytes out.new ≡ string_bytes out.old ++ recording_labels r.now) }
+        (string_bytes out.new ≡ string_bytes out.old ++ recording_labels recording.now) }
 {
     write!(
         out,
         "{{recording=\"{}\",stream=\"{}\",session=\"{}\"}}",
-        r.recording, r.stream_id, r.session_id,
+        recording.recording, recording.stream_id, recording.session_id,
     )
 }
 
-fn put_image_labels(out: &mut String, i: &ImageMeasures) -> Result<(), AllocError>
-    ensures { OnOk result (string_bytes out.new ≡ string_bytes out.old ++ image_labels i.now) }
+fn put_image_labels(out: &mut String, image: &ImageMeasures) -> Result<(), AllocError>
+    ensures { OnOk result (string_bytes out.new ≡ string_bytes out.old ++ image_labels image.now) }
 {
     write!(
         out,
         "{{image=\"{}\",stream=\"{}\",session=\"{}\"}}",
-        i.image, i.stream_id, i.session_id,
+        image.image, image.stream_id, image.session_id,
     )
 }
 
 #[tactic(auto, unfolding(crate::specs::MetricsText::recorded_line))]
-fn put_recorded_line(out: &mut String, r: &RecordingMeasures) -> Result<(), AllocError>
-    ensures { OnOk result (string_bytes out.new ≡ string_bytes out.old ++ recorded_line r.now) }
+fn put_recorded_line(out: &mut String, recording: &RecordingMeasures) -> Result<(), AllocError>
+    ensures { OnOk result (string_bytes out.new ≡ string_bytes out.old ++ recorded_line recording.now) }
 {
     out.push_str("aeron_recorder_recorded_position_bytes")?;
-    put_recording_labels(out, r)?;
-    writeln!(out, " {}", r.recorded)
+    put_recording_labels(out, recording)?;
+    writeln!(out, " {}", recording.recorded)
 }
 
 fn put_recorded_lines(out: &mut String, recordings: &[RecordingMeasures]) -> Result<(), AllocError>
     ensures { OnOk result (string_bytes out.new
         ≡ string_bytes out.old ++ flat_map recorded_line recordings.now) }
 {
-    for r in recordings {
-        put_recorded_line(out, r)?;
+    for recording in recordings {
+        put_recorded_line(out, recording)?;
     }
     Ok(())
 }
@@ -315,105 +307,66 @@ fn put_recorded(out: &mut String, recordings: &[RecordingMeasures]) -> Result<()
     put_recorded_lines(out, recordings)
 }
 
-#[tactic(auto, unfolding(crate::specs::MetricsText::rebuilt_line))]
-fn put_rebuilt_line(out: &mut String, i: &ImageMeasures) -> Result<(), AllocError>
-    ensures { OnOk result (string_bytes out.new ≡ string_bytes out.old ++ rebuilt_line i.now) }
-{
-    out.push_str("aeron_recorder_rebuilt_position_bytes")?;
-    put_image_labels(out, i)?;
-    writeln!(out, " {}", i.rebuilt)
-}
-
-fn put_rebuilt_lines(out: &mut String, images: &[ImageMeasures]) -> Result<(), AllocError>
-    ensures { OnOk result (string_bytes out.new
-        ≡ string_bytes out.old ++ flat_map rebuilt_line images.now) }
-{
-    for i in images {
-        put_rebuilt_line(out, i)?;
-    }
-    Ok(())
-}
-
-#[tactic(auto, unfolding(crate::specs::MetricsText::family_text))]
-fn put_rebuilt(out: &mut String, images: &[ImageMeasures]) -> Result<(), AllocError>
+/// An image's number in a family.
+fn put_image_number(
+    out: &mut String,
+    family: ImageFamily,
+    image: &ImageMeasures,
+) -> Result<(), AllocError>
     ensures { OnOk result
-        (string_bytes out.new ≡ string_bytes out.old ++ family_text (rebuilt_family images.now)) }
+        (string_bytes out.new ≡ string_bytes out.old ++ image_number family image.now) }
 {
-    put_head(
-        out,
-        "gauge",
-        "aeron_recorder_rebuilt_position_bytes",
-        "Where all of an image is received to.",
-    )?;
-    put_rebuilt_lines(out, images)
-}
-
-#[tactic(auto, unfolding(crate::specs::MetricsText::consumed_line))]
-fn put_consumed_line(out: &mut String, i: &ImageMeasures) -> Result<(), AllocError>
-    ensures { OnOk result (string_bytes out.new ≡ string_bytes out.old ++ consumed_line i.now) }
-{
-    out.push_str("aeron_recorder_consumed_position_bytes")?;
-    put_image_labels(out, i)?;
-    writeln!(out, " {}", i.consumed)
-}
-
-fn put_consumed_lines(out: &mut String, images: &[ImageMeasures]) -> Result<(), AllocError>
-    ensures { OnOk result (string_bytes out.new
-        ≡ string_bytes out.old ++ flat_map consumed_line images.now) }
-{
-    for i in images {
-        put_consumed_line(out, i)?;
+    match family {
+        ImageFamily::Rebuilt => write!(out, "{}", image.rebuilt),
+        ImageFamily::Consumed => write!(out, "{}", image.consumed),
+        ImageFamily::Gap => put_seconds(out, image.gap_micros),
     }
-    Ok(())
 }
 
-#[tactic(auto, unfolding(crate::specs::MetricsText::family_text))]
-fn put_consumed(out: &mut String, images: &[ImageMeasures]) -> Result<(), AllocError>
+/// An image's line in a family.
+#[tactic(auto, unfolding(crate::specs::MetricsText::image_metric_line))]
+fn put_image_line(
+    out: &mut String,
+    family: ImageFamily,
+    image: &ImageMeasures,
+) -> Result<(), AllocError>
     ensures { OnOk result
-        (string_bytes out.new ≡ string_bytes out.old ++ family_text (consumed_family images.now)) }
+        (string_bytes out.new ≡ string_bytes out.old ++ image_metric_line family image.now) }
 {
-    put_head(
-        out,
-        "gauge",
-        "aeron_recorder_consumed_position_bytes",
-        "Where an image is taken to, to be recorded.",
-    )?;
-    put_consumed_lines(out, images)
-}
-
-#[tactic(auto, unfolding(crate::specs::MetricsText::gap_line))]
-fn put_gap_line(out: &mut String, i: &ImageMeasures) -> Result<(), AllocError>
-    ensures { OnOk result (string_bytes out.new ≡ string_bytes out.old ++ gap_line i.now) }
-{
-    out.push_str("aeron_recorder_gap_seconds")?;
-    put_image_labels(out, i)?;
+    out.push_str(family.name())?;
+    put_image_labels(out, image)?;
     out.push_str(" ")?;
-    put_seconds(out, i.gap_micros)?;
+    put_image_number(out, family, image)?;
     out.push_str("\n")
 }
 
-fn put_gap_lines(out: &mut String, images: &[ImageMeasures]) -> Result<(), AllocError>
+/// The lines of a family: one for each image.
+fn put_image_lines(
+    out: &mut String,
+    family: ImageFamily,
+    images: &[ImageMeasures],
+) -> Result<(), AllocError>
     ensures { OnOk result (string_bytes out.new
-        ≡ string_bytes out.old ++ flat_map gap_line images.now) }
+        ≡ string_bytes out.old ++ flat_map (image_metric_line family) images.now) }
 {
-    for i in images {
-        put_gap_line(out, i)?;
+    for image in images {
+        put_image_line(out, family, image)?;
     }
     Ok(())
 }
 
+/// A family with a line for each image.
 #[tactic(auto, unfolding(crate::specs::MetricsText::family_text))]
-fn put_gap(out: &mut String, images: &[ImageMeasures]) -> Result<(), AllocError>
+fn put_image_family(
+    out: &mut String,
+    family: ImageFamily,
+    images: &[ImageMeasures],
+) -> Result<(), AllocError>
     ensures { OnOk result
-        (string_bytes out.new ≡ string_bytes out.old ++ family_text (gap_family images.now)) }
+        (string_bytes out.new ≡ string_bytes out.old ++ family_text (image_family family images.now)) }
 {
-    put_head(
-        out,
-        "gauge",
-        "aeron_recorder_gap_seconds",
-        "How long the first gap of an image has stood.",
-    )?;
-    put_gap_lines(out, images)
+    put_head(out, "gauge", family.name(), family.help())?;
+    put_image_lines(out, family, images)
 }
 
 fn put_positions(
@@ -425,9 +378,9 @@ fn put_positions(
         ≡ string_bytes out.old ++ position_text recordings.now images.now) }
 {
     put_recorded(out, recordings)?;
-    put_rebuilt(out, images)?;
-    put_consumed(out, images)?;
-    put_gap(out, images)
+    put_image_family(out, ImageFamily::Rebuilt, images)?;
+    put_image_family(out, ImageFamily::Consumed, images)?;
+    put_image_family(out, ImageFamily::Gap, images)
 }
 
 /// The text of measures, each line with its end: docs/SERVING.md, "Metrics". An error: there is no memory for it. Costs the

@@ -4,5 +4,5 @@ use Rattle.std.specs.List.{flat_map}
 use Rattle.metrics_text.specs.MetricsText.{recorded_line}
 use Rattle.metrics_text.proofs.print.put_recorded_lines.Given as goal
 
-abbrev pub invariant-loop-r : goal.invariant-loop-r
-invariant-loop-r l = string_bytes l.out ≡ string_bytes l.fn.out ++ flat_map recorded_line (take l.r-index l.recordings)
+abbrev pub invariant-loop-recording : goal.invariant-loop-recording
+invariant-loop-recording l = string_bytes l.out ≡ string_bytes l.fn.out ++ flat_map recorded_line (take l.recording-index l.recordings)
