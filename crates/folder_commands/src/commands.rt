@@ -12,7 +12,6 @@ ghost use Rattle.folder_commands.specs.Status.{ending_of};
 use crate::asking::ask;
 use crate::outcome::Ended;
 use crate::reason::Reason;
-use crate::script_lines::{NotedInput, ScriptLines};
 use crate::serving::serve;
 use crate::status::Ending;
 use crate::teller::{FaultTeller, OpeningTeller, ScriptTeller, StartTeller, VerifyTeller};
@@ -192,13 +191,12 @@ fn run_in_memory<I: Read + Drop, W: Write>(
     ensures { RunsInMemory (I.remaining input) (W.contents writer.old) (W.contents writer.new) (ending_in result) }
 {
     let screen = Screen::new(&rt);
-    let lines = ScriptLines::new(rt.alloc());
     run_over(
         rt.alloc(),
-        NotedInput::new(input, &lines),
+        input,
         writer,
         MemoryDisk::new(rt.alloc()),
-        &mut StartTeller::new(&screen, &lines),
+        &mut StartTeller::new(rt.alloc(), &screen),
     )
 }
 
@@ -216,13 +214,12 @@ fn run<I: Read + Drop, W: Write>(
     let faults = FaultTeller::new(rt.alloc(), &screen, Stage::Opening);
     let viewer = (faults, opening_of(&rt, &screen));
     let disk = Watched::new(disk_of(rt, folder)?, viewer);
-    let lines = ScriptLines::new(rt.alloc());
     run_over(
         rt.alloc(),
-        NotedInput::new(input, &lines),
+        input,
         writer,
         disk,
-        &mut ScriptTeller::new(&screen, &lines),
+        &mut ScriptTeller::new(rt.alloc(), &screen),
     )
 }
 

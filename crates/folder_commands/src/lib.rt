@@ -10,7 +10,6 @@ mod outcome;
 mod outlet;
 mod reason;
 mod reporting;
-mod script_lines;
 mod serving;
 mod status;
 mod teller;

@@ -222,10 +222,7 @@ fn unbound(port: u16, error: io::Error) -> Ended
 
 /// The metrics file that the words ask for.
 fn metrics_of<'a>(rt: HostRuntime, words: &ServeWords<'a>) -> Option<MetricsFile<'a>> {
-    match words.metrics {
-        Some(name) => Some(MetricsFile::new(rt, name)),
-        None => None,
-    }
+    words.metrics.map(|name| MetricsFile::new(rt, name))
 }
 
 /// Serves the archive of a disk with these options until a line quits, or a strict server can record nothing.

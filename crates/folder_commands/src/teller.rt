@@ -1,11 +1,13 @@
 //! What is told on standard error while a command runs. docs/CONTROL.md, "Standard error".
 
 use crate::reason::{FaultLine, file_of, word_of};
-use crate::script_lines::ScriptLines;
 use archive_model::{Registration, Reply};
+use control_core::{Event, Request};
+use control_lines::{Line, parse_line};
 use disk_core::FileId;
 use frame_core::{Refusal, segment_base};
 use host_disk::{HostDisk, LastFault, ReadFolder};
+use start_faults::{StartWord, wrong_word};
 use std::alloc::Global;
 use std::io::Eprint;
 use tool_core::{Beginning, HistoryUse, Observer, Screen, Stage, Viewer};
@@ -87,50 +89,58 @@ impl<R: Eprint> Observer for OpeningTeller<'_, R> {
 
 /// Tells which word of a script's start is wrong.
 #[derive(Drop)]
-pub(crate) struct StartTeller<'a, 'l, R> {
+pub(crate) struct StartTeller<'a, R> {
+    alloc: Global,
     screen: &'a Screen<'a, R>,
-    lines: &'l ScriptLines,
 }
 
-impl<'a, 'l, R: Eprint> StartTeller<'a, 'l, R> {
-    pub(crate) fn new(screen: &'a Screen<'a, R>, lines: &'l ScriptLines) -> StartTeller<'a, 'l, R> {
-        StartTeller { screen, lines }
+impl<'a, R: Eprint> StartTeller<'a, R> {
+    pub(crate) fn new(alloc: Global, screen: &'a Screen<'a, R>) -> StartTeller<'a, R> {
+        StartTeller { alloc, screen }
     }
 }
 
-impl<R: Eprint> Observer for StartTeller<'_, '_, R> {
-    fn answered(&mut self, outcome: &Result<Reply, Refusal>) {
-        if let Some(word) = self.lines.answered(outcome) {
+impl<R: Eprint> Observer for StartTeller<'_, R> {
+    fn answered(&mut self, line: Option<&[u8]>, outcome: &Result<Reply, Refusal>) {
+        let (Some(line), Err(Refusal::BadParameter)) = (line, outcome) else {
+            return;
+        };
+        if let Some(word) = word_of_line(self.alloc, line) {
             self.screen.tell(word);
         }
     }
 }
 
+/// The word that is wrong in a line that starts a recording.
+fn word_of_line(alloc: Global, line: &[u8]) -> Option<StartWord> {
+    match parse_line(alloc, line) {
+        Ok(Line::Event(Event::Ask(Request::Start(fields)))) => wrong_word(&fields),
+        _ => None,
+    }
+}
+
 /// Tells how a script's archive began, that its history fills up, that it is full, and which word of a start is wrong.
 #[derive(Drop)]
-pub(crate) struct ScriptTeller<'a, 'l, R> {
+pub(crate) struct ScriptTeller<'a, R> {
     screen: &'a Screen<'a, R>,
-    starts: StartTeller<'a, 'l, R>,
+    starts: StartTeller<'a, R>,
     /// The hundredths of the history's limit that were told last.
     told_level: u8,
     has_told_full: bool,
 }
 
-impl<'a, 'l, R: Eprint> ScriptTeller<'a, 'l, R> {
-    pub(crate) fn new(
-        screen: &'a Screen<'a, R>,
-        lines: &'l ScriptLines,
-    ) -> ScriptTeller<'a, 'l, R> {
+impl<'a, R: Eprint> ScriptTeller<'a, R> {
+    pub(crate) fn new(alloc: Global, screen: &'a Screen<'a, R>) -> ScriptTeller<'a, R> {
         ScriptTeller {
             screen,
-            starts: StartTeller::new(screen, lines),
+            starts: StartTeller::new(alloc, screen),
             told_level: 0,
             has_told_full: false,
         }
     }
 }
 
-impl<R: Eprint> Observer for ScriptTeller<'_, '_, R> {
+impl<R: Eprint> Observer for ScriptTeller<'_, R> {
     fn began(&mut self, beginning: &Beginning) {
         self.screen.work();
         match beginning {
@@ -147,8 +157,8 @@ impl<R: Eprint> Observer for ScriptTeller<'_, '_, R> {
         }
     }
 
-    fn answered(&mut self, outcome: &Result<Reply, Refusal>) {
-        self.starts.answered(outcome);
+    fn answered(&mut self, line: Option<&[u8]>, outcome: &Result<Reply, Refusal>) {
+        self.starts.answered(line, outcome);
         if let Err(Refusal::HistoryFull) = outcome {
             if !self.has_told_full {
                 self.has_told_full = true;

@@ -83,7 +83,7 @@ struct QuitObserver {
 }
 
 impl Observer for QuitObserver {
-    fn answered(&mut self, outcome: &Result<Reply, Refusal>) {
+    fn answered(&mut self, _line: Option<&[u8]>, outcome: &Result<Reply, Refusal>) {
         if let Ok(Reply::Bye) = outcome {
             self.has_quit = true;
         }

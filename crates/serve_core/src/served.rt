@@ -54,7 +54,7 @@ pub(crate) fn stop_of(is_strict: bool, desk: &Desk) -> Option<Stop>
         None
     } else if desk.is_broken() {
         Some(Stop::Broken)
-    } else if desk.counted() >= u64::from(desk.limit()) {
+    } else if !desk.has_room() {
         Some(Stop::HistoryFull)
     } else {
         None

@@ -20,8 +20,9 @@ pub trait Observer {
     /// How a script's archive began, before the first line is read.
     fn began(&mut self, _beginning: &Beginning) {}
 
-    /// What a script's line is answered, before that is written.
-    fn answered(&mut self, _outcome: &Result<Reply, Refusal>) {}
+    /// What a script's line is answered, before that is written. Of the line come its bytes without its end, and none if it is
+    /// too long.
+    fn answered(&mut self, _line: Option<&[u8]>, _outcome: &Result<Reply, Refusal>) {}
 
     /// How much of its history a script's archive has used, at its opening and behind each line.
     fn used(&mut self, _history: &HistoryUse) {}

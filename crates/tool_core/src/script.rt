@@ -67,7 +67,7 @@ fn answer_line<W: Write, A: Answerer, O: Observer>(
     ensures last { result.2 ≡ quits line.now }
 {
     let (state, outcome, is_last) = outcome_of(alloc, state, line);
-    observer.answered(&outcome);
+    observer.answered(line.bytes(), &outcome);
     tell_history(&state.archive, observer);
     (state, write_outcome(alloc, &outcome, writer), is_last)
 }
