@@ -9,5 +9,6 @@ pub mod CopyLemmas
 pub mod RegisterLemmas
 pub mod CutLemmas
 pub mod WellLemmas
+pub mod AlignedLemmas
 pub mod StreamLemmas
 pub mod StateLemmas

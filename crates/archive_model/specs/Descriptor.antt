@@ -13,6 +13,11 @@ is_negative (negsuc n) = true
 unfoldable pub is_layout : StartFields → Bool
 is_layout f = is_term_length f.term_length && is_term_length f.segment_length && int_le f.term_length f.segment_length && is_mtu f.mtu
 
+-- a multiple of 32 from 0: frames begin and end nowhere else
+unfoldable pub is_aligned : ℤ → Bool
+is_aligned (pos p) = p % 32 == 0
+is_aligned (negsuc p) = false
+
 -- a multiple of 32 from 0, less than 2^31 terms
 unfoldable pub is_start_position : ℤ → ℤ → Bool
 is_start_position (pos p) term_length = p % 32 == 0 && nat_lt p (2 ^ 31 * unsigned_abs term_length)

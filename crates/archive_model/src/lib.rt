@@ -18,7 +18,7 @@ pub use channel::Channel;
 pub use command::{Command, ExtendFields, StartFields};
 pub use descriptor::Descriptor;
 pub use numbered::{Numbered, index_of};
-pub use range::{is_origin, may_begin_at};
+pub use range::{is_aligned, is_origin, is_source, may_begin_at};
 pub use register::Register;
 pub use registration::{Change, Registration};
 pub use reply::{PolledFrame, Reply};

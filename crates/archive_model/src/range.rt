@@ -3,12 +3,14 @@
 ghost use Rattle.std.specs.Prelude.{◌≡◌, ◌≤ℤ◌, ◌<ℤ◌, ◌*ℤ◌, pos, IsTrue, ◌==◌, ◌%◌, ◌*◌, ◌^◌, ◌&&◌, ℕ, int_le, nat_lt, not, unsigned_abs, chars};
 ghost use Rattle.std.specs.List.{list_any};
 ghost use Rattle.std.specs.Char.{is_control};
-ghost use Rattle.archive_model.specs.Descriptor.{is_blank, is_channel, is_in_range, is_layout, is_negative, is_origin, is_source, is_start_position, may_begin_at};
+ghost use Rattle.archive_model.specs.Descriptor.{is_aligned, is_blank, is_channel, is_in_range, is_layout, is_negative, is_origin, is_source, is_start_position, may_begin_at};
 
 use crate::channel::Channel;
 use crate::command::StartFields;
 use crate::source::SourceIdentity;
-use frame_core::limits::{MAX_CHANNEL_LENGTH, MAX_SOURCE_LENGTH, is_mtu, is_term_length};
+use frame_core::limits::{
+    FRAME_ALIGNMENT, MAX_CHANNEL_LENGTH, MAX_SOURCE_LENGTH, is_mtu, is_term_length,
+};
 
 impl StartFields {
     /// Whether each field is one that a recording may have. Costs the lengths of its channel and source.
@@ -40,6 +42,15 @@ pub fn may_begin_at(term_length: &i32, position: &i64) -> bool
         return false;
     }
     is_start(position, term_length)
+}
+
+/// Whether a position, in bytes of the stream, is from 0 and a multiple of [`FRAME_ALIGNMENT`]: frames begin and end nowhere
+/// else.
+#[tactic(auto, unfolding(crate::specs::Descriptor::is_aligned))]
+pub fn is_aligned(position: i64) -> bool
+    ensures { result ≡ is_aligned position }
+{
+    position >= 0 && position as u64 % FRAME_ALIGNMENT as u64 == 0
 }
 
 /// Whether terms, segments and frames have lengths that fit one another.
@@ -108,7 +119,7 @@ fn has_control(text: &str) -> bool
 
 /// Whether a text is a source: docs/CONTROL.md, "Limits". Costs the text.
 #[tactic(auto, unfolding(crate::specs::Descriptor::is_source))]
-fn is_source(source: &SourceIdentity) -> bool
+pub fn is_source(source: &SourceIdentity) -> bool
     ensures { result ≡ is_source source.now }
 {
     let text = source.as_str();

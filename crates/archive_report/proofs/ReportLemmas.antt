@@ -21,6 +21,7 @@ use Rattle.archive_view.specs.declared.read_only.ReadOnly.{ReadOnly}
 use Rattle.archive_view.specs.declared.view.ArchiveView.{ArchiveView}
 use Rattle.archive_view.specs.ReadOnly.{IsOnlyRead, Looks, Refuses, disk_of}
 use Rattle.catalogue_log.specs.Catalogue.{RefusesCatalogue}
+use Rattle.catalogue_log.specs.LogState.{LogState}
 use Rattle.archive_view.specs.View.{TellsMoved}
 use Rattle.archive_view.specs.Verified.{HasVerified as WasVerified, VerifyAnswers}
 use Rattle.archive_view.specs.Viewed.{desk_of, read_of}
@@ -151,8 +152,8 @@ module _ {D : Type 0} (life : D → Life) where
   no_look view = record { inside = unread (inner life view); desk = refl }
 
 -- the catalogue that was read again
-pub read_again : {D : Type 0} (life : D → Life) (old new : ReadOnly D) (counted epoch : ℕ) (result : Result Bool Refusal)
-    → MatchResult result (λ moved. Looks life (λ image. TellsMoved image counted epoch moved) old new) (λ refusal. Refuses life (λ image. RefusesCatalogue image refusal) old new refusal)
+pub read_again : {D : Type 0} (life : D → Life) (old new : ReadOnly D) (log : LogState) (result : Result Bool Refusal)
+    → MatchResult result (λ moved. Looks life (λ image. TellsMoved image log moved) old new) (λ refusal. Refuses life (λ image. RefusesCatalogue image refusal) old new refusal)
     → IsOnlyRead (life (disk_of old)) (life (disk_of new))
-read_again life old new counted epoch (Ok moved) looks = looks.inside
-read_again life old new counted epoch (Err refusal) refuses = refuses.look.inside
+read_again life old new log (Ok moved) looks = looks.inside
+read_again life old new log (Err refusal) refuses = refuses.look.inside

@@ -5,6 +5,7 @@ use Rattle.disk_core.specs.DiskImage.{reads}
 use Rattle.disk_core.specs.Life.{Life}
 use Rattle.archive_model.specs.declared.reply.Reply.TheVariants.{Recordings}
 use Rattle.catalogue_log.specs.Catalogue.{RefusesCatalogue}
+use Rattle.catalogue_log.specs.LogState.{LogState}
 use Rattle.control_core.specs.Decisions.{listed}
 use Rattle.control_core.specs.Desk.{DeskState}
 use Rattle.control_lines.specs.ReplyText.{reply_text}
@@ -20,9 +21,8 @@ use Rattle.archive_view.specs.Viewed.{desk_of, read_of}
 -- A disk was only read, and the desk is that of its catalogue, if it obeys the crash model.
 pub record ShowsDesk (old new : Life) (desk : DeskState) : Type 0 where
   pub inside : IsOnlyRead old new
-  pub counted : ℕ
-  pub epoch : ℕ
-  pub seen : IsTrue new.obeys → IsAsCatalogued (reads old.now) desk counted epoch
+  pub log : LogState
+  pub seen : IsTrue new.obeys → IsAsCatalogued (reads old.now) desk log
 
 -- a disk was only read, and its catalogue is refused so
 pub record RefusesDesk (old new : Life) (Why : Type 0) : Type 0 where

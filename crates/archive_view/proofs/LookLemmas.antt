@@ -1,7 +1,7 @@
 -- A disk that is only read leaves what it might have left before, and what is counted on it.
-use Rattle.std.proofs.Common.{◌≡◌, ◌⊎◌, ◌∙◌, refl, sym, ap, subst, ℕ, ℤ, ◌≤ℤ◌, List, [], ◌∷◌, ◌++◌, drop, append_assoc, inl, inr, IsTrue}
+use Rattle.std.proofs.Common.{◌≡◌, ◌⊎◌, ◌∙◌, refl, sym, ap, subst, not, ◌||◌, ℕ, ℤ, ◌≤ℤ◌, List, [], ◌∷◌, ◌++◌, drop, append_assoc, inl, inr, IsTrue}
 use Rattle.std.proofs.Math.Seq.{drop-append_seam}
-use Rattle.std.specs.Prelude.{unsigned_abs, Result, Ok, Err, IfErr, IfOk, IsErrOf, count_by, length, Some}
+use Rattle.std.specs.Prelude.{◌==◌, unsigned_abs, Result, Ok, Err, IfErr, IfOk, IsErrOf, count_by, Some}
 use Rattle.frame_core.specs.declared.refusal.Refusal.{Refusal}
 use Rattle.frame_core.specs.declared.refusal.Refusal.TheVariants.{DeviceFault, NoMemory}
 use Rattle.disk_core.specs.declared.file_id.FileId.{FileId}
@@ -15,7 +15,7 @@ use Rattle.archive_model.specs.State.{geometry_of}
 use Rattle.catalogue_entries.specs.declared.entry.Entry.{Entry}
 use Rattle.catalogue_log.specs.Catalogue.{KeepsReads, RefusesCatalogue}
 use Rattle.catalogue_entries.specs.Fold.{after_entries, counts}
-use Rattle.catalogue_log.specs.LogState.{IsAtRest, IsLogIn, LogState}
+use Rattle.catalogue_log.specs.LogState.{IsLogIn, LogState}
 use Rattle.catalogue_log.proofs.CallerLemmas.{log_catalogue}
 use Rattle.control_core.specs.Desk.{DeskState, opened_desk}
 use Rattle.recording_reads.specs.Reading.{HasFrames, RefusesBoundaryIn, RefusesCount}
@@ -26,7 +26,7 @@ use Rattle.recording_reads.specs.Recording.{layout_of}
 use Rattle.archive_view.specs.ReadLife.{read_life}
 use Rattle.archive_view.specs.ReadOnly.{IsOnlyRead, Looks, Refuses, life_of}
 use Rattle.archive_view.specs.ShownFrames.{Bounds, BoundaryAnswers, FrameAnswers, RefusesShown, Shows}
-use Rattle.archive_view.specs.View.{IsAsCatalogued}
+use Rattle.archive_view.specs.View.{IsAsCatalogued, TellsMoved}
 use Rattle.frame_core.specs.declared.frame.Frame.{Frame}
 use Rattle.frame_core.specs.declared.refusal.Refusal.TheVariants.{BadPosition}
 use Rattle.frame_core.specs.FrameEncoding.{aligned_length}
@@ -123,20 +123,34 @@ module _ {D : Type 0} (life : D → Life) where
   refused_read old new refusal stays kept only refused cause = record { look = catalogue_read old new (λ image. RefusesCatalogue image refusal) stays kept only refused; cause = cause }
 
   -- it gave a desk
-  pub desk_read : (old new : ReadOnly D) (log : LogState) (entries : List Entry) (register : RegisterState) (desk : DeskState) (counted limit epoch : ℕ) (version : BankVersion)
+  pub desk_read : (old new : ReadOnly D) (log : LogState) (entries : List Entry) (register : RegisterState) (desk : DeskState) (counted limit : ℕ) (version : BankVersion)
       → MayLeave (life old.disk).now (reads (life old.disk).now) → KeepsReads (life_of life old) (life_of life new) → LeavesOnly (life_of life old) (life_of life new) (MayLeave (life_of life old).now)
-      → (IsTrue (life new.disk).obeys → IsLogIn (reads (life old.disk).now) log entries) → (IsTrue (life new.disk).obeys → IsAtRest (life_of life new).now log entries)
-      → register ≡ after_entries no_recordings entries → desk ≡ opened_desk register counted limit version → counted ≡ log.counted → limit ≡ log.header.history_limit → version ≡ log.header.version → epoch ≡ log.header.epoch
-      → Looks life (λ image. IsAsCatalogued image desk counted epoch) old new
-  desk_read old new log entries register desk counted limit epoch version stays kept only found rests made is counted_is limit_is version_is epoch_is = catalogue_read old new _ stays kept only (λ obeys. record {
-    header = log.header;
+      → (IsTrue (life new.disk).obeys → IsLogIn (reads (life old.disk).now) log entries)
+      → register ≡ after_entries no_recordings entries → desk ≡ opened_desk register counted limit version → counted ≡ log.counted → limit ≡ log.header.history_limit → version ≡ log.header.version
+      → Looks life (λ image. IsAsCatalogued image desk log) old new
+  desk_read old new log entries register desk counted limit version stays kept only found made is counted_is limit_is version_is = catalogue_read old new _ stays kept only (λ obeys. record {
     entries = entries;
     catalogue = log_catalogue (reads (life old.disk).now) log entries (found obeys);
+    log_is = found obeys;
     is = is ∙ same_desk register (after_entries no_recordings entries) counted (count_by counts entries) limit log.header.history_limit version log.header.version made
-        (counted_is ∙ (rests obeys).is_log.counted) limit_is version_is;
-    counted_are = counted_is ∙ (rests obeys).is_log.counted;
-    epoch_is = epoch_is;
+        (counted_is ∙ (found obeys).is_log.counted) limit_is version_is;
   })
+
+  -- a catalogue was read again
+  pub moved_read : (old new : ReadOnly D) (desk : DeskState) (found log : LogState) (moved : Bool) → moved ≡ not (found.counted == log.counted) || not (found.header.epoch == log.header.epoch)
+      → Looks life (λ image. IsAsCatalogued image desk found) old new → Looks life (λ image. TellsMoved image log moved) old new
+  moved_read old new desk found log moved is look = record {
+    inside = look.inside;
+    faults = look.faults;
+    seen = λ obeys.
+        let seen = look.seen obeys in
+        record {
+          header = found.header;
+          entries = seen.entries;
+          catalogue = seen.catalogue;
+          is = is ∙ ap (λ (n : ℕ). not (n == log.counted) || not (found.header.epoch == log.header.epoch)) seen.log_is.is_log.counted;
+        };
+  }
 
   -- nothing was done but reads
   pub quiet_look : (old new : ReadOnly D) (Seen : DiskImage → Type 0) → MayLeave (life old.disk).now (reads (life old.disk).now) → IsQuiet (life_of life old) (life_of life new)

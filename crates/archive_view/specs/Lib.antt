@@ -4,5 +4,6 @@ pub mod ReadOnly
 pub mod View
 pub mod Viewed
 pub mod Verified
+pub mod Hidden
 pub mod ShownFrames
 pub mod Asked

@@ -1,5 +1,5 @@
 -- What a view shows.
-use Rattle.std.specs.Prelude.{ℕ}
+use Rattle.catalogue_log.specs.LogState.{LogState}
 use Rattle.control_core.specs.Desk.{DeskState}
 use Rattle.archive_view.specs.declared.read_only.ReadOnly.{ReadOnly}
 use Rattle.archive_view.specs.declared.view.ArchiveView.{ArchiveView}
@@ -13,9 +13,6 @@ module _ {D : Type 0} where
   abbrev pub desk_of : ArchiveView D → DeskState
   desk_of view = view.desk.state
 
-  -- how many entries of its catalogue count, and its epoch
-  abbrev pub counted_of : ArchiveView D → ℕ
-  counted_of view = view.counted
-
-  abbrev pub epoch_of : ArchiveView D → ℕ
-  epoch_of view = view.epoch
+  -- where the entries of its catalogue ended
+  abbrev pub log_of : ArchiveView D → LogState
+  log_of view = view.log

@@ -4,6 +4,7 @@
 mod count;
 mod files;
 mod frames;
+mod hidden;
 mod read_only;
 mod view;
 

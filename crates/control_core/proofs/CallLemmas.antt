@@ -1,10 +1,11 @@
 -- What a call makes of the archive.
 use Rattle.std.proofs.Common.{◌≡◌, ◌<◌, ◌&&◌, ◌⊎◌, inl, inr, not, ℕ, ℤ, negsuc, Bool, true, false, cond, List, [], ◌∷◌, ◌++◌, length, Option, Some, None, Result, Ok, Err, refl, sym, ap, subst, ◌∙◌, true≢false, int_le, nat_lt, arith}
-use Rattle.std.specs.Prelude.{IsFalse, IsTrue, is_some}
+use Rattle.std.specs.Prelude.{IsFalse, IsTrue, is_some, option_map}
 use Rattle.std.specs.Ordering.{int_eq}
 use Rattle.std.proofs.lemmas.Bool.Decides.{nat_tests}
 use Rattle.frame_core.specs.declared.block.Block.{Block}
 use Rattle.frame_core.specs.declared.refusal.Refusal.{Refusal}
+use Rattle.frame_core.specs.declared.refusal.Refusal.TheVariants.{BadPosition}
 use Rattle.archive_model.specs.declared.command.Command.{Command}
 use Rattle.archive_model.specs.declared.command.Command.TheVariants as commands
 use Rattle.archive_model.specs.declared.registration.Registration.{Registration}
@@ -13,6 +14,7 @@ use Rattle.archive_model.specs.State.{Recording}
 use Rattle.archive_model.specs.Register.{is_end, registration_in}
 use Rattle.archive_model.specs.Commands.{after}
 use Rattle.archive_model.specs.Acceptance.{BookState, book_after}
+use Rattle.archive_model.specs.Accepting.{begins_in}
 use Rattle.archive_model.specs.Checks.{Tests, block_checks, checked, checks, first_checks, is_boundary_by, is_of, last_checks, passes}
 use Rattle.archive_model.proofs.WellLemmas.{both}
 use Rattle.control_core.specs.declared.callers.OpenReplay.{OpenReplay}
@@ -30,13 +32,15 @@ use Rattle.control_core.specs.declared.turns.Settling.TheVariants as settling
 use Rattle.control_core.specs.Callers.{last_number}
 use Rattle.control_core.specs.Desk.{DeskState}
 use Rattle.control_core.specs.Changes.{desk_after, settled, settled_by}
-use Rattle.control_core.specs.Decisions.{Allows, decision_of}
-use Rattle.control_core.specs.Turns.{MayOpen, begins_at, close_decision, open_decision, open_tests, opened_at, opening_decided, opening_in, opening_of, poll_decision, session_in, settle_decision, sweep_tests, write_decision}
+use Rattle.control_core.specs.declared.request.Request.{Request}
+use Rattle.control_core.specs.Decisions.{Allows, asked_command, command_in, decision_of}
+use Rattle.control_core.specs.Turns.{MayOpen, begins_at, close_decision, open_decision, open_tests, opened_at, opening_decided, opening_in, opening_of, poll_decision, session_in, settle_decision, settle_tests, settling_of, sweep_tests, write_decision}
 use Rattle.control_core.specs.Agreement.{WroteBlocks}
 use Rattle.control_core.specs.Exact.{Archive, ArchiveEnds, DecisionEnds, Leaves, OpeningEnds, PolledEnds, PollingEnds, SettlingEnds, SweepEnds, archive_after, asked_frames, asked_opening, book_of, recording_at, settled_archive}
-use Rattle.control_core.specs.Consistent.{IsAcceptable, IsConsistent, MakesCommand, SettlesByAppend, is_append, is_asked}
+use Rattle.control_core.specs.Consistent.{IsAcceptable, IsConsistent, MakesCommand, SettlesByAppend, command_asked, is_append, is_asked}
 use Rattle.control_core.proofs.AllowedLemmas.{differ, works_of}
-use Rattle.control_core.proofs.DecidedLemmas.{decided_accepted, held, settling_accepted}
+use Rattle.control_core.proofs.DecidedLemmas.{decided_accepted, held, settling_accepted, settling_session}
+use Rattle.control_core.proofs.AgreementLemmas.{asked_is}
 
 -- ---- what is opened
 
@@ -131,11 +135,11 @@ refused_unchanged a (events.Verify id) refusal b h = left a _ _ refusal b h
 
 -- ---- a call is at most one command
 
-abbrev pub MakesAtMostOne : Archive → Archive → Type 0
-MakesAtMostOne a b = (book_of b ≡ book_of a) ⊎ MakesCommand a b
+abbrev pub MakesAtMostOne : Archive → Event → Archive → Type 0
+MakesAtMostOne a event b = (book_of b ≡ book_of a) ⊎ MakesCommand a b event
 
-same_book : (a x b : Archive) → b ≡ x → book_of x ≡ book_of a → MakesAtMostOne a b
-same_book a x b is same = inl (ap book_of is ∙ same)
+same_book : (a x b : Archive) (event : Event) → b ≡ x → book_of x ≡ book_of a → MakesAtMostOne a event b
+same_book a x b event is same = inl (ap book_of is ∙ same)
 
 -- the history's count and limit after a command that is no append
 counted_after : (a : Archive) (c : Command) → IsFalse (is_append c) → book_of (archive_after a c) ≡ book_after (book_of a) c
@@ -169,18 +173,35 @@ asked_works d (commands.PurgeSegments id position) asked allows = works_of d (co
 asked_works d (commands.PurgeRecording id) asked allows = works_of d (commands.PurgeRecording id) refl allows
 asked_works d commands.Restart asked allows = absurd (true≢false (sym asked))
 
-makes : (a b : Archive) (c : Command) → IsAcceptable a c × IsTrue (is_asked c) → b ≡ archive_after a c → MakesCommand a b
-makes a b c (acceptable, asked) is = record { command = c; works = asked_works a.desk c asked acceptable.allowed; acceptable = acceptable; book = ap book_of is ∙ counted_after a c (no_append c asked); desk = ap (λ (x : Archive). x.desk) is }
+makes : (a b : Archive) (request : Request) (c : Command) → asked_command request ≡ Some c → IsAcceptable a c × IsTrue (is_asked c) → b ≡ archive_after a c → MakesCommand a b (events.Ask request)
+makes a b request c asks (acceptable, asked) is = record { command = c; asked = asks; works = asked_works a.desk c asked acceptable.allowed; acceptable = acceptable; book = ap book_of is ∙ counted_after a c (no_append c asked); desk = ap (λ (x : Archive). x.desk) is }
 
-asked_one : (a : Archive) (decision : Decision) (reply : Reply) (b : Archive) → ((c : Command) → decision ≡ decisions.Accepted c → IsAcceptable a c × IsTrue (is_asked c)) → DecisionEnds a decision (Ok reply) b → MakesAtMostOne a b
-asked_one a (decisions.Refused r) reply b accepts h = absurd (let clash = h.0 in cc)
-asked_one a (decisions.Answered answer) reply b accepts h = same_book a a b h.1 refl
-asked_one a (decisions.Accepted c) reply b accepts h = inr (makes a b c (accepts c refl) h.1)
-asked_one a (decisions.IfBoundary id position decided) reply b accepts h = absurd h
+asked_one : (a : Archive) (request : Request) (decision : Decision) (reply : Reply) (b : Archive) → ((c : Command) → decision ≡ decisions.Accepted c → IsAcceptable a c × IsTrue (is_asked c))
+    → ((c : Command) → decision ≡ decisions.Accepted c → asked_command request ≡ Some c) → DecisionEnds a decision (Ok reply) b → MakesAtMostOne a (events.Ask request) b
+asked_one a request (decisions.Refused r) reply b accepts asks h = absurd (let clash = h.0 in cc)
+asked_one a request (decisions.Answered answer) reply b accepts asks h = same_book a a b (events.Ask request) h.1 refl
+asked_one a request (decisions.Accepted c) reply b accepts asks h = inr (makes a b request c (asks c refl) (accepts c refl) h.1)
+asked_one a request (decisions.IfBoundary id position decided) reply b accepts asks h = absurd h
 
-left_one : (a x : Archive) (decision : Result Reply Refusal) (reply : Reply) (b : Archive) → book_of x ≡ book_of a → Leaves a x decision (Ok reply) b → MakesAtMostOne a b
-left_one a x (Ok answer) reply b same h = same_book a x b h.1 same
-left_one a x (Err r) reply b same h = absurd (let clash = h.0 in cc)
+left_one : (a x : Archive) (event : Event) (decision : Result Reply Refusal) (reply : Reply) (b : Archive) → book_of x ≡ book_of a → Leaves a x decision (Ok reply) b → MakesAtMostOne a event b
+left_one a x event (Ok answer) reply b same h = same_book a x b event h.1 same
+left_one a x event (Err r) reply b same h = absurd (let clash = h.0 in cc)
+
+-- the command that the frames let through is one that the request asks for
+framed_asked : (a : Archive) (request : Request) (decision : Decision) (c : Command) → decision_of a.desk request ≡ decision → asked_frames a decision ≡ decisions.Accepted c → asked_command request ≡ Some c
+framed_asked a request (decisions.Refused r) c is framed = absurd cc
+framed_asked a request (decisions.Answered answer) c is framed = absurd cc
+framed_asked a request (decisions.Accepted made) c is framed = asked_is a.desk request c (ap command_in is ∙ ap command_in framed)
+framed_asked a request (decisions.IfBoundary id position (Err r)) c is framed = by (begins_in (recording_at a id) position) framed
+  where
+    by : (t : Bool) → cond t (decisions.Refused r) (decisions.Refused BadPosition) ≡ decisions.Accepted c → asked_command request ≡ Some c
+    by true clash = absurd cc
+    by false clash = absurd cc
+framed_asked a request (decisions.IfBoundary id position (Ok made)) c is framed = by (begins_in (recording_at a id) position) framed
+  where
+    by : (t : Bool) → cond t (decisions.Accepted made) (decisions.Refused BadPosition) ≡ decisions.Accepted c → asked_command request ≡ Some c
+    by true same = asked_is a.desk request c (ap command_in is ∙ ap command_in same)
+    by false clash = absurd cc
 
 -- what a settling of a session's blocks makes of the history's count
 settled_counts : (a : Archive) (session id : ℤ) → IsConsistent a → SettlesByAppend a session id → book_of (settled_archive a session id) ≡ book_after (book_of a) (commands.Append id (a.blocks session))
@@ -193,42 +214,50 @@ settled_counts a session id consistent settles =
     let B : DeskState → BookState = λ d. record { state = after a.state (commands.Append id blocks); counted = d.counted; limit = d.limit } in
     ap B desk
 
-settled_one : (a : Archive) (session : ℤ) (decision : Result Settling Refusal) (reply : Reply) (b : Archive) → IsConsistent a → settle_decision a.desk session ≡ decision → SettlingEnds a session decision (Ok reply) b → MakesAtMostOne a b
+-- a settling asks for the append of what its session wrote
+settling_asked : (a : Archive) (session id : ℤ) (w : Written) → settle_decision a.desk session ≡ Ok (settling.Blocks id w) → command_asked a (events.Settle session) ≡ Some (commands.Append id (a.blocks session))
+settling_asked a session id w is =
+    let settles = held (settle_tests a.desk session) checks (settling_of a.desk (session_in a.desk session)) (settling.Blocks id w) is in
+    let of = settling_session a.desk session id w (session_in a.desk session) refl settles.1 in
+    ap (option_map (λ (s : RecorderSession). commands.Append s.recording (a.blocks session))) of.found ∙ ap (λ (n : ℤ). Some (commands.Append n (a.blocks session))) of.recording
+
+settled_one : (a : Archive) (session : ℤ) (decision : Result Settling Refusal) (reply : Reply) (b : Archive) → IsConsistent a → settle_decision a.desk session ≡ decision → SettlingEnds a session decision (Ok reply) b → MakesAtMostOne a (events.Settle session) b
 settled_one a session (Err r) reply b consistent is h = absurd (let clash = h.0 in cc)
-settled_one a session (Ok (settling.Nothing position)) reply b consistent is h = same_book a a b h.1 refl
+settled_one a session (Ok (settling.Nothing position)) reply b consistent is h = same_book a a b (events.Settle session) h.1 refl
 settled_one a session (Ok (settling.Blocks id w)) reply b consistent is h =
     let settles = settling_accepted a session id w consistent is in
     inr (record {
       command = commands.Append id (a.blocks session);
+      asked = settling_asked a session id w is;
       works = works_of a.desk (commands.Append id (a.blocks session)) refl settles.acceptable.allowed;
       acceptable = settles.acceptable;
       book = ap book_of h.1 ∙ settled_counts a session id consistent settles;
       desk = ap (λ (x : Archive). x.desk) h.1 ∙ sym settles.same;
     })
 
-opened_one : (a : Archive) (decision : Result Opening Refusal) (reply : Reply) (b : Archive) → OpeningEnds a decision (Ok reply) b → MakesAtMostOne a b
-opened_one a (Err r) reply b h = absurd (let clash = h.0 in cc)
-opened_one a (Ok o) reply b h = same_book a _ b h.1 refl
+opened_one : (a : Archive) (event : Event) (decision : Result Opening Refusal) (reply : Reply) (b : Archive) → OpeningEnds a decision (Ok reply) b → MakesAtMostOne a event b
+opened_one a event (Err r) reply b h = absurd (let clash = h.0 in cc)
+opened_one a event (Ok o) reply b h = same_book a _ b event h.1 refl
 
-polled_one : (a : Archive) (replay : OpenReplay) (most : ℤ) (found : Option Recording) (reply : Reply) (b : Archive) → PolledEnds a replay most found (Ok reply) b → MakesAtMostOne a b
-polled_one a replay most None reply b h = absurd h
-polled_one a replay most (Some r) reply b h = same_book a _ b h.1 refl
+polled_one : (a : Archive) (event : Event) (replay : OpenReplay) (most : ℤ) (found : Option Recording) (reply : Reply) (b : Archive) → PolledEnds a replay most found (Ok reply) b → MakesAtMostOne a event b
+polled_one a event replay most None reply b h = absurd h
+polled_one a event replay most (Some r) reply b h = same_book a _ b event h.1 refl
 
-polling_one : (a : Archive) (most : ℤ) (decision : Result OpenReplay Refusal) (reply : Reply) (b : Archive) → PollingEnds a most decision (Ok reply) b → MakesAtMostOne a b
-polling_one a most (Err r) reply b h = absurd (let clash = h.0 in cc)
-polling_one a most (Ok replay) reply b h = polled_one a replay most (recording_at a replay.recording) reply b h
+polling_one : (a : Archive) (event : Event) (most : ℤ) (decision : Result OpenReplay Refusal) (reply : Reply) (b : Archive) → PollingEnds a most decision (Ok reply) b → MakesAtMostOne a event b
+polling_one a event most (Err r) reply b h = absurd (let clash = h.0 in cc)
+polling_one a event most (Ok replay) reply b h = polled_one a event replay most (recording_at a replay.recording) reply b h
 
-sweep_one : (a : Archive) (decision : Result (Unit {0}) Refusal) (reply : Reply) (b : Archive) → SweepEnds a decision (Ok reply) b → MakesAtMostOne a b
+sweep_one : (a : Archive) (decision : Result (Unit {0}) Refusal) (reply : Reply) (b : Archive) → SweepEnds a decision (Ok reply) b → MakesAtMostOne a events.Sweep b
 sweep_one a (Err r) reply b h = absurd (let clash = h.0 in cc)
-sweep_one a (Ok done) reply b h = same_book a a b h.1.1 refl
+sweep_one a (Ok done) reply b h = same_book a a b events.Sweep h.1.1 refl
 
-pub at_most_one : (a : Archive) (event : Event) (reply : Reply) (b : Archive) → IsConsistent a → ArchiveEnds a event (Ok reply) b → MakesAtMostOne a b
+pub at_most_one : (a : Archive) (event : Event) (reply : Reply) (b : Archive) → IsConsistent a → ArchiveEnds a event (Ok reply) b → MakesAtMostOne a event b
 at_most_one a (events.Ask request) reply b consistent h =
-    asked_one a (asked_frames a (decision_of a.desk request)) reply b (λ c is. decided_accepted a request c consistent.agrees is) h
-at_most_one a (events.Write session block) reply b consistent (fits, says, h) = left_one a _ (write_decision a.desk session _ fits) reply b refl h
+    asked_one a request (asked_frames a (decision_of a.desk request)) reply b (λ c is. decided_accepted a request c consistent.agrees is) (λ c is. framed_asked a request (decision_of a.desk request) c refl is) h
+at_most_one a (events.Write session block) reply b consistent (fits, says, h) = left_one a _ (events.Write session block) (write_decision a.desk session _ fits) reply b refl h
 at_most_one a (events.Settle session) reply b consistent h = settled_one a session (settle_decision a.desk session) reply b consistent refl h
-at_most_one a (events.ReplayOpen id position size) reply b consistent h = opened_one a (asked_opening a id (open_decision a.desk id position size)) reply b h
-at_most_one a (events.ReplayPoll number most) reply b consistent h = polling_one a most (poll_decision a.desk number most) reply b h
-at_most_one a (events.ReplayClose number) reply b consistent h = left_one a _ (close_decision a.desk number) reply b refl h
+at_most_one a (events.ReplayOpen id position size) reply b consistent h = opened_one a (events.ReplayOpen id position size) (asked_opening a id (open_decision a.desk id position size)) reply b h
+at_most_one a (events.ReplayPoll number most) reply b consistent h = polling_one a (events.ReplayPoll number most) most (poll_decision a.desk number most) reply b h
+at_most_one a (events.ReplayClose number) reply b consistent h = left_one a _ (events.ReplayClose number) (close_decision a.desk number) reply b refl h
 at_most_one a events.Sweep reply b consistent h = sweep_one a (checked (sweep_tests a.desk) checks (Ok tt)) reply b h
-at_most_one a (events.Verify id) reply b consistent h = left_one a a _ reply b refl h
+at_most_one a (events.Verify id) reply b consistent h = left_one a a (events.Verify id) _ reply b refl h

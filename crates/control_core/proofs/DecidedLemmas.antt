@@ -15,7 +15,7 @@ use Rattle.archive_model.specs.declared.reply.Reply.{Reply}
 use Rattle.archive_model.specs.Keyed.{Each, find}
 use Rattle.archive_model.specs.Version.{holds}
 use Rattle.archive_model.specs.Register.{RegisterState, extends, is_active, is_end, is_later_base, is_within, may_begin, may_record, registration_in}
-use Rattle.archive_model.specs.Descriptor.{is_in_range}
+use Rattle.archive_model.specs.Descriptor.{is_aligned, is_in_range}
 use Rattle.archive_model.specs.Commands.{frames_of, recorded_in}
 use Rattle.frame_core.specs.Block.{covered}
 use Rattle.archive_model.specs.Accepting.{Accepts, Follow, begins_in}
@@ -35,7 +35,7 @@ use Rattle.control_core.specs.declared.turns.Settling.TheVariants as settling
 use Rattle.control_core.specs.Callers.{session_number}
 use Rattle.control_core.specs.Desk.{DeskState, has_room, has_session_number, is_replay_before, is_replayed}
 use Rattle.control_core.specs.Changes.{settled, writer_in}
-use Rattle.control_core.specs.Decisions.{Allows, accepted, answered, command_in, command_tests, decided, decision_of, if_boundary, is_multiple, truncate_tests}
+use Rattle.control_core.specs.Decisions.{Allows, accepted, answered, command_in, command_tests, decided, decision_of, if_boundary, truncate_tests}
 use Rattle.control_core.specs.Turns.{DecidesSettling, has_written, session_in, settle_decision, settle_tests, settling_by, settling_of}
 use Rattle.control_core.specs.Seats.{AreApart, IsWriting, KeepsSeats}
 use Rattle.control_core.specs.Agreement.{Agrees, WroteBlocks}
@@ -134,13 +134,13 @@ accepts_truncate a id position agrees ends pass =
     let begins = begins_in (recording_at a id) position in
     let stopped : Bool = is_of found (λ r. not (is_active r)) in
     let on_boundary : Bool = is_of found (is_boundary_by true position) in
-    let may_end : Bool = on_boundary && is_multiple position in
+    let may_end : Bool = on_boundary && is_aligned position in
     let unread : Bool = not (is_replayed d id) in
     let whole : (not d.is_broken ≡ true) × ((is_some found && (stopped && (may_end && (unread && (has_room d && true))))) ≡ true) = both pass in
     let there : (is_some found ≡ true) × ((stopped && (may_end && (unread && (has_room d && true)))) ≡ true) = both whole.1 in
     let off : (stopped ≡ true) × ((may_end && (unread && (has_room d && true))) ≡ true) = both there.1 in
     let at : (may_end ≡ true) × ((unread && (has_room d && true)) ≡ true) = both off.1 in
-    let inside : (on_boundary ≡ true) × (is_multiple position ≡ true) = both at.0 in
+    let inside : (on_boundary ≡ true) × (is_aligned position ≡ true) = both at.0 in
     let last : (unread ≡ true) × ((has_room d && true) ≡ true) = both at.1 in
     let cut = boundary found begins position ends inside.0 in
     (begins, refl, subst (WithRegister (λ g. model.truncate_tests (registration_in g id) (has_room d) begins position)) agrees (and_true there.0 (and_true off.0 (and_true cut last.1))))

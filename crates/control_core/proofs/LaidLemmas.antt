@@ -18,7 +18,6 @@ use Rattle.archive_model.specs.Register.{RegisterState, all_stopped, changed, ch
 use Rattle.archive_model.proofs.RegisterLemmas.{each_map, each_push}
 use Rattle.archive_model.proofs.StateLemmas.{each_change, each_without}
 use Rattle.archive_model.proofs.WellLemmas.{base_is_term, both}
-use Rattle.control_core.specs.Decisions.{is_multiple}
 use Rattle.control_core.specs.Orderly.{AreLaid, IsLaid, IsLayoutIn, stream_end}
 
 -- ---- one recording
@@ -39,15 +38,6 @@ start_units (pos p) term is =
     let same : p ≡ 32 * (p / 32) = omega (arith, whole) in
     (p / 32, ap pos same, omega (arith, same, less))
 start_units (negsuc p) term is = absurd (true≢false (sym is))
-
--- a multiple of 32 from 0
-pub multiple_units : (z : ℤ) → is_multiple z ≡ true → IsAligned z
-unfolding is_multiple
-multiple_units (pos p) is =
-    let none : p % 32 ≡ 0 = grind (arith, nat_tests) in
-    let whole : p ≡ 32 * (p / 32) = omega (arith, none) in
-    (p / 32, ap pos whole)
-multiple_units (negsuc p) is = absurd (true≢false (sym is))
 
 -- what a new recording's range says
 record HasRange (f : StartFields) : Type 0 where

@@ -1,28 +1,21 @@
 -- Boundaries of a recording are multiples of 32.
-use Rattle.std.proofs.Common.{◌≡◌, ◌+ℤ◌, ◌≤ℤ◌, ◌+◌, ◌*◌, ◌/◌, ◌%◌, ◌||◌, ℤ, pos, negsuc, Bool, true, false, true≢false, sym, subst, refl, List, [], ◌∷◌, Some, unsigned_abs, arith}
+use Rattle.std.proofs.Common.{◌≡◌, ◌+ℤ◌, ◌≤ℤ◌, ◌+◌, ◌*◌, ◌/◌, ◌||◌, ℤ, pos, Bool, true, false, true≢false, sym, subst, refl, List, [], ◌∷◌, Some, unsigned_abs, arith}
 use Rattle.std.proofs.lemmas.Int.{ints}
-use Rattle.std.proofs.lemmas.Bool.Decides.{nat_tests, Decides-int_eq}
+use Rattle.std.proofs.lemmas.Bool.Decides.{Decides-int_eq}
 use Rattle.std.specs.Prelude.{IsTrue}
 use Rattle.std.specs.Ordering.{int_eq}
 use Rattle.frame_core.specs.declared.frame.Frame.{Frame}
 use Rattle.frame_core.specs.FrameEncoding.{IsAligned, aligned_length}
+use Rattle.archive_model.specs.Descriptor.{is_aligned}
 use Rattle.archive_model.specs.Replay.{begins_frame, is_boundary, placed}
 use Rattle.archive_model.specs.State.{Recording, id_of, recorded_position}
 use Rattle.archive_model.specs.WellFormed.{IsKept}
+use Rattle.archive_model.proofs.AlignedLemmas.{aligned_of_units}
 use Rattle.archive_model.proofs.ReplayLemmas.{begins_at}
 use Rattle.archive_model.proofs.StateLemmas.{each_found}
 use Rattle.archive_model.proofs.StreamLemmas.{aligned_behind}
 use Rattle.control_core.specs.Consistent.{IsConsistent}
-use Rattle.control_core.specs.Decisions.{is_multiple}
 use Rattle.control_core.specs.Exact.{Archive, recording_at}
-
-is_multiple_of : (z : ℤ) → IsAligned z → is_multiple z ≡ true
-unfolding is_multiple
-is_multiple_of (pos n) aligned =
-    let is : pos n ≡ pos (32 * aligned.0) = aligned.1 in
-    let none : n % 32 ≡ 0 = omega (arith, ints, is) in
-    grind (arith, nat_tests)
-is_multiple_of (negsuc n) aligned = let is : negsuc n ≡ pos (32 * aligned.0) = aligned.1 in absurd (omega (arith, ints, is))
 
 -- a frame that begins at a multiple of 32 fills up to one
 behind_frame : (at : ℤ) (f : Frame) → IsAligned at → IsAligned (at +ℤ pos (aligned_length f))
@@ -51,6 +44,6 @@ boundary_aligned position r kept is = by (int_eq position r.descriptor.start_pos
     by false true first last any = subst IsAligned (sym ((Decides-int_eq position (recorded_position r)).0 last)) (end_aligned r kept)
     by false false first last any = begins_aligned position r.descriptor.start_position r.frames kept.aligned any
 
-pub boundary_multiple : (a : Archive) (id position : ℤ) (r : Recording) → IsConsistent a → recording_at a id ≡ Some r → IsTrue (is_boundary position r) → IsTrue (is_multiple position)
+pub boundary_multiple : (a : Archive) (id position : ℤ) (r : Recording) → IsConsistent a → recording_at a id ≡ Some r → IsTrue (is_boundary position r) → IsTrue (is_aligned position)
 boundary_multiple a id position r consistent found is =
-    is_multiple_of position (boundary_aligned position r (each_found id_of IsKept id a.state.recordings r consistent.well.kept found) is)
+    aligned_of_units position (boundary_aligned position r (each_found id_of IsKept id a.state.recordings r consistent.well.kept found) is)

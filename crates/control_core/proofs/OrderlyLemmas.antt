@@ -13,9 +13,10 @@ use Rattle.archive_model.specs.declared.registration.Change.{Change}
 use Rattle.archive_model.specs.declared.registration.Change.TheVariants as changes
 use Rattle.archive_model.specs.declared.registration.Registration.{Registration}
 use Rattle.archive_model.specs.Checks.{block_checks, first_checks, is_boundary_by, is_of, last_checks}
-use Rattle.archive_model.specs.Descriptor.{is_in_range}
+use Rattle.archive_model.specs.Descriptor.{is_aligned, is_in_range}
 use Rattle.archive_model.specs.Keyed.{find, change, without, Each, Rise}
 use Rattle.archive_model.specs.Register.{RegisterState, changed, changed_by, is_end, is_later_base, is_within, registered, registration_in, with_one, with_out}
+use Rattle.archive_model.proofs.AlignedLemmas.{aligned_units}
 use Rattle.archive_model.proofs.RegisterLemmas.{each_push, id_kept}
 use Rattle.archive_model.proofs.StateLemmas.{each_change, each_found, each_without}
 use Rattle.archive_model.proofs.WellLemmas.{both}
@@ -24,7 +25,7 @@ use Rattle.control_core.specs.declared.callers.RecorderSession.{RecorderSession}
 use Rattle.control_core.specs.declared.callers.Written.{Written}
 use Rattle.control_core.specs.Changes.{begun_session, is_session_of, with_blocks, with_session, without_callers, without_sessions}
 use Rattle.control_core.specs.Callers.{CallersState, moved_to, no_callers, replay_number, session_number, with_written}
-use Rattle.control_core.specs.Decisions.{Allows, command_tests, is_multiple}
+use Rattle.control_core.specs.Decisions.{Allows, command_tests}
 use Rattle.control_core.specs.Desk.{DeskState, is_replay_before, is_replay_of}
 use Rattle.control_core.specs.Seats.{AreApart, KeepsSeats}
 use Rattle.control_core.proofs.AllowedLemmas.{before_position, is_not, passes_at}
@@ -32,7 +33,7 @@ use Rattle.control_core.proofs.DeskLemmas.{not_same, other_replay, other_session
 use Rattle.control_core.proofs.FoundLemmas.{each_both, each_filter, each_weaker, found_left, found_other}
 use Rattle.control_core.specs.Orderly.{AreLaid, AreOrderly, LiesBehind, ReadsFromStart, WroteBehind}
 use Rattle.control_core.proofs.SomeLemmas.{some_changed, some_more}
-use Rattle.control_core.proofs.LaidLemmas.{changed_laid, laid_begun, laid_extended, laid_purged, laid_settled, laid_stopped, laid_truncated, le_true, multiple_units, one_less_laid, one_more_laid, test_of}
+use Rattle.control_core.proofs.LaidLemmas.{changed_laid, laid_begun, laid_extended, laid_purged, laid_settled, laid_stopped, laid_truncated, le_true, one_less_laid, one_more_laid, test_of}
 
 -- ---- sessions and replays
 
@@ -240,14 +241,14 @@ pub start_range : (d : DeskState) (f : StartFields) → Allows d (Start f) → i
 start_range d f allows = passes_at (command_tests d (Start f)) (Broken ∷ []) (UnknownRecording ∷ ActiveRecording ∷ NotActive ∷ StaleSession ∷ UnknownReplay ∷ BadPosition ∷ (block_checks ++ last_checks)) BadParameter allows
 
 -- a truncation's position is in its recording, and a multiple of 32
-truncate_position : (d : DeskState) (id position : ℤ) → Allows d (Truncate id position) → (is_of (registration_in d.register id) (is_boundary_by true position) ≡ true) × (is_multiple position ≡ true)
+truncate_position : (d : DeskState) (id position : ℤ) → Allows d (Truncate id position) → (is_of (registration_in d.register id) (is_boundary_by true position) ≡ true) × (is_aligned position ≡ true)
 truncate_position d id position allows = both (passes_at (command_tests d (Truncate id position)) before_position (block_checks ++ last_checks) BadPosition allows)
 
 pub truncate_boundary : (d : DeskState) (id position : ℤ) → Allows d (Truncate id position) → is_of (registration_in d.register id) (is_boundary_by true position) ≡ true
 truncate_boundary d id position allows = (truncate_position d id position allows).0
 
 pub truncate_aligned : (d : DeskState) (id position : ℤ) → Allows d (Truncate id position) → IsAligned position
-truncate_aligned d id position allows = multiple_units position (truncate_position d id position allows).1
+truncate_aligned d id position allows = aligned_units position (truncate_position d id position allows).1
 
 pub unread_before : (d : DeskState) (id position : ℤ) → Allows d (PurgeSegments id position) → list_any (is_replay_before id position) d.callers.replays ≡ false
 unread_before d id position allows =

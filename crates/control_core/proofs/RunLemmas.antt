@@ -26,7 +26,7 @@ use Rattle.control_core.specs.Decisions.{command_in, decision_of}
 use Rattle.control_core.specs.Turns.{close_decision, open_decision, poll_decision, session_in, settle_decision, settle_tests, settling_of, sweep_tests, write_decision, write_tests}
 use Rattle.control_core.specs.Exact.{Archive, ArchiveEnds, CallEnds, DecisionEnds, Leaves, LeftByFault, MakesState, OpeningEnds, PolledEnds, PollingEnds, SettlingEnds, SweepEnds, archive_after, asked_frames, asked_opening, book_of, broken, recording_at, settled_archive, span_of, writes_files}
 use Rattle.control_core.specs.Consistent.{IsConsistent, MakesCommand}
-use Rattle.control_core.specs.Runs.{IsAfterSome, IsHistory, Leave, MayStand, StoodAmong, books_after, last_left}
+use Rattle.control_core.specs.Runs.{AreMade, IsAfterSome, IsHistory, Leave, MayStand, StoodAmong, books_after, last_left}
 use Rattle.control_core.proofs.CallLemmas.{asked_works, at_most_one, refused_unchanged}
 use Rattle.control_core.proofs.ConsistentLemmas.{consistent_call}
 use Rattle.control_core.proofs.DecidedLemmas.{decided_accepted, held}
@@ -165,8 +165,8 @@ may_stand_same a b x same (inr doubt) = inr (sym same.1 ∙ doubt)
 
 -- calls of a broken archive leave what is recorded and what is in doubt
 pub final_run : (a : Archive) (events : List Event) (outcomes : List (Result Reply Refusal)) (left : List Archive) → IsConsistent a → IsTrue a.desk.is_broken → Leave a events outcomes left
-    → (book_of (last_left a left) ≡ book_of a) × ((x : State) → StoodAmong a left x → MayStand a x)
-final_run a [] [] [] consistent broke run = (refl, λ x stood. stood)
+    → AreMade a events left [] × (book_of (last_left a left) ≡ book_of a) × ((x : State) → StoodAmong a left x → MayStand a x)
+final_run a [] [] [] consistent broke run = (refl, refl, λ x stood. stood)
 final_run a [] [] (b ∷ left) consistent broke run = absurd run
 final_run a [] (outcome ∷ outcomes) left consistent broke run = absurd run
 final_run a (event ∷ events) [] left consistent broke run = absurd run
@@ -176,7 +176,7 @@ final_run a (event ∷ events) (outcome ∷ outcomes) (b ∷ left) consistent br
     let next = (consistent_call a event outcome b consistent ends).consistent in
     let still : b.desk.is_broken ≡ true = next.broken ∙ ap is_some same.1 ∙ sym consistent.broken ∙ broke in
     let rest = final_run b events outcomes left next still run in
-    (rest.0 ∙ same.0, λ x stood. elim stood [ inl now ↦ now | inr later ↦ may_stand_same a b x same (rest.1 x later) ])
+    (inl (same.0, rest.0), rest.1 ∙ same.0, λ x stood. elim stood [ inl now ↦ now | inr later ↦ may_stand_same a b x same (rest.2 x later) ])
 
 -- nothing more was accepted, and what is in doubt is one accepted command more, or nothing
 abbrev pub MakesOneMore : Archive → State → Type 0
@@ -194,8 +194,8 @@ in_doubt a u x (inr (c, accepted, same)) is = inr (c, accepted, is ∙ same)
 
 -- ---- histories
 
-abbrev pub History : Archive → List Archive → Type 0
-History a left = (commands : List Command) × IsHistory a left commands
+abbrev pub History : Archive → List Event → List Archive → Type 0
+History a events left = (commands : List Command) × IsHistory a events left commands
 
 -- the first archive's state is what no command gives
 first_stands : (a : Archive) (commands : List Command) (x : State) → a.doubt ≡ None → MayStand a x → IsAfterSome (book_of a) commands x
@@ -207,8 +207,9 @@ unfolds_some b commands c x (inl (front, back, split, is)) = inl (c ∷ front, b
 unfolds_some b commands c x (inr more) = inr more
 
 -- a call that made no command
-same_history : (a b : Archive) (left : List Archive) → a.doubt ≡ None → book_of b ≡ book_of a → (commands : List Command) → IsHistory b left commands → IsHistory a (b ∷ left) commands
-same_history a b left sure same commands rest = record {
+same_history : (a b : Archive) (event : Event) (events : List Event) (left : List Archive) → a.doubt ≡ None → book_of b ≡ book_of a → (commands : List Command) → IsHistory b events left commands → IsHistory a (event ∷ events) (b ∷ left) commands
+same_history a b event events left sure same commands rest = record {
+  made = inl (same, rest.made);
   accepted = subst (λ (k : BookState). AreAccepted k commands) same rest.accepted;
   few = let few = rest.few in omega (arith, few);
   last = rest.last ∙ ap (λ (k : BookState). books_after k commands) same;
@@ -219,8 +220,10 @@ same_history a b left sure same commands rest = record {
 }
 
 -- one that made one
-more_history : (a b : Archive) (left : List Archive) → a.doubt ≡ None → (made : MakesCommand a b) → (commands : List Command) → IsHistory b left commands → IsHistory a (b ∷ left) (made.command ∷ commands)
-more_history a b left sure made commands rest = record {
+more_history : (a b : Archive) (event : Event) (events : List Event) (left : List Archive) → a.doubt ≡ None → (made : MakesCommand a b event) → (commands : List Command) → IsHistory b events left commands
+    → IsHistory a (event ∷ events) (b ∷ left) (made.command ∷ commands)
+more_history a b event events left sure made commands rest = record {
+  made = inr (made.command, commands, refl, made.asked, made.book, rest.made);
   accepted = (made.acceptable.accepted, subst (λ (k : BookState). AreAccepted k commands) made.book rest.accepted);
   few = let few = rest.few in omega (arith, few);
   last = rest.last ∙ ap (λ (k : BookState). books_after k commands) made.book;
@@ -231,14 +234,15 @@ more_history a b left sure made commands rest = record {
 }
 
 -- a write failed: nothing is accepted from then on
-last_history : (a b : Archive) (u : State) (left : List Archive) → a.doubt ≡ None → b ≡ broken u a → MakesOneMore a u → (book_of (last_left b left) ≡ book_of b) × ((x : State) → StoodAmong b left x → MayStand b x) → IsHistory a (b ∷ left) []
-last_history a b u left sure is more rest = record {
+last_history : (a b : Archive) (event : Event) (events : List Event) (u : State) (left : List Archive) → a.doubt ≡ None → b ≡ broken u a → MakesOneMore a u → AreMade b events left [] × (book_of (last_left b left) ≡ book_of b) × ((x : State) → StoodAmong b left x → MayStand b x) → IsHistory a (event ∷ events) (b ∷ left) []
+last_history a b event events u left sure is more rest = record {
+  made = inl (ap book_of is, rest.0);
   accepted = tt;
   few = omega arith;
-  last = rest.0 ∙ ap book_of is;
+  last = rest.1 ∙ ap book_of is;
   prefix = λ x stood. elim stood [
     | inl now ↦ first_stands a [] x sure now
-    | inr later ↦ at_last x (subst (λ (y : Archive). MayStand y x) is (rest.1 x later))
+    | inr later ↦ at_last x (subst (λ (y : Archive). MayStand y x) is (rest.2 x later))
   ];
 }
   where
@@ -246,46 +250,46 @@ last_history a b u left sure is more rest = record {
     at_last x (inl now) = inl ([], [], refl, now)
     at_last x (inr doubt) = in_doubt a u x more (let same : u ≡ x = cc in sym same)
 
-module _ (a b : Archive) (left : List Archive) (consistent : IsConsistent a) (sure : a.doubt ≡ None) (rest : b.doubt ≡ None → History b left) where
-  unmoved : b ≡ a → History a (b ∷ left)
-  unmoved is =
+module _ (a b : Archive) (events : List Event) (left : List Archive) (consistent : IsConsistent a) (sure : a.doubt ≡ None) (rest : b.doubt ≡ None → History b events left) where
+  unmoved : (event : Event) → b ≡ a → History a (event ∷ events) (b ∷ left)
+  unmoved event is =
       let next = rest (ap (λ (x : Archive). x.doubt) is ∙ sure) in
-      (next.0, same_history a b left sure (ap book_of is) next.0 next.1)
+      (next.0, same_history a b event events left sure (ap book_of is) next.0 next.1)
 
-  answered_history : (event : Event) (reply : Reply) → ArchiveEnds a event (Ok reply) b → History a (b ∷ left)
+  answered_history : (event : Event) (reply : Reply) → ArchiveEnds a event (Ok reply) b → History a (event ∷ events) (b ∷ left)
   answered_history event reply ends =
       let next = rest (same_doubt a event reply b ends ∙ sure) in
       elim (at_most_one a event reply b consistent ends) [
-        | inl same ↦ (next.0, same_history a b left sure same next.0 next.1)
-        | inr made ↦ (made.command ∷ next.0, more_history a b left sure made next.0 next.1)
+        | inl same ↦ (next.0, same_history a b event events left sure same next.0 next.1)
+        | inr made ↦ (made.command ∷ next.0, more_history a b event events left sure made next.0 next.1)
       ]
 
-  fault_history : (event : Event) → ((u : State) → b ≡ broken u a → (book_of (last_left b left) ≡ book_of b) × ((x : State) → StoodAmong b left x → MayStand b x)) → LeftByFault a event b → History a (b ∷ left)
-  fault_history event end (inl (reads, same)) = unmoved same
-  fault_history event end (inr (writes, (u, makes, same))) = ([], last_history a b u left sure same (one_more a event u consistent makes) (end u same))
+  fault_history : (event : Event) → ((u : State) → b ≡ broken u a → AreMade b events left [] × (book_of (last_left b left) ≡ book_of b) × ((x : State) → StoodAmong b left x → MayStand b x)) → LeftByFault a event b → History a (event ∷ events) (b ∷ left)
+  fault_history event end (inl (reads, same)) = unmoved event same
+  fault_history event end (inr (writes, (u, makes, same))) = ([], last_history a b event events u left sure same (one_more a event u consistent makes) (end u same))
 
-  call_history : (event : Event) (outcome : Result Reply Refusal) → ((u : State) → b ≡ broken u a → (book_of (last_left b left) ≡ book_of b) × ((x : State) → StoodAmong b left x → MayStand b x)) → CallEnds a event (Unit {0}) outcome b → History a (b ∷ left)
+  call_history : (event : Event) (outcome : Result Reply Refusal) → ((u : State) → b ≡ broken u a → AreMade b events left [] × (book_of (last_left b left) ≡ book_of b) × ((x : State) → StoodAmong b left x → MayStand b x)) → CallEnds a event (Unit {0}) outcome b → History a (event ∷ events) (b ∷ left)
   call_history event (Ok reply) end ends = answered_history event reply ends
   call_history event (Err NoMemory) end ends = elim ends [
-    | inl exact ↦ unmoved (refused_unchanged a event NoMemory b exact)
-    | inr same ↦ unmoved same
+    | inl exact ↦ unmoved event (refused_unchanged a event NoMemory b exact)
+    | inr same ↦ unmoved event same
   ]
   call_history event (Err DeviceFault) end ends = elim ends [
-    | inl exact ↦ unmoved (refused_unchanged a event DeviceFault b exact)
+    | inl exact ↦ unmoved event (refused_unchanged a event DeviceFault b exact)
     | inr out ↦ fault_history event end out.1
   ]
   call_history event (Err refusal) end ends = elim ends [
-    | inl exact ↦ unmoved (refused_unchanged a event refusal b exact)
+    | inl exact ↦ unmoved event (refused_unchanged a event refusal b exact)
     | inr out ↦ absurd out
   ]
 
-pub run_history : (a : Archive) (events : List Event) (outcomes : List (Result Reply Refusal)) (left : List Archive) → IsConsistent a → a.doubt ≡ None → Leave a events outcomes left → (commands : List Command) × IsHistory a left commands
-run_history a [] [] [] consistent sure run = ([], record { accepted = tt; few = omega arith; last = refl; prefix = λ x stood. first_stands a [] x sure stood })
+pub run_history : (a : Archive) (events : List Event) (outcomes : List (Result Reply Refusal)) (left : List Archive) → IsConsistent a → a.doubt ≡ None → Leave a events outcomes left → (commands : List Command) × IsHistory a events left commands
+run_history a [] [] [] consistent sure run = ([], record { made = refl; accepted = tt; few = omega arith; last = refl; prefix = λ x stood. first_stands a [] x sure stood })
 run_history a [] [] (b ∷ left) consistent sure run = absurd run
 run_history a [] (outcome ∷ outcomes) left consistent sure run = absurd run
 run_history a (event ∷ events) [] left consistent sure run = absurd run
 run_history a (event ∷ events) (outcome ∷ outcomes) [] consistent sure run = absurd run
 run_history a (event ∷ events) (outcome ∷ outcomes) (b ∷ left) consistent sure (ends, run) =
     let next = (consistent_call a event outcome b consistent ends).consistent in
-    call_history a b left consistent sure (λ none. run_history b events outcomes left next none run) event outcome
+    call_history a b events left consistent sure (λ none. run_history b events outcomes left next none run) event outcome
     (λ u is. final_run b events outcomes left next (ap (λ (x : Archive). x.desk.is_broken) is) run) ends

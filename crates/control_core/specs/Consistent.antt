@@ -1,5 +1,5 @@
 -- What holds of an archive between calls, and of the commands that its calls make. docs/CONTROL.md, "Control state".
-use Rattle.std.specs.Prelude.{◌≡◌, ◌⊎◌, ◌+ℤ◌, ◌<◌, ℤ, pos, Bool, true, false, IsFalse, IsTrue, IsSomeAnd, [], Option, Some, None, is_some}
+use Rattle.std.specs.Prelude.{◌≡◌, ◌⊎◌, ◌+ℤ◌, ◌<◌, ℤ, pos, Bool, true, false, IsFalse, IsTrue, IsSomeAnd, [], Option, Some, None, is_some, option_map}
 use Rattle.frame_core.specs.Block.{covered}
 use Rattle.archive_model.specs.declared.command.Command.{Command}
 use Rattle.archive_model.specs.declared.command.Command.TheVariants.{Append, Restart}
@@ -15,7 +15,9 @@ use Rattle.control_core.specs.declared.callers.OpenReplay.{OpenReplay}
 use Rattle.control_core.specs.declared.callers.RecorderSession.{RecorderSession}
 use Rattle.control_core.specs.declared.callers.Written.{Written}
 use Rattle.control_core.specs.Changes.{desk_after, settled}
-use Rattle.control_core.specs.Decisions.{Allows}
+use Rattle.control_core.specs.declared.event.Event.{Event}
+use Rattle.control_core.specs.declared.event.Event.TheVariants as events
+use Rattle.control_core.specs.Decisions.{Allows, asked_command}
 use Rattle.control_core.specs.Turns.{session_in}
 use Rattle.control_core.specs.Seats.{KeepsSeats}
 use Rattle.control_core.specs.Agreement.{Agrees, HasWritten}
@@ -81,9 +83,16 @@ pub record IsAcceptable (a : Archive) (c : Command) : Type 0 where
   pub allowed : Allows a.desk c
   pub written : HasWritten a.desk a.state c
 
--- the call made one accepted command, of a desk that works: what is recorded, and the desk, are those after it
-pub record MakesCommand (a b : Archive) : Type 0 where
+-- the command that a call asks for: its request's, or the append of what its session wrote
+abbrev pub command_asked : Archive → Event → Option Command
+command_asked a (events.Ask request) = asked_command request
+command_asked a (events.Settle session) = option_map (λ (s : RecorderSession). Append s.recording (a.blocks session)) (session_in a.desk session)
+command_asked a event = None
+
+-- the call made the accepted command that it asked for, of a desk that works: what is recorded, and the desk, are those after it
+pub record MakesCommand (a b : Archive) (event : Event) : Type 0 where
   pub command : Command
+  pub asked : command_asked a event ≡ Some command
   pub works : IsFalse a.desk.is_broken
   pub acceptable : IsAcceptable a command
   pub book : book_of b ≡ book_after (book_of a) command

@@ -1,5 +1,5 @@
 -- What is decided on a request to the catalogue. docs/CONTROL.md, "Requests" and "Refusals".
-use Rattle.std.specs.Prelude.{◌==◌, ◌%◌, ◌&&◌, ◌||◌, ◌++◌, ◌≡◌, not, ℕ, ℤ, pos, negsuc, Bool, true, false, IsTrue, List, [], ◌∷◌, length, map, filter, fold, take, int_le, nat_lt, bytes_eq, unsigned_abs, Option, Some, None, is_some, Result, Ok, Err, if◌then◌else◌}
+use Rattle.std.specs.Prelude.{◌&&◌, ◌||◌, ◌++◌, ◌≡◌, not, ℕ, ℤ, pos, negsuc, Bool, true, false, IsTrue, List, [], ◌∷◌, length, map, filter, fold, take, int_le, nat_lt, bytes_eq, unsigned_abs, Option, Some, None, is_some, Result, Ok, Err, if◌then◌else◌}
 use Rattle.std.specs.List.{list_any}
 use Rattle.std.specs.Int.{int_max}
 use Rattle.std.specs.Ordering.{int_eq}
@@ -16,7 +16,7 @@ use Rattle.archive_model.specs.declared.reply.Reply.TheVariants.{Recordings, Fou
 use Rattle.archive_model.specs.Register.{id_of, is_end, registration_in}
 use Rattle.archive_model.specs.Checks as model
 use Rattle.archive_model.specs.Checks.{Tests, checked, checks, first_checks, block_checks, last_checks, passes}
-use Rattle.archive_model.specs.Descriptor.{is_negative}
+use Rattle.archive_model.specs.Descriptor.{is_aligned, is_negative}
 use Rattle.archive_model.specs.Version.{holds}
 use Rattle.control_core.specs.declared.request.Request.{Request}
 use Rattle.control_core.specs.declared.request.Request.TheVariants.{Start, Stop, Extend, Truncate, PurgeSegments, PurgeRecording, List as AskList, Find, Positions as AskPositions, Source as AskSource}
@@ -47,15 +47,10 @@ extend_tests d f Broken = not d.is_broken
 extend_tests d f MaxRecordings = model.extend_tests d.register (has_room d) f MaxRecordings && has_session_number d
 extend_tests d f refusal = model.extend_tests d.register (has_room d) f refusal
 
--- a multiple of 32 from 0: frames end nowhere else
-unfoldable pub is_multiple : ℤ → Bool
-is_multiple (pos n) = n % 32 == 0
-is_multiple (negsuc n) = false
-
 -- where the position is a multiple of 32 strictly inside the recording, the frames are asked
 abbrev pub truncate_tests : DeskState → ℤ → ℤ → Tests
 truncate_tests d id position Broken = not d.is_broken
-truncate_tests d id position BadPosition = model.truncate_tests (registration_in d.register id) (has_room d) true position BadPosition && is_multiple position
+truncate_tests d id position BadPosition = model.truncate_tests (registration_in d.register id) (has_room d) true position BadPosition && is_aligned position
 truncate_tests d id position ActiveReplay = not (is_replayed d id)
 truncate_tests d id position refusal = model.truncate_tests (registration_in d.register id) (has_room d) true position refusal
 

@@ -10,6 +10,7 @@ use Rattle.archive_model.specs.Acceptance.{BookState, book_after}
 use Rattle.archive_model.specs.Accepting.{Accepts}
 use Rattle.archive_model.specs.WellFormed.{AreAccepted}
 use Rattle.control_core.specs.declared.event.Event.{Event}
+use Rattle.control_core.specs.Consistent.{command_asked}
 use Rattle.control_core.specs.Exact.{Archive, CallEnds, book_of}
 
 -- ---- archives one after another
@@ -47,9 +48,18 @@ IsAfterSome b commands x =
     ((front : List Command) × (back : List Command) × (commands ≡ front ++ back) × (x ≡ (books_after b front).state))
     ⊎ ((c : Command) × Accepts (books_after b commands) c × (x ≡ after (books_after b commands).state c))
 
--- Calls made these commands: each was accepted, no call made two, they lead to what the last archive has recorded, and
--- whatever stood meanwhile is what a beginning of them gives.
-pub record IsHistory (a : Archive) (left : List Archive) (commands : List Command) : Type 0 where
+-- each call left what is recorded as it was, or made the next of these commands, which it asked for
+abbrev pub AreMade : Archive → List Event → List Archive → List Command → Type 0
+AreMade a [] [] commands = commands ≡ []
+AreMade a (event ∷ events) (b ∷ left) commands =
+    ((book_of b ≡ book_of a) × AreMade b events left commands)
+    ⊎ ((c : Command) × (rest : List Command) × (commands ≡ c ∷ rest) × (command_asked a event ≡ Some c) × (book_of b ≡ book_after (book_of a) c) × AreMade b events left rest)
+AreMade a _ _ commands = ⊥
+
+-- Calls made these commands: each was accepted, and was asked for by the call that made it; no call made two, they lead to
+-- what the last archive has recorded, and whatever stood meanwhile is what a beginning of them gives.
+pub record IsHistory (a : Archive) (events : List Event) (left : List Archive) (commands : List Command) : Type 0 where
+  pub made : AreMade a events left commands
   pub accepted : AreAccepted (book_of a) commands
   pub few : length commands ≤ length left
   pub last : book_of (last_left a left) ≡ books_after (book_of a) commands

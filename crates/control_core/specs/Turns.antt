@@ -1,9 +1,12 @@
 -- What is decided on a call that is no request: writing and settling, replays, sweeping and verifying.
 -- docs/CONTROL.md, "Recorder sessions", "Replays" and "Refusals".
-use Rattle.std.specs.Prelude.{◌≡◌, ◌≢◌, ◌<◌, ◌&&◌, ◌||◌, ◌++◌, not, ℤ, pos, negsuc, Bool, true, false, IsTrue, length, nat_lt, int_le, Option, Some, None, is_some, Result, Ok, Err, if◌then◌else◌}
+use Rattle.std.specs.Prelude.{◌≡◌, ◌≢◌, ◌<◌, ◌&&◌, ◌||◌, ◌++◌, not, ℤ, pos, negsuc, Bool, true, false, IsSomeAnd, IsTrue, length, nat_lt, int_le, Option, Some, None, is_some, Result, Ok, Err, if◌then◌else◌}
+use Rattle.std.specs.Bool.{MatchBool}
 use Rattle.std.specs.Ordering.{int_eq}
+use Rattle.frame_core.specs.declared.block.Block.{Block}
 use Rattle.frame_core.specs.declared.refusal.Refusal.{Refusal}
 use Rattle.frame_core.specs.declared.refusal.Refusal.TheVariants.{BadBlock, BadParameter, BadPosition, Broken, HistoryFull, MaxReplays, NeedSettle, StaleSession, UnknownRecording, UnknownReplay}
+use Rattle.frame_core.specs.Block.{IsBlock, end_position}
 use Rattle.frame_core.specs.ReplayEnd.{bound_of, is_done}
 use Rattle.archive_model.specs.declared.registration.Registration.{Registration}
 use Rattle.archive_model.specs.declared.reply.Reply.{Reply}
@@ -11,11 +14,13 @@ use Rattle.archive_model.specs.declared.reply.Reply.TheVariants.{Closed, Written
 use Rattle.archive_model.specs.Keyed.{find}
 use Rattle.archive_model.specs.Checks.{Tests, block_checks, checked, checks, first_checks, is_boundary_by, is_of, last_checks}
 use Rattle.archive_model.specs.Register.{is_active, is_end, registration_in}
+use Rattle.archive_model.specs.State.{geometry_of, publication_of}
 use Rattle.record_core.specs.declared.recording.Recording.{Recording}
 use Rattle.record_core.specs.Writing.{needs_settle}
 use Rattle.control_core.specs.declared.callers.OpenReplay.{OpenReplay}
 use Rattle.control_core.specs.declared.callers.RecorderSession.{RecorderSession}
 use Rattle.control_core.specs.declared.callers.Written.{Written}
+use Rattle.control_core.specs.declared.turns.FoundWriting.{FoundWriting}
 use Rattle.control_core.specs.declared.turns.Opening.{Opening}
 use Rattle.control_core.specs.Opened.{OpeningDecision}
 use Rattle.control_core.specs.Opened as opening
@@ -24,6 +29,7 @@ use Rattle.control_core.specs.declared.turns.Settling.TheVariants as settling
 use Rattle.control_core.specs.Callers.{last_number, replay_number, session_number, written_to}
 use Rattle.control_core.specs.Desk.{DeskState, has_room}
 use Rattle.control_core.specs.Changes.{next_position, recorded_of}
+use Rattle.control_core.specs.Seats.{IsWriter}
 
 abbrev pub session_in : DeskState → ℤ → Option RecorderSession
 session_in d number = find session_number number d.callers.sessions
@@ -62,6 +68,28 @@ write_tests d number block fits _ = true
 -- a block is written, up to its end, or refused
 abbrev pub write_decision : DeskState → ℤ → Written → Bool → Result Reply Refusal
 write_decision d number block fits = checked (write_tests d number block fits) checks (Ok (WrittenReply block.last))
+
+-- from where to where a block lies
+abbrev pub extent_of : Block → Written
+extent_of block = record { first = block.position; last = end_position block }
+
+-- the block is one of the terms, session and stream of the recording that a session writes
+abbrev pub IsOfSession : DeskState → Option RecorderSession → Block → Type 0
+IsOfSession d None block = ⊥
+IsOfSession d (Some s) block = IsSomeAnd (registration_in d.register s.recording) (λ r. IsBlock (geometry_of r.descriptor) (publication_of r.descriptor) block)
+
+-- who writes a block that may be written, and where it lies
+pub record AllowsWriting (d : DeskState) (number : ℤ) (block : Block) (found : FoundWriting) : Type 0 where
+  pub writer : IsWriter number d found.writer
+  pub is_block : IsBlock (geometry_of found.writer.known.now.descriptor) (publication_of found.writer.known.now.descriptor) block
+  pub span : found.span ≡ extent_of block
+  pub decided : write_decision d number (extent_of block) true ≡ Ok (WrittenReply (end_position block))
+
+-- why a block is not written, which may be one of its session's recording or not
+abbrev pub RefusesWriting : DeskState → ℤ → Block → Refusal → Type 0
+RefusesWriting d number block refusal =
+    (fits : Bool) × MatchBool fits (IsOfSession d (session_in d number) block) (IsOfSession d (session_in d number) block → ⊥)
+    × (write_decision d number (extent_of block) fits ≡ Err refusal)
 
 -- ---- settling
 

@@ -3,6 +3,7 @@
 ghost use Rattle.std.specs.Prelude.{◌≡◌, ◌≢◌, ◌⊎◌, ℕ, ℤ, List, None, Some, Ok, Err, Result, IsFalse, IsTrue};
 ghost use Rattle.archive_model.specs.declared.command.Command.{Command};
 ghost use Rattle.archive_model.specs.Checks.{checked, checks};
+ghost use Rattle.archive_model.specs.Descriptor.{is_aligned};
 ghost use Rattle.archive_model.specs.Keyed.{Each};
 ghost use Rattle.archive_model.specs.Replay.{is_boundary};
 ghost use Rattle.archive_model.specs.State.{Recording, State, register_of};
@@ -13,7 +14,7 @@ ghost use Rattle.archive_model.specs.WellFormed.{IsWell};
 ghost use Rattle.control_core.specs.declared.request.Request.{Request};
 ghost use Rattle.control_core.specs.Desk.{DeskState};
 ghost use Rattle.control_core.specs.Changes.{desk_after};
-ghost use Rattle.control_core.specs.Decisions.{Allows, asked_command, command_in, decision_of, is_multiple};
+ghost use Rattle.control_core.specs.Decisions.{Allows, asked_command, command_in, decision_of};
 ghost use Rattle.control_core.specs.Agreement.{Agrees, HasWritten};
 ghost use Rattle.frame_core.specs.declared.refusal.Refusal.{Refusal};
 ghost use Rattle.frame_core.specs.declared.refusal.Refusal.TheVariants.{DeviceFault};
@@ -79,7 +80,7 @@ pub fn a_decided_command_is_accepted()
 #[tactic(auto, using(crate::proofs::MultipleLemmas::boundary_multiple))]
 pub fn a_boundary_is_a_multiple_of_32()
     ensures { (a : Archive) (id position : ℤ) (r : Recording) → IsConsistent a →
-        recording_at a id ≡ Some r → IsTrue (is_boundary position r) → IsTrue (is_multiple position) }
+        recording_at a id ≡ Some r → IsTrue (is_boundary position r) → IsTrue (is_aligned position) }
 {}
 
 /// What is settled of a session's blocks is recorded by an accepted append, which makes of the desk what the settling
@@ -118,7 +119,7 @@ pub fn a_refused_call_changes_nothing()
 #[tactic(auto, using(crate::proofs::CallLemmas::at_most_one))]
 pub fn a_call_is_at_most_one_command()
     ensures { (a : Archive) (event : Event) (reply : Reply) (new : Archive) → IsConsistent a →
-        ArchiveEnds a event (Ok reply) new → (book_of new ≡ book_of a) ⊎ MakesCommand a new }
+        ArchiveEnds a event (Ok reply) new → (book_of new ≡ book_of a) ⊎ MakesCommand a new event }
 {}
 
 /// What a call is answered exactly, with the frames, is one of the answers that the desk machine allows, which knows none:
@@ -183,7 +184,7 @@ pub fn a_call_keeps_the_archive_consistent()
 {}
 
 /// Calls one after another of a consistent archive that nothing is in doubt of made a list of accepted commands, at most one
-/// each: they lead to what the last archive has recorded, and whatever stood meanwhile, or was in doubt, is what a beginning
+/// each, the one that it asked for: they lead to what the last archive has recorded, and whatever stood meanwhile, or was in doubt, is what a beginning
 /// of them gives, or what all of them give and the one command more that a failed write left in doubt: docs/STORAGE.md,
 /// "Recovery".
 #[tactic(auto, using(crate::proofs::RunLemmas::run_history))]
@@ -191,7 +192,7 @@ pub fn a_run_is_a_history()
     ensures { (a : Archive) (events : List Event) (outcomes : List (Result Reply Refusal))
         (left : List Archive) →
         IsConsistent a → a.doubt ≡ None → Leave a events outcomes left →
-        (commands : List Command) × IsHistory a left commands }
+        (commands : List Command) × IsHistory a events left commands }
 {}
 
 /// What is decided on a call that reads says what the desk machine allows: whatever the files hold. docs/CONTROL.md,

@@ -30,6 +30,6 @@ pub use desk::Desk;
 pub use event::Event;
 pub use request::{FindFields, Request};
 pub use turns::{
-    FoundSettling, Opening, OpeningDecision, Settling, decide_close, decide_open, decide_poll,
-    decide_settle, decide_sweep, decide_verify, decide_write,
+    FoundSettling, FoundWriting, Opening, OpeningDecision, Settling, decide_close, decide_open,
+    decide_poll, decide_settle, decide_sweep, decide_verify, decide_write,
 };

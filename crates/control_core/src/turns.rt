@@ -1,21 +1,23 @@
 //! What is decided on a call that is no request, by the desk alone. docs/CONTROL.md, "Recorder sessions", "Replays" and
 //! "Refusals".
 
-ghost use Rattle.std.specs.Prelude.{◌≡◌, ◌++◌, ◌≤ℤ◌, negsuc, true, Some, Ok, None, Err, IfOk, MatchOption, MatchResult};
+ghost use Rattle.std.specs.Prelude.{◌≡◌, ◌++◌, ◌≤ℤ◌, negsuc, true, Some, Ok, None, Err, IfOk, IfSome, MatchOption, MatchResult};
+ghost use Rattle.frame_core.specs.Block.{IsBlock};
 ghost use Rattle.frame_core.specs.ReplayEnd.{bound_of};
 ghost use Rattle.archive_model.specs.Checks.{block_checks, checked, checks, last_checks};
 ghost use Rattle.archive_model.specs.Register.{registration_in};
+ghost use Rattle.archive_model.specs.State.{geometry_of, publication_of};
 ghost use Rattle.archive_model.specs.declared.reply.Reply.TheVariants.{Closed};
 ghost use Rattle.control_core.specs.Orderly.{KeepsDesk};
 ghost use Rattle.control_core.specs.Seats.{IsFoundReplay, IsReader, IsWriter};
 ghost use Rattle.control_core.specs.Opened.{IfOpensInside, said_opening};
-ghost use Rattle.control_core.specs.Turns.{begins_at, close_decision, open_decision, open_tests, opened_at, poll_decision, session_in, settle_decision, sweep_tests, verify_tests, write_decision};
+ghost use Rattle.control_core.specs.Turns.{AllowsWriting, RefusesWriting, begins_at, close_decision, extent_of, open_decision, open_tests, opened_at, poll_decision, settle_decision, sweep_tests, verify_tests};
 
 use crate::callers::{FoundReplay, Reader, Writer, Written};
 use crate::desk::Desk;
 use archive_model::{Registration, Reply};
 use frame_core::limits::{LAST_NUMBER, MAX_OPEN_REPLAYS, MAX_POLL};
-use frame_core::{Refusal, replay_bound};
+use frame_core::{Block, Refusal, block_end, replay_bound};
 
 /// What there is to settle.
 #[derive(Clone, Copy, Debug)]
@@ -61,36 +63,64 @@ pub enum OpeningDecision<'a> {
     },
 }
 
-/// What is decided on writing a block that lies from its first to its last position. `writer` is what the desk has under
-/// the session's number; `fits`: it is a block of the recording's terms, session and stream. Answers the block's end. In
-/// constant time.
-pub fn decide_write(
-    desk: &Desk,
+/// A block that may be written: who writes it, and where it lies.
+#[derive(Clone, Copy, Debug)]
+pub struct FoundWriting<'a> {
+    /// The session, where it stands, and its recording.
+    pub writer: Writer<'a>,
+    /// From where to where the block lies.
+    pub span: Written,
+}
+
+/// What is decided on a block that a recorder session of this number writes: docs/CONTROL.md, "Recorder sessions". Costs the
+/// open sessions and a step for each of the block's frames.
+pub fn decide_write<'a>(
+    desk: &'a Desk,
     session: &i64,
-    writer: &Option<Writer<'_>>,
-    block: &Written,
-    fits: bool,
-) -> Result<Reply, Refusal>
-    requires { MatchOption writer.now (session_in desk.now.state session.now ≡ None)
-        (IsWriter session.now desk.now.state) }
-    ensures { result ≡ write_decision desk.now.state session.now block.now fits }
+    block: &Block,
+) -> Result<FoundWriting<'a>, Refusal>
+    ensures decided { MatchResult result
+        (AllowsWriting desk.now.state session.now block.now)
+        (RefusesWriting desk.now.state session.now block.now) }
+    ensures keeps { KeepsDesk desk.now.state.register desk.now.state.callers }
 {
+    let writer = desk.session(session);
+    let found = writing_of(writer, block);
     if desk.is_broken() {
         return Err(Refusal::Broken);
     }
-    let Some(writer) = writer else {
+    if writer.is_none() {
         return Err(Refusal::StaleSession);
+    }
+    let Some(found) = found else {
+        return Err(Refusal::BadBlock);
     };
-    let part = writer.part();
-    if !fits || block.first != part.written {
+    let part = found.writer.part();
+    if found.span.first != part.written {
         return Err(Refusal::BadBlock);
     }
-    if part.needs_settle(&writer.known.descriptor) {
+    if part.needs_settle(&found.writer.known.descriptor) {
         return Err(Refusal::NeedSettle);
     }
-    Ok(Reply::Written {
-        position: block.last,
-    })
+    Ok(found)
+}
+
+/// Who writes a block, and where it lies. None where nobody does, or the block isn't one of the terms, session and stream of
+/// the writer's recording.
+fn writing_of<'a>(writer: Option<Writer<'a>>, block: &Block) -> Option<FoundWriting<'a>>
+    ensures { MatchOption result
+        (IfSome writer.entry (λ w. IsBlock (geometry_of w.known.now.descriptor) (publication_of w.known.now.descriptor) block.now → ⊥))
+        (λ found. (writer.entry ≡ Some found.writer) × (found.span ≡ extent_of block.now)
+        × IsBlock (geometry_of found.writer.known.now.descriptor) (publication_of found.writer.known.now.descriptor) block.now) }
+{
+    let writer = writer?;
+    let descriptor = &writer.known.descriptor;
+    let last = block_end(&descriptor.geometry(), &descriptor.publication(), block)?;
+    let span = Written {
+        first: block.position,
+        last,
+    };
+    Some(FoundWriting { writer, span })
 }
 
 /// What there is to settle of a session that was found.

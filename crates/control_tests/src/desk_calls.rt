@@ -8,8 +8,8 @@ use control_core::{
     decide_open, decide_poll, decide_settle, decide_sweep, decide_verify, decide_write, laws,
     read_terms,
 };
-use frame_core::{Geometry, Refusal};
-use std::alloc::Global;
+use frame_core::{Block, Frame, FrameKind, Geometry, Items, Refusal};
+use std::alloc::{AllocError, Global};
 use std::test::*;
 
 /// An archive of so many active recordings.
@@ -44,20 +44,40 @@ fn opened(decision: &OpeningDecision) -> u8 {
     }
 }
 
-/// The refusal of a session's block of 64 bytes from such a position on, or 0.
-fn written(desk: &Desk, number: i64, first: i64) -> u8 {
-    let block = Written {
-        first,
-        last: first.saturating_add(64),
-    };
-    let writer = desk.session(&number);
-    let fits = writer.is_some();
-    number_of(&decide_write(desk, &number, &writer, &block, fits))
+/// A block of 64 bytes from a position on, of a stream of session 7.
+fn block_at(alloc: Global, position: i64, stream_id: i32) -> Result<Block, AllocError> {
+    let term = position.wrapping_div_euclid(65_536);
+    let offset = position.wrapping_rem_euclid(65_536);
+    let mut frames = Items::new(alloc);
+    frames.push(Frame {
+        kind: FrameKind::Message,
+        flags: 0xc0,
+        length: 37,
+        term_offset: i32::try_from(offset).unwrap_or(0),
+        session_id: 7,
+        stream_id,
+        term_id: i32::try_from(term).unwrap_or(0).wrapping_add(42),
+        reserved: 0,
+        payload: Items::from_vec(b"hello".to_vec(alloc)?),
+    })?;
+    Ok(Block { position, frames })
+}
+
+/// The refusal of a session's block from such a position on, or 0.
+fn written(
+    alloc: Global,
+    desk: &Desk,
+    number: i64,
+    first: i64,
+    stream_id: i32,
+) -> Result<u8, AllocError> {
+    let block = block_at(alloc, first, stream_id)?;
+    Ok(number_of(&decide_write(desk, &number, &block)))
 }
 
 /// The refusal of a call by its kind, or 0. Replay 0 and session 0 are of recording 0, which is active and empty.
-fn called(desk: &Desk, kind: u8, number: i64, other: i64) -> u8 {
-    match kind {
+fn called(alloc: Global, desk: &Desk, kind: u8, number: i64, other: i64) -> Result<u8, AllocError> {
+    let refusal = match kind {
         0 => number_of(&decide_settle(desk, &number)),
         1 => opened(&decide_open(desk, &number, &other, &-1)),
         2 => number_of(&decide_poll(desk, &number, &other)),
@@ -65,14 +85,16 @@ fn called(desk: &Desk, kind: u8, number: i64, other: i64) -> u8 {
         4 => number_of(&decide_sweep(desk)),
         5 => number_of(&decide_verify(desk, &number)),
         7 => number_of(&read_terms(desk, &number)),
-        _ => written(desk, number, other),
-    }
+        8 => written(alloc, desk, number, other, 1_002)?,
+        _ => written(alloc, desk, number, other, 1_001)?,
+    };
+    Ok(refusal)
 }
 
 // Whether a write failed, the kind, the session, replay or recording, and another number. In each row that is refused the
 // next rule is broken, too; those of written blocks and of 64 open replays have tests of their own. A session that is not
-// there wrote nothing, so a full history does not refuse to settle it.
-const CALLS: [(bool, u8, i64, i64, u8); 22] = [
+// there wrote nothing, so a full history does not refuse to settle it. Kind 8 writes a block of another stream.
+const CALLS: [(bool, u8, i64, i64, u8); 25] = [
     (true, 0, 9, 0, 16),
     (false, 0, 9, 0, 12),
     (false, 0, 0, 0, 0),
@@ -93,6 +115,9 @@ const CALLS: [(bool, u8, i64, i64, u8); 22] = [
     (true, 6, 9, 64, 16),
     (false, 6, 9, 64, 12),
     (false, 6, 0, 64, 13),
+    (true, 8, 0, 0, 16),
+    (false, 8, 9, 0, 12),
+    (false, 8, 0, 0, 13),
     (true, 7, 9, 0, 16),
     (false, 7, 9, 0, 12),
 ];
@@ -114,7 +139,7 @@ fn called_with_replay(
     other: i64,
 ) -> Result<u8, Refusal> {
     let desk = with_replay(alloc, is_broken)?;
-    Ok(called(&desk, kind, number, other))
+    Ok(called(alloc, &desk, kind, number, other)?)
 }
 
 #[test]
@@ -175,7 +200,7 @@ const WRITTEN: [(i64, u8, i64, u8); 5] = [
 
 fn called_with_blocks(alloc: Global, last: i64, kind: u8, position: i64) -> Result<u8, Refusal> {
     let desk = with_blocks(alloc, last)?;
-    Ok(called(&desk, kind, 0, position))
+    Ok(called(alloc, &desk, kind, 0, position)?)
 }
 
 #[test]
@@ -310,7 +335,7 @@ const OPENED: [(i64, i64, u8); 3] = [(9, 0, 1), (0, 64, 5), (0, 0, 8)];
 fn at_most_64_replays_are_open(rt: HostRuntime) -> Result<(), Fail> {
     let desk = many_replays(rt.alloc())?;
     for (recording, position, refusal) in OPENED {
-        assert!(rt; called(&desk, 1, recording, position) == refusal);
+        assert!(rt; opened(&decide_open(&desk, &recording, &position, &-1)) == refusal);
     }
     Ok(())
 }

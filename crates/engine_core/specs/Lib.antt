@@ -15,3 +15,4 @@ pub mod Catalogued
 pub mod Moves
 pub mod Making
 pub mod Replaying
+pub mod Settling

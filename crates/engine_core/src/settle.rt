@@ -1,23 +1,19 @@
 //! What a recorder session wrote is recorded. docs/CONTROL.md, "Recorder sessions"; docs/STORAGE.md, "Segments".
 
-ghost use Rattle.std.specs.Prelude.{◌≡◌, Ok, Some, unsigned_abs};
+ghost use Rattle.std.specs.Prelude.{◌≡◌, Ok, unsigned_abs};
 ghost use Rattle.segment_store.specs.Layout.{file_of};
-ghost use Rattle.archive_model.specs.declared.registration.Registration.{Registration};
 ghost use Rattle.archive_model.specs.declared.reply.Reply.TheVariants as replies;
-ghost use Rattle.archive_model.specs.Register.{registration_in};
 ghost use Rattle.catalogue_log.specs.Banks.{bank_file};
 ghost use Rattle.control_core.specs.declared.event.Event.TheVariants as events;
 ghost use Rattle.control_core.specs.declared.turns.Settling.TheVariants.{Blocks};
 ghost use Rattle.control_core.specs.Changes.{settled};
 ghost use Rattle.control_core.specs.Exact.{settled_archive};
-ghost use Rattle.control_core.specs.Orderly.{KeepsDesk};
-ghost use Rattle.control_core.specs.Seats.{IsFoundSession};
 ghost use Rattle.control_core.specs.Turns.{session_in, settle_decision};
 ghost use Rattle.engine_core.specs.Catalogued.{KeepsFound, register_made};
 ghost use Rattle.engine_core.specs.Making.{CommitsEntry};
 ghost use Rattle.engine_core.specs.Moves.{SettlesAt};
+ghost use Rattle.engine_core.specs.Settling.{IsSettlement};
 ghost use Rattle.engine_core.specs.Touching.{SettlesBlocks, WantsMemory};
-ghost use Rattle.recording_reads.specs.Recording.{layout_of};
 
 use crate::Engine;
 use crate::making::failed;
@@ -28,6 +24,18 @@ use disk_core::Disk;
 use frame_core::Refusal;
 use recording_reads::layout_of;
 use segment_store::Layout;
+
+// What a recorder session wrote, as it is to be recorded.
+#[derive(Clone, Copy)]
+struct Settlement {
+    // The session, where it stands.
+    found: FoundSession,
+    // Its recording, and how that lies in segment files.
+    recording: i64,
+    layout: Layout,
+    // Where the blocks lie.
+    written: Written,
+}
 
 impl<D: Disk> Engine<D> {
     ghost use Rattle.engine_core.specs.Seen.{HasEnded, seen};
@@ -49,46 +57,38 @@ impl<D: Disk> Engine<D> {
         match decided.settling {
             Settling::Nothing { position } => Ok(Reply::Settled { position }),
             Settling::Blocks { recording, written } => {
-                let layout = layout_of(&decided.writer.known.descriptor);
-                let found = decided.writer.found;
-                self.settle_blocks(session, &found, &recording, &layout, &written)
+                let settlement = Settlement {
+                    found: decided.writer.found,
+                    recording,
+                    layout: layout_of(&decided.writer.known.descriptor),
+                    written,
+                };
+                self.settle_blocks(session, &settlement)
             }
         }
     }
 
-    /// Records what a session that was found wrote of a recording of a layout, once it is decided; then the desk follows.
-    /// `NoMemory`; `DeviceFault` where the disk fails: the archive is then broken.
-    fn settle_blocks(
-        &mut self,
-        session: &i64,
-        found: &FoundSession,
-        recording: &i64,
-        layout: &Layout,
-        written: &Written,
-    ) -> Result<Reply, Refusal>
-        requires keeps { KeepsDesk self.old.desk.state.register self.old.desk.state.callers }
-        requires laid { (known : Registration)
-            × (Some known ≡ registration_in self.old.desk.state.register recording.now)
-            × (layout.now ≡ layout_of known.descriptor) }
-        requires found { IsFoundSession session.now self.old.desk.state.callers.sessions found.now }
-        requires decided { settle_decision self.old.desk.state session.now
-            ≡ Ok (Blocks recording.now written.now) }
+    /// Records what a session wrote, once it is decided; then the desk follows. `NoMemory`; `DeviceFault` where the disk fails:
+    /// the archive is then broken.
+    fn settle_blocks(&mut self, session: &i64, settlement: &Settlement) -> Result<Reply, Refusal>
+        requires { IsSettlement self.old.desk.state session.now settlement.now }
         ensures settles { CommitsEntry (seen D.life self.old) (seen D.life self.new)
-            (λ a. settle_decision a.desk session.now ≡ Ok (Blocks recording.now written.now))
-            (replies.Settled written.now.last) (λ a. settled_archive a session.now recording.now) result }
+            (λ a. settle_decision a.desk session.now ≡ Ok (Blocks settlement.now.recording settlement.now.written))
+            (replies.Settled settlement.now.written.last) (λ a. settled_archive a session.now settlement.now.recording) result }
         ensures touches { SettlesAt (D.life self.old.storage.disk) (D.life self.new.storage.disk)
-            (file_of layout.now (unsigned_abs written.now.first)) (bank_file self.old.storage.log.bank) }
+            (file_of settlement.now.layout (unsigned_abs settlement.now.written.first)) (bank_file self.old.storage.log.bank) }
         ensures catalogue { KeepsFound (seen D.life self.old) (seen D.life self.new)
             (settled (session_in self.old.desk.state session.now) self.old.desk.state).register }
     {
-        let position = written.last;
+        let position = settlement.written.last;
         let entry = Entry::Settle {
-            recording: *recording,
+            recording: settlement.recording,
             position,
         };
-        match self.storage.settle(layout, written.first, &entry) {
+        let first = settlement.written.first;
+        match self.storage.settle(&settlement.layout, first, &entry) {
             Ok(()) => {
-                self.desk.settle(session, found);
+                self.desk.settle(session, &settlement.found);
                 Ok(Reply::Settled { position })
             }
             Err(refusal) => Err(failed(&mut self.desk, refusal)),

@@ -39,6 +39,8 @@ pub const MAX_HISTORY: u32 = 16_777_216;
 pub const MAX_LINE_LENGTH: usize = 262_144;
 /// Bytes of a datagram at most that a receiver takes.
 pub const LONGEST_DATAGRAM: usize = 65_536;
+/// Bytes of a status message's frame, which carries no feedback of an application.
+pub const STATUS_LENGTH: usize = 36;
 /// Blocks that wait at most between the thread that receives them and the one that records them.
 pub const MAX_WAITING_BLOCKS: usize = 16;
 /// Where recording ids and the numbers of sessions and replays stop.

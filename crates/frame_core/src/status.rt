@@ -6,10 +6,9 @@ ghost use Rattle.frame_core.specs.Status.{HasNoStatus, IsStatus, MayStand, encod
 
 use crate::fields::{put_i32, put_i64, put_u16, read_i32, read_i64, read_u16};
 use crate::frame::is_aligned;
+use crate::limits::STATUS_LENGTH;
 use crate::refusal::Refusal;
 
-// Bytes of a status message without feedback of an application.
-const LENGTH: usize = 36;
 // The header's type field.
 const TYPE: u16 = 3;
 
@@ -39,7 +38,7 @@ impl StatusMessage {
         ensures bytes { result ≡ encoded_status self.now }
         ensures read { MayStand self.now → (rest : List ℕ) → IsStatus (result ++ rest) self.now }
     {
-        let mut out = [0; LENGTH];
+        let mut out = [0; STATUS_LENGTH];
         put_i32(&mut out, 0, 36);
         out[5] = self.flags;
         put_u16(&mut out, 6, TYPE);
@@ -72,7 +71,7 @@ impl StatusMessage {
 fn status_of(bytes: &[u8]) -> Option<StatusMessage>
     ensures { MatchOption result (HasNoStatus bytes.now) (IsStatus bytes.now) }
 {
-    if bytes.len() < LENGTH {
+    if bytes.len() < STATUS_LENGTH {
         return None;
     }
     let size = read_i32(bytes, 0);

@@ -2,11 +2,9 @@
 
 use crate::senders::SenderEnd;
 use agents_core::DatagramEnd;
+use frame_core::limits::STATUS_LENGTH;
 use std::io::ErrorKind;
 use std::net::{SocketAddr, UdpSocket};
-
-/// Bytes of a status message. No other frame that is sent has so many.
-const STATUS_LENGTH: usize = 36;
 
 /// Datagrams of any sender; a request goes to the sender of the last one.
 #[derive(Drop)]
@@ -69,7 +67,8 @@ impl DatagramEnd for UdpEnd<'_> {
     }
 }
 
-/// A frame goes out by the socket that receives. One that can't be sent may be lost on the way too.
+/// A frame goes out by the socket that receives. One that can't be sent may be lost on the way too. No other frame that is
+/// sent has as many bytes as a status message.
 impl SenderEnd for UdpEnd<'_> {
     ghost use Rattle.std.specs.Prelude.{⊤};
 

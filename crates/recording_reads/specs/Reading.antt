@@ -70,3 +70,11 @@ TellsBoundaryIn image g position false = (IsBoundaryIn image g position → ⊥)
 abbrev pub RefusesBoundaryIn : Bool → DiskImage → Registration → ℤ → Refusal → Type 0
 RefusesBoundaryIn obeys image g position refusal =
     RefusesReached obeys image (layout_of g.descriptor) (geometry_of g.descriptor) g.recorded (term_start g.descriptor (unsigned_abs position)) position refusal
+
+-- Frames stand, whole, one after another from what is recorded up to a position, as they do once a settle up to there was
+-- begun; or else they do not, or break off before it.
+abbrev pub TellsWritten : DiskImage → Registration → ℤ → Bool → Type 0
+TellsWritten image g position true = IsReached image (layout_of g.descriptor) (geometry_of g.descriptor) position (unsigned_abs g.recorded) position
+TellsWritten image g position false =
+    (IsReached image (layout_of g.descriptor) (geometry_of g.descriptor) position (unsigned_abs g.recorded) position → ⊥)
+    ⊎ ((at : ℕ) × BreaksFrom image (layout_of g.descriptor) (geometry_of g.descriptor) position (unsigned_abs g.recorded) position at)

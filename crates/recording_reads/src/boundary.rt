@@ -5,7 +5,7 @@ ghost use Rattle.frame_core.specs.declared.refusal.Refusal.TheVariants.{DeviceFa
 ghost use Rattle.disk_core.specs.DiskImage.{reads};
 ghost use Rattle.disk_core.specs.Life.{HasFailed, IsQuiet};
 ghost use Rattle.control_core.specs.Orderly.{IsLaid};
-ghost use Rattle.recording_reads.specs.Reading.{RefusesBoundaryIn, TellsBoundaryIn, term_start};
+ghost use Rattle.recording_reads.specs.Reading.{RefusesBoundaryIn, TellsBoundaryIn, TellsWritten, term_start};
 
 use crate::layout_of;
 use archive_model::{Descriptor, Registration};
@@ -25,7 +25,7 @@ pub fn is_boundary<D: Disk>(
     position: i64,
 ) -> Result<bool, Refusal>
     requires { IsLaid registration.now }
-    ensures told { IfOk result (λ told. IsTrue (D.life disk.new).obeys →
+    ensures answer { IfOk result (λ told. IsTrue (D.life disk.new).obeys →
         TellsBoundaryIn (reads (D.life disk.old).now) registration.now position told) }
     ensures refused { IfErr result (RefusesBoundaryIn (D.life disk.new).obeys (reads (D.life disk.old).now) registration.now position) }
     ensures quiet { IsQuiet (D.life disk.old) (D.life disk.new) }
@@ -48,6 +48,36 @@ pub fn is_boundary<D: Disk>(
         from,
         position,
     )
+}
+
+/// Whether frames stand, whole, one after another from a recording's recorded position up to another, in bytes of the stream,
+/// as they do once a settle up to there was begun. `DeviceFault`. The disk stays as it is. docs/STORAGE.md, "A closed gate".
+/// Does not allocate. Costs a step for each frame between the two.
+pub fn is_written_to<D: Disk>(
+    disk: &mut D,
+    registration: &Registration,
+    position: i64,
+) -> Result<bool, Refusal>
+    requires { IsLaid registration.now }
+    ensures answer { IfOk result (λ told. IsTrue (D.life disk.new).obeys →
+        TellsWritten (reads (D.life disk.old).now) registration.now position told) }
+    ensures refusal { IfErr result (λ refusal. refusal ≡ DeviceFault) }
+    ensures quiet { IsQuiet (D.life disk.old) (D.life disk.new) }
+    ensures cause { IsErrOf result DeviceFault → HasFailed (D.life disk.old) (D.life disk.new) }
+{
+    let descriptor = &registration.descriptor;
+    let reached = is_reached(
+        disk,
+        &layout_of(descriptor),
+        &descriptor.geometry(),
+        position,
+        registration.recorded,
+        position,
+    );
+    match reached {
+        Err(Refusal::Damaged { .. }) => Ok(false),
+        answer => answer,
+    }
 }
 
 /// Where the term of a position begins, or the recording where that is later, in bytes of the stream.

@@ -6,7 +6,7 @@ mod counting;
 mod layout;
 mod polling;
 
-pub use boundary::is_boundary;
+pub use boundary::{is_boundary, is_written_to};
 pub use counting::count_frames;
 pub use layout::layout_of;
 pub use polling::{Given, poll_frames};

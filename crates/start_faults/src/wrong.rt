@@ -1,14 +1,13 @@
 //! The first word that breaks its rule.
 
-ghost use Rattle.std.specs.Prelude.{◌≡◌, ◌&&◌, chars, int_le};
-ghost use Rattle.std.specs.List.{list_any};
+ghost use Rattle.std.specs.Prelude.{◌≡◌, ◌&&◌, int_le};
 ghost use Rattle.frame_core.specs.Limits.{is_term_length};
-ghost use Rattle.archive_model.specs.Descriptor.{is_blank, is_source};
+ghost use Rattle.archive_model.specs.Descriptor.{is_source};
 ghost use Rattle.start_faults.specs.StartFaults.{wrong_word};
 
 use crate::word::StartWord;
-use archive_model::{SourceIdentity, StartFields, is_origin, may_begin_at};
-use frame_core::limits::{MAX_SOURCE_LENGTH, is_mtu, is_term_length};
+use archive_model::{StartFields, is_origin, is_source, may_begin_at};
+use frame_core::limits::{is_mtu, is_term_length};
 
 /// The first word of the line, `<source>` before the others, that breaks its rule: why a start is BadParameter. None if each
 /// keeps its rule. Costs the lengths of channel and source.
@@ -45,23 +44,4 @@ fn is_segment_length(fields: &StartFields) -> bool
     ensures { result ≡ is_term_length fields.now.segment_length && int_le fields.now.term_length fields.now.segment_length }
 {
     is_term_length(fields.segment_length) && fields.term_length <= fields.segment_length
-}
-
-/// Whether a text is a source: docs/CONTROL.md, "Limits". Costs the text.
-#[tactic(auto, unfolding(archive_model::specs::Descriptor::is_source))]
-fn is_source(source: &SourceIdentity) -> bool
-    ensures { result ≡ is_source source.now }
-{
-    let text = source.as_str();
-    if text.len() > MAX_SOURCE_LENGTH {
-        return false;
-    }
-    !has_blank(text)
-}
-
-/// Whether a text has a blank or a control character.
-fn has_blank(text: &str) -> bool
-    ensures { result ≡ list_any is_blank (chars text.now) }
-{
-    text.chars().any(|c| c == ' ' || c.is_control())
 }

@@ -1,25 +1,25 @@
 -- The entry of an allowed command may follow those that made the desk's recordings, and makes the desk's recordings after it,
 -- whatever the segment files hold.
-use Rattle.std.proofs.Common.{rules, ◌≡◌, ◌∙◌, ◌&&◌, ◌%◌, ◌*◌, ◌^◌, ◌≤◌, ◌≤ℤ◌, ◌<ℤ◌, sym, ap, refl, ℤ, pos, negsuc, not, Bool, true, Option, Some, None, Ok, [], arith, unsigned_abs}
+use Rattle.std.proofs.Common.{rules, ◌≡◌, ◌∙◌, ◌&&◌, ◌*◌, ◌^◌, ◌≤◌, ◌≤ℤ◌, ◌<ℤ◌, sym, ap, refl, ℤ, pos, negsuc, not, Bool, true, Option, Some, None, Ok, [], arith, unsigned_abs}
 use Rattle.std.proofs.lemmas.Int.{ints}
 use Rattle.std.proofs.lemmas.Bool.Decides.{Decides-int_eq, nat_tests}
 use Rattle.std.specs.Prelude.{is_some, int_lt}
-use Rattle.engine_core.proofs.Words.{Allows, Command, DeskState, Entry, IsAligned, IsLaid, IsRequested, KeepsDesk, LiesBehind, RecorderSession, Registration, State, Written, admits, after_entry, both, desk_after, entry_of, is_later_base, is_of, registration_in, session_in, settle_decision, settled}
+use Rattle.engine_core.proofs.Words.{Allows, Command, DeskState, Entry, IsLaid, IsRequested, KeepsDesk, LiesBehind, RecorderSession, Registration, State, Written, admits, after_entry, both, desk_after, entry_of, is_later_base, is_of, registration_in, session_in, settle_decision, settled}
 use Rattle.std.specs.List.{list_any}
 use Rattle.std.specs.Ordering.{int_eq}
 use Rattle.archive_model.specs.declared.command.Command.TheVariants as commands
 use Rattle.archive_model.specs.declared.command.ExtendFields.{ExtendFields}
 use Rattle.archive_model.specs.declared.command.StartFields.{StartFields}
 use Rattle.archive_model.specs.Checks.{is_boundary_by}
-use Rattle.archive_model.specs.Descriptor.{is_in_range, is_negative}
+use Rattle.archive_model.specs.Descriptor.{is_aligned, is_in_range, is_negative}
 use Rattle.archive_model.specs.declared.registration.Change.TheVariants as changes
 use Rattle.archive_model.specs.Register.{changed, extends, is_active, is_within, may_begin, may_record}
+use Rattle.archive_model.proofs.AlignedLemmas.{aligned_of_units}
 use Rattle.archive_model.specs.Version.{holds}
 use Rattle.catalogue_entries.specs.declared.entry.Entry.TheVariants as entries
-use Rattle.catalogue_entries.specs.Fold.{is_aligned, is_in_stream, may_settle, may_truncate}
+use Rattle.catalogue_entries.specs.Fold.{is_in_stream, may_settle, may_truncate}
 use Rattle.control_core.specs.declared.turns.Settling.TheVariants as settling
 use Rattle.control_core.specs.Changes.{settled_by}
-use Rattle.control_core.specs.Decisions.{is_multiple}
 use Rattle.control_core.specs.Desk.{has_room, has_session_number, is_replay_before, is_replayed}
 use Rattle.engine_core.proofs.calls.KnownLemmas.{laid_found, laid_low, session_recording, written_behind}
 use Rattle.engine_core.proofs.calls.MakeLemmas.{IsEntryFor}
@@ -72,11 +72,6 @@ admits_extend d f pass =
     let may : (may_record g ≡ true) × (has_session_number d ≡ true) = both more.0 in
     and_true off.0 may.0
 
-same_multiple : (z : ℤ) → is_multiple z ≡ true → is_aligned z ≡ true
-unfolding is_multiple is_aligned
-same_multiple (pos p) is = is
-same_multiple (negsuc p) is = is
-
 truncates : (found : Option Registration) (position : ℤ) → is_of found (λ r. not (is_active r)) ≡ true → is_of found (is_boundary_by true position) ≡ true → is_aligned position ≡ true → is_of found (may_truncate position) ≡ true
 truncates None position stopped bounds aligned = stopped
 truncates (Some r) position stopped bounds aligned =
@@ -87,14 +82,14 @@ admits_truncate : (d : DeskState) (id position : ℤ) → Allows d (commands.Tru
 admits_truncate d id position pass =
     let found = registration_in d.register id in
     let stopped : Bool = is_of found (λ r. not (is_active r)) in
-    let on_boundary : Bool = is_of found (is_boundary_by true position) && is_multiple position in
+    let on_boundary : Bool = is_of found (is_boundary_by true position) && is_aligned position in
     let unread : Bool = not (is_replayed d id) in
     let whole : (not d.is_broken ≡ true) × ((is_some found && (stopped && (on_boundary && (unread && (has_room d && true))))) ≡ true) = both pass in
     let there : (is_some found ≡ true) × ((stopped && (on_boundary && (unread && (has_room d && true)))) ≡ true) = both whole.1 in
     let off : (stopped ≡ true) × ((on_boundary && (unread && (has_room d && true))) ≡ true) = both there.1 in
     let on : (on_boundary ≡ true) × ((unread && (has_room d && true)) ≡ true) = both off.1 in
-    let bounds : (is_of found (is_boundary_by true position) ≡ true) × (is_multiple position ≡ true) = both on.0 in
-    truncates found position off.0 bounds.0 (same_multiple position bounds.1)
+    let bounds : (is_of found (is_boundary_by true position) ≡ true) × (is_aligned position ≡ true) = both on.0 in
+    truncates found position off.0 bounds.0 bounds.1
 
 admits_purge_segments : (d : DeskState) (id position : ℤ) → Allows d (commands.PurgeSegments id position) → Admits d (commands.PurgeSegments id position)
 admits_purge_segments d id position pass =
@@ -147,11 +142,6 @@ allowed_entry d c e for made pass =
 lt_holds : (a b : ℤ) → a <ℤ b → int_lt a b ≡ true
 lt_holds a b less = search (rules, less)
 
-multiple_aligned : (z : ℤ) → IsAligned z → is_aligned z ≡ true
-unfolding is_aligned
-multiple_aligned (pos p) of = let whole : pos p ≡ pos (32 * of.0) = of.1 in let none : p % 32 ≡ 0 = omega (arith, ints, whole) in grind (arith, nat_tests)
-multiple_aligned (negsuc p) of = absurd (let clash : negsuc p ≡ pos (32 * of.0) = of.1 in cc)
-
 stream_holds : (z term : ℤ) → pos 0 ≤ℤ z → z ≤ℤ pos (2 ^ 31 * unsigned_abs term) → is_in_stream z term ≡ true
 unfolding is_in_stream
 stream_holds (pos p) term low high = let most : p ≤ 2 ^ 31 * unsigned_abs term = omega (arith, ints, high) in grind (arith, nat_tests)
@@ -162,7 +152,7 @@ may_settle_last : (r : Registration) (w : Written) → IsLaid r → is_active r 
 may_settle_last r w laid active lies =
     let low = (laid_low r laid).1 in
     let less : r.recorded <ℤ w.last = omega (arith, ints, lies.behind, lies.forward) in
-    and_true (and_true (and_true active (lt_holds r.recorded w.last less)) (multiple_aligned w.last lies.aligned)) (stream_holds w.last r.descriptor.term_length (omega (arith, ints, low, less)) lies.in_stream)
+    and_true (and_true (and_true active (lt_holds r.recorded w.last less)) (aligned_of_units w.last lies.aligned)) (stream_holds w.last r.descriptor.term_length (omega (arith, ints, low, less)) lies.in_stream)
 
 module _ (d : DeskState) (n id : ℤ) (w : Written) (keeps : KeepsDesk d.register d.callers) (told : settle_decision d n ≡ Ok (settling.Blocks id w)) where
   pub settled_admitted : admits d.register (entries.Settle id w.last) ≡ true

@@ -4,7 +4,7 @@ use Rattle.std.proofs.lemmas.Int.{ints}
 use Rattle.std.proofs.lemmas.Bool.Decides.{Decides-int_eq}
 use Rattle.std.specs.Ordering.{int_eq}
 use Rattle.std.specs.Prelude.{IsSomeAnd}
-use Rattle.engine_core.proofs.Words.{Archive, ArchiveEnds, AreEncodable, Block, CallEnded, CallEnds, ChangesFile, Content, Descriptor, DeskState, DeviceFault, Each, EndsAs, EndsEvent, EngineState, Event, Frame, HasBlocks, HasFailed, HoldsFrames, IsBlock, IsCrashConsistent, IsFromStart, IsKept, IsLayout, IsSound, Layout, Life, Moves, RecorderSession, Recording, Refusal, Registration, Reply, Stands, StandsBehind, State, StaysConsistent, Stepped, Written, archive_of, asked_of, base_of, broken, broken_desk, call_is_allowed, covered, each_found, file_of, find, found_number, frames_of, geometry_of, id_of, last_of, layout_of, publication_of, reads, recorded_position, recording_at, registration_of, session_in, session_number, told_of, with_block, write_decision, write_tests, written_to}
+use Rattle.engine_core.proofs.Words.{Archive, ArchiveEnds, AreEncodable, Block, CallEnded, CallEnds, ChangesFile, Content, Descriptor, DeskState, DeviceFault, Each, EndsAs, EndsEvent, EngineState, Event, Frame, HasBlocks, HasFailed, HoldsFrames, IsBlock, IsCrashConsistent, IsFromStart, IsKept, IsLayout, IsSound, KeepsDesk, Layout, Life, Moves, RecorderSession, Recording, Refusal, Registration, Reply, Stands, StandsBehind, State, StaysConsistent, Stepped, Written, archive_of, asked_of, base_of, broken, broken_desk, call_is_allowed, covered, each_found, end_position, file_of, find, found_number, frames_of, geometry_of, id_of, last_of, layout_of, publication_of, reads, recorded_position, recording_at, registration_of, session_in, session_number, told_of, with_block, write_decision, write_tests, written_to}
 use Rattle.archive_model.specs.declared.reply.Reply.TheVariants.{Written as WrittenReply}
 use Rattle.archive_model.specs.Register as register
 use Rattle.control_core.specs.declared.event.Event.TheVariants as events
@@ -19,7 +19,8 @@ use Rattle.engine_core.proofs.files.BlockLemmas.{blocks_encodable, stands_more}
 use Rattle.engine_core.proofs.calls.EndedLemmas.{done, failed, no_doubt, same_bank, sound_consistent}
 use Rattle.engine_core.proofs.calls.KnownLemmas.{IsKnown, begins_behind, known_recording, registered_of}
 use Rattle.engine_core.proofs.calls.SettleCallLemmas.{answered_still, blank, no_fault}
-use Rattle.engine_core.proofs.calls.WritingLemmas.{Lets, Other, each_other, from_start, is_refused, let_through, same_segment, span_is, span_to, stands_beside, target_layout}
+use Rattle.control_core.specs.Turns.{RefusesWriting, extent_of}
+use Rattle.engine_core.proofs.calls.WritingLemmas.{Lets, Other, each_other, from_start, is_refused, let_through, of_session, same_segment, span_is, span_to, stands_beside, target_layout, untargeted}
 
 -- ---- a block that is of no session's recording is refused
 
@@ -286,3 +287,8 @@ module _ (old : EngineState) (n : ℤ) (block : Block) (layout : Layout) (end : 
       swept = λ removed e. absurd cc;
       ended = λ c was cut. failing c was reply is new result changes does stays desk cause;
     })
+
+-- a block that is not written
+pub write_refused : (e : EngineState) (n : ℤ) (block : Block) (refusal : Refusal) → KeepsDesk e.desk.register e.desk.callers → RefusesWriting e.desk n block refusal → EndsEvent e e (events.Write n block) (Err refusal)
+write_refused e n block refusal keeps (true, of, decided) = let there = of_session e.desk n block keeps of in write_refuses e n block there.0 (end_position block) there.1 refusal (sym decided)
+write_refused e n block refusal keeps (false, none, decided) = write_untargeted e n block (extent_of block) (Err refusal) (untargeted e.desk n block none) (sym decided)

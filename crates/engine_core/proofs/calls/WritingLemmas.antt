@@ -2,7 +2,7 @@
 use Rattle.std.proofs.Common.{◌≡◌, ◌≢◌, ◌∙◌, sym, ap, subst, refl, inl, inr, ℕ, ℤ, pos, ◌+◌, ◌*◌, ◌^◌, ◌+ℤ◌, ◌<ℤ◌, ◌≤ℤ◌, not, Bool, true, false, cond, true≢false, List, [], ◌∷◌, ◌++◌, Option, Some, None, Ok, Err, unsigned_abs, arith}
 use Rattle.std.proofs.lemmas.Int.{ints}
 use Rattle.std.proofs.lemmas.Bool.Decides.{Decides-int_eq, nat_tests}
-use Rattle.std.specs.Prelude.{◌==◌, IfSome, IsSomeAnd, MatchOption, is_some}
+use Rattle.std.specs.Prelude.{◌==◌, IsSomeAnd, is_some}
 use Rattle.std.specs.Ordering.{int_eq}
 use Rattle.engine_core.proofs.Words.{Archive, Block, ChangesFile, DeskState, Each, FileState, Frame, Geometry, IsAligned, IsBlock, IsFromStart, IsLayout, KeepsDesk, Layout, LiesBehind, Life, RecorderSession, Refusal, Registration, Reply, Stands, StandsBehind, Written, block_checks, change, checks, covered, each_found, end_position, file_of, find, first_checks, found_number, frames_of, geometry_of, held, id_of, is_of, last_checks, last_of, layout_of, passes, publication_of, reads, recording_at, registration_in, session_in, session_number, with_block, write_decision, write_tests, written_to}
 use Rattle.frame_core.specs.declared.block.Publication.{Publication}
@@ -13,49 +13,55 @@ use Rattle.archive_model.specs.declared.reply.Reply.TheVariants.{Written as Writ
 use Rattle.archive_model.specs.Keyed.{Rise}
 use Rattle.archive_model.specs.Register as register
 use Rattle.archive_model.proofs.StreamLemmas.{ends_in_stream}
-use Rattle.control_core.specs.declared.callers.Writer.{Writer}
+use Rattle.control_core.specs.declared.turns.FoundWriting.{FoundWriting}
 use Rattle.record_core.specs.Writing.{needs_settle}
 use Rattle.control_core.specs.Exact.{span_of}
 use Rattle.control_core.specs.Orderly.{stream_end}
-use Rattle.control_core.specs.Seats.{AreApart, IsWriter}
-use Rattle.control_core.specs.Turns.{continues, is_waiting, part_of}
+use Rattle.control_core.specs.Seats.{AreApart}
+use Rattle.control_core.specs.Turns.{AllowsWriting, IsOfSession, continues, is_waiting, part_of}
 use Rattle.control_core.proofs.AllowedLemmas.{both, passes_at}
 use Rattle.control_core.proofs.WriteLemmas.{span_ends}
 use Rattle.engine_core.proofs.calls.Targets.{HasNoTarget, IsTarget}
 use Rattle.engine_core.proofs.files.FrameLemmas.{apart}
 use Rattle.engine_core.proofs.files.BlockLemmas.{block_aligned, block_some}
-use Rattle.engine_core.proofs.calls.KnownLemmas.{begins_behind, block_behind, block_from_start, laid_found, layout_laid, one_known, written_behind}
+use Rattle.engine_core.proofs.calls.KnownLemmas.{begins_behind, block_behind, block_from_start, laid_found, layout_laid, written_behind}
 use Rattle.engine_core.proofs.calls.SettleCallLemmas.{not_so}
 use Rattle.engine_core.proofs.calls.StandLemmas.{frames_behind}
 
 -- ---- where a block is written
 
-one_session : (s t : RecorderSession) → Some s ≡ Some t → s ≡ t
-one_session s t is = cc
+-- a block that may be written has a target
+pub target_is : (d : DeskState) (n : ℤ) (block : Block) (found : FoundWriting) (layout : Layout) → AllowsWriting d n block found → KeepsDesk d.register d.callers → layout ≡ layout_of found.writer.known.now.descriptor
+    → IsTarget d n block layout (end_position block)
+target_is d n block found layout allows keeps is = record {
+  session = found.writer.found.session;
+  registration = found.writer.known.now;
+  found = allows.writer.found.session;
+  known = allows.writer.known;
+  is_block = allows.is_block;
+  layout_is = is;
+  end_is = refl;
+  keeps = keeps;
+}
 
-pub target_is : (d : DeskState) (n : ℤ) (block : Block) (writer : Option Writer) (w : Writer) (layout : Layout) (end : ℤ) → MatchOption writer (session_in d n ≡ None) (IsWriter n d) → KeepsDesk d.register d.callers
-    → (writer ≡ Some w) × (end ≡ end_position block) × IsBlock (geometry_of w.known.now.descriptor) (publication_of w.known.now.descriptor) block → layout ≡ layout_of w.known.now.descriptor → IsTarget d n block layout end
-target_is d n block writer w layout end found keeps of is =
-    let writes : IsWriter n d w = subst (λ (o : Option Writer). MatchOption o (session_in d n ≡ None) (IsWriter n d)) of.0 found in
-    record {
-      session = w.found.session;
-      registration = w.known.now;
-      found = writes.found.session;
-      known = writes.known;
-      is_block = of.2;
-      layout_is = is;
-      end_is = of.1;
-      keeps = keeps;
-    }
+-- one that is of its session's recording, too
+pub of_session : (d : DeskState) (n : ℤ) (block : Block) → KeepsDesk d.register d.callers → IsOfSession d (session_in d n) block → (layout : Layout) × IsTarget d n block layout (end_position block)
+of_session d n block keeps of = by (session_in d n) refl of
+  where
+    known : (s : RecorderSession) (o : Option Registration) → session_in d n ≡ Some s → registration_in d.register s.recording ≡ o → IsSomeAnd o (λ r. IsBlock (geometry_of r.descriptor) (publication_of r.descriptor) block)
+        → (layout : Layout) × IsTarget d n block layout (end_position block)
+    known s None found there of = absurd of
+    known s (Some r) found there of = (layout_of r.descriptor, record { session = s; registration = r; found = found; known = there; is_block = of; layout_is = refl; end_is = refl; keeps = keeps })
 
-pub untargeted : (d : DeskState) (n : ℤ) (block : Block) (writer : Option Writer)
-    → MatchOption writer (session_in d n ≡ None) (IsWriter n d)
-    → IfSome writer (λ w. IsBlock (geometry_of w.known.now.descriptor) (publication_of w.known.now.descriptor) block → ⊥) → HasNoTarget d n block
-untargeted d n block None found none s r session known is = let no : None ≡ Some s = sym found ∙ session in cc
-untargeted d n block (Some w) found none s r session known is =
-    let same : s ≡ w.found.session = one_session s w.found.session (sym session ∙ found.found.session) in
-    let registration : r ≡ w.known.now = one_known r w.known.now (sym known ∙ ap (λ (x : RecorderSession). registration_in d.register x.recording) same ∙ found.known) in
-    none (subst (λ (x : Registration). IsBlock (geometry_of x.descriptor) (publication_of x.descriptor) block) registration is)
+    by : (o : Option RecorderSession) → session_in d n ≡ o → IsOfSession d o block → (layout : Layout) × IsTarget d n block layout (end_position block)
+    by None found of = absurd of
+    by (Some s) found of = known s (registration_in d.register s.recording) found refl of
+
+-- and one that is not has none
+pub untargeted : (d : DeskState) (n : ℤ) (block : Block) → (IsOfSession d (session_in d n) block → ⊥) → HasNoTarget d n block
+untargeted d n block none s r session known is =
+    none (subst (λ (o : Option RecorderSession). IsOfSession d o block) (sym session)
+    (subst (λ (o : Option Registration). IsSomeAnd o (λ x. IsBlock (geometry_of x.descriptor) (publication_of x.descriptor) block)) (sym known) is))
 
 -- ---- what is let through
 
@@ -109,9 +115,6 @@ block_ends g p (f ∷ fs) position (at, encodable, inr run) =
 
 abbrev pub span_to : Block → ℤ → Written
 span_to block end = record { first = block.position; last = end }
-
-pub span_same : (block : Block) (end at to : ℤ) → block.position ≡ at → end ≡ to → record { first = at; last = to } ≡ span_to block end
-span_same block end at to first last = ap (λ (x : ℤ). record { first = x; last = to }) (sym first) ∙ ap (λ (x : ℤ). span_to block x) (sym last)
 
 module _ (d : DeskState) (n : ℤ) (block : Block) (layout : Layout) (end : ℤ) (at : IsTarget d n block layout end) where
   pub target_layout : IsLayout layout

@@ -1,5 +1,5 @@
 -- Recordings stay laid, whatever entries make of them.
-use Rattle.std.proofs.Common.{◌≡◌, ◌<ℤ◌, ◌≤ℤ◌, ◌*◌, ◌/◌, ◌%◌, ◌^◌, ◌≤◌, ◌&&◌, ap, sym, ℕ, ℤ, pos, negsuc, true, true≢false, List, [], ◌∷◌, length, int_le, int_lt, nat_lt, unsigned_abs, arith, rules}
+use Rattle.std.proofs.Common.{◌≡◌, ◌<ℤ◌, ◌≤ℤ◌, ◌*◌, ◌^◌, ◌≤◌, ◌&&◌, sym, ℤ, pos, negsuc, true, true≢false, List, [], ◌∷◌, length, int_le, int_lt, nat_lt, unsigned_abs, arith, rules}
 use Rattle.std.proofs.lemmas.Int.{ints}
 use Rattle.std.proofs.lemmas.Bool.Decides.{nat_tests}
 use Rattle.std.specs.Prelude.{IsTrue, not}
@@ -7,10 +7,11 @@ use Rattle.engine_core.proofs.Words.{Descriptor, Entry, IsLaid, RegisterState, R
 use Rattle.frame_core.specs.Limits.{is_mtu}
 use Rattle.std.specs.Ordering.{int_eq}
 use Rattle.archive_model.specs.declared.registration.Change.TheVariants as changes
-use Rattle.archive_model.specs.Descriptor.{is_in_range, is_negative, is_origin}
+use Rattle.archive_model.specs.Descriptor.{is_aligned, is_in_range, is_negative, is_origin}
 use Rattle.archive_model.specs.Register.{changed_by, is_active, is_behind, is_within, may_begin, may_record, registered}
+use Rattle.archive_model.proofs.AlignedLemmas.{aligned_units}
 use Rattle.catalogue_entries.specs.declared.entry.Entry.TheVariants.{Start, Settle, Stop, Extend, Truncate, PurgeSegments, PurgeRecording, Restart, Whole, NextId}
-use Rattle.catalogue_entries.specs.Fold.{AreAdmitted, Place, has_limits, is_aligned, is_in_stream, is_recorded_to, is_stopped, as_kept, may_settle, may_truncate, place_behind, restores, takes}
+use Rattle.catalogue_entries.specs.Fold.{AreAdmitted, Place, has_limits, is_in_stream, is_recorded_to, is_stopped, as_kept, may_settle, may_truncate, place_behind, restores, takes}
 use Rattle.catalogue_entries.proofs.CallerLemmas.{stands_takes}
 use Rattle.control_core.specs.Orderly.{AreLaid}
 use Rattle.control_core.proofs.LaidLemmas.{all_stopped_laid, changed_laid, laid_begun, laid_extended, laid_purged, laid_settled, laid_stopped, laid_truncated, one_less_laid, one_more_laid, test_of}
@@ -22,15 +23,6 @@ within_stream : (z term : ℤ) → is_in_stream z term ≡ true → z ≤ℤ pos
 unfolding is_in_stream
 within_stream (pos p) term is = let low : p ≤ 2 ^ 31 * unsigned_abs term = grind (arith, nat_tests) in omega (arith, ints, low)
 within_stream (negsuc p) term is = absurd (true≢false (sym is))
-
--- a multiple of 32 from 0
-aligned_units : (z : ℤ) → is_aligned z ≡ true → (k : ℕ) × (z ≡ pos (32 * k))
-unfolding is_aligned
-aligned_units (pos p) is =
-    let none : p % 32 ≡ 0 = grind (arith, nat_tests) in
-    let whole : p ≡ 32 * (p / 32) = omega (arith, none) in
-    (p / 32, ap pos whole)
-aligned_units (negsuc p) is = absurd (true≢false (sym is))
 
 settled_further : (position : ℤ) (r : Registration) → may_settle position r ≡ true → IsLaid r
     → IsLaid (changed_by (changes.Settle position) r)

@@ -10,8 +10,8 @@ returns-in_err-log-clause-refused g c =
     rw is (refused_read g.D.Disk.life c.args.disk.now c.open_register.new.disk c.in_err-log.field-0.0 (g.met.D.Disk.reads_may_stay c.args.disk.now.disk) c.open_register.ensures.same c.open_register.ensures.any_moment
     c.in_err-log.ensures.refused (λ fault. c.in_err-log.ensures.cause (ap Err fault)))
 
-pub opened-requires : goal.opened-requires
-opened-requires g c =
+pub opened-desk-requires : goal.opened-desk-requires
+opened-desk-requires g c =
     let opened = c.in_ok-log.ensures.opened in
     subst AreLaid (sym opened.makes) (c.admitted_entries_make_laid_recordings.ensures c.in_ok-log.log.header.version opened.entries opened.admitted)
 
@@ -19,6 +19,6 @@ pub returns-clause-found : goal.returns-clause-found
 returns-clause-found g c =
     let log = c.in_ok-log.log in
     let opened = c.in_ok-log.ensures.opened in
-    desk_read g.D.Disk.life c.args.disk.now c.open_register.new.disk log opened.entries c.in_ok-log.register.state c.opened.result.state _ _ _ _
-    (g.met.D.Disk.reads_may_stay c.args.disk.now.disk) c.open_register.ensures.same c.open_register.ensures.any_moment opened.stands opened.at_rest opened.makes
-    c.opened.ensures c.counted-counted.ensures c.limit.ensures c.version.ensures c.epoch.ensures
+    desk_read g.D.Disk.life c.args.disk.now c.open_register.new.disk log opened.entries c.in_ok-log.register.state c.opened-desk.result.state _ _ _
+    (g.met.D.Disk.reads_may_stay c.args.disk.now.disk) c.open_register.ensures.same c.open_register.ensures.any_moment opened.stands opened.makes
+    c.opened-desk.ensures c.counted-counted.ensures c.limit.ensures c.version.ensures

@@ -41,7 +41,7 @@ returns-then-not-branch-clause-decided g c log a desk was reads =
     let same : boundary ≡ to_z w64 (of_z w64 boundary) = search rules in
     let no : c.in_ok-is_boundary-in-IfBoundary.field-0 ≡ false = search rules in
     inl (sym (asked_read old new log c.args.desk.now.state a c.args.recording.now c.args.position.now c.args.length.now boundary _ c.in-IfBoundary.decided c.in-IfBoundary.known.now c.in_ok-is_boundary-in-IfBoundary.field-0
-    (g.met.D.Disk.reads_may_stay c.args.disk.now) desk was (sym c.in-IfBoundary.ensures.known.0) c.in-IfBoundary.ensures.decided same (reads by_frames) (λ r known inside. told_read old new c.in-IfBoundary.known.now r known (to_z w64 (of_z w64 c.in-IfBoundary.position)) c.in_ok-is_boundary-in-IfBoundary.field-0 inside (c.in_ok-is_boundary-in-IfBoundary.ensures.told known.obeys)) ∙ ap (λ t. cond t c.in-IfBoundary.decided (Err BadPosition)) no))
+    (g.met.D.Disk.reads_may_stay c.args.disk.now) desk was (sym c.in-IfBoundary.ensures.known.0) c.in-IfBoundary.ensures.decided same (reads by_frames) (λ r known inside. told_read old new c.in-IfBoundary.known.now r known (to_z w64 (of_z w64 c.in-IfBoundary.position)) c.in_ok-is_boundary-in-IfBoundary.field-0 inside (c.in_ok-is_boundary-in-IfBoundary.ensures.answer known.obeys)) ∙ ap (λ t. cond t c.in-IfBoundary.decided (Err BadPosition)) no))
 
 pub returns-else-not-branch-clause-decided : goal.returns-else-not-branch-clause-decided
 returns-else-not-branch-clause-decided g c log a desk was reads =
@@ -53,7 +53,7 @@ returns-else-not-branch-clause-decided g c log a desk was reads =
     let same : boundary ≡ to_z w64 (of_z w64 boundary) = search rules in
     let yes : c.in_ok-is_boundary-in-IfBoundary.field-0 ≡ true = search rules in
     inl (sym (asked_read old new log c.args.desk.now.state a c.args.recording.now c.args.position.now c.args.length.now boundary _ c.in-IfBoundary.decided c.in-IfBoundary.known.now c.in_ok-is_boundary-in-IfBoundary.field-0
-    (g.met.D.Disk.reads_may_stay c.args.disk.now) desk was (sym c.in-IfBoundary.ensures.known.0) c.in-IfBoundary.ensures.decided same (reads by_frames) (λ r known inside. told_read old new c.in-IfBoundary.known.now r known (to_z w64 (of_z w64 c.in-IfBoundary.position)) c.in_ok-is_boundary-in-IfBoundary.field-0 inside (c.in_ok-is_boundary-in-IfBoundary.ensures.told known.obeys)) ∙ ap (λ t. cond t c.in-IfBoundary.decided (Err BadPosition)) yes))
+    (g.met.D.Disk.reads_may_stay c.args.disk.now) desk was (sym c.in-IfBoundary.ensures.known.0) c.in-IfBoundary.ensures.decided same (reads by_frames) (λ r known inside. told_read old new c.in-IfBoundary.known.now r known (to_z w64 (of_z w64 c.in-IfBoundary.position)) c.in_ok-is_boundary-in-IfBoundary.field-0 inside (c.in_ok-is_boundary-in-IfBoundary.ensures.answer known.obeys)) ∙ ap (λ t. cond t c.in-IfBoundary.decided (Err BadPosition)) yes))
 
 pub returns-else-not-branch-clause-leads : goal.returns-else-not-branch-clause-leads
 returns-else-not-branch-clause-leads g c = leads_inside _ c.in-IfBoundary.position c.in-IfBoundary.decided (sym c.in-IfBoundary.ensures.decided)
@@ -98,7 +98,7 @@ returns-then-not-branch-clause-shows g c obeys =
     let boundary = c.in-IfBoundary.position in
     let same : to_z w64 (of_z w64 boundary) ≡ boundary = search rules in
     let no : c.in_ok-is_boundary-in-IfBoundary.field-0 ≡ false = search rules in
-    let told : TellsBoundaryIn image known boundary false = subst (λ (z : ℤ). TellsBoundaryIn image known z false) same (subst (TellsBoundaryIn image known (to_z w64 (of_z w64 boundary))) no (c.in_ok-is_boundary-in-IfBoundary.ensures.told obeys)) in
+    let told : TellsBoundaryIn image known boundary false = subst (λ (z : ℤ). TellsBoundaryIn image known z false) same (subst (TellsBoundaryIn image known (to_z w64 (of_z w64 boundary))) no (c.in_ok-is_boundary-in-IfBoundary.ensures.answer obeys)) in
     inside_begin image d c.args.recording.now _ boundary c.in-IfBoundary.decided (Err BadPosition) known c.in-IfBoundary.ensures.decided c.in-IfBoundary.ensures.known.0 told
 
 pub returns-else-not-branch-clause-shows : goal.returns-else-not-branch-clause-shows
@@ -109,6 +109,6 @@ returns-else-not-branch-clause-shows g c obeys =
     let boundary = c.in-IfBoundary.position in
     let same : to_z w64 (of_z w64 boundary) ≡ boundary = search rules in
     let yes : c.in_ok-is_boundary-in-IfBoundary.field-0 ≡ true = search rules in
-    let told : TellsBoundaryIn image known boundary true = subst (λ (z : ℤ). TellsBoundaryIn image known z true) same (subst (TellsBoundaryIn image known (to_z w64 (of_z w64 boundary))) yes (c.in_ok-is_boundary-in-IfBoundary.ensures.told obeys)) in
+    let told : TellsBoundaryIn image known boundary true = subst (λ (z : ℤ). TellsBoundaryIn image known z true) same (subst (TellsBoundaryIn image known (to_z w64 (of_z w64 boundary))) yes (c.in_ok-is_boundary-in-IfBoundary.ensures.answer obeys)) in
     inside_begin image d c.args.recording.now _ boundary c.in-IfBoundary.decided c.in-IfBoundary.decided known c.in-IfBoundary.ensures.decided c.in-IfBoundary.ensures.known.0
     (behind_begin image known boundary c.in-IfBoundary.decided (opens_behind d c.args.recording.now c.args.position.now c.args.length.now boundary c.in-IfBoundary.decided (sym c.in-IfBoundary.ensures.decided)) told)

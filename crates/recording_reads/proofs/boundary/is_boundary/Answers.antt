@@ -11,8 +11,8 @@ use Rattle.recording_reads.proofs.BoundaryLemmas.{inside_told, outside}
 use Rattle.recording_reads.proofs.boundary.is_boundary.Goals.{then-position-descriptor-via-then-position-descriptor, then-position-descriptor-via-else-position-descriptor+then-position-recorded}
 use Rattle.recording_reads.proofs.boundary.is_boundary.Goals as goal
 
-pub returns-then-position-descriptor-clause-told : goal.returns-then-position-descriptor-clause-told
-returns-then-position-descriptor-clause-told g c obeys =
+pub returns-then-position-descriptor-clause-answer : goal.returns-then-position-descriptor-clause-answer
+returns-then-position-descriptor-clause-answer g c obeys =
     let image = reads (g.D.Disk.life c.args.disk.now).now in
     let registration = c.args.registration.now in
     let low : pos 0 ≤ℤ registration.descriptor.start_position = omega (arith, ints, c.requires.laid_out.layout.start_is) in
@@ -21,8 +21,8 @@ returns-then-position-descriptor-clause-told g c obeys =
       | then-position-descriptor-via-else-position-descriptor+then-position-recorded w ↦ outside image registration c.args.position low (inr (omega (arith, ints, w.if-position-recorded.true)))
     ]
 
-pub returns-clause-told : goal.returns-clause-told
-returns-clause-told g c =
+pub returns-clause-answer : goal.returns-clause-answer
+returns-clause-answer g c =
     let image = reads (g.D.Disk.life c.args.disk.now).now in
     let registration = c.args.registration.now in
     let d = registration.descriptor in
@@ -30,7 +30,7 @@ returns-clause-told g c =
     let recorded : FitsSigned w64 registration.recorded = search rules in
     let from : FitsSigned w64 c.term_start-from.result = search rules in
     let tells : IfOk c.is_reached.result (λ told. IsTrue (g.D.Disk.life c.is_reached.new.disk).obeys → TellsReached image (layout_of d) (geometry_of d) registration.recorded (unsigned_abs c.term_start-from.result) c.args.position told) =
-    simp to_z-of_z at (rw c.layout_of.ensures at rw c.geometry.ensures at c.is_reached.ensures.told) in
+    simp to_z-of_z at (rw c.layout_of.ensures at rw c.geometry.ensures at c.is_reached.ensures.answer) in
     let start : unsigned_abs c.term_start-from.result ≡ term_start d (unsigned_abs c.args.position) = ap unsigned_abs (simp to_z-of_z at c.term_start-from.ensures) in
     let low : d.start_position ≤ℤ c.args.position = omega (arith, ints, c.if-position-descriptor.false) in
     let within : c.args.position <ℤ registration.recorded = omega (arith, ints, c.if-position-recorded.false, c.if-position-recorded-2.false) in

@@ -6,23 +6,23 @@ use Rattle.segment_store.specs.Boundary.{RefusesReached, TellsReached}
 use Rattle.segment_store.proofs.ChainLemmas.{breaks_off, goes_past, none_there, pos_abs, handed_on, quiet_on, reaches_more, start_there}
 use Rattle.segment_store.proofs.boundary.is_reached.Goals as goal
 
-pub returns-then-position-from-clause-told : goal.returns-then-position-from-clause-told
-returns-then-position-from-clause-told g c obeys =
+pub returns-then-position-from-clause-answer : goal.returns-then-position-from-clause-answer
+returns-then-position-from-clause-answer g c obeys =
     none_there (reads (g.D.Disk.life c.args.disk.now).now) c.args.layout.now c.args.geometry.now c.args.recorded (unsigned_abs c.args.from) c.args.position
     (inl (omega (arith, ints, c.requires.layout.start_is, c.requires.from_start, c.if-position-from.true)))
 
-pub returns-then-position-from-2-clause-told : goal.returns-then-position-from-2-clause-told
-returns-then-position-from-2-clause-told g c obeys =
+pub returns-then-position-from-2-clause-answer : goal.returns-then-position-from-2-clause-answer
+returns-then-position-from-2-clause-answer g c obeys =
     start_there (reads (g.D.Disk.life c.args.disk.now).now) c.args.layout.now c.args.geometry.now c.args.recorded (unsigned_abs c.args.from) c.args.position
     (omega (arith, ints, c.requires.layout.start_is, c.requires.from_start, c.if-position-from.false, c.if-position-from-2.true))
 
-pub returns-then-position-recorded-clause-told : goal.returns-then-position-recorded-clause-told
-returns-then-position-recorded-clause-told g c obeys =
+pub returns-then-position-recorded-clause-answer : goal.returns-then-position-recorded-clause-answer
+returns-then-position-recorded-clause-answer g c obeys =
     none_there (reads (g.D.Disk.life c.args.disk.now).now) c.args.layout.now c.args.geometry.now c.args.recorded (unsigned_abs c.args.from) c.args.position
     (inr (omega (arith, ints, c.if-position-recorded.true), omega (arith, ints, c.requires.layout.start_is, c.requires.from_start, c.if-position-from-2.false)))
 
-pub returns-then-end-next-clause-told : goal.returns-then-end-next-clause-told
-returns-then-end-next-clause-told g c obeys =
+pub returns-then-end-next-clause-answer : goal.returns-then-end-next-clause-answer
+returns-then-end-next-clause-answer g c obeys =
     let files : Files = (g.D.Disk.life c.args.disk.now).now in
     let limit : to_z w64 (of_z w64 c.args.recorded) ≡ c.args.recorded = search rules in
     let end : c.unsigned_abs-end.result ≡ unsigned_abs c.args.position = search rules in

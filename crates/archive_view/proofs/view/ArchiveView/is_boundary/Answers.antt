@@ -17,7 +17,7 @@ returns g c =
     let position : FitsSigned w64 c.args.position = search rules in
     record {
       answers = subst (λ (found : Option Registration). BoundaryAnswers g.D.Disk.life c.args.self.now.disk c.is_boundary.new.disk found c.args.position c.is_boundary.result) known
-          (bounded_answers g.D.Disk.life c.args.self.now.disk c.is_boundary.new.disk c.in-Some.known.now c.args.position c.is_boundary.result (g.met.D.Disk.reads_may_stay c.args.self.now.disk.disk) c.is_boundary.ensures.quiet (simp to_z-of_z at c.is_boundary.ensures.told) (simp to_z-of_z at c.is_boundary.ensures.refused) c.is_boundary.ensures.cause);
+          (bounded_answers g.D.Disk.life c.args.self.now.disk c.is_boundary.new.disk c.in-Some.known.now c.args.position c.is_boundary.result (g.met.D.Disk.reads_may_stay c.args.self.now.disk.disk) c.is_boundary.ensures.quiet (simp to_z-of_z at c.is_boundary.ensures.answer) (simp to_z-of_z at c.is_boundary.ensures.refused) c.is_boundary.ensures.cause);
       desk = refl;
       same = ap (λ (files : Files). reads files) c.is_boundary.ensures.quiet.now;
     }

@@ -55,7 +55,7 @@ returns-then-not-branch-clause-ends g c =
     let position = c.in-IfBoundary.position in
     let same : to_z w64 (of_z w64 position) ≡ position = search rules in
     let no : c.in_ok-is_boundary-in-IfBoundary.field-0 ≡ false = search rules in
-    let told : Tells old mid known (to_z w64 (of_z w64 position)) c.in_ok-is_boundary-in-IfBoundary.field-0 = λ r read inside. told_read old mid known r read (to_z w64 (of_z w64 position)) c.in_ok-is_boundary-in-IfBoundary.field-0 inside (c.in_ok-is_boundary-in-IfBoundary.ensures.told read.obeys) in
+    let told : Tells old mid known (to_z w64 (of_z w64 position)) c.in_ok-is_boundary-in-IfBoundary.field-0 = λ r read inside. told_read old mid known r read (to_z w64 (of_z w64 position)) c.in_ok-is_boundary-in-IfBoundary.field-0 inside (c.in_ok-is_boundary-in-IfBoundary.ensures.answer read.obeys) in
     let tells = subst (λ (b : Bool). Tells old mid known position b) no (subst (λ (p : ℤ). Tells old mid known p c.in_ok-is_boundary-in-IfBoundary.field-0) same told) in
     ask_inside _ _ c.args.request.now (id_of known) position c.in-IfBoundary.decided _ (sym c.in-IfBoundary.ensures.decided) (inside_none _ _ _ _ known _ (record { stays = g.met.D.Disk.reads_may_stay c.args.self.now.storage.disk; found = sym c.in-IfBoundary.ensures.known.0; quiet = c.is_boundary.ensures.quiet }) tells)
 
@@ -67,7 +67,7 @@ returns-in_err-decided-in-IfBoundary-clause-ends g c =
     let position = c.in-IfBoundary.position in
     let same : to_z w64 (of_z w64 position) ≡ position = search rules in
     let yes : c.in_ok-is_boundary-in-IfBoundary.field-0 ≡ true = search rules in
-    let told : Tells old mid known (to_z w64 (of_z w64 position)) c.in_ok-is_boundary-in-IfBoundary.field-0 = λ r read inside. told_read old mid known r read (to_z w64 (of_z w64 position)) c.in_ok-is_boundary-in-IfBoundary.field-0 inside (c.in_ok-is_boundary-in-IfBoundary.ensures.told read.obeys) in
+    let told : Tells old mid known (to_z w64 (of_z w64 position)) c.in_ok-is_boundary-in-IfBoundary.field-0 = λ r read inside. told_read old mid known r read (to_z w64 (of_z w64 position)) c.in_ok-is_boundary-in-IfBoundary.field-0 inside (c.in_ok-is_boundary-in-IfBoundary.ensures.answer read.obeys) in
     let tells = subst (λ (b : Bool). Tells old mid known position b) yes (subst (λ (p : ℤ). Tells old mid known p c.in_ok-is_boundary-in-IfBoundary.field-0) same told) in
     let refusal = c.in_err-decided-in-IfBoundary.field-0.0 in
     let decided : c.in-IfBoundary.decided ≡ Err refusal = search rules in
@@ -98,7 +98,7 @@ returns-in_ok-decided-in-IfBoundary-clause-ends g c =
     let position = c.in-IfBoundary.position in
     let same : to_z w64 (of_z w64 position) ≡ position = search rules in
     let yes : c.in_ok-is_boundary-in-IfBoundary.field-0 ≡ true = search rules in
-    let told : Tells old mid known (to_z w64 (of_z w64 position)) c.in_ok-is_boundary-in-IfBoundary.field-0 = λ r read inside. told_read old mid known r read (to_z w64 (of_z w64 position)) c.in_ok-is_boundary-in-IfBoundary.field-0 inside (c.in_ok-is_boundary-in-IfBoundary.ensures.told read.obeys) in
+    let told : Tells old mid known (to_z w64 (of_z w64 position)) c.in_ok-is_boundary-in-IfBoundary.field-0 = λ r read inside. told_read old mid known r read (to_z w64 (of_z w64 position)) c.in_ok-is_boundary-in-IfBoundary.field-0 inside (c.in_ok-is_boundary-in-IfBoundary.ensures.answer read.obeys) in
     let tells = subst (λ (b : Bool). Tells old mid known position b) yes (subst (λ (p : ℤ). Tells old mid known p c.in_ok-is_boundary-in-IfBoundary.field-0) same told) in
     let decided : c.in-IfBoundary.decided ≡ Ok c.in_ok-decided-in-IfBoundary.field-0 = search rules in
     ask_inside _ _ c.args.request.now (id_of known) position c.in-IfBoundary.decided _ (sym c.in-IfBoundary.ensures.decided)
@@ -160,7 +160,7 @@ returns-then-not-branch-clause-shows g c obeys =
     let position = c.in-IfBoundary.position in
     let same : to_z w64 (of_z w64 position) ≡ position = search rules in
     let no : c.in_ok-is_boundary-in-IfBoundary.field-0 ≡ false = search rules in
-    let told : TellsBoundaryIn image known position false = subst (λ (z : ℤ). TellsBoundaryIn image known z false) same (subst (TellsBoundaryIn image known (to_z w64 (of_z w64 position))) no (c.in_ok-is_boundary-in-IfBoundary.ensures.told obeys)) in
+    let told : TellsBoundaryIn image known position false = subst (λ (z : ℤ). TellsBoundaryIn image known z false) same (subst (TellsBoundaryIn image known (to_z w64 (of_z w64 position))) no (c.in_ok-is_boundary-in-IfBoundary.ensures.answer obeys)) in
     inside_shown image d c.args.request.now (id_of known) position c.in-IfBoundary.decided known (Err BadPosition) (sym c.in-IfBoundary.ensures.decided) c.in-IfBoundary.ensures.known.0 told
 
 pub returns-then-not-branch-clause-touches : goal.returns-then-not-branch-clause-touches
@@ -174,7 +174,7 @@ returns-in_err-decided-in-IfBoundary-clause-shows g c obeys =
     let position = c.in-IfBoundary.position in
     let same : to_z w64 (of_z w64 position) ≡ position = search rules in
     let yes : c.in_ok-is_boundary-in-IfBoundary.field-0 ≡ true = search rules in
-    let told : TellsBoundaryIn image known position true = subst (λ (z : ℤ). TellsBoundaryIn image known z true) same (subst (TellsBoundaryIn image known (to_z w64 (of_z w64 position))) yes (c.in_ok-is_boundary-in-IfBoundary.ensures.told obeys)) in
+    let told : TellsBoundaryIn image known position true = subst (λ (z : ℤ). TellsBoundaryIn image known z true) same (subst (TellsBoundaryIn image known (to_z w64 (of_z w64 position))) yes (c.in_ok-is_boundary-in-IfBoundary.ensures.answer obeys)) in
     let refusal = c.in_err-decided-in-IfBoundary.field-0.0 in
     let decided : c.in-IfBoundary.decided ≡ Err refusal = search rules in
     let is : c.from_residual-in_err-decided-in-IfBoundary.result ≡ Err refusal = search rules in
@@ -203,7 +203,7 @@ returns-in_ok-decided-in-IfBoundary-clause-shows g c obeys =
     let same : to_z w64 (of_z w64 position) ≡ position = search rules in
     let yes : c.in_ok-is_boundary-in-IfBoundary.field-0 ≡ true = search rules in
     let made = c.make-in-IfBoundary.ensures.made in
-    let told : TellsBoundaryIn image known position true = subst (λ (z : ℤ). TellsBoundaryIn image known z true) same (subst (TellsBoundaryIn image known (to_z w64 (of_z w64 position))) yes (c.in_ok-is_boundary-in-IfBoundary.ensures.told (made.goes_on.obeyed obeys))) in
+    let told : TellsBoundaryIn image known position true = subst (λ (z : ℤ). TellsBoundaryIn image known z true) same (subst (TellsBoundaryIn image known (to_z w64 (of_z w64 position))) yes (c.in_ok-is_boundary-in-IfBoundary.ensures.answer (made.goes_on.obeyed obeys))) in
     inside_shown image d c.args.request.now (id_of known) position c.in-IfBoundary.decided known c.make-in-IfBoundary.result (sym c.in-IfBoundary.ensures.decided) c.in-IfBoundary.ensures.known.0
     (made_shown image known position _ _ _ _ c.make-in-IfBoundary.result _ (made.exact some_content).1 told)
 

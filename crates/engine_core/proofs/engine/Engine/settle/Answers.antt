@@ -28,22 +28,22 @@ returns-in-Nothing-clause-ends g c =
     let decided : settle_decision e.desk c.args.session.now ≡ Ok (settling.Nothing position) = c.in_ok-decided.ensures.decided ∙ ap Ok c.in-Nothing.is ∙ ap (λ z. Ok (settling.Nothing z)) same in
     settle_nothing e c.args.session.now position decided
 
-pub settle_blocks-requires-clause-found : goal.settle_blocks-requires-clause-found
-settle_blocks-requires-clause-found g c = c.in_ok-decided.ensures.found.found
-
-pub settle_blocks-requires-clause-keeps : goal.settle_blocks-requires-clause-keeps
-settle_blocks-requires-clause-keeps g c = c.in_ok-decided.ensures.keeps
-
-pub settle_blocks-requires-clause-laid : goal.settle_blocks-requires-clause-laid
-settle_blocks-requires-clause-laid g c =
+pub settle_blocks-requires : goal.settle_blocks-requires
+settle_blocks-requires g c =
     let d = c.args.self.now.desk.state in
     let n = c.args.session.now in
     let w = c.in-Blocks.written in
     let id = to_z w64 (of_z w64 c.in-Blocks.recording) in
     let same : c.in-Blocks.recording ≡ id = search rules in
     let decided : settle_decision d n ≡ Ok (settling.Blocks id w) = c.in_ok-decided.ensures.decided ∙ ap Ok c.in-Blocks.is ∙ ap (λ z. Ok (settling.Blocks z w)) same in
-    let known = c.in_ok-decided.decided.writer.known.now in
-    (known, settled_known d n id w c.in_ok-decided.decided.writer decided c.in_ok-decided.ensures.found, c.layout_of-layout.ensures)
+    record {
+      keeps = c.in_ok-decided.ensures.keeps;
+      found = c.in_ok-decided.ensures.found.found;
+      decided = decided;
+      known = c.in_ok-decided.decided.writer.known.now;
+      is_known = settled_known d n id w c.in_ok-decided.decided.writer decided c.in_ok-decided.ensures.found;
+      layout_is = c.layout_of.ensures;
+    }
 
 pub returns-in-Blocks-clause-ends : goal.returns-in-Blocks-clause-ends
 returns-in-Blocks-clause-ends g c =
@@ -71,7 +71,7 @@ returns-in-Blocks-clause-touches g c =
     let same : c.in-Blocks.recording ≡ id = search rules in
     let decided : settle_decision old.desk n ≡ Ok (settling.Blocks id w) = c.in_ok-decided.ensures.decided ∙ ap Ok c.in-Blocks.is ∙ ap (λ z. Ok (settling.Blocks z w)) same in
     let known = c.in_ok-decided.decided.writer.known.now in
-    blocks_touch old n id w known c.layout_of-layout.result (g.D.Disk.life c.settle_blocks.new.self.storage.disk) decided (settled_known old.desk n id w c.in_ok-decided.decided.writer decided c.in_ok-decided.ensures.found) c.layout_of-layout.ensures c.settle_blocks.ensures.touches
+    blocks_touch old n id w known c.layout_of.result (g.D.Disk.life c.settle_blocks.new.self.storage.disk) decided (settled_known old.desk n id w c.in_ok-decided.decided.writer decided c.in_ok-decided.ensures.found) c.layout_of.ensures c.settle_blocks.ensures.touches
 
 pub returns-in_err-decided-clause-memory : goal.returns-in_err-decided-clause-memory
 returns-in_err-decided-clause-memory g c memory =

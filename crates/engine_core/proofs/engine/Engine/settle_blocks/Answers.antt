@@ -11,42 +11,42 @@ use Rattle.engine_core.proofs.engine.Engine.settle_blocks.Goals as goal
 
 pub settle-requires-clause-layout : goal.settle-requires-clause-layout
 settle-requires-clause-layout g c =
-    subst IsLayout (sym c.requires.laid.2)
-    (settled_layout c.args.self.now.desk.state c.args.session.now c.args.recording.now c.args.written.now c.requires.laid.0 c.requires.keeps c.requires.decided c.requires.laid.1)
+    subst IsLayout (sym c.requires.layout_is)
+    (settled_layout c.args.self.now.desk.state c.args.session.now c.args.settlement.now.recording c.args.settlement.now.written c.requires.known c.requires.keeps c.requires.decided c.requires.is_known)
 
 pub settle-requires-clause-recorded : goal.settle-requires-clause-recorded
 settle-requires-clause-recorded g c =
-    let at = to_z w64 (of_z w64 c.args.written.now.first) in
-    let same : c.args.written.now.first ≡ at = search rules in
-    subst (λ (p : ℤ). IsFromStart c.args.layout.now p) same
-    (subst (λ (l : Layout). IsFromStart l c.args.written.now.first) (sym c.requires.laid.2)
-    (settled_start c.args.self.now.desk.state c.args.session.now c.args.recording.now c.args.written.now c.requires.laid.0 c.requires.keeps c.requires.decided c.requires.laid.1))
+    let at = to_z w64 (of_z w64 c.args.settlement.now.written.first) in
+    let same : c.args.settlement.now.written.first ≡ at = search rules in
+    subst (λ (p : ℤ). IsFromStart c.args.settlement.now.layout p) same
+    (subst (λ (l : Layout). IsFromStart l c.args.settlement.now.written.first) (sym c.requires.layout_is)
+    (settled_start c.args.self.now.desk.state c.args.session.now c.args.settlement.now.recording c.args.settlement.now.written c.requires.known c.requires.keeps c.requires.decided c.requires.is_known))
 
 pub settle-requires-clause-works : goal.settle-requires-clause-works
-settle-requires-clause-works g c = settling_works c.args.self.now.storage.log c.args.self.now.desk.state c.args.session.now c.args.recording.now c.args.written.now c.args.self.now.tied c.requires.decided
+settle-requires-clause-works g c = settling_works c.args.self.now.storage.log c.args.self.now.desk.state c.args.session.now c.args.settlement.now.recording c.args.settlement.now.written c.args.self.now.tied c.requires.decided
 
 pub settle-requires-clause-room : goal.settle-requires-clause-room
-settle-requires-clause-room g c = settling_room c.args.self.now.storage.log c.args.self.now.desk.state c.args.session.now c.args.recording.now c.args.written.now
-    (entries.Settle (to_z w64 (of_z w64 c.args.recording.now)) (to_z w64 (of_z w64 c.args.written.now.last))) c.args.self.now.tied c.requires.decided
+settle-requires-clause-room g c = settling_room c.args.self.now.storage.log c.args.self.now.desk.state c.args.session.now c.args.settlement.now.recording c.args.settlement.now.written
+    (entries.Settle (to_z w64 (of_z w64 c.args.settlement.now.recording)) (to_z w64 (of_z w64 c.args.settlement.now.written.last))) c.args.self.now.tied c.requires.decided
 
 pub settle-requires-in-Ok-clause-room : goal.settle-requires-in-Ok-clause-room
-settle-requires-in-Ok-clause-room g c = (settles c.args.self.now.desk.state c.args.session.now c.args.recording.now c.args.written.now c.requires.decided).room
+settle-requires-in-Ok-clause-room g c = (settles c.args.self.now.desk.state c.args.session.now c.args.settlement.now.recording c.args.settlement.now.written c.requires.decided).room
 
 pub invariant_of-self : goal.invariant_of-self
 invariant_of-self g c =
     let desk = c.args.self.now.desk.state in
     let log = c.args.self.now.storage.log in
     let n = c.args.session.now in
-    let id = c.args.recording.now in
-    let w = c.args.written.now in
-    let layout = c.args.layout.now in
+    let id = c.args.settlement.now.recording in
+    let w = c.args.settlement.now.written in
+    let layout = c.args.settlement.now.layout in
     let first = to_z w64 (of_z w64 w.first) in
     let last = to_z w64 (of_z w64 w.last) in
     let number = to_z w64 (of_z w64 id) in
     let same_first : w.first ≡ first = search rules in
     let same_last : w.last ≡ last = search rules in
     let same_id : id ≡ number = search rules in
-    let asks = asked desk n id w layout first last number c.requires.laid.0 c.requires.decided c.requires.laid.1 c.requires.laid.2 same_first same_last same_id in
+    let asks = asked desk n id w layout first last number c.requires.known c.requires.decided c.requires.is_known c.requires.layout_is same_first same_last same_id in
     record { tied = settled_tied log desk n id w layout first (entries.Settle number last) c.args.self.now.tied asks c.settle.new.self.log c.settle-in-Ok.new.self.state c.in-Ok.ensures.adds.bank.header c.in-Ok.ensures.adds.works c.in-Ok.ensures.adds.counted c.settle-in-Ok.ensures }
 
 pub returns-in-Ok-clause-settles : goal.returns-in-Ok-clause-settles
@@ -55,9 +55,9 @@ returns-in-Ok-clause-settles g c =
     let old = seen life c.args.self.now in
     let new : EngineState = record { life = life c.settle.new.self.disk; log = c.settle.new.self.log; desk = c.settle-in-Ok.new.self.state } in
     let n = c.args.session.now in
-    let id = c.args.recording.now in
-    let w = c.args.written.now in
-    let layout = c.args.layout.now in
+    let id = c.args.settlement.now.recording in
+    let w = c.args.settlement.now.written in
+    let layout = c.args.settlement.now.layout in
     let first = to_z w64 (of_z w64 w.first) in
     let last = to_z w64 (of_z w64 w.last) in
     let number = to_z w64 (of_z w64 id) in
@@ -65,7 +65,7 @@ returns-in-Ok-clause-settles g c =
     let same_last : w.last ≡ last = search rules in
     let same_id : id ≡ number = search rules in
     let entry = entries.Settle number last in
-    let asks = asked old.desk n id w layout first last number c.requires.laid.0 c.requires.decided c.requires.laid.1 c.requires.laid.2 same_first same_last same_id in
+    let asks = asked old.desk n id w layout first last number c.requires.known c.requires.decided c.requires.is_known c.requires.layout_is same_first same_last same_id in
     subst (λ (z : ℤ). SettlesTo old new n id w layout first entry c.args.self.now.tied asks c.in-Ok.ensures.keeps (Ok (replies.Settled z))) same_last
     (settling_done old new n id w layout first entry c.args.self.now.tied asks c.in-Ok.ensures.keeps c.in-Ok.ensures.adds c.settle-in-Ok.ensures c.in-Ok.ensures.moves)
 
@@ -79,34 +79,34 @@ returns-clause-settles g c =
     let old = seen life c.args.self.now in
     let new : EngineState = record { life = life c.settle.new.self.disk; log = c.settle.new.self.log; desk = c.failed.new.desk.state } in
     let n = c.args.session.now in
-    let id = c.args.recording.now in
-    let w = c.args.written.now in
-    let layout = c.args.layout.now in
+    let id = c.args.settlement.now.recording in
+    let w = c.args.settlement.now.written in
+    let layout = c.args.settlement.now.layout in
     let first = to_z w64 (of_z w64 w.first) in
     let last = to_z w64 (of_z w64 w.last) in
     let number = to_z w64 (of_z w64 id) in
     let same_first : w.first ≡ first = search rules in
     let same_last : w.last ≡ last = search rules in
     let same_id : id ≡ number = search rules in
-    let asks = asked old.desk n id w layout first last number c.requires.laid.0 c.requires.decided c.requires.laid.1 c.requires.laid.2 same_first same_last same_id in
+    let asks = asked old.desk n id w layout first last number c.requires.known c.requires.decided c.requires.is_known c.requires.layout_is same_first same_last same_id in
     settling_failed old new n id w layout first (entries.Settle number last) c.args.self.now.tied asks c.in-Err.ensures.keeps c.in-Err.refusal c.failed.result c.failed.ensures.same c.in-Err.ensures.adds c.in-Err.ensures.quiet c.failed.ensures.state c.in-Err.ensures.moves
 
 pub returns-in-Ok-clause-touches : goal.returns-in-Ok-clause-touches
 returns-in-Ok-clause-touches g c =
-    let first : to_z w64 (of_z w64 c.args.written.now.first) ≡ c.args.written.now.first = search rules in
-    subst (λ z. SettlesAt (g.D.Disk.life c.args.self.now.storage.disk) (g.D.Disk.life c.settle.new.self.disk) (file_of c.args.layout.now (unsigned_abs z)) (bank_file c.args.self.now.storage.log.bank)) first c.in-Ok.ensures.touches
+    let first : to_z w64 (of_z w64 c.args.settlement.now.written.first) ≡ c.args.settlement.now.written.first = search rules in
+    subst (λ z. SettlesAt (g.D.Disk.life c.args.self.now.storage.disk) (g.D.Disk.life c.settle.new.self.disk) (file_of c.args.settlement.now.layout (unsigned_abs z)) (bank_file c.args.self.now.storage.log.bank)) first c.in-Ok.ensures.touches
 
 pub returns-clause-touches : goal.returns-clause-touches
 returns-clause-touches g c =
-    let first : to_z w64 (of_z w64 c.args.written.now.first) ≡ c.args.written.now.first = search rules in
-    subst (λ z. SettlesAt (g.D.Disk.life c.args.self.now.storage.disk) (g.D.Disk.life c.settle.new.self.disk) (file_of c.args.layout.now (unsigned_abs z)) (bank_file c.args.self.now.storage.log.bank)) first c.in-Err.ensures.touches
+    let first : to_z w64 (of_z w64 c.args.settlement.now.written.first) ≡ c.args.settlement.now.written.first = search rules in
+    subst (λ z. SettlesAt (g.D.Disk.life c.args.self.now.storage.disk) (g.D.Disk.life c.settle.new.self.disk) (file_of c.args.settlement.now.layout (unsigned_abs z)) (bank_file c.args.self.now.storage.log.bank)) first c.in-Err.ensures.touches
 
 pub returns-in-Ok-clause-catalogue : goal.returns-in-Ok-clause-catalogue
 returns-in-Ok-clause-catalogue g c =
     let d = c.args.self.now.desk.state in
     let n = c.args.session.now in
-    let id = c.args.recording.now in
-    let w = c.args.written.now in
+    let id = c.args.settlement.now.recording in
+    let w = c.args.settlement.now.written in
     let last = to_z w64 (of_z w64 w.last) in
     let number = to_z w64 (of_z w64 id) in
     let same_last : w.last ≡ last = search rules in
@@ -123,8 +123,8 @@ pub returns-clause-catalogue : goal.returns-clause-catalogue
 returns-clause-catalogue g c =
     let d = c.args.self.now.desk.state in
     let n = c.args.session.now in
-    let id = c.args.recording.now in
-    let w = c.args.written.now in
+    let id = c.args.settlement.now.recording in
+    let w = c.args.settlement.now.written in
     let last = to_z w64 (of_z w64 w.last) in
     let number = to_z w64 (of_z w64 id) in
     let same_last : w.last ≡ last = search rules in
