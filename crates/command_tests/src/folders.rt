@@ -70,7 +70,7 @@ fn check<
     }
 }
 
-fn disk_of(rt: HostRuntime, folder: &str) -> Result<HostDisk, Fail> {
+pub(crate) fn disk_of(rt: HostRuntime, folder: &str) -> Result<HostDisk, Fail> {
     match HostDisk::open(rt, rt.alloc(), Path::new(folder)) {
         Ok(disk) => Ok(disk),
         Err(_) => Err(Fail::new(folder)),
@@ -78,7 +78,7 @@ fn disk_of(rt: HostRuntime, folder: &str) -> Result<HostDisk, Fail> {
 }
 
 /// Records a frame in the archive of a folder, in its first recording.
-fn record(rt: HostRuntime, folder: &str) -> Result<(), Fail> {
+pub(crate) fn record(rt: HostRuntime, folder: &str) -> Result<(), Fail> {
     script(rt, folder, b"started 0 0\nsettled 64\n")
 }
 
@@ -106,7 +106,7 @@ fn script(rt: HostRuntime, folder: &str, told: &[u8]) -> Result<(), Fail> {
 
 /// A command over a folder, or over the first segment file in it.
 #[derive(Clone, Copy)]
-enum Word {
+pub(crate) enum Word {
     Create(u32),
     List,
     ListReadOnly,
@@ -133,7 +133,7 @@ fn command<'a>(word: Word, folder: &'a str, file: &'a str) -> ToolCommand<'a> {
 }
 
 /// What each of these commands writes over a folder has to be its text, and its status that number.
-fn check_each<
+pub(crate) fn check_each<
     R: Threads + Wait + Clock + Eprint + Net<Listener = TcpListener, Stream = TcpStream> + Sync,
 >(net: &R, rt: HostRuntime, folder: &str, rows: &[(Word, &str, u8)]) -> Result<(), Fail> {
     let file = within(rt, folder, "0-0.rec")?;
@@ -150,7 +150,7 @@ fn check_each<
 }
 
 /// An archive without recordings is made.
-const CREATED: [(Word, &str, u8); 1] = [(Word::Create(16), "created\n", 0)];
+pub(crate) const CREATED: [(Word, &str, u8); 1] = [(Word::Create(16), "created\n", 0)];
 
 /// Cuts the catalogue of an archive to a length.
 fn cut_catalogue(rt: HostRuntime, folder: &str, length: u64) -> Result<(), Fail> {

@@ -1,13 +1,14 @@
 //! The words of `serve`, and how it ends before it serves: docs/SERVING.md, "How to run it".
 
-use crate::folders::{NO_LINES, ended};
+use crate::folders::{CREATED, NO_LINES, Word, check_each, disk_of, ended, record, unused};
 use crate::words::{Streams, asks_for, check_refused};
 use clap::error::ErrorKind;
 use command_line::{ServeWords, ToolCommand};
+use disk_core::{Disk, FileId};
 use folder_commands::concluded;
 use std::alloc::{AllocError, Global};
-use std::env;
 use std::test::*;
+use std::{env, fs};
 
 /// What `serve a --control 1 --receive 2` asks for.
 pub(crate) fn usual<'a>(alloc: Global) -> ServeWords<'a> {
@@ -333,5 +334,38 @@ fn wrong_streams_of_a_server(rt: HostRuntime) -> Result<(), Fail> {
         assert!(rt; concluded(&streams, ended) == status, "{reason} {status}");
         assert!(rt; streams.awaited_came.get(), "{reason} {status}");
     }
+    Ok(())
+}
+
+/// Closes the gate of the Settle behind the first recording's Start in the catalogue of a folder.
+fn close_gate(rt: HostRuntime, folder: &str) -> Result<(), Fail> {
+    let mut disk = disk_of(rt, folder)?;
+    disk.write_at(FileId::BankA, 89, &[0])?;
+    Ok(())
+}
+
+/// A Settle past the closed gate, with its frames: a strict server leaves the archive alone, and its recording active.
+#[test]
+fn a_strict_server_and_a_hidden_entry(rt: HostRuntime) -> Result<(), Fail> {
+    let path = unused(rt, "hidden")?;
+    let folder = path.as_str();
+    check_each(&rt, rt, folder, &CREATED)?;
+    record(rt, folder)?;
+    close_gate(rt, folder)?;
+    let mut words = unserved(rt.alloc(), folder, "127.0.0.1", false, None);
+    words.is_strict = true;
+    let mut out = Vec::new(rt.alloc());
+    let ended = ended(&rt, rt, ToolCommand::Serve(words), NO_LINES, &mut out);
+    let streams = Streams::new(
+        rt.alloc(),
+        "the archive is not opened, since entries may be hidden",
+    );
+    assert!(rt; concluded(&streams, ended) == 3);
+    assert!(rt; streams.awaited_came.get());
+    let left = "recording 0 1000 -1 0 -1 42 131072 65536 1408 7 1001 c\nend 1\n";
+    let stopped = "recording 0 1000 -1 0 0 42 131072 65536 1408 7 1001 c\nend 1\n";
+    let rows = [(Word::ListReadOnly, left, 0), (Word::List, stopped, 0)];
+    check_each(&rt, rt, folder, &rows)?;
+    fs::remove_dir_all(&rt, folder)?;
     Ok(())
 }

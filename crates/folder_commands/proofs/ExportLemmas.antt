@@ -15,7 +15,7 @@ use Rattle.archive_export.specs.declared.span.Span.{Span}
 use Rattle.archive_export.specs.Exporting.{IsLookedOn}
 use Rattle.archive_report.specs.Exported.{FailsToExportFrom, HasExportedFrom, HasRefusedFrom}
 use Rattle.folder_commands.specs.declared.status.Ending.{Ending}
-use Rattle.folder_commands.specs.declared.status.Ending.TheVariants.{Done, Cut, Refused, Unopened, FoundDamage, LineRefused, Stuck, NoCommand, Failed}
+use Rattle.folder_commands.specs.declared.status.Ending.TheVariants.{Done, Cut, Refused, Unopened, FoundDamage, LineRefused, Stuck, Hidden, NoCommand, Failed}
 use Rattle.folder_commands.specs.Looking.{ExportsFolder, FailsToCapture, HasCaptured, uncaptured_ending}
 use Rattle.folder_commands.proofs.ViewLemmas.{unwatched_view}
 use Rattle.folder_commands.proofs.WatchedLemmas.{inside}
@@ -78,5 +78,6 @@ export_fails given recording span contents old (Unopened fault) begins h = refl
 export_fails given recording span contents old FoundDamage begins h = absurd h
 export_fails given recording span contents old LineRefused begins h = absurd h
 export_fails given recording span contents old (Stuck stop) begins h = absurd h
+export_fails given recording span contents old Hidden begins h = absurd h
 export_fails given recording span contents old (NoCommand kind) begins h = absurd h
 export_fails given recording span contents old (Failed fault) begins h = absurd h

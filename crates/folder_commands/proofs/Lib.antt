@@ -6,4 +6,5 @@ mod ViewLemmas
 mod LookingLemmas
 mod ExportLemmas
 mod ServingLemmas
+mod HiddenLemmas
 mod AskingLemmas

@@ -1,5 +1,5 @@
 -- How `serve` ends if its words are right, by its folder and its server.
-use Rattle.std.proofs.Common.{◌≡◌, inl, inr, ℤ, Bool, sym, subst}
+use Rattle.std.proofs.Common.{◌≡◌, inl, inr, ℤ, Bool, IsTrue, sym, subst}
 use Rattle.command_line.specs.declared.serving.ServeWords.{ServeWords}
 use Rattle.disk_core.specs.Life.{Life}
 use Rattle.host_disk.specs.Events.{Given}
@@ -7,8 +7,9 @@ use Rattle.host_disk.specs.HostDisk.{host_life}
 use Rattle.host_disk.specs.Replay.{life_from}
 use Rattle.serve_core.specs.declared.options.ServeOptions.{ServeOptions}
 use Rattle.folder_commands.specs.declared.status.Ending.{Ending}
-use Rattle.folder_commands.specs.declared.status.Ending.TheVariants.{Done, Cut, Refused, Stuck, Unopened, FoundDamage, LineRefused, NoCommand, Failed}
+use Rattle.folder_commands.specs.declared.status.Ending.TheVariants.{Done, Cut, Refused, Stuck, Hidden, Unopened, FoundDamage, LineRefused, NoCommand, Failed}
 use Rattle.folder_commands.specs.Folders.{FolderAsDisk, IsUnopenedFolder}
+use Rattle.folder_commands.specs.Hidden.{MayHideEntries}
 use Rattle.folder_commands.specs.Serving.{AreOptions, AreWrong, HasNoEnds, IsUnbound, ServesFolder, ServesOver}
 use Rattle.folder_commands.proofs.ScriptLemmas.{serves_inside}
 use Rattle.folder_commands.proofs.WatchedLemmas.{inside}
@@ -23,6 +24,10 @@ module _ (given : Given) (words : ServeWords) (receiver : ℤ) (options : ServeO
   pub not_opened : (ending : Ending) → IsUnopenedFolder ending → ServesFolder given words ending
   not_opened ending (fault, is) = subst (ServesFolder given words) (sym is) are_right
 
+  -- a strict server does not open it
+  pub not_looked : IsTrue words.is_strict → MayHideEntries given → ServesFolder given words Hidden
+  not_looked strict hides = (are_right, strict, hides)
+
   over_folder : (ending : Ending) → ServesOver host_life words.is_strict (life_from given) ending → ServesFolder given words ending
   over_folder Done h = (are_right, h)
   over_folder (Cut end) h = (are_right, h)
@@ -33,6 +38,7 @@ module _ (given : Given) (words : ServeWords) (receiver : ℤ) (options : ServeO
   over_folder FoundDamage h = absurd h
   over_folder LineRefused h = absurd h
   over_folder (Stuck stop) h = (are_right, h)
+  over_folder Hidden h = absurd h
 
   pub served : (V : Type 0) (old : Life) (ending : Ending) → old ≡ life_from given → ServesOver (inside FolderAsDisk V host_life) options.is_strict old ending → ServesFolder given words ending
   served V old ending begins h = over_folder ending (subst (λ (l : Life). ServesOver host_life words.is_strict l ending) begins
@@ -49,3 +55,4 @@ not_bound given words receiver options asked (Unopened fault) h = absurd h
 not_bound given words receiver options asked FoundDamage h = absurd h
 not_bound given words receiver options asked LineRefused h = absurd h
 not_bound given words receiver options asked (Stuck stop) h = absurd h
+not_bound given words receiver options asked Hidden h = absurd h

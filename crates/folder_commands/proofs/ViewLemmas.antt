@@ -17,8 +17,7 @@ abbrev pub unwatched_view : {D V : Type 0} → ArchiveView (Watched D V) → Arc
 unwatched_view view = record {
   disk = record { disk = view.disk.disk.disk; refused = view.disk.refused };
   desk = view.desk;
-  counted = view.counted;
-  epoch = view.epoch;
+  log = view.log;
 }
 
 module _ (D V : Type 0) (life : D → Life) where

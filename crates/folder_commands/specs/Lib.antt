@@ -4,6 +4,7 @@ pub mod Telling
 pub mod Status
 pub mod Folders
 pub mod Looking
+pub mod Hidden
 pub mod Serving
 pub mod Asking
 pub mod Obeying

@@ -1,5 +1,5 @@
 -- What `serve` does over the archive of a folder, and how it ends: docs/SERVING.md.
-use Rattle.std.specs.Prelude.{◌≡◌, ◌⊎◌, ◌<◌, ◌≤◌, ◌%◌, ℕ, ℤ, pos, Bool, true, false, List, [], ◌∷◌, length, Option, None, Some, is_some}
+use Rattle.std.specs.Prelude.{◌≡◌, ◌⊎◌, ◌<◌, ◌≤◌, ◌%◌, ℕ, ℤ, pos, Bool, true, false, List, [], ◌∷◌, length, IsTrue, Option, None, Some, is_some}
 use Rattle.std.specs.Int.{is_power_of_two}
 use Rattle.std.specs.Net.Addr.{IsMulticastV4}
 use Rattle.std.specs.Net.Grammar.{IsIpv4Text}
@@ -15,7 +15,8 @@ use Rattle.serve_core.specs.Serving.{IsServedAs, IsServedUpTo}
 use Rattle.folder_commands.specs.declared.reason.Reason.{Reason}
 use Rattle.folder_commands.specs.declared.reason.Reason.TheVariants.{Address, Multicast, Window, NeedsAeron, RecordNeedsAeron, Streams, NeedsRecord, SegmentLength}
 use Rattle.folder_commands.specs.declared.status.Ending.{Ending}
-use Rattle.folder_commands.specs.declared.status.Ending.TheVariants.{Done, Cut, Stuck, Unopened, NoCommand, Failed}
+use Rattle.folder_commands.specs.Hidden.{MayHideEntries}
+use Rattle.folder_commands.specs.declared.status.Ending.TheVariants.{Done, Cut, Stuck, Hidden, Unopened, NoCommand, Failed}
 
 -- ---- the words
 
@@ -140,9 +141,10 @@ module _ {D : Type 0} (life : D → Life) (strict : Bool) where
   ServesOver old ending = ⊥
 
 -- `serve` over the archive of a folder with these files. If its words are wrong, it ends by that, and then alone; else a port
--- is not bound, the folder is not opened, or it is served.
+-- is not bound, the folder is not opened, or it is served. A strict server opens no archive whose catalogue may hide entries.
 abbrev pub ServesFolder : Given → ServeWords → Ending → Type 0
 ServesFolder given words (NoCommand kind) = (kind ≡ ValueValidation) × AreWrong words
 ServesFolder given words (Failed fault) = AreWrong words → ⊥
 ServesFolder given words (Unopened fault) = AreWrong words → ⊥
+ServesFolder given words Hidden = (AreWrong words → ⊥) × IsTrue words.is_strict × MayHideEntries given
 ServesFolder given words ending = (AreWrong words → ⊥) × ServesOver host_life words.is_strict (life_from given) ending

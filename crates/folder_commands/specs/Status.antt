@@ -11,7 +11,7 @@ use Rattle.tool_core.specs.declared.commands.Stopped.{Stopped}
 use Rattle.tool_core.specs.declared.commands.Stopped.TheVariants as stops
 use Rattle.tool_core.specs.declared.fault.EarlyEnd.TheVariants as faults
 use Rattle.folder_commands.specs.declared.status.Ending.{Ending}
-use Rattle.folder_commands.specs.declared.status.Ending.TheVariants.{Done, Cut, Refused, Unopened, FoundDamage, LineRefused, Stuck, NoCommand, Failed}
+use Rattle.folder_commands.specs.declared.status.Ending.TheVariants.{Done, Cut, Refused, Unopened, FoundDamage, LineRefused, Stuck, Hidden, NoCommand, Failed}
 use Rattle.folder_commands.specs.Telling.{FailsToTell, IsToldBy, words_status}
 
 -- the status of a refused command: 1, or 3 for a device fault or damage
@@ -33,17 +33,19 @@ refusal_of (Unopened fault) = Some DeviceFault
 refusal_of FoundDamage = None
 refusal_of LineRefused = None
 refusal_of (Stuck stop) = None
+refusal_of Hidden = None
 refusal_of (NoCommand kinds.OutOfMemory) = Some NoMemory
 refusal_of (NoCommand kind) = None
 refusal_of (Failed io.OutOfMemory) = Some NoMemory
 refusal_of (Failed kind) = Some DeviceFault
 
--- the status of an ending that tells no refusal: 0 done, 3 damage and a strict server that could record nothing, 1 a line that a
--- server refused, and that of words that ask for no command
+-- the status of an ending that tells no refusal: 0 done, 3 damage and a strict server that could record nothing or did not open
+-- its archive, 1 a line that a server refused, and that of words that ask for no command
 abbrev pub untold_status : Ending → ℕ
 untold_status FoundDamage = 3
 untold_status LineRefused = 1
 untold_status (Stuck stop) = 3
+untold_status Hidden = 3
 untold_status (NoCommand kind) = words_status kind
 untold_status ending = 0
 

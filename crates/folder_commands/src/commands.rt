@@ -10,6 +10,7 @@ ghost use Rattle.folder_commands.specs.Obeying.{HasObeyed, Obeys};
 ghost use Rattle.folder_commands.specs.Status.{ending_of};
 
 use crate::asking::ask;
+use crate::hidden::warns_of_hidden;
 use crate::outcome::Ended;
 use crate::reason::Reason;
 use crate::serving::serve;
@@ -200,7 +201,8 @@ fn run_in_memory<I: Read + Drop, W: Write>(
     )
 }
 
-/// Answers the control lines of an input, over the archive of a folder.
+/// Answers the control lines of an input, over the archive of a folder. Before that is opened it is told on standard error if
+/// its catalogue may hide entries.
 fn run<I: Read + Drop, W: Write>(
     rt: HostRuntime,
     folder: Path<'_>,
@@ -214,6 +216,7 @@ fn run<I: Read + Drop, W: Write>(
     let faults = FaultTeller::new(rt.alloc(), &screen, Stage::Opening);
     let viewer = (faults, opening_of(&rt, &screen));
     let disk = Watched::new(disk_of(rt, folder)?, viewer);
+    let _ = warns_of_hidden(rt, folder, &screen);
     run_over(
         rt.alloc(),
         input,
@@ -246,6 +249,7 @@ fn compact<W: Write>(rt: HostRuntime, folder: Path<'_>, writer: &mut W) -> Resul
 {
     let screen = Screen::new(&rt);
     let disk = Watched::new(disk_of(rt, folder)?, opening_of(&rt, &screen));
+    let _ = warns_of_hidden(rt, folder, &screen);
     match compact_archive(rt.alloc(), disk, writer, &mut OpeningTeller::new(&screen)) {
         Ok(_) => Ok(()),
         Err(fault) => Err(uncompacted(fault)),
@@ -272,6 +276,7 @@ fn list<W: Write>(rt: HostRuntime, folder: Path<'_>, writer: &mut W) -> Result<(
 {
     let screen = Screen::new(&rt);
     let disk = Watched::new(disk_of(rt, folder)?, opening_of(&rt, &screen));
+    let _ = warns_of_hidden(rt, folder, &screen);
     match list_archive(rt.alloc(), disk, writer, &mut OpeningTeller::new(&screen)) {
         Ok(_) => Ok(()),
         Err(fault) => Err(stopped(fault)),
@@ -279,13 +284,15 @@ fn list<W: Write>(rt: HostRuntime, folder: Path<'_>, writer: &mut W) -> Result<(
 }
 
 /// Reads each recorded frame of the archive in a folder, and writes what was found of each recording. How far it has come
-/// is shown on standard error, where that is a terminal, and what it found in all is told there.
+/// is shown on standard error, where that is a terminal, and what it found in all is told there; before the archive is opened,
+/// also if its catalogue may hide entries.
 fn verify<W: Write>(rt: HostRuntime, folder: Path<'_>, writer: &mut W) -> Result<(), Ended>
     ghost given: { Given }
     ensures { VerifiesFolder given (W.contents writer.old) (W.contents writer.new) (ending_in result) }
 {
     let screen = Screen::new(&rt);
     let mut disk = disk_of(rt, folder)?;
+    let _ = warns_of_hidden(rt, folder, &screen);
     let progress = progress_of(&rt, &screen, &mut disk);
     let faults = FaultTeller::new(rt.alloc(), &screen, Stage::Working);
     let disk = Watched::new(disk, (faults, (opening_of(&rt, &screen), progress)));

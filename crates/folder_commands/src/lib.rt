@@ -5,6 +5,7 @@ mod answering;
 mod asking;
 mod capture;
 mod commands;
+mod hidden;
 mod looking;
 mod outcome;
 mod outlet;

@@ -67,6 +67,8 @@ pub enum Reason {
     Ends,
     /// A strict server could record nothing.
     Stuck(Stop),
+    /// A strict server opens no archive whose catalogue may hide entries.
+    Hidden,
     /// Standard input could not be read on.
     Input,
     /// Standard output took no more; what the system told of it, if it told anything.
@@ -139,6 +141,7 @@ impl fmt::Display for Reason {
             Reason::SegmentLength => write!(f, "--segment-length wants a power of two"),
             Reason::Ends => write!(f, "a port failed"),
             Reason::Stuck(stop) => write!(f, "nothing can be recorded: {stop}"),
+            Reason::Hidden => write!(f, "the archive is not opened, since entries may be hidden"),
             Reason::Input => write!(f, "standard input cannot be read on"),
             Reason::Output(Some(error)) if !is_closed(error) => {
                 write!(f, "standard output: {}", SystemText(*error))

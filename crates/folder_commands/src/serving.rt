@@ -5,11 +5,12 @@ ghost use Rattle.std.specs.IoError.{error_kind};
 ghost use Rattle.clap.specs.declared.error.ErrorKind.TheVariants.{ValueValidation};
 ghost use Rattle.host_disk.specs.Events.{Given};
 ghost use Rattle.host_disk.specs.HostDisk.{host_life};
-ghost use Rattle.folder_commands.specs.declared.status.Ending.TheVariants.{NoCommand, Failed, Stuck};
+ghost use Rattle.folder_commands.specs.declared.status.Ending.TheVariants.{NoCommand, Failed, Hidden, Stuck};
 ghost use Rattle.folder_commands.specs.Folders.{ending_in};
 ghost use Rattle.folder_commands.specs.Serving.{AreOptions, HasBadOptions, HasBadSegments, HasBadStreams, HasBadWindow, HasNoEnds, HasSegments, HasWindow, IsAddressReason, IsNoAddress, IsReceiverWindow, IsSegmentLength, IsUnbound, RecordsStreams, ServesFolder, ServesOver, segment_reason, streams_reason, window_reason};
 
 use crate::commands::disk_of;
+use crate::hidden::warns_of_hidden;
 use crate::outcome::Ended;
 use crate::reason::Reason;
 use crate::reporting::{MetricsFile, ServeFaults, ServeTeller};
@@ -28,7 +29,7 @@ use std::random::RandomSource;
 use std::rt::Clock;
 use std::sync::Wait;
 use std::thread::Threads;
-use tool_core::Watched;
+use tool_core::{Screen, Watched};
 
 /// Streams that `--record` may name at most.
 const MOST_STREAMS: usize = 64;
@@ -41,7 +42,8 @@ struct Ports {
 }
 
 /// Serves the archive of a folder as the words ask for, until a line quits, and reports on standard error what happens. If the
-/// words are wrong, no port is bound and the folder is not opened.
+/// words are wrong, no port is bound and the folder is not opened. It is reported if the archive's catalogue may hide entries; a
+/// strict server does not open it then.
 pub(crate) fn serve<
     R: Threads + Wait + Clock + Eprint + Net<Listener = TcpListener, Stream = TcpStream> + Sync,
 >(net: &R, rt: HostRuntime, words: &ServeWords<'_>) -> Result<(), Ended>
@@ -50,8 +52,12 @@ pub(crate) fn serve<
 {
     let options = options_of(words, receiver_id(&rt))?;
     let ports = bound(net, words)?;
-    let faults = ServeFaults::new(rt.alloc(), net);
-    let disk = Watched::new(disk_of(rt, Path::new(words.folder))?, faults);
+    let folder = Path::new(words.folder);
+    let disk = disk_of(rt, folder)?;
+    if warns_of_hidden(rt, folder, &Screen::new(net)) && words.is_strict {
+        return Err(hidden());
+    }
+    let disk = Watched::new(disk, ServeFaults::new(rt.alloc(), net));
     let metrics = metrics_of(rt, words);
     let teller = ServeTeller::new(net, words.is_quiet, metrics);
     serve_disk(net, rt.alloc(), ports, disk, &options, teller)
@@ -255,6 +261,16 @@ fn serve_disk<
             },
         ) => Err(stuck(stop)),
         Err(fault) => Err(Ended::cut(fault.end(), Reason::Ends)),
+    }
+}
+
+/// A strict server does not open an archive whose catalogue may hide entries.
+fn hidden() -> Ended
+    ensures { result.ending ≡ Hidden }
+{
+    Ended {
+        ending: Ending::Hidden,
+        reason: Reason::Hidden,
     }
 }
 

@@ -35,6 +35,8 @@ pub enum Ending {
     LineRefused,
     /// A strict server could record nothing.
     Stuck(Stop),
+    /// A strict server did not open an archive whose catalogue may hide entries.
+    Hidden,
     /// The words of the command line asked for no command; what is wrong with them, or the help, was told.
     NoCommand(ErrorKind),
     /// The words could not be read, or nothing could be told of them.
@@ -59,7 +61,7 @@ impl Ending {
         match self {
             Ending::FoundDamage => DEVICE,
             Ending::LineRefused => REFUSED,
-            Ending::Stuck(_) => DEVICE,
+            Ending::Stuck(_) | Ending::Hidden => DEVICE,
             Ending::NoCommand(kind) => words_status(kind),
             _ => DONE,
         }
@@ -70,7 +72,11 @@ impl Ending {
         ensures { result ≡ refusal_of self }
     {
         match self {
-            Ending::Done | Ending::FoundDamage | Ending::LineRefused | Ending::Stuck(_) => None,
+            Ending::Done
+            | Ending::FoundDamage
+            | Ending::LineRefused
+            | Ending::Stuck(_)
+            | Ending::Hidden => None,
             Ending::Cut(EarlyEnd::Memory) => Some(Refusal::NoMemory),
             Ending::Cut(EarlyEnd::Read | EarlyEnd::Write) => Some(Refusal::DeviceFault),
             Ending::Refused(refusal) => Some(refusal),

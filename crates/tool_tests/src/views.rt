@@ -104,3 +104,50 @@ fn a_disk_that_is_only_read_refuses_changes(rt: HostRuntime) -> Result<(), Fail>
     assert!(rt; disk.faults() == 3);
     Ok(())
 }
+
+/// Whether an entry past the closed gate of a disk's catalogue may have been answered, and then whether another follows it.
+fn hidden(alloc: Global, disk: MemoryDisk) -> Result<Option<bool>, Fail> {
+    let Ok(mut view) = ArchiveView::open(alloc, ReadOnly::new(disk)) else {
+        return Err(Fail::new("the archive is not seen"));
+    };
+    let found = view.hidden_entry(alloc)?;
+    Ok(found.map(|entry| entry.is_followed))
+}
+
+/// The disk with a gate of its catalogue closed, in the bank's bytes.
+fn with_closed_gate(disk: MemoryDisk, gate: u64) -> Result<MemoryDisk, Fail> {
+    let mut disk = disk;
+    disk.write_at(FileId::BankA, gate, &[0])?;
+    Ok(disk)
+}
+
+// Gates of SCRIPT: the Starts at 32 and 89, the Settles at 146 and 166, the Stop at 186, and the closed one at 206.
+#[test]
+fn an_entry_past_a_closed_gate(rt: HostRuntime) -> Result<(), Fail> {
+    let active = SCRIPT.strip_suffix("stop 0 2000\n").unwrap_or("");
+    for (lines, gate, told) in [
+        (SCRIPT, 206, None),
+        (SCRIPT, 186, None),
+        (SCRIPT, 166, Some(true)),
+        (SCRIPT, 32, Some(true)),
+        (active, 186, None),
+        (active, 166, Some(false)),
+        (active, 146, Some(true)),
+    ] {
+        let disk = with_closed_gate(after(rt.alloc(), lines)?, gate)?;
+        assert!(rt; hidden(rt.alloc(), disk)? == told, "{gate}");
+    }
+    Ok(())
+}
+
+/// A Settle that nothing follows, whose frames are damaged, and one that is cut off.
+#[test]
+fn a_settle_without_its_frames(rt: HostRuntime) -> Result<(), Fail> {
+    let active = SCRIPT.strip_suffix("stop 0 2000\n").unwrap_or("");
+    let disk = with_closed_gate(after(rt.alloc(), active)?, 166)?;
+    assert!(rt; hidden(rt.alloc(), damaged(disk, 1)?)?.is_none());
+    let mut disk = with_closed_gate(after(rt.alloc(), active)?, 166)?;
+    disk.cut(FileId::BankA, 185)?;
+    assert!(rt; hidden(rt.alloc(), disk)?.is_none());
+    Ok(())
+}
