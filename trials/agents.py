@@ -77,7 +77,7 @@ class Followed:
 
     def look(self) -> None:
         """What was seen is there; what was settled and not seen may be."""
-        stops = [int(line.split()[5]) for line in run([self.tool, "list", self.folder])[:-1]]
+        stops = [int(line.split()[5]) for line in run([self.tool, "list", self.folder], is_stopped=True)[:-1]]
         if len(stops) < 2 and max(self.seen) > 0:
             raise Fault(f"{len(stops)} recordings are there")
         for number, stop in enumerate(stops):

@@ -10,11 +10,12 @@ from dataclasses import dataclass, field
 from pathlib import Path
 from random import Random
 
-from readers.archive import Archive, looked_at
+from readers.archive import Archive, files_of, looked_at
 from readers.blocks import BAD_POSITION
 from readers.catalogue import Recording, Refused, asks, damaged, read_banks
+from readers.closed_gate import shows_hidden
 from readers.segments import PAD, aligned
-from tool import Fault, expect, is_calm
+from tool import Fault, expect, hides, is_calm
 
 MOST_POLLS = 6  # of a replay
 HANGS = 300  # seconds after which a command counts as hung
@@ -79,15 +80,27 @@ def ended(tool: Path, *words: str | Path, given: bytes = b"") -> subprocess.Comp
 
 
 def told_by(tool: Path, folder: Path, lines: Iterable[str]) -> list[str]:
-    """The replies of `run` to some lines. Raises Fault if it reports a failure."""
+    """The replies of `run` to some lines. Raises Fault if it reports a failure, or warns of a closed gate without a reason."""
+    warned = warning(files_of(folder))
     done = ended(tool, "run", folder, given="".join(f"{line}\n" for line in lines).encode())
-    expect("run: its status, and whether standard error is calm", (done.returncode, is_calm(done.stderr.decode())), (0, True))
+    error = done.stderr.decode()
+    expect("run: its status, and its first line of standard error", (done.returncode, error[: len(warned)]), (0, warned))
+    expect("run: whether the rest of standard error is calm", (is_calm(error[len(warned) :]), error), (True, error))
     return done.stdout.decode().splitlines()
 
 
-def verification(archive: Archive) -> tuple[int, str, str]:
+def warning(files: Files) -> str:
+    """The line of standard error that warns of an entry past the closed gate. An empty text if none is due."""
+    try:
+        known = read_banks(files.get)
+    except Refused:
+        return ""
+    return hides(known.bank, known.end) if shows_hidden(known, files.get) else ""
+
+
+def verification(archive: Archive, warned: str = "") -> tuple[int, str, str]:
     """Exit status, standard output and standard error of `verify`: docs/CONTROL.md, "The program" and "Standard error"."""
-    out, error = "", ""
+    out, error = "", warned
     frames = size = damaged = 0
     for known in archive.register.listed():
         told = archive.reader().verify(known)
@@ -108,7 +121,7 @@ def look_only(tool: Path, folder: Path, files: Files, what: str) -> None:
     told = [(done.returncode, done.stdout.decode(), done.stderr.decode()) for done in told]
     try:
         archive = looked_at(files)
-        right = [(0, "".join(f"{line}\n" for line in archive.answer("list 0 1024")), ""), verification(archive)]
+        right = [(0, "".join(f"{line}\n" for line in archive.answer("list 0 1024")), ""), verification(archive, warning(files))]
     except Refused as refused:
         right = [(3 if " 15 " in str(refused) else 1, "", f"{refused}\n")] * 2
     expect(f"{what}: list --read-only", told[0], right[0])

@@ -31,6 +31,8 @@ from readers.catalogue import BANKS, NEWEST, Recording, Register
 from readers.segments import HEADER, PAD, segment_of
 from tool import Fault, conclude, expect, file_system, program, room, trial_words
 
+Trial = Callable[[Path, Path, int, bool], Counter[str]]  # of one folder, by its seed and whether a recording is active at the end
+
 STEPS, COMMANDS = 30, 20
 PART = 10  # folders that one worker tries in turn
 NUMBERS = 0, 1, 2, 31, 32, 33, 64, 65_536, 2**31 - 1, -1, -(2**31)  # values for a field of a header
@@ -271,22 +273,23 @@ def tried(tool: Path, folder: Path, seed: int, is_active: bool) -> Counter[str]:
     return Counter(folders=1, exported=exported, **counts)
 
 
-def part(tool: Path, work: Path, seed: int, begin: int, end: int) -> Counter[str]:
+def part(trial: Trial, tool: Path, work: Path, seed: int, begin: int, end: int) -> Counter[str]:
     """Tries some of the folders."""
     counted: Counter[str] = Counter()
     folder = work / str(begin)
     for number in range(begin, end):
         folder.mkdir()
         try:
-            counted += tried(tool, folder, seed * 1_000_003 + number, number % 2 == 0)
+            counted += trial(tool, folder, seed * 1_000_003 + number, number % 2 == 0)
         except Fault as fault:
             raise Fault(f"folder {number} of seed {seed}, {folder}: {fault}") from fault
         shutil.rmtree(folder)
     return counted
 
 
-def main() -> int:
-    words = trial_words(__doc__)
+def in_folders(doc: str | None, trial: Trial) -> Counter[str]:
+    """Runs a trial of a folder in as many as are asked for. Returns the counts."""
+    words = trial_words(doc)
     words.add_argument("--folders", type=int, default=1_000)
     words.add_argument("--jobs", type=int, default=os.cpu_count())
     words.add_argument("--memory", type=int, default=512)
@@ -295,7 +298,11 @@ def main() -> int:
     with room("/dev/shm") as work:
         print(f"seed {asked.seed}, on {file_system(work)}", flush=True)
         ranges = [(begin, min(begin + PART, asked.folders)) for begin in range(0, asked.folders, PART)]
-        counted = in_parts(part, [(tool, work, asked.seed, *each) for each in ranges], asked.jobs, asked.memory)
+        return in_parts(part, [(trial, tool, work, asked.seed, *each) for each in ranges], asked.jobs, asked.memory)
+
+
+def main() -> int:
+    counted = in_folders(__doc__, tried)
     told = f"{counted['folders']} folders, {counted['lines']} lines, {counted['damaged']} of them answered by Damaged"
     past = f"{counted['past']} replays and {counted['exported']} exports begun past damage"
     print(f"{told}, {past}: each answer is the reader's")

@@ -16,8 +16,9 @@ Then a few days more, in which no sender ends, and each one that finds its recor
 has one recording, which was extended, and every byte that was sent is in it.
 
 Then a server that can record nothing, with `--strict` and without: over a damaged catalogue, with a full history, over a file that
-takes no more, and over a full disk. With `--strict` it ends by itself, and a `quit` ends it, with status 3 and its line; without it
-goes on, and `quit` ends it with status 0. Mounting a disk takes the right to; else that one is skipped, and said to be.
+takes no more, over a full disk, and over a catalogue with an entry past its closed gate. With `--strict` it ends by itself, and a
+`quit` ends it, with status 3 and its line; without it goes on, and `quit` ends it with status 0. Mounting a disk takes the right to;
+else that one is skipped, and said to be.
 """
 import random
 import resource
@@ -222,6 +223,16 @@ def fill(tool: Path, archive: Path) -> None:
                 size //= 2
 
 
+def hide(tool: Path, archive: Path) -> None:
+    """Makes an archive with a recording, and closes the gate of its Start: the Settle that follows it has an open one."""
+    create()(tool, archive)
+    given = f"{START}\nblock 0 {STREAM.message(0, b'hello').hex()}\n".encode()
+    subprocess.run([tool, "run", archive], input=given, capture_output=True, check=True)
+    with open(archive / "catalogue-a.bank", "r+b") as file:
+        file.seek(32)
+        file.write(b"\0")
+
+
 START = STREAM.start("c")
 LONG = f"block 0 {STREAM.message(0, bytes(1_000)).hex()}"
 STUCK = [
@@ -232,6 +243,7 @@ STUCK = [
         "nothing can be recorded: a write has failed, and the archive is Broken", 512,
     ),
 ]
+HIDDEN = Stuck("a closed gate that hides an entry", hide, [], "the archive is not opened, since entries may be hidden")
 FULL = Stuck("a full disk", fill, [START, LONG], "nothing can be recorded: a write has failed, and the archive is Broken")
 
 
@@ -290,7 +302,7 @@ def try_stuck(tool: Path, above: Path, stuck: Stuck) -> None:
 
 def try_all_stuck(tool: Path) -> None:
     """Each of them, and a disk that is full."""
-    for stuck in STUCK:
+    for stuck in [*STUCK, HIDDEN]:
         with room() as above:
             try_stuck(tool, above, stuck)
     try:
@@ -298,7 +310,7 @@ def try_all_stuck(tool: Path) -> None:
             try_stuck(tool, disk, FULL)
     except Skipped as why:
         print(f"a full disk: skipped, {why}")
-    print("a server that can record nothing ends with status 3 if it is strict, and goes on if it is not")
+    print("a server that can record nothing, or finds an entry past a closed gate, ends with status 3 if it is strict, and else goes on")
 
 
 def main() -> int:

@@ -1,7 +1,7 @@
 // Lets one call of a program on the files of a folder fail: trials/failing_calls.py says how it is used. The folder is that of
 // TRIAL_FOLDER; its calls are counted from 1, and the one of the number TRIAL_FAIL fails with the error TRIAL_ERROR. With
 // TRIAL_SKIP every so many-th sync of a file answers success and is not made. TRIAL_COUNT names a file to which the number of
-// calls is written when the program ends.
+// calls is written when the program ends, and the number of the first call that lists the folder.
 #define _GNU_SOURCE
 #include <dlfcn.h>
 #include <errno.h>
@@ -15,7 +15,7 @@
 #include <unistd.h>
 
 // The calls of the built program on files are open, openat, statx, getdents64, pread, pwrite, ftruncate, fdatasync, fsync and unlink.
-static long calls, syncs;
+static long calls, syncs, first_listing;
 static char is_ours[4096];
 
 static long number(const char *name) {
@@ -41,7 +41,7 @@ __attribute__((destructor)) static void told(void) {
     const char *name = getenv("TRIAL_COUNT");
     FILE *file = name ? fopen(name, "w") : NULL;
     if (file) {
-        fprintf(file, "%ld\n", calls);
+        fprintf(file, "%ld %ld\n", calls, first_listing);
         fclose(file);
     }
 }
@@ -80,7 +80,12 @@ OF_FD(ssize_t, pread, (int fd, void *into, size_t n, off_t at), fd, into, n, at)
 OF_FD(ssize_t, pwrite, (int fd, const void *from, size_t n, off_t at), fd, from, n, at)
 OF_FD(int, ftruncate, (int fd, off_t length), fd, length)
 OF_FD(int, fsync, (int fd), fd)
-OF_FD(ssize_t, getdents64, (int fd, void *into, size_t n), fd, into, n)
+
+ssize_t getdents64(int fd, void *into, size_t n) {
+    if (is_file(fd) && fails()) return -1;
+    if (is_file(fd) && !first_listing) first_listing = calls;
+    return REAL("getdents64", int, void *, size_t)(fd, into, n);
+}
 
 int fdatasync(int fd) {
     if (is_file(fd) && fails()) return -1;

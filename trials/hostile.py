@@ -26,7 +26,7 @@ from random import Random
 
 import bent_lines
 import random_lines
-from comparison import Files, Script, after_an_opening, ended, in_parts, look_only, try_export, write
+from comparison import Files, Script, after_an_opening, ended, in_parts, look_only, try_export, warning, write
 from damaged import cut, damage, grow, looks, made, make_pad, move_bytes, same_state, set_field, turn_bytes
 from readers.archive import Archive, files_of, looked_at, opened
 from readers.catalogue import BANKS, NEWEST, Catalogue, Recording, Refused, Register, read_banks
@@ -90,7 +90,7 @@ def try_description(tool: Path, folder: Path, files: Files) -> None:
     for each in told["recordings"]:
         del each["started"], each["stopped"]
     told["stale_files"] = [each["file"] for each in told["stale_files"]]
-    expect("describe", (done.returncode, told), (0, description(known, files)))
+    expect("describe", (done.returncode, told, done.stderr.decode()), (0, description(known, files), warning(files)))
 
 
 def description(known: Catalogue, files: Files) -> dict[str, object]:

@@ -169,7 +169,7 @@ class Storm:
 
     def stops(self) -> list[int]:
         """Opens the archive again: where each recording stopped. One whose start was not answered may be missing."""
-        told = run(self.script, ["list 0 1024"])
+        told = run(self.script, ["list 0 1024"], is_stopped=True)
         if len(told) == len(self.recordings) and not self.recordings[-1].is_known:
             self.recordings.pop()
         stops = [int(line.split()[5]) for line in told[:-1]]

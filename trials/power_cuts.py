@@ -246,7 +246,7 @@ def shown(tool: Path, folder: Path | None, before: list[str], count: int) -> lis
     asked += [f"poll {number} {MOST}" for number in range(count)]
     given = "".join(line + "\n" for line in [*before, *(["reopen"] if folder is None else []), *asked])
     ended = subprocess.run([tool, "run", *([folder] if folder else [])], input=given, capture_output=True, text=True)
-    if ended.returncode != 0 or not is_calm(ended.stderr):
+    if ended.returncode != 0 or not is_calm(ended.stderr, is_stopped=folder is not None):
         raise Fault(f"ended with status {ended.returncode}: {ended.stderr.strip()}")
     told = ended.stdout.splitlines()
     skipped = len(before) + (folder is None)

@@ -445,7 +445,7 @@ class Killed:
 
     def look(self) -> None:
         """What was answered is there."""
-        stops = [int(line.split()[5]) for line in run([self.tool, "list", self.archive])[:-1]]
+        stops = [int(line.split()[5]) for line in run([self.tool, "list", self.archive], is_stopped=True)[:-1]]
         for recording, answered in self.answered.items():
             if stops[recording] < answered:
                 raise Fault(f"recording {recording}: answered {answered}, it stopped at {stops[recording]}")

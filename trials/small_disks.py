@@ -90,7 +90,7 @@ def device_without_room(tool: Path, work: Path) -> str:
         shutil.copyfile(thin / "image", image)
     subprocess.run(["e2fsck", "-f", "-y", image], capture_output=True)
     with mounted(disk, "-o", "loop", image):
-        found = run([tool, "run", disk / "archive"], ["positions 0", "verify 0"])
+        found = run([tool, "run", disk / "archive"], ["positions 0", "verify 0"], is_stopped=True)
         recorded_to = int(found[0].split()[2])
         expect("what is recorded", recorded_to in (settled, settled + BLOCK), True)
         expect("verify", found[1], f"verified {recorded_to // LENGTH}")

@@ -14,10 +14,11 @@ import sys
 from collections.abc import Callable, Iterator
 from contextlib import contextmanager
 from dataclasses import dataclass, field
+from functools import partial
 from pathlib import Path
 
 from mounts import Skipped, mount, mounted
-from tool import Session, Stream, bank, expect, program, room
+from tool import Session, Stream, bank, expect, hides, program, room
 
 STREAM = Stream(term_length=65_536, segment_length=131_072)
 START = STREAM.start("c")
@@ -26,6 +27,7 @@ NEXT = f"block 0 {STREAM.message(64, b'hello').hex()}"
 LONG = f"block 0 {STREAM.message(0, bytes(1_000)).hex()}"
 RECORDED = [START, BLOCK]
 FILLING = [START, "stop 0 1", *["truncate 0 0"] * 97]  # 99 entries
+WRONG = "start 1 1 1 65536 1407 65536 0 0 c"
 NOBODY = 65_534
 
 MADE = "a new archive was made, as the folder had none\n"
@@ -36,7 +38,11 @@ FULL = (
 FAULT = "error 17 DeviceFault\n"
 NO_SPARE = "error 19 NotCatalogue\nthere is no catalogue, or no other bank that a compaction may write\n"
 BROKEN = "error 16 Broken\n"
+BAD_LINE = "error 22 BadLine\n"
 BAD_PARAMETER = "error 10 BadParameter\n"
+HIDDEN = partial(hides, "catalogue-a.bank")
+
+LISTED = "recording 0 1000 -1 0 64 42 131072 65536 1408 7 1001 c\nend 1\n"
 
 Make = Callable[[Path], None]
 
@@ -53,6 +59,7 @@ class Row:
     make: list[Make] = field(default_factory=list)
     lines: list[str] = field(default_factory=list)
     into: str = "pipe"  # a pipe, a pipe that nobody reads, nothing at all, or a file
+    is_ended: bool = True  # whether the last line has its line feed
     nobody: bool = False
     file_size: int | None = None
 
@@ -76,10 +83,11 @@ class Program:
             if row.into == "nothing":
                 os.close(1)
 
+        given = "".join(line + "\n" for line in row.lines)
         with outputs(row.into) as output:
             ended = subprocess.run(
                 [self.path, *words],
-                input="".join(line + "\n" for line in row.lines).encode(),
+                input=(given if row.is_ended else given[:-1]).encode(),
                 stdout=output,
                 stderr=subprocess.PIPE,
                 preexec_fn=prepare,
@@ -178,6 +186,18 @@ def rows(tool: Program) -> list[Row]:
                 lines=[line, "list 0 1", line, "list 0 1"],
             )
             for word, rule, line in wrong_starts()
+        ),
+        *(
+            Row(
+                f"run of such a start {where}", ["run", "."], 0, BAD_LINE * len(before) + BAD_PARAMETER,
+                MADE + "start is BadParameter: <mtu> has to be a multiple of 32, from 64 to 65504\n",
+                lines=[*before, WRONG], is_ended=is_ended,
+            )
+            for where, before, is_ended in (
+                ("behind blank lines", ["", ""], True),
+                ("behind a line that is too long", [f"{WRONG}{'c' * 262_144}"], True),
+                ("as the last line, without its line feed", [], False),
+            )
         ),
         Row(
             "run in memory of such a start", ["run"], 0, BAD_PARAMETER,
@@ -310,6 +330,23 @@ def rows(tool: Program) -> list[Row]:
             "0-0.rec: read: Permission denied\n" + summary(1, 0, 0, 0, 1), [recorded, mode("0-0.rec", 0o600)],
             nobody=True,
         ),
+        # a gate that closed: in two, Settles have theirs at 89 and 109, and the second Start at 129
+        *(
+            Row(f"{' '.join(words)} of a closed gate", words, 0, output, HIDDEN(109) + error, [two, overwrite("catalogue-a.bank", 109, b"\0")])
+            for words, output, error in (
+                (["verify", "."], "verified 1\n", summary(1, 1, 64, 0, 0)),
+                (["verify", ".", "--read-only"], "verified 1\n", summary(1, 1, 64, 0, 0)),
+                (["list", "."], LISTED, ""),
+                (["compact", "."], "compacted\n", ""),
+            )
+        ),
+        Row("run over a closed gate", ["run", "."], 0, LISTED, HIDDEN(109), [two, overwrite("catalogue-a.bank", 109, b"\0")], ["list 0 9"]),
+        Row("list of a Start whose gate is closed, with nothing after it", ["list", "."], 0, "end 0\n", "",
+            [lambda folder: tool.script(folder, START), overwrite("catalogue-a.bank", 32, b"\0")]),
+        Row("list of a last Settle whose gate is closed", ["list", "."], 0, LISTED.replace(" 64 42", " 0 42"), HIDDEN(89),
+            [recorded, overwrite("catalogue-a.bank", 89, b"\0")]),
+        Row("the same without its frames", ["list", "."], 0, LISTED.replace(" 64 42", " 0 42"), "",
+            [recorded, overwrite("catalogue-a.bank", 89, b"\0"), overwrite("0-0.rec", 0, b"\0")]),
         # export
         Row("export", export, 0, "exported\n", "", [recorded]),
         Row("export of nothing", ["export", "./gone", *export[2:]], 3, "", FAULT + "the folder is not there\n"),

@@ -95,7 +95,7 @@ class Storm:
 
     def stops(self) -> list[int]:
         """Opens the archive again: where each recording stopped."""
-        told = run([self.tool, "list", self.folder])
+        told = run([self.tool, "list", self.folder], is_stopped=True)
         stops = [int(line.split()[5]) for line in told[:-1]]
         if len(stops) < sum(each.is_known for each in self.recordings):
             raise Fault(f"{len(stops)} recordings are there")

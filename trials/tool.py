@@ -28,6 +28,17 @@ CALM = re.compile(
 )
 
 
+def hides(bank: str, gate: int | str) -> str:
+    """The line that warns of an entry past a bank's closed gate: docs/STORAGE.md, "A closed gate"."""
+    return (
+        f"{bank}: a whole entry stands past the closed gate at offset {gate}, "
+        "so entries that were answered may be hidden: copy the folder before anything opens it\n"
+    )
+
+
+HIDES = re.compile(hides("catalogue-[ab][.]bank", "[0-9]+"))
+
+
 class Fault(Exception):
     """What a script found wrong."""
 
@@ -171,17 +182,19 @@ def bank(history_limit: int, entries: Iterable[bytes], version: int = 2) -> byte
     return header + b"".join(b"\x01" + text for text in entries) + b"\x00"
 
 
-def is_calm(told: str) -> bool:
-    """Whether standard error tells of nothing that failed. Its texts are tried by standard_error.py."""
-    return all(CALM.fullmatch(line) for line in told.splitlines())
+def is_calm(told: str, is_stopped: bool = False) -> bool:
+    """Whether standard error tells of nothing that failed. Its texts are tried by standard_error.py. The first opening after a kill, a
+    loss of power or a failed call may warn of an entry whose gate was not opened yet."""
+    warned = HIDES.match(told) if is_stopped else None
+    return all(CALM.fullmatch(line) for line in told[warned.end() if warned else 0 :].splitlines())
 
 
-def run(words: Sequence[str | Path], lines: Iterable[str] = (), failed: Sequence[str] = ()) -> list[str]:
+def run(words: Sequence[str | Path], lines: Iterable[str] = (), failed: Sequence[str] = (), is_stopped: bool = False) -> list[str]:
     """The lines that a command answers to lines on its standard input; it has to end with status 0, and tell on standard error
-    what failed, if it is said that something does, else of nothing that failed."""
+    what failed, if it is said that something does, else of nothing that failed (`is_calm`)."""
     given = "".join(line + "\n" for line in lines)
     ended = subprocess.run(words, input=given, capture_output=True, text=True)
-    is_told = ended.stderr.splitlines() == [*failed] if failed else is_calm(ended.stderr)
+    is_told = ended.stderr.splitlines() == [*failed] if failed else is_calm(ended.stderr, is_stopped)
     if ended.returncode != 0 or not is_told:
         raise Fault(f"{' '.join(map(str, words[1:]))} ended with status {ended.returncode}: {ended.stderr.strip()}")
     return ended.stdout.splitlines()

@@ -87,7 +87,7 @@ class Reader:
         if frame is None:
             return None
         term, at = divmod(position, known.term_length)
-        is_placed = (frame.term_id - known.initial_term - term) % 2**32 == 0 and frame.offset == at
+        is_placed = term < 2**31 and (frame.term_id - known.initial_term - term) % 2**32 == 0 and frame.offset == at
         ends = at + aligned(frame.length) <= known.term_length and position + aligned(frame.length) <= known.recorded
         return frame if is_placed and ends and frame.stream_id == known.stream_id else None
 
