@@ -14,7 +14,7 @@ use tool_core::Screen;
 
 /// The bank behind whose closed gate entries may be hidden, and where the gate stands in its file.
 #[derive(Clone, Copy)]
-pub(crate) struct HiddenPlace {
+struct HiddenPlace {
     bank: Bank,
     gate: u64,
 }
@@ -47,30 +47,9 @@ pub(crate) fn warns_of_hidden<R: Eprint>(
     true
 }
 
-/// Tells on standard error where entries may be hidden in the catalogue of a folder, if they may there still. Another process that
-/// writes the folder has opened its entry's gate meanwhile. Costs a read of the catalogue if they might before.
-pub(crate) fn warn_if_hidden_still<R: Eprint>(
-    rt: HostRuntime,
-    folder: Path<'_>,
-    screen: &Screen<'_, R>,
-    before: Option<HiddenPlace>,
-)
-    ghost given: { Given }
-{
-    let Some(before) = before else {
-        return;
-    };
-    let Some(place) = hidden_place(rt, folder) else {
-        return;
-    };
-    if place.gate == before.gate && place.bank.file() == before.bank.file() {
-        screen.tell(place);
-    }
-}
-
 /// Where entries that were answered may be hidden in the catalogue of a folder, which is only read. None if none may be, or the
 /// folder can't be looked at.
-pub(crate) fn hidden_place(rt: HostRuntime, folder: Path<'_>) -> Option<HiddenPlace>
+fn hidden_place(rt: HostRuntime, folder: Path<'_>) -> Option<HiddenPlace>
     ghost given: { Given }
     ensures { IfSome result (λ place. MayHideEntries given) }
 {

@@ -9,7 +9,7 @@ ghost use Rattle.folder_commands.specs.Looking.{DescribesFolder, ListsAsItStands
 ghost use Rattle.folder_commands.specs.Status.{ending_of};
 
 use crate::commands::{opening_of, progress_of};
-use crate::hidden::{hidden_place, warn_if_hidden_still};
+use crate::hidden::warns_of_hidden;
 use crate::outcome::Ended;
 use crate::reason::Reason;
 use crate::status::Ending;
@@ -39,7 +39,7 @@ pub(crate) fn list_read_only<W: Write>(
 
 /// Reads each recorded frame of the archive in a folder as it stands, and writes what was found of each recording. How far it
 /// has come is shown on standard error, where that is a terminal; what it found in all is told there, and that the archive is
-/// being written where it is.
+/// being written where it is, or that its catalogue may hide entries.
 pub(crate) fn verify_read_only<W: Write>(
     rt: HostRuntime,
     folder: Path<'_>,
@@ -50,6 +50,7 @@ pub(crate) fn verify_read_only<W: Write>(
 {
     let screen = Screen::new(&rt);
     let mut disk = folder_of(rt, folder)?;
+    let _ = warns_of_hidden(rt, folder, &screen);
     let progress = progress_of(&rt, &screen, &mut disk);
     let faults = FaultTeller::new(rt.alloc(), &screen, Stage::Working);
     let disk = Watched::new(disk, (faults, (opening_of(&rt, &screen), progress)));
@@ -84,7 +85,7 @@ fn judged(finding: Finding) -> Result<(), Ended>
 }
 
 /// Writes what is known of the archive in a folder as it stands, as a page or as JSON. It is told on standard error if its
-/// catalogue may hide entries, before and after that.
+/// catalogue may hide entries.
 pub(crate) fn describe<W: Write>(
     rt: HostRuntime,
     folder: Path<'_>,
@@ -97,13 +98,10 @@ pub(crate) fn describe<W: Write>(
     let form = if json { Form::Json } else { Form::Page };
     let screen = Screen::new(&rt);
     let disk = Watched::new(folder_of(rt, folder)?, opening_of(&rt, &screen));
-    let hidden = hidden_place(rt, folder);
+    let _ = warns_of_hidden(rt, folder, &screen);
     let mut teller = OpeningTeller::new(&screen);
     match describe_archive(rt.alloc(), disk, form, writer, &mut teller) {
-        Ok(_) => {
-            warn_if_hidden_still(rt, folder, &screen, hidden);
-            Ok(())
-        }
+        Ok(_) => Ok(()),
         Err(fault) => Err(stopped(fault)),
     }
 }
