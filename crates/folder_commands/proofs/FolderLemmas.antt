@@ -16,7 +16,6 @@ use Rattle.tool_core.specs.Commands.{FailsToCompact, FailsToCreate, FailsToList,
 use Rattle.folder_commands.specs.declared.status.Ending.TheVariants.{Done}
 use Rattle.folder_commands.specs.Folders.{CompactsFolder, FolderAsDisk, ListsFolder, MakesArchive, VerifiesFolder, ending_by}
 use Rattle.folder_commands.specs.Status.{ending_of}
-use Rattle.folder_commands.proofs.WatchedLemmas.{compacted, inside, listed, uncompacted, unlisted, unverified, verified}
 
 -- a watched disk of a folder begins with its files
 pub begins_watched : {V : Type 0} (given : Given) (disk : FolderAsDisk) (watched : Watched FolderAsDisk V) → host_life disk ≡ life_from given → watched.disk ≡ disk → host_life watched.disk ≡ life_from given
@@ -27,38 +26,34 @@ pub begins_quiet : {V : Type 0} (given : Given) (disk mid : FolderAsDisk) (watch
 begins_quiet given disk mid watched begins quiet is =
     subst (λ l. IsQuiet l (host_life watched.disk)) begins (subst (λ d. IsQuiet (host_life disk) (host_life d)) (sym is) quiet)
 
-module _ (V : Type 0) (given : Given) (contents written : Option (List ℕ)) (old : Life) where
-  pub list_done : (new : Life) → old ≡ life_from given → HasListed (inside FolderAsDisk V host_life) old new contents written → ListsFolder given contents written Done
-  list_done new begins h = (new, subst (λ l. HasListed host_life l new contents written) begins (listed FolderAsDisk V host_life h))
+module _ (given : Given) (contents written : Option (List ℕ)) (old : Life) where
+  pub list_done : (new : Life) → old ≡ life_from given → HasListed old new contents written → ListsFolder given contents written Done
+  list_done new begins h = (new, subst (λ l. HasListed l new contents written) begins h)
 
-  pub list_stopped : (disk : Watched FolderAsDisk V) (why : Stopped) → old ≡ life_from given → FailsToList (inside FolderAsDisk V host_life) old disk why contents written → ListsFolder given contents written (ending_of why)
-  list_stopped disk (stops.Refused refusal) begins h =
-      (disk.disk, subst (λ l. FailsToList host_life l disk.disk (stops.Refused refusal) contents written) begins (unlisted FolderAsDisk V host_life old contents written disk (stops.Refused refusal) h))
-  list_stopped disk (stops.Cut end) begins h =
-      (disk.disk, subst (λ l. FailsToList host_life l disk.disk (stops.Cut end) contents written) begins (unlisted FolderAsDisk V host_life old contents written disk (stops.Cut end) h))
+  pub list_stopped : (disk : FolderAsDisk) (why : Stopped) → old ≡ life_from given → FailsToList old (host_life disk) why contents written → ListsFolder given contents written (ending_of why)
+  list_stopped disk (stops.Refused refusal) begins h = (disk, subst (λ l. FailsToList l (host_life disk) (stops.Refused refusal) contents written) begins h)
+  list_stopped disk (stops.Cut end) begins h = (disk, subst (λ l. FailsToList l (host_life disk) (stops.Cut end) contents written) begins h)
 
-  pub verify_done : (new : Life) (verdict : Verdict) → IsQuiet (life_from given) old → HasVerified (inside FolderAsDisk V host_life) old new contents written verdict → VerifiesFolder given contents written (ending_by verdict)
-  verify_done new verdicts.Whole quiet h = (old, new, quiet, verified FolderAsDisk V host_life h)
-  verify_done new verdicts.Refused quiet h = (old, new, quiet, verified FolderAsDisk V host_life h)
+  pub verify_done : (new : Life) (verdict : Verdict) → IsQuiet (life_from given) old → HasVerified old new contents written verdict → VerifiesFolder given contents written (ending_by verdict)
+  verify_done new verdicts.Whole quiet h = (old, new, quiet, h)
+  verify_done new verdicts.Refused quiet h = (old, new, quiet, h)
 
-  pub verify_stopped : (disk : Watched FolderAsDisk V) (why : Stopped) → IsQuiet (life_from given) old → FailsToVerify (inside FolderAsDisk V host_life) old disk why contents written → VerifiesFolder given contents written (ending_of why)
-  verify_stopped disk (stops.Refused refusal) quiet h = (old, disk.disk, quiet, unverified FolderAsDisk V host_life old contents written disk (stops.Refused refusal) h)
-  verify_stopped disk (stops.Cut end) quiet h = (old, disk.disk, quiet, unverified FolderAsDisk V host_life old contents written disk (stops.Cut end) h)
+  pub verify_stopped : (disk : FolderAsDisk) (why : Stopped) → IsQuiet (life_from given) old → FailsToVerify old (host_life disk) why contents written → VerifiesFolder given contents written (ending_of why)
+  verify_stopped disk (stops.Refused refusal) quiet h = (old, disk, quiet, h)
+  verify_stopped disk (stops.Cut end) quiet h = (old, disk, quiet, h)
 
-  pub compact_done : (new : Life) → old ≡ life_from given → HasCompacted (inside FolderAsDisk V host_life) old new → Appends contents written (codes "compacted\n") → CompactsFolder given contents written Done
-  compact_done new begins h told = (new, subst (λ l. HasCompacted host_life l new) begins (compacted FolderAsDisk V host_life h), told)
+  pub compact_done : (new : Life) → old ≡ life_from given → HasCompacted old new → Appends contents written (codes "compacted\n") → CompactsFolder given contents written Done
+  compact_done new begins h told = (new, subst (λ l. HasCompacted l new) begins h, told)
 
-  pub compact_stopped : (disk : Watched FolderAsDisk V) (why : Stopped) → old ≡ life_from given → FailsToCompact (inside FolderAsDisk V host_life) old disk why contents written → CompactsFolder given contents written (ending_of why)
-  compact_stopped disk (stops.Refused refusal) begins h =
-      (disk.disk, subst (λ l. FailsToCompact host_life l disk.disk (stops.Refused refusal) contents written) begins (uncompacted FolderAsDisk V host_life old contents written disk (stops.Refused refusal) h))
-  compact_stopped disk (stops.Cut end) begins h =
-      (disk.disk, subst (λ l. FailsToCompact host_life l disk.disk (stops.Cut end) contents written) begins (uncompacted FolderAsDisk V host_life old contents written disk (stops.Cut end) h))
+  pub compact_stopped : (disk : FolderAsDisk) (why : Stopped) → old ≡ life_from given → FailsToCompact old (host_life disk) why contents written → CompactsFolder given contents written (ending_of why)
+  compact_stopped disk (stops.Refused refusal) begins h = (disk, subst (λ l. FailsToCompact l (host_life disk) (stops.Refused refusal) contents written) begins h)
+  compact_stopped disk (stops.Cut end) begins h = (disk, subst (λ l. FailsToCompact l (host_life disk) (stops.Cut end) contents written) begins h)
 
-pub create_done : (given : Given) (limit : ℕ) (contents written : Option (List ℕ)) (old new : Life) → old ≡ life_from given → IsCreated host_life limit old new → Appends contents written (codes "created\n") → MakesArchive given limit contents written Done
-create_done given limit contents written old new begins h told = (new, subst (λ l. IsCreated host_life limit l new) begins h, told)
+pub create_done : (given : Given) (limit : ℕ) (contents written : Option (List ℕ)) (old new : Life) → old ≡ life_from given → IsCreated limit old new → Appends contents written (codes "created\n") → MakesArchive given limit contents written Done
+create_done given limit contents written old new begins h told = (new, subst (λ l. IsCreated limit l new) begins h, told)
 
-pub create_stopped : (given : Given) (limit : ℕ) (contents written : Option (List ℕ)) (old : Life) (disk : FolderAsDisk) (why : Stopped) → old ≡ life_from given → FailsToCreate host_life limit old disk why contents written → MakesArchive given limit contents written (ending_of why)
+pub create_stopped : (given : Given) (limit : ℕ) (contents written : Option (List ℕ)) (old : Life) (disk : FolderAsDisk) (why : Stopped) → old ≡ life_from given → FailsToCreate limit old (host_life disk) why contents written → MakesArchive given limit contents written (ending_of why)
 create_stopped given limit contents written old disk (stops.Refused refusal) begins h =
-    inl (disk, subst (λ l. FailsToCreate host_life limit l disk (stops.Refused refusal) contents written) begins h)
+    inl (disk, subst (λ l. FailsToCreate limit l (host_life disk) (stops.Refused refusal) contents written) begins h)
 create_stopped given limit contents written old disk (stops.Cut end) begins h =
-    inl (disk, subst (λ l. FailsToCreate host_life limit l disk (stops.Cut end) contents written) begins h)
+    inl (disk, subst (λ l. FailsToCreate limit l (host_life disk) (stops.Cut end) contents written) begins h)

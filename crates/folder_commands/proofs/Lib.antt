@@ -1,6 +1,5 @@
 mod WatchedLemmas
 mod FolderLemmas
-mod ScriptLemmas
 mod RunLemmas
 mod ViewLemmas
 mod LookingLemmas

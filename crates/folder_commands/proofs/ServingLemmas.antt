@@ -3,16 +3,13 @@ use Rattle.std.proofs.Common.{◌≡◌, inl, inr, ℤ, Bool, IsTrue, sym, subst
 use Rattle.command_line.specs.declared.serving.ServeWords.{ServeWords}
 use Rattle.disk_core.specs.Life.{Life}
 use Rattle.host_disk.specs.Events.{Given}
-use Rattle.host_disk.specs.HostDisk.{host_life}
 use Rattle.host_disk.specs.Replay.{life_from}
 use Rattle.serve_core.specs.declared.options.ServeOptions.{ServeOptions}
 use Rattle.folder_commands.specs.declared.status.Ending.{Ending}
 use Rattle.folder_commands.specs.declared.status.Ending.TheVariants.{Done, Cut, Refused, Stuck, Hidden, Unopened, FoundDamage, LineRefused, NoCommand, Failed}
-use Rattle.folder_commands.specs.Folders.{FolderAsDisk, IsUnopenedFolder}
+use Rattle.folder_commands.specs.Folders.{IsUnopenedFolder}
 use Rattle.folder_commands.specs.Hidden.{MayHideEntries}
 use Rattle.folder_commands.specs.Serving.{AreOptions, AreWrong, HasNoEnds, IsUnbound, ServesFolder, ServesOver}
-use Rattle.folder_commands.proofs.ScriptLemmas.{serves_inside}
-use Rattle.folder_commands.proofs.WatchedLemmas.{inside}
 
 module _ (given : Given) (words : ServeWords) (receiver : ℤ) (options : ServeOptions) (asked : AreOptions words receiver options) (named : HasNoEnds words → ⊥) where
   are_right : AreWrong words → ⊥
@@ -28,7 +25,7 @@ module _ (given : Given) (words : ServeWords) (receiver : ℤ) (options : ServeO
   pub not_looked : IsTrue words.is_strict → MayHideEntries given → ServesFolder given words Hidden
   not_looked strict hides = (are_right, strict, hides)
 
-  over_folder : (ending : Ending) → ServesOver host_life words.is_strict (life_from given) ending → ServesFolder given words ending
+  over_folder : (ending : Ending) → ServesOver words.is_strict (life_from given) ending → ServesFolder given words ending
   over_folder Done h = (are_right, h)
   over_folder (Cut end) h = (are_right, h)
   over_folder (Unopened fault) h = absurd h
@@ -40,9 +37,9 @@ module _ (given : Given) (words : ServeWords) (receiver : ℤ) (options : ServeO
   over_folder (Stuck stop) h = (are_right, h)
   over_folder Hidden h = absurd h
 
-  pub served : (V : Type 0) (old : Life) (ending : Ending) → old ≡ life_from given → ServesOver (inside FolderAsDisk V host_life) options.is_strict old ending → ServesFolder given words ending
-  served V old ending begins h = over_folder ending (subst (λ (l : Life). ServesOver host_life words.is_strict l ending) begins
-      (subst (λ (strict : Bool). ServesOver host_life strict old ending) asked.strict (serves_inside FolderAsDisk V host_life options.is_strict old ending h)))
+  pub served : (old : Life) (ending : Ending) → old ≡ life_from given → ServesOver options.is_strict old ending → ServesFolder given words ending
+  served old ending begins h =
+      over_folder ending (subst (λ (l : Life). ServesOver words.is_strict l ending) begins (subst (λ (strict : Bool). ServesOver strict old ending) asked.strict h))
 
 -- no port is bound
 pub not_bound : (given : Given) (words : ServeWords) (receiver : ℤ) (options : ServeOptions) → AreOptions words receiver options → (ending : Ending) → IsUnbound words ending → ServesFolder given words ending

@@ -4,7 +4,6 @@ use Rattle.std.specs.Io.KnownBytes.{Appends}
 use Rattle.frame_core.specs.declared.refusal.Refusal.TheVariants.{DeviceFault}
 use Rattle.disk_core.specs.DiskImage.{begun}
 use Rattle.disk_core.specs.Life.{IsQuiet, Life}
-use Rattle.disk_core.specs.MemoryDisk.{life_of}
 use Rattle.catalogue_log.specs.LogState.{Banks}
 use Rattle.host_disk.specs.declared.folder_disk.FolderDisk.{FolderDisk}
 use Rattle.host_disk.specs.declared.host_folder.HostFolder.{HostFolder}
@@ -67,48 +66,48 @@ module _ (given : Given) where
   -- `list`: the archive of these files was opened, and its recordings are written
   abbrev pub ListsFolder : Option (List ℕ) → Option (List ℕ) → Ending → Type 0
   ListsFolder contents written = EndsAs
-      ((new : Life) × HasListed host_life (life_from given) new contents written)
+      ((new : Life) × HasListed (life_from given) new contents written)
       ⊥
-      (λ why. (disk : FolderAsDisk) × FailsToList host_life (life_from given) disk why contents written)
+      (λ why. (disk : FolderAsDisk) × FailsToList (life_from given) (host_life disk) why contents written)
       contents written
 
   -- `verify`: behind at most a listing of its files each of its recordings was verified, and the answers are written; damage is
   -- found where one is no reply
   abbrev pub VerifiesFolder : Option (List ℕ) → Option (List ℕ) → Ending → Type 0
   VerifiesFolder contents written = EndsAs
-      ((old : Life) × (new : Life) × IsQuiet (life_from given) old × HasVerified host_life old new contents written verdicts.Whole)
-      ((old : Life) × (new : Life) × IsQuiet (life_from given) old × HasVerified host_life old new contents written verdicts.Refused)
-      (λ why. (old : Life) × (disk : FolderAsDisk) × IsQuiet (life_from given) old × FailsToVerify host_life old disk why contents written)
+      ((old : Life) × (new : Life) × IsQuiet (life_from given) old × HasVerified old new contents written verdicts.Whole)
+      ((old : Life) × (new : Life) × IsQuiet (life_from given) old × HasVerified old new contents written verdicts.Refused)
+      (λ why. (old : Life) × (disk : FolderAsDisk) × IsQuiet (life_from given) old × FailsToVerify old (host_life disk) why contents written)
       contents written
 
   -- `create`: an archive without recordings was made, with this limit of its history; or the folder itself was not
   abbrev pub MakesArchive : ℕ → Option (List ℕ) → Option (List ℕ) → Ending → Type 0
   MakesArchive limit contents written = EndsAs
-      ((new : Life) × IsCreated host_life limit (life_from given) new × Appends contents written (codes "created\n"))
+      ((new : Life) × IsCreated limit (life_from given) new × Appends contents written (codes "created\n"))
       ⊥
-      (λ why. ((disk : FolderAsDisk) × FailsToCreate host_life limit (life_from given) disk why contents written)
+      (λ why. ((disk : FolderAsDisk) × FailsToCreate limit (life_from given) (host_life disk) why contents written)
       ⊎ ((why ≡ stops.Refused DeviceFault) × (written ≡ contents)))
       contents written
 
   -- `compact`: the archive was opened, closed, and its catalogue written anew
   abbrev pub CompactsFolder : Option (List ℕ) → Option (List ℕ) → Ending → Type 0
   CompactsFolder contents written = EndsAs
-      ((new : Life) × HasCompacted host_life (life_from given) new × Appends contents written (codes "compacted\n"))
+      ((new : Life) × HasCompacted (life_from given) new × Appends contents written (codes "compacted\n"))
       ⊥
-      (λ why. (disk : FolderAsDisk) × FailsToCompact host_life (life_from given) disk why contents written)
+      (λ why. (disk : FolderAsDisk) × FailsToCompact (life_from given) (host_life disk) why contents written)
       contents written
 
 -- ---- scripts
 
-module _ {D : Type 0} (life : D → Life) (old : Life) (input contents written : Option (List ℕ)) where
+module _ (old : Life) (input contents written : Option (List ℕ)) where
   -- the lines of the input were answered over the disk, whatever it did, and exactly where it obeys the crash model
   pub record HasRun (new : Life) : Type 0 where
-    pub whole : WritesText input contents written (IsScript life old new)
+    pub whole : WritesText input contents written (IsScript old new)
     pub kept : (first : Standing) (banks : Banks) → Begins old first banks → IsTrue new.obeys → WritesText input contents written (IsTranscript first banks old new)
 
   -- the first of them were, or the archive was not opened
   pub record HasRunFirst (new : Life) (end : EarlyEnd) : Type 0 where
-    pub early : EndsEarly end (IsScriptOfFirst life old new) input contents written ⊎ IsUnopened old new contents written end
+    pub early : EndsEarly end (IsScriptOfFirst old new) input contents written ⊎ IsUnopened old new contents written end
     pub kept : (first : Standing) (banks : Banks) → Begins old first banks → IsTrue new.obeys →
         EndsEarly end (IsTranscriptOfFirst first banks old new) input contents written ⊎ IsUnopened old new contents written end
 
@@ -121,12 +120,12 @@ module _ {D : Type 0} (life : D → Life) (old : Life) (input contents written :
 -- `run` over the archive of a folder with these files
 abbrev pub RunsFolder : Given → Option (List ℕ) → Option (List ℕ) → Option (List ℕ) → Ending → Type 0
 RunsFolder given input contents written (Unopened fault) = written ≡ contents
-RunsFolder given input contents written ending = RunsOver host_life (life_from given) input contents written ending
+RunsFolder given input contents written ending = RunsOver (life_from given) input contents written ending
 
 -- `run` over an archive in memory, where no file was
 abbrev pub RunsInMemory : Option (List ℕ) → Option (List ℕ) → Option (List ℕ) → Ending → Type 0
 RunsInMemory input contents written ending =
-    (old : Life) × (old.now ≡ begun (λ file. None)) × (old.past ≡ []) × RunsOver life_of old input contents written ending
+    (old : Life) × (old.now ≡ begun (λ file. None)) × (old.past ≡ []) × RunsOver old input contents written ending
 
 -- ---- files
 

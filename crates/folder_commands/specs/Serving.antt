@@ -7,7 +7,6 @@ use Rattle.std.specs.declared.net.ipv4_addr.Ipv4Addr.{Ipv4Addr}
 use Rattle.clap.specs.declared.error.ErrorKind.TheVariants.{ValueValidation}
 use Rattle.disk_core.specs.Life.{Life}
 use Rattle.host_disk.specs.Events.{Given}
-use Rattle.host_disk.specs.HostDisk.{host_life}
 use Rattle.host_disk.specs.Replay.{life_from}
 use Rattle.command_line.specs.declared.serving.ServeWords.{ServeWords}
 use Rattle.serve_core.specs.declared.options.ServeOptions.{ServeOptions}
@@ -133,12 +132,11 @@ segment_reason (stream ∷ streams) = SegmentLength
 
 -- How a server over a disk ends, a strict one or one that is not: by a line that quits, or early. A strict one ends so exactly if
 -- its archive could record something then; else it ends by what that is.
-module _ {D : Type 0} (life : D → Life) (strict : Bool) where
-  abbrev pub ServesOver : Life → Ending → Type 0
-  ServesOver old Done = (new : Life) × IsServedAs life strict old new None
-  ServesOver old (Stuck stop) = (new : Life) × IsServedAs life strict old new (Some stop)
-  ServesOver old (Cut end) = (new : Life) × IsServedUpTo life old new end
-  ServesOver old ending = ⊥
+abbrev pub ServesOver : Bool → Life → Ending → Type 0
+ServesOver strict old Done = (new : Life) × IsServedAs strict old new None
+ServesOver strict old (Stuck stop) = (new : Life) × IsServedAs strict old new (Some stop)
+ServesOver strict old (Cut end) = (new : Life) × IsServedUpTo old new end
+ServesOver strict old ending = ⊥
 
 -- `serve` over the archive of a folder with these files. If its words are wrong, it ends by that, and then alone; else a port
 -- is not bound, the folder is not opened, or it is served. A strict server opens no archive whose catalogue may hide entries.
@@ -147,4 +145,4 @@ ServesFolder given words (NoCommand kind) = (kind ≡ ValueValidation) × AreWro
 ServesFolder given words (Failed fault) = AreWrong words → ⊥
 ServesFolder given words (Unopened fault) = AreWrong words → ⊥
 ServesFolder given words Hidden = (AreWrong words → ⊥) × IsTrue words.is_strict × MayHideEntries given
-ServesFolder given words ending = (AreWrong words → ⊥) × ServesOver host_life words.is_strict (life_from given) ending
+ServesFolder given words ending = (AreWrong words → ⊥) × ServesOver words.is_strict (life_from given) ending

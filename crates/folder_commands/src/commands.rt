@@ -234,7 +234,7 @@ fn run_over<I: Read + Drop, W: Write, D: Disk + Drop, O: Observer>(
     disk: D,
     observer: &mut O,
 ) -> Result<(), Ended>
-    ensures { RunsOver D.life (D.life disk) (I.remaining input) (W.contents writer.old) (W.contents writer.new) (ending_in result) }
+    ensures { RunsOver (D.life disk) (I.remaining input) (W.contents writer.old) (W.contents writer.new) (ending_in result) }
 {
     match run_script(alloc, input, writer, disk, observer) {
         Ok(_) => Ok(()),

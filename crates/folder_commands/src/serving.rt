@@ -244,7 +244,7 @@ fn serve_disk<
     options: &ServeOptions<'_>,
     teller: T,
 ) -> Result<(), Ended>
-    ensures { ServesOver D.life options.now.is_strict (D.life disk) (ending_in result) }
+    ensures { ServesOver options.now.is_strict (D.life disk) (ending_in result) }
 {
     let Ports { listener, socket } = ports;
     match serve_with(net, alloc, listener, socket, disk, options, teller) {

@@ -3,13 +3,10 @@ use Rattle.std.proofs.Common.{◌≡◌, inl, inr, refl, Bool, true, false, List
 use Rattle.std.specs.Prelude.{IfErr, IfOk, IsOk, MatchResult}
 use Rattle.disk_core.specs.Life.{Life}
 use Rattle.engine_core.specs.Engine.{EngineState}
-use Rattle.engine_core.specs.Seen.{seen}
-use Rattle.tool_core.specs.declared.archive.ScriptArchive.{ScriptArchive}
-use Rattle.tool_core.specs.declared.archive.ScriptArchive.TheVariants.{Open, Closed}
 use Rattle.tool_core.specs.declared.fault.EarlyEnd.{EarlyEnd}
 use Rattle.tool_core.specs.declared.observer.Beginning.{Beginning}
 use Rattle.tool_core.specs.declared.fault.ScriptFault.{ScriptFault}
-use Rattle.tool_core.specs.Archives.{BeginsAs, disk_of, early_end_of}
+use Rattle.tool_core.specs.Archives.{BeginsAs, Closed, Open, SeenArchive, disk_of, early_end_of}
 use Rattle.control_core.specs.Desk.{DeskState}
 use Rattle.engine_core.specs.declared.engine.Engine.{Engine}
 use Rattle.call_history.specs.declared.stored.Stored.{Stored}
@@ -38,47 +35,46 @@ lenient : (opening : EngineState) (keeps strict : Bool) (new : Life) (stop : Opt
 lenient opening keeps strict new stop ends =
     record { passes = ends.passes; calls = ends.calls; now = ends.now; begun = ends.begun; history = ends.history; closes = ends.closes; left = ends.left; stops = refl }
 
-module _ {D : Type 0} (life : D → Life) where
-  lenient_from : (strict : Bool) (beginning : Beginning) (first : ScriptArchive D) (new : Life) (stop : Option Stop) → EndsFrom life strict beginning first new stop → EndsFrom life false beginning first new None
-  lenient_from strict beginning (Open engine) new stop ends = lenient (seen life engine) false strict new stop ends
-  lenient_from strict beginning (Closed disk) new stop ends = (ends.0, refl)
+lenient_from : (strict : Bool) (beginning : Beginning) (first : SeenArchive) (new : Life) (stop : Option Stop) → EndsFrom strict beginning first new stop → EndsFrom false beginning first new None
+lenient_from strict beginning (Open engine) new stop ends = lenient engine false strict new stop ends
+lenient_from strict beginning (Closed life) new stop ends = (ends.0, refl)
 
-  pub served_leniently : (strict : Bool) (old new : Life) (stop : Option Stop) → IsServedAs life strict old new stop → IsServed life old new
-  served_leniently strict old new stop served =
-      record { first = served.first; beginning = served.beginning; begins = served.begins; ends = lenient_from strict served.beginning served.first new stop served.ends }
+pub served_leniently : (strict : Bool) (old new : Life) (stop : Option Stop) → IsServedAs strict old new stop → IsServed old new
+served_leniently strict old new stop served =
+    record { first = served.first; beginning = served.beginning; begins = served.begins; ends = lenient_from strict served.beginning served.first new stop served.ends }
 
-  served_ok : (strict : Bool) (old : Life) (first : ScriptArchive D) (beginning : Beginning) (new : Life) (stop : Option Stop) (end : Result (Unit {0}) EarlyEnd) → BeginsAs life old beginning first → EndsUpTo life strict beginning first new stop end → IsOk end → IsServedAs life strict old new stop
-  served_ok strict old (Open engine) beginning new stop end begins (inl ends) is = record { first = Open engine; beginning = beginning; begins = begins; ends = ends }
-  served_ok strict old (Open engine) beginning new stop end begins (inr (memory, same)) is = let bad : false ≡ true = subst IsOk memory is in cc
-  served_ok strict old (Closed disk) beginning new stop end begins ends is = record { first = Closed disk; beginning = beginning; begins = begins; ends = ends }
+served_ok : (strict : Bool) (old : Life) (first : SeenArchive) (beginning : Beginning) (new : Life) (stop : Option Stop) (end : Result (Unit {0}) EarlyEnd) → BeginsAs old beginning first → EndsUpTo strict beginning first new stop end → IsOk end → IsServedAs strict old new stop
+served_ok strict old (Open engine) beginning new stop end begins (inl ends) is = record { first = Open engine; beginning = beginning; begins = begins; ends = ends }
+served_ok strict old (Open engine) beginning new stop end begins (inr (memory, same)) is = let bad : false ≡ true = subst IsOk memory is in cc
+served_ok strict old (Closed life) beginning new stop end begins ends is = record { first = Closed life; beginning = beginning; begins = begins; ends = ends }
 
-  served_err : (strict : Bool) (old : Life) (first : ScriptArchive D) (beginning : Beginning) (new : Life) (stop : Option Stop) (end : Result (Unit {0}) EarlyEnd) (early : EarlyEnd) → BeginsAs life old beginning first → EndsUpTo life strict beginning first new stop end → end ≡ Err early → IsServedUpTo life old new early
-  served_err strict old (Open engine) beginning new stop end early begins (inl ends) is = inl (served_leniently strict old new stop (record { first = Open engine; beginning = beginning; begins = begins; ends = ends }))
-  served_err strict old (Open engine) beginning new stop end early begins (inr (memory, same)) is = inr (cc, inr (inr (Open engine, beginning, begins, same)))
-  served_err strict old (Closed disk) beginning new stop end early begins ends is = inl (served_leniently strict old new stop (record { first = Closed disk; beginning = beginning; begins = begins; ends = ends }))
+served_err : (strict : Bool) (old : Life) (first : SeenArchive) (beginning : Beginning) (new : Life) (stop : Option Stop) (end : Result (Unit {0}) EarlyEnd) (early : EarlyEnd) → BeginsAs old beginning first → EndsUpTo strict beginning first new stop end → end ≡ Err early → IsServedUpTo old new early
+served_err strict old (Open engine) beginning new stop end early begins (inl ends) is = inl (served_leniently strict old new stop (record { first = Open engine; beginning = beginning; begins = begins; ends = ends }))
+served_err strict old (Open engine) beginning new stop end early begins (inr (memory, same)) is = inr (cc, inr (inr (Open engine, beginning, begins, same)))
+served_err strict old (Closed life) beginning new stop end early begins ends is = inl (served_leniently strict old new stop (record { first = Closed life; beginning = beginning; begins = begins; ends = ends }))
 
-  module _ (strict : Bool) (old : Life) (first : ScriptArchive D) (beginning : Beginning) (served : Served D) (end : Result (Unit {0}) EarlyEnd) (result : Result (Served D) (ScriptFault D))
-      (begins : BeginsAs life old beginning first) (ends : EndsUpTo life strict beginning first (life served.disk) served.stop end)
-      (handed : MatchResult result (λ back. (back ≡ served) × IsOk end) (λ fault. (disk_of fault ≡ served.disk) × (end ≡ Err (early_end_of fault)))) where
-    pub stopped_back : IfOk result (λ back. IsServedAs life strict old (life back.disk) back.stop)
-    stopped_back = by result handed
-      where
-        by : (r : Result (Served D) (ScriptFault D)) → MatchResult r (λ back. (back ≡ served) × IsOk end) (λ fault. (disk_of fault ≡ served.disk) × (end ≡ Err (early_end_of fault)))
-            → IfOk r (λ back. IsServedAs life strict old (life back.disk) back.stop)
-        by (Ok back) h = subst (λ (s : Served D). IsServedAs life strict old (life s.disk) s.stop) (sym h.0) (served_ok strict old first beginning (life served.disk) served.stop end begins ends h.1)
-        by (Err fault) h = tt
+module _ {D : Type 0} (life : D → Life) (strict : Bool) (old : Life) (first : SeenArchive) (beginning : Beginning) (served : Served D) (end : Result (Unit {0}) EarlyEnd) (result : Result (Served D) (ScriptFault D))
+    (begins : BeginsAs old beginning first) (ends : EndsUpTo strict beginning first (life served.disk) served.stop end)
+    (handed : MatchResult result (λ back. (back ≡ served) × IsOk end) (λ fault. (disk_of fault ≡ served.disk) × (end ≡ Err (early_end_of fault)))) where
+  pub stopped_back : IfOk result (λ back. IsServedAs strict old (life back.disk) back.stop)
+  stopped_back = by result handed
+    where
+      by : (r : Result (Served D) (ScriptFault D)) → MatchResult r (λ back. (back ≡ served) × IsOk end) (λ fault. (disk_of fault ≡ served.disk) × (end ≡ Err (early_end_of fault)))
+          → IfOk r (λ back. IsServedAs strict old (life back.disk) back.stop)
+      by (Ok back) h = subst (λ (s : Served D). IsServedAs strict old (life s.disk) s.stop) (sym h.0) (served_ok strict old first beginning (life served.disk) served.stop end begins ends h.1)
+      by (Err fault) h = tt
 
-    pub served_back : IfOk result (λ back. IsServed life old (life back.disk))
-    served_back = by result stopped_back
-      where
-        by : (r : Result (Served D) (ScriptFault D)) → IfOk r (λ back. IsServedAs life strict old (life back.disk) back.stop) → IfOk r (λ back. IsServed life old (life back.disk))
-        by (Ok back) h = served_leniently strict old (life back.disk) back.stop h
-        by (Err fault) h = tt
+  pub served_back : IfOk result (λ back. IsServed old (life back.disk))
+  served_back = by result stopped_back
+    where
+      by : (r : Result (Served D) (ScriptFault D)) → IfOk r (λ back. IsServedAs strict old (life back.disk) back.stop) → IfOk r (λ back. IsServed old (life back.disk))
+      by (Ok back) h = served_leniently strict old (life back.disk) back.stop h
+      by (Err fault) h = tt
 
-    pub served_early : IfErr result (λ fault. IsServedUpTo life old (life (disk_of fault)) (early_end_of fault))
-    served_early = by result handed
-      where
-        by : (r : Result (Served D) (ScriptFault D)) → MatchResult r (λ back. (back ≡ served) × IsOk end) (λ fault. (disk_of fault ≡ served.disk) × (end ≡ Err (early_end_of fault)))
-            → IfErr r (λ fault. IsServedUpTo life old (life (disk_of fault)) (early_end_of fault))
-        by (Ok back) h = tt
-        by (Err fault) h = subst (λ d. IsServedUpTo life old (life d) (early_end_of fault)) (sym h.0) (served_err strict old first beginning (life served.disk) served.stop end (early_end_of fault) begins ends h.1)
+  pub served_early : IfErr result (λ fault. IsServedUpTo old (life (disk_of fault)) (early_end_of fault))
+  served_early = by result handed
+    where
+      by : (r : Result (Served D) (ScriptFault D)) → MatchResult r (λ back. (back ≡ served) × IsOk end) (λ fault. (disk_of fault ≡ served.disk) × (end ≡ Err (early_end_of fault)))
+          → IfErr r (λ fault. IsServedUpTo old (life (disk_of fault)) (early_end_of fault))
+      by (Ok back) h = tt
+      by (Err fault) h = subst (λ d. IsServedUpTo old (life d) (early_end_of fault)) (sym h.0) (served_err strict old first beginning (life served.disk) served.stop end (early_end_of fault) begins ends h.1)

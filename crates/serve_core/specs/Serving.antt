@@ -4,20 +4,17 @@ use Rattle.disk_core.specs.Life.{Life}
 use Rattle.control_core.specs.Desk.{DeskState, has_room}
 use Rattle.engine_core.specs.Engine.{EngineState}
 use Rattle.engine_core.specs.Opening.{ReadsAsBefore}
-use Rattle.engine_core.specs.Seen.{seen}
 use Rattle.call_history.specs.declared.stored.Stored.{Stored}
 use Rattle.call_history.specs.Values.{PassView}
 use Rattle.archive_lock.specs.declared.history.Call.{Call}
 use Rattle.archive_lock.specs.declared.history.Made.{Made}
 use Rattle.archive_lock.specs.Closing.{ClosesWith}
 use Rattle.archive_lock.specs.History.{Member}
-use Rattle.tool_core.specs.declared.archive.ScriptArchive.{ScriptArchive}
-use Rattle.tool_core.specs.declared.archive.ScriptArchive.TheVariants.{Open, Closed}
 use Rattle.tool_core.specs.declared.fault.EarlyEnd.{EarlyEnd}
 use Rattle.tool_core.specs.declared.fault.EarlyEnd.TheVariants as ends
 use Rattle.tool_core.specs.declared.observer.Beginning.{Beginning}
 use Rattle.tool_core.specs.declared.observer.Beginning.TheVariants.{Refused}
-use Rattle.tool_core.specs.Archives.{BeginsAs, life_of}
+use Rattle.tool_core.specs.Archives.{BeginsAs, Closed, Open, SeenArchive, life_of}
 use Rattle.serve_core.specs.declared.served.Stop.{Stop}
 use Rattle.serve_core.specs.declared.served.Stop.TheVariants.{Unopened, Broken, HistoryFull}
 
@@ -51,35 +48,34 @@ pub record EndsHistory (opening : EngineState) (keeps strict : Bool) (new : Life
 abbrev pub EndsOrLacks : Life → EngineState → Bool → Bool → Life → Option Stop → Result (Unit {0}) EarlyEnd → Type 0
 EndsOrLacks old opening keeps strict new stop end = EndsHistory opening keeps strict new stop ⊎ ((end ≡ Err ends.Memory) × (new ≡ old))
 
-module _ {D : Type 0} (life : D → Life) where
-  -- from an archive that is open the disk ends a history, which was counted alone; where none is open it stays
-  abbrev pub EndsFrom : Bool → Beginning → ScriptArchive D → Life → Option Stop → Type 0
-  EndsFrom strict beginning (Open engine) new stop = EndsHistory (seen life engine) false strict new stop
-  EndsFrom strict beginning (Closed disk) new stop = (new ≡ life disk) × (stop ≡ unopened_stop strict beginning)
+-- from an archive that is open the disk ends a history, which was counted alone; where none is open it stays
+abbrev pub EndsFrom : Bool → Beginning → SeenArchive → Life → Option Stop → Type 0
+EndsFrom strict beginning (Open engine) new stop = EndsHistory engine false strict new stop
+EndsFrom strict beginning (Closed life) new stop = (new ≡ life) × (stop ≡ unopened_stop strict beginning)
 
-  -- an archive was made or opened, or none could be, and was served, by a strict server or by one that is not
-  pub record IsServedAs (strict : Bool) (old new : Life) (stop : Option Stop) : Type 0 where
-    pub first : ScriptArchive D
-    pub beginning : Beginning
-    pub begins : BeginsAs life old beginning first
-    pub ends : EndsFrom strict beginning first new stop
+-- an archive was made or opened, or none could be, and was served, by a strict server or by one that is not
+pub record IsServedAs (strict : Bool) (old new : Life) (stop : Option Stop) : Type 0 where
+  pub first : SeenArchive
+  pub beginning : Beginning
+  pub begins : BeginsAs old beginning first
+  pub ends : EndsFrom strict beginning first new stop
 
-  -- whatever is said of its end
-  abbrev pub IsServed : Life → Life → Type 0
-  IsServed old new = IsServedAs false old new None
+-- whatever is said of its end
+abbrev pub IsServed : Life → Life → Type 0
+IsServed old new = IsServedAs false old new None
 
-  -- for want of memory the disk stays as it was, or it was not opened, and reads and leaves what it did before; or it was opened,
-  -- and no call was made
-  abbrev pub IsUnserved : Life → Life → Type 0
-  IsUnserved old new =
-      (new ≡ old) ⊎ ReadsAsBefore old new
-      ⊎ ((first : ScriptArchive D) × (beginning : Beginning) × BeginsAs life old beginning first × (new ≡ life_of life first))
+-- for want of memory the disk stays as it was, or it was not opened, and reads and leaves what it did before; or it was opened,
+-- and no call was made
+abbrev pub IsUnserved : Life → Life → Type 0
+IsUnserved old new =
+    (new ≡ old) ⊎ ReadsAsBefore old new
+    ⊎ ((first : SeenArchive) × (beginning : Beginning) × BeginsAs old beginning first × (new ≡ life_of first))
 
-  -- it was served up to an early end; or not, for want of memory
-  abbrev pub IsServedUpTo : Life → Life → EarlyEnd → Type 0
-  IsServedUpTo old new end = IsServed old new ⊎ ((end ≡ ends.Memory) × IsUnserved old new)
+-- it was served up to an early end; or not, for want of memory
+abbrev pub IsServedUpTo : Life → Life → EarlyEnd → Type 0
+IsServedUpTo old new end = IsServed old new ⊎ ((end ≡ ends.Memory) × IsUnserved old new)
 
-  -- how an archive was served
-  abbrev pub EndsUpTo : Bool → Beginning → ScriptArchive D → Life → Option Stop → Result (Unit {0}) EarlyEnd → Type 0
-  EndsUpTo strict beginning (Open engine) new stop end = EndsOrLacks (life engine.storage.disk) (seen life engine) false strict new stop end
-  EndsUpTo strict beginning (Closed disk) new stop end = (new ≡ life disk) × (stop ≡ unopened_stop strict beginning)
+-- how an archive was served
+abbrev pub EndsUpTo : Bool → Beginning → SeenArchive → Life → Option Stop → Result (Unit {0}) EarlyEnd → Type 0
+EndsUpTo strict beginning (Open engine) new stop end = EndsOrLacks engine.life engine false strict new stop end
+EndsUpTo strict beginning (Closed life) new stop end = (new ≡ life) × (stop ≡ unopened_stop strict beginning)

@@ -3,7 +3,7 @@
 ghost use Rattle.std.specs.Prelude.{◌≡◌, ◌+◌, ◌≤◌, [], Err, false, if◌then◌else◌, IfErr, IfOk, IsOk, MatchResult, vec_capacity, vec_len};
 ghost use Rattle.archive_lock.specs.Held.{engine_seen, view_of};
 ghost use Rattle.engine_core.specs.Seen.{seen};
-ghost use Rattle.tool_core.specs.Archives.{disk_of, early_end_of};
+ghost use Rattle.tool_core.specs.Archives.{archive_seen, disk_of, early_end_of};
 ghost use Rattle.tool_core.specs.declared.fault.EarlyEnd.TheVariants.{Memory, Read};
 ghost use Rattle.recording_thread.specs.Seats.{AreAllPasses, AreClientPasses};
 ghost use Rattle.serve_core.specs.Serving.{EndsHistory, EndsOrLacks, EndsUpTo, IsServed, IsServedAs, IsServedUpTo};
@@ -99,9 +99,9 @@ pub fn serve_on<R: Threads + Wait + Clock + Sync, D: Disk + Drop + Send>(
     socket: UdpSocket,
     disk: D,
 ) -> Result<D, ScriptFault<D>>
-    ensures served { IfOk result (λ back. IsServed D.life (D.life disk) (D.life back)) }
+    ensures served { IfOk result (λ back. IsServed (D.life disk) (D.life back)) }
     ensures early { IfErr result (λ fault.
-        IsServedUpTo D.life (D.life disk) (D.life (disk_of fault)) (early_end_of fault)) }
+        IsServedUpTo (D.life disk) (D.life (disk_of fault)) (early_end_of fault)) }
 {
     let options = ServeOptions::new();
     match serve_with(rt, alloc, listener, socket, disk, &options, Untold) {
@@ -138,11 +138,11 @@ pub fn serve_with<
     options: &ServeOptions<'_>,
     teller: T,
 ) -> Result<Served<D>, ScriptFault<D>>
-    ensures served { IfOk result (λ back. IsServed D.life (D.life disk) (D.life back.disk)) }
+    ensures served { IfOk result (λ back. IsServed (D.life disk) (D.life back.disk)) }
     ensures stop { IfOk result (λ back.
-        IsServedAs D.life options.now.is_strict (D.life disk) (D.life back.disk) back.stop) }
+        IsServedAs options.now.is_strict (D.life disk) (D.life back.disk) back.stop) }
     ensures early { IfErr result (λ fault.
-        IsServedUpTo D.life (D.life disk) (D.life (disk_of fault)) (early_end_of fault)) }
+        IsServedUpTo (D.life disk) (D.life (disk_of fault)) (early_end_of fault)) }
 {
     let Ok(shared) = Shared::new(alloc, shared_by(options), teller) else {
         return Err(ScriptFault::Memory(disk));
@@ -201,7 +201,7 @@ fn serve_archive<
     archive: ScriptArchive<D>,
     beginning: Beginning,
 ) -> (Served<D>, Result<(), EarlyEnd>)
-    ensures { EndsUpTo D.life with.now.is_strict beginning archive (D.life result.0.disk) result.0.stop result.1 }
+    ensures { EndsUpTo with.now.is_strict beginning (archive_seen D.life archive) (D.life result.0.disk) result.0.stop result.1 }
 {
     match archive {
         ScriptArchive::Open(engine) => serve_open(with, tools, benches, engine),

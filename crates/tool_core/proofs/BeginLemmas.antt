@@ -15,16 +15,14 @@ use Rattle.catalogue_log.specs.Banks.{bank_file}
 use Rattle.catalogue_log.specs.Catalogue.{IsCatalogue}
 use Rattle.catalogue_log.specs.LogState.{Banks, banks_of}
 use Rattle.catalogue_log.proofs.CallerLemmas.{told_once}
-use Rattle.engine_core.specs.declared.engine.Engine.{Engine}
+use Rattle.engine_core.specs.Engine.{EngineState}
 use Rattle.engine_core.specs.Opened.{HasNotOpened, HasOpened, IsNear, LeavesEither, MadeOrOpened, NeitherMadeNorOpened}
 use Rattle.engine_core.specs.Opening.{ReadsAsBefore, RefusesNew}
 use Rattle.engine_core.specs.Recovery.{IsEither, RecoversTo}
-use Rattle.engine_core.specs.Seen.{seen}
-use Rattle.tool_core.specs.declared.archive.ScriptArchive.{ScriptArchive}
-use Rattle.tool_core.specs.declared.archive.ScriptArchive.TheVariants.{Open, Closed}
 use Rattle.tool_core.specs.declared.observer.Beginning.{Beginning}
 use Rattle.tool_core.specs.declared.observer.Beginning.TheVariants as beginnings
-use Rattle.tool_core.specs.Archives.{BeginsAs, closed_by, life_of}
+use Rattle.tool_core.specs.declared.archive.ScriptArchive.{ScriptArchive}
+use Rattle.tool_core.specs.Archives.{BeginsAs, Closed, Open, SeenArchive, archive_seen, closed_by, life_of}
 use Rattle.tool_core.specs.Script.{Begins, HasNotBegun, IsRefused, IsRefusedBy, OpensBanks, OpensStanding}
 use Rattle.tool_core.specs.ScriptLines.{Standing, closed, doubtful, opened, refused, unknown}
 use Rattle.tool_core.proofs.BanksLemmas.{IsBanksOf}
@@ -72,152 +70,152 @@ quiet_moments old new s u quiet leaves = goes_quiet old old new (RecoversTo (IsN
 
 -- ---- what it begins with
 
-module _ {D : Type 0} (life : D → Life) where
-  -- how an archive stands behind the opening of a disk
-  pub record Starts (old : Life) (archive : ScriptArchive D) (first : Standing) (banks : Banks) : Type 0 where
-    pub begun : Standing
-    pub stands : IsStanding life archive begun
-    pub told : IsBanksOf life archive begun banks
-    pub is : (begun ≡ first) ⊎ (HasFailed old (life_of life archive) × HasNotBegun old first begun)
-    pub any_moment : (s u : State) → LeavesEither old s u → LeavesOnly old (life_of life archive) (RecoversTo (IsNear s u))
+-- how an archive stands behind the opening of a disk
+pub record Starts (old : Life) (archive : SeenArchive) (first : Standing) (banks : Banks) : Type 0 where
+  pub begun : Standing
+  pub stands : IsStanding archive begun
+  pub told : IsBanksOf archive begun banks
+  pub is : (begun ≡ first) ⊎ (HasFailed old (life_of archive) × HasNotBegun old first begun)
+  pub any_moment : (s u : State) → LeavesEither old s u → LeavesOnly old (life_of archive) (RecoversTo (IsNear s u))
 
-  made : (old : Life) (engine : Engine D) (first : Standing) (banks : Banks) → MayLeave old.now (reads old.now) → MadeOrOpened 1048576 old (seen life engine) None → IsTrue (life engine.storage.disk).obeys → Begins old first banks → Starts old (Open engine) first banks
-  made old engine first banks may is obeys (inl blank) = record {
-    begun = first;
-    told = blank.2 ∙ sym is.3;
-    stands = subst (λ (s : Standing). IsStanding life (Open engine) s) (sym blank.1) is.1;
-    is = inl refl;
-    any_moment = λ s u leaves. absurd (nothing_left old s u may blank.0 leaves);
-  }
-  made old engine first banks may is obeys (inr files) = let made = is.0 in absurd (some_file (made.empty obeys files.0.0) files.0.1)
+made : (old : Life) (engine : EngineState) (first : Standing) (banks : Banks) → MayLeave old.now (reads old.now) → MadeOrOpened 1048576 old engine None → IsTrue engine.life.obeys → Begins old first banks → Starts old (Open engine) first banks
+made old engine first banks may is obeys (inl blank) = record {
+  begun = first;
+  told = blank.2 ∙ sym is.3;
+  stands = subst (λ (s : Standing). IsStanding (Open engine) s) (sym blank.1) is.1;
+  is = inl refl;
+  any_moment = λ s u leaves. absurd (nothing_left old s u may blank.0 leaves);
+}
+made old engine first banks may is obeys (inr files) = let made = is.0 in absurd (some_file (made.empty obeys files.0.0) files.0.1)
 
-  -- a call failed while it was made
-  unmade : (old : Life) (disk : D) (first : Standing) (banks : Banks) → MayLeave old.now (reads old.now) → RefusesNew old (life disk) 1048576 DeviceFault → IsTrue (life disk).obeys → Begins old first banks → Starts old (Closed disk) first banks
-  unmade old disk first banks may no_archive obeys (inl blank) = record {
-    begun = unknown;
-    stands = tt;
-    told = λ certain. absurd cc;
-    is = inr (no_archive.0, subst (λ (s : Standing). HasNotBegun old s unknown) (sym blank.1) blank.0);
-    any_moment = λ s u leaves. absurd (nothing_left old s u may blank.0 leaves);
-  }
-  unmade old disk first banks may (failed, inr absent) obeys (inr files) = absurd (some_file (absent obeys files.0.0) files.0.1)
-  unmade old disk first banks may (failed, inl quiet) obeys (inr files) = by first files.1
-    where
-      any : (s u : State) → LeavesEither old s u → LeavesOnly old (life disk) (RecoversTo (IsNear s u))
-      any s u leaves = quiet_moments old (life disk) s u quiet leaves
+-- a call failed while it was made
+unmade : (old : Life) (disk : Life) (first : Standing) (banks : Banks) → MayLeave old.now (reads old.now) → RefusesNew old disk 1048576 DeviceFault → IsTrue disk.obeys → Begins old first banks → Starts old (Closed disk) first banks
+unmade old disk first banks may no_archive obeys (inl blank) = record {
+  begun = unknown;
+  stands = tt;
+  told = λ certain. absurd cc;
+  is = inr (no_archive.0, subst (λ (s : Standing). HasNotBegun old s unknown) (sym blank.1) blank.0);
+  any_moment = λ s u leaves. absurd (nothing_left old s u may blank.0 leaves);
+}
+unmade old disk first banks may (failed, inr absent) obeys (inr files) = absurd (some_file (absent obeys files.0.0) files.0.1)
+unmade old disk first banks may (failed, inl quiet) obeys (inr files) = by first files.1
+  where
+    any : (s u : State) → LeavesEither old s u → LeavesOnly old disk (RecoversTo (IsNear s u))
+    any s u leaves = quiet_moments old disk s u quiet leaves
 
-      by : (first : Standing) → OpensStanding old first → Starts old (Closed disk) first banks
-      by (opened a) restarts = record {
-        begun = doubtful restarts.state restarts.other;
-        told = λ certain. absurd cc;
-        stands = quiet_leaves old (life disk) restarts.state restarts.other quiet restarts.leaves;
-        is = inr (failed, (restarts.state, restarts.other, restarts.leaves, inl (refl, refl)));
-        any_moment = any;
-      }
-      by (closed a) opens = absurd opens
-      by (doubtful s u) opens = absurd opens
-      by (refused image why) opens = record {
-        begun = refused image why;
-        told = λ certain. absurd cc;
-        stands = quiet_opens old (life disk) (refused image why) quiet opens;
-        is = inl refl;
-        any_moment = any;
-      }
-      by unknown opens = absurd opens
+    by : (first : Standing) → OpensStanding old first → Starts old (Closed disk) first banks
+    by (opened a) restarts = record {
+      begun = doubtful restarts.state restarts.other;
+      told = λ certain. absurd cc;
+      stands = quiet_leaves old disk restarts.state restarts.other quiet restarts.leaves;
+      is = inr (failed, (restarts.state, restarts.other, restarts.leaves, inl (refl, refl)));
+      any_moment = any;
+    }
+    by (closed a) opens = absurd opens
+    by (doubtful s u) opens = absurd opens
+    by (refused image why) opens = record {
+      begun = refused image why;
+      told = λ certain. absurd cc;
+      stands = quiet_opens old disk (refused image why) quiet opens;
+      is = inl refl;
+      any_moment = any;
+    }
+    by unknown opens = absurd opens
 
-  -- ---- files that were there
+-- ---- files that were there
 
-  opened_files : OneState → (old : Life) (engine : Engine D) (stopped : ℤ) (first : Standing) (banks : Banks) → HasOpened old (seen life engine) stopped → IsTrue (life engine.storage.disk).obeys → OpensStanding old first → OpensBanks old first banks → Starts old (Open engine) first banks
-  opened_files one_state old engine stopped first banks answer obeys opens told = by first opens told
-    where
-      any : (s u : State) → LeavesEither old s u → LeavesOnly old (life engine.storage.disk) (RecoversTo (IsNear s u))
-      any s u leaves = let o = answer.opened s u leaves obeys in o.any_moment
+opened_files : OneState → (old : Life) (engine : EngineState) (stopped : ℤ) (first : Standing) (banks : Banks) → HasOpened old engine stopped → IsTrue engine.life.obeys → OpensStanding old first → OpensBanks old first banks → Starts old (Open engine) first banks
+opened_files one_state old engine stopped first banks answer obeys opens told = by first opens told
+  where
+    any : (s u : State) → LeavesEither old s u → LeavesOnly old engine.life (RecoversTo (IsNear s u))
+    any s u leaves = let o = answer.opened s u leaves obeys in o.any_moment
 
-      by : (first : Standing) → OpensStanding old first → OpensBanks old first banks → Starts old (Open engine) first banks
-      by (opened a) restarts told =
-          let at = begun one_state old (seen life engine) stopped a restarts (answer.opened restarts.state restarts.other restarts.leaves obeys) in
-          record {
-            begun = opened a;
-            stands = record { desk = at.desk; consistent = at.consistent };
-            told = told_once (reads old.now) banks (banks_of engine.storage.log) told (answer.banks obeys);
-            is = inl refl;
+    by : (first : Standing) → OpensStanding old first → OpensBanks old first banks → Starts old (Open engine) first banks
+    by (opened a) restarts told =
+        let at = begun one_state old engine stopped a restarts (answer.opened restarts.state restarts.other restarts.leaves obeys) in
+        record {
+          begun = opened a;
+          stands = record { desk = at.desk; consistent = at.consistent };
+          told = told_once (reads old.now) banks (banks_of engine.log) told (answer.banks obeys);
+          is = inl refl;
+          any_moment = any;
+        }
+    by (closed a) opens told = absurd opens
+    by (doubtful s u) opens told = absurd opens
+    by (refused image why) opens told = let desk = answer.desk obeys in absurd (no_catalogue old why desk.header desk.entries opens.0 desk.catalogue)
+    by unknown opens told = absurd opens
+
+refused_files : (old : Life) (disk : Life) (refusal : Refusal) (first : Standing) (banks : Banks) → refusal ≢ NoMemory → HasNotOpened old disk refusal → IsTrue disk.obeys → OpensStanding old first → Starts old (Closed disk) first banks
+refused_files old disk refusal first banks other answer obeys opens = by first opens
+  where
+    any : (s u : State) → LeavesEither old s u → LeavesOnly old disk (RecoversTo (IsNear s u))
+    any s u leaves = let whole = answer.whole s u leaves obeys in whole.0.any_moment
+
+    failed : refusal ≡ DeviceFault → HasFailed old disk
+    failed fault = answer.refuses.cause fault
+
+    still_refused : (image : DiskImage) (why : Refusal) → IsRefused old image why → (refusal ≡ DeviceFault → ⊥) → Starts old (Closed disk) (refused image why) banks
+    still_refused image why is no_fault =
+        let before : ReadsAsBefore old disk = elim answer.refuses.kept [ inl fault ↦ absurd (no_fault fault) | inr before ↦ before ] in
+        record { begun = refused image why; stands = refused_still old disk image why before.same is; told = λ certain. absurd cc; is = inl refl; any_moment = any }
+
+    by : (first : Standing) → OpensStanding old first → Starts old (Closed disk) first banks
+    by (opened a) restarts =
+        let whole = answer.whole restarts.state restarts.other restarts.leaves obeys in
+        elim whole.1 [
+          | inl fault ↦ (let left = fault_leaves old disk restarts.state restarts.other whole.0 in record {
+            begun = doubtful left.0 left.1;
+            told = λ certain. absurd cc;
+            stands = left.2;
+            is = inr (failed fault, (restarts.state, restarts.other, restarts.leaves, left.3));
             any_moment = any;
-          }
-      by (closed a) opens told = absurd opens
-      by (doubtful s u) opens told = absurd opens
-      by (refused image why) opens told = let desk = answer.desk obeys in absurd (no_catalogue old why desk.header desk.entries opens.0 desk.catalogue)
-      by unknown opens told = absurd opens
+          })
+          | inr memory ↦ absurd (other memory)
+        ]
+    by (closed a) opens = absurd opens
+    by (doubtful s u) opens = absurd opens
+    by (refused image why) is =
+        elim (refused_once old why refusal is.0 (answer.refuses.catalogue obeys)) [
+          | inl same ↦ still_refused image why is (λ fault. not_fault why is.0 (sym same ∙ fault))
+          | inr (inl memory) ↦ absurd (other memory)
+          | inr (inr fault) ↦ record { begun = unknown; stands = tt; told = λ certain. absurd cc; is = inr (failed fault, tt); any_moment = any }
+        ]
+      where
+        not_fault : (why : Refusal) → IsRefusedBy old why → why ≡ DeviceFault → ⊥
+        not_fault why is same = subst (IsRefusedBy old) same is
+    by unknown opens = absurd opens
 
-  refused_files : (old : Life) (disk : D) (refusal : Refusal) (first : Standing) (banks : Banks) → refusal ≢ NoMemory → HasNotOpened old (life disk) refusal → IsTrue (life disk).obeys → OpensStanding old first → Starts old (Closed disk) first banks
-  refused_files old disk refusal first banks other answer obeys opens = by first opens
-    where
-      any : (s u : State) → LeavesEither old s u → LeavesOnly old (life disk) (RecoversTo (IsNear s u))
-      any s u leaves = let whole = answer.whole s u leaves obeys in whole.0.any_moment
+opened_there : OneState → (old : Life) (engine : EngineState) (stopped : ℤ) (first : Standing) (banks : Banks) → MadeOrOpened 1048576 old engine (Some stopped) → IsTrue engine.life.obeys → Begins old first banks → Starts old (Open engine) first banks
+opened_there one_state old engine stopped first banks is obeys (inl blank) = let there = is.0 obeys in absurd (some_file (blank.0 there.0) there.1)
+opened_there one_state old engine stopped first banks is obeys (inr files) = opened_files one_state old engine stopped first banks is.1 obeys files.1 files.2
 
-      failed : refusal ≡ DeviceFault → HasFailed old (life disk)
-      failed fault = answer.refuses.cause fault
+none_open : (old : Life) (disk : Life) (refusal : Refusal) (first : Standing) (banks : Banks) → MayLeave old.now (reads old.now) → refusal ≢ NoMemory → NeitherMadeNorOpened 1048576 old disk refusal → IsTrue disk.obeys → Begins old first banks → Starts old (Closed disk) first banks
+none_open old disk refusal first banks may other (inl out) obeys begins = absurd (elim out.1 [ inl few ↦ omega (arith, few) | inr many ↦ omega (arith, many) ])
+none_open old disk refusal first banks may other (inr (inl refuses)) obeys begins = by refusal other refuses
+  where
+    by : (r : Refusal) → r ≢ NoMemory → (r ≢ BadParameter) × RefusesNew old disk 1048576 r → Starts old (Closed disk) first banks
+    by DeviceFault other refuses = unmade old disk first banks may refuses.1 obeys begins
+    by NoMemory other refuses = absurd (other refl)
+    by BadParameter other refuses = absurd (refuses.0 refl)
+    by r other refuses = absurd refuses.1
+none_open old disk refusal first banks may other (inr (inr is)) obeys (inl blank) = let there = is.0 obeys in absurd (some_file (blank.0 there.0) there.1)
+none_open old disk refusal first banks may other (inr (inr is)) obeys (inr files) = refused_files old disk refusal first banks other is.1 obeys files.1
 
-      still_refused : (image : DiskImage) (why : Refusal) → IsRefused old image why → (refusal ≡ DeviceFault → ⊥) → Starts old (Closed disk) (refused image why) banks
-      still_refused image why is no_fault =
-          let before : ReadsAsBefore old (life disk) = elim answer.refuses.kept [ inl fault ↦ absurd (no_fault fault) | inr before ↦ before ] in
-          record { begun = refused image why; stands = refused_still old (life disk) image why before.same is; told = λ certain. absurd cc; is = inl refl; any_moment = any }
-
-      by : (first : Standing) → OpensStanding old first → Starts old (Closed disk) first banks
-      by (opened a) restarts =
-          let whole = answer.whole restarts.state restarts.other restarts.leaves obeys in
-          elim whole.1 [
-            | inl fault ↦ (let left = fault_leaves old (life disk) restarts.state restarts.other whole.0 in record {
-              begun = doubtful left.0 left.1;
-              told = λ certain. absurd cc;
-              stands = left.2;
-              is = inr (failed fault, (restarts.state, restarts.other, restarts.leaves, left.3));
-              any_moment = any;
-            })
-            | inr memory ↦ absurd (other memory)
-          ]
-      by (closed a) opens = absurd opens
-      by (doubtful s u) opens = absurd opens
-      by (refused image why) is =
-          elim (refused_once old why refusal is.0 (answer.refuses.catalogue obeys)) [
-            | inl same ↦ still_refused image why is (λ fault. not_fault why is.0 (sym same ∙ fault))
-            | inr (inl memory) ↦ absurd (other memory)
-            | inr (inr fault) ↦ record { begun = unknown; stands = tt; told = λ certain. absurd cc; is = inr (failed fault, tt); any_moment = any }
-          ]
-        where
-          not_fault : (why : Refusal) → IsRefusedBy old why → why ≡ DeviceFault → ⊥
-          not_fault why is same = subst (IsRefusedBy old) same is
-      by unknown opens = absurd opens
-
-  opened_there : OneState → (old : Life) (engine : Engine D) (stopped : ℤ) (first : Standing) (banks : Banks) → MadeOrOpened 1048576 old (seen life engine) (Some stopped) → IsTrue (life engine.storage.disk).obeys → Begins old first banks → Starts old (Open engine) first banks
-  opened_there one_state old engine stopped first banks is obeys (inl blank) = let there = is.0 obeys in absurd (some_file (blank.0 there.0) there.1)
-  opened_there one_state old engine stopped first banks is obeys (inr files) = opened_files one_state old engine stopped first banks is.1 obeys files.1 files.2
-
-  none_open : (old : Life) (disk : D) (refusal : Refusal) (first : Standing) (banks : Banks) → MayLeave old.now (reads old.now) → refusal ≢ NoMemory → NeitherMadeNorOpened 1048576 old (life disk) refusal → IsTrue (life disk).obeys → Begins old first banks → Starts old (Closed disk) first banks
-  none_open old disk refusal first banks may other (inl out) obeys begins = absurd (elim out.1 [ inl few ↦ omega (arith, few) | inr many ↦ omega (arith, many) ])
-  none_open old disk refusal first banks may other (inr (inl refuses)) obeys begins = by refusal other refuses
-    where
-      by : (r : Refusal) → r ≢ NoMemory → (r ≢ BadParameter) × RefusesNew old (life disk) 1048576 r → Starts old (Closed disk) first banks
-      by DeviceFault other refuses = unmade old disk first banks may refuses.1 obeys begins
-      by NoMemory other refuses = absurd (other refl)
-      by BadParameter other refuses = absurd (refuses.0 refl)
-      by r other refuses = absurd refuses.1
-  none_open old disk refusal first banks may other (inr (inr is)) obeys (inl blank) = let there = is.0 obeys in absurd (some_file (blank.0 there.0) there.1)
-  none_open old disk refusal first banks may other (inr (inr is)) obeys (inr files) = refused_files old disk refusal first banks other is.1 obeys files.1
-
-  pub starts : OneState → (old : Life) (beginning : Beginning) (archive : ScriptArchive D) (first : Standing) (banks : Banks) → MayLeave old.now (reads old.now) → BeginsAs life old beginning archive → IsTrue (life_of life archive).obeys → Begins old first banks
-      → Starts old archive first banks
-  starts one_state old beginnings.Made (Open engine) first banks may is obeys begins = made old engine first banks may is obeys begins
-  starts one_state old beginnings.Made (Closed disk) first banks may is obeys begins = absurd is
-  starts one_state old beginnings.Opened (Open engine) first banks may is obeys begins = opened_there one_state old engine is.0 first banks is.1 obeys begins
-  starts one_state old beginnings.Opened (Closed disk) first banks may is obeys begins = absurd is
-  starts one_state old (beginnings.Refused refusal) (Open engine) first banks may is obeys begins = absurd is
-  starts one_state old (beginnings.Refused refusal) (Closed disk) first banks may is obeys begins = none_open old disk refusal first banks may is.0 is.1 obeys begins
+pub starts : OneState → (old : Life) (beginning : Beginning) (archive : SeenArchive) (first : Standing) (banks : Banks) → MayLeave old.now (reads old.now) → BeginsAs old beginning archive → IsTrue (life_of archive).obeys → Begins old first banks
+    → Starts old archive first banks
+starts one_state old beginnings.Made (Open engine) first banks may is obeys begins = made old engine first banks may is obeys begins
+starts one_state old beginnings.Made (Closed disk) first banks may is obeys begins = absurd is
+starts one_state old beginnings.Opened (Open engine) first banks may is obeys begins = opened_there one_state old engine is.0 first banks is.1 obeys begins
+starts one_state old beginnings.Opened (Closed disk) first banks may is obeys begins = absurd is
+starts one_state old (beginnings.Refused refusal) (Open engine) first banks may is obeys begins = absurd is
+starts one_state old (beginnings.Refused refusal) (Closed disk) first banks may is obeys begins = none_open old disk refusal first banks may is.0 is.1 obeys begins
 
 -- where it is refused by anything but want of memory none is open
-pub closed_then : {D : Type 0} (life : D → Life) (old : Life) (refusal : Refusal) (disk : D) (result : Result (ScriptArchive D × Beginning) D) → result ≡ closed_by refusal disk → NeitherMadeNorOpened 1048576 old (life disk) refusal → IfOk result (λ found. BeginsAs life old found.1 found.0)
-closed_then life old refusal disk result is answer = subst (λ (r : Result (ScriptArchive _ × Beginning) _). IfOk r (λ found. BeginsAs life old found.1 found.0)) (sym is) (by refusal answer)
+pub closed_then : {D : Type 0} (life : D → Life) (old : Life) (refusal : Refusal) (disk : D) (result : Result (ScriptArchive D × Beginning) D) → result ≡ closed_by refusal disk → NeitherMadeNorOpened 1048576 old (life disk) refusal
+    → IfOk result (λ found. BeginsAs old found.1 (archive_seen life found.0))
+closed_then life old refusal disk result is answer = subst (λ (r : Result (ScriptArchive _ × Beginning) _). IfOk r (λ found. BeginsAs old found.1 (archive_seen life found.0))) (sym is) (by refusal answer)
   where
-    by : (r : Refusal) → NeitherMadeNorOpened 1048576 old (life disk) r → IfOk (closed_by r disk) (λ found. BeginsAs life old found.1 found.0)
+    by : (r : Refusal) → NeitherMadeNorOpened 1048576 old (life disk) r → IfOk (closed_by r disk) (λ found. BeginsAs old found.1 (archive_seen life found.0))
     by NoMemory answer = tt
     by r answer = ((λ same. let wrong : r ≡ NoMemory = same in absurd cc), answer)
 

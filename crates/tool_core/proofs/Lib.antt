@@ -1,6 +1,7 @@
 mod PartsLemmas
 mod ProgressLemmas
 mod SimulationLemmas
+mod SeenLemmas
 mod AnsweringLemmas
 mod EndLemmas
 mod GoesOnLemmas

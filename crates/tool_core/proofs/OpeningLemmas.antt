@@ -19,20 +19,16 @@ use Rattle.catalogue_entries.specs.Fold.{counts}
 use Rattle.catalogue_log.proofs.CallerLemmas.{one_catalogue}
 use Rattle.control_core.specs.Exact.{Archive, opened_archive}
 use Rattle.control_lines.specs.declared.line.Line.TheVariants as lines
-use Rattle.engine_core.specs.declared.engine.Engine.{Engine}
 use Rattle.engine_core.specs.Consistent.{IsCrashConsistent}
 use Rattle.engine_core.specs.Engine.{EngineState}
 use Rattle.engine_core.specs.Opened.{HasNotOpened, HasOpened, IsFresh, IsNear, IsNotOpened, IsOpened, LeavesEither}
 use Rattle.engine_core.specs.Opening.{ReadsAsBefore}
 use Rattle.engine_core.specs.Recovery.{IsEither, Recovers, RecoversTo}
-use Rattle.engine_core.specs.Seen.{seen}
-use Rattle.tool_core.specs.declared.archive.ScriptArchive.{ScriptArchive}
-use Rattle.tool_core.specs.declared.archive.ScriptArchive.TheVariants.{Open, Closed}
-use Rattle.tool_core.specs.Archives.{OpensDisk, life_of}
+use Rattle.tool_core.specs.Archives.{Closed, Open, OpensDisk, ReadsMayStay, SeenArchive, life_of}
 use Rattle.tool_core.specs.Script.{IsRefused, IsRefusedBy, LeavesArchive, LeavesOpened, LeavesStanding, RestartsDisk}
 use Rattle.tool_core.specs.ScriptLines.{LeavesMeanwhile, MayStandAt, Reopens, ReopensAs, ReopensEither, ReopensOpened, Standing, StaysInDoubt, closed, doubtful, opened, refused, reopened, unknown}
 use Rattle.tool_core.proofs.RefusedLemmas.{no_catalogue, refused_once, refused_still}
-use Rattle.tool_core.proofs.StandingLemmas.{IsStanding, either_stands, recovers_as, standing_left}
+use Rattle.tool_core.proofs.StandingLemmas.{IsStanding, either_stands, recovers_as}
 use Rattle.tool_core.proofs.CallLemmas.{Kept, is_unknown}
 
 -- ---- an archive at which nobody calls yet
@@ -163,191 +159,186 @@ Is outcome answer = outcome ≡ answer
 
 -- ---- an archive that is closed, by what its disk leaves
 
-module _ {D : Type 0} (life : D → Life) (stays : (disk : D) → MayLeave (life disk).now (reads (life disk).now)) where
-  archive_stays : (archive : ScriptArchive D) → MayLeave (life_of life archive).now (reads (life_of life archive).now)
-  archive_stays (Open engine) = stays engine.storage.disk
-  archive_stays (Closed disk) = stays disk
+-- refused by anything but a fault, it reads as before
+before_of : (old : Life) (refusal : Refusal) (disk : Life) → HasNotOpened old disk refusal → refusal ≡ NoMemory → ReadsAsBefore old disk
+before_of old refusal disk answer memory = elim answer.refuses.kept [
+  | inl fault ↦ (let wrong : NoMemory ≡ DeviceFault = sym memory ∙ fault in absurd cc)
+  | inr before ↦ before
+]
 
-  -- refused by anything but a fault, it reads as before
-  before_of : (old : Life) (refusal : Refusal) (disk : D) → HasNotOpened old (life disk) refusal → refusal ≡ NoMemory → ReadsAsBefore old (life disk)
-  before_of old refusal disk answer memory = elim answer.refuses.kept [
-    | inl fault ↦ (let wrong : NoMemory ≡ DeviceFault = sym memory ∙ fault in absurd cc)
-    | inr before ↦ before
-  ]
+-- of a state that is certain
+certain_opened : (old : SeenArchive) (engine : EngineState) (stopped : ℤ) (a : Archive) (reply : Reply) → LeavesArchive (life_of old) a → ReadsMayStay (life_of old) → reply ≡ Reopened stopped → HasOpened (life_of old) engine stopped → IsTrue engine.life.obeys
+    → IsStanding (Open engine) (opened (reopened a)) × ReopensAs (HasFailed (life_of old) engine.life) a (Ok reply) (opened (reopened a))
+    × LeavesOnly (life_of old) engine.life (RecoversTo (IsNear a.state a.state))
+certain_opened old engine stopped a reply leaves may is answer obeys =
+    let o = answer.opened a.state a.state (leaves_one (life_of old) a leaves) obeys in
+    let done = opened_again (life_of old) engine stopped a leaves may o in
+    (record { desk = done.0.desk; consistent = done.0.consistent }, (is ∙ ap (λ (n : ℤ). Reopened n) done.1, refl), o.any_moment)
 
-  -- of a state that is certain
-  certain_opened : (old : ScriptArchive D) (engine : Engine D) (stopped : ℤ) (a : Archive) (reply : Reply) → LeavesArchive (life_of life old) a → reply ≡ Reopened stopped → HasOpened (life_of life old) (seen life engine) stopped → IsTrue (life engine.storage.disk).obeys
-      → IsStanding life (Open engine) (opened (reopened a)) × ReopensAs (HasFailed (life_of life old) (life engine.storage.disk)) a (Ok reply) (opened (reopened a))
-      × LeavesOnly (life_of life old) (life engine.storage.disk) (RecoversTo (IsNear a.state a.state))
-  certain_opened old engine stopped a reply leaves is answer obeys =
-      let o = answer.opened a.state a.state (leaves_one (life_of life old) a leaves) obeys in
-      let done = opened_again (life_of life old) (seen life engine) stopped a leaves (archive_stays old) o in
-      (record { desk = done.0.desk; consistent = done.0.consistent }, (is ∙ ap (λ (n : ℤ). Reopened n) done.1, refl), o.any_moment)
+-- how it ends, where it is refused
+record CertainRefused (old : Life) (disk : Life) (a : Archive) (refusal : Refusal) : Type 0 where
+  pub after : Standing
+  pub stands : IsStanding (Closed disk) after
+  pub ends : ReopensAs (HasFailed old disk) a (Err refusal) after
+  pub any_moment : LeavesOnly old disk (RecoversTo (IsNear a.state a.state))
 
-  -- how it ends, where it is refused
-  record CertainRefused (old : Life) (disk : D) (a : Archive) (refusal : Refusal) : Type 0 where
-    pub after : Standing
-    pub stands : IsStanding life (Closed disk) after
-    pub ends : ReopensAs (HasFailed old (life disk)) a (Err refusal) after
-    pub any_moment : LeavesOnly old (life disk) (RecoversTo (IsNear a.state a.state))
+certain_refused : (old : Life) (disk : Life) (a : Archive) (refusal : Refusal) → LeavesArchive old a → HasNotOpened old disk refusal → IsTrue disk.obeys → CertainRefused old disk a refusal
+certain_refused old disk a refusal leaves answer obeys =
+    let whole = answer.whole a.state a.state (leaves_one old a leaves) obeys in
+    let not = whole.0 in
+    elim whole.1 [
+      | inl fault ↦ record {
+        after = doubtful a.state (after a.state Restart);
+        stands = certain_fault old disk a.state not;
+        ends = subst (λ (r : Refusal). ReopensAs (HasFailed old disk) a (Err r) (doubtful a.state (after a.state Restart))) (sym fault) (answer.refuses.cause fault, refl);
+        any_moment = not.any_moment;
+      }
+      | inr memory ↦ record {
+        after = closed a;
+        stands = stays_closed old disk a leaves (before_of old refusal disk answer memory);
+        ends = subst (λ (r : Refusal). ReopensAs (HasFailed old disk) a (Err r) (closed a)) (sym memory) refl;
+        any_moment = not.any_moment;
+      }
+    ]
 
-  certain_refused : (old : Life) (disk : D) (a : Archive) (refusal : Refusal) → LeavesArchive old a → HasNotOpened old (life disk) refusal → IsTrue (life disk).obeys → CertainRefused old disk a refusal
-  certain_refused old disk a refusal leaves answer obeys =
-      let whole = answer.whole a.state a.state (leaves_one old a leaves) obeys in
-      let not = whole.0 in
-      elim whole.1 [
-        | inl fault ↦ record {
-          after = doubtful a.state (after a.state Restart);
-          stands = certain_fault old (life disk) a.state not;
-          ends = subst (λ (r : Refusal). ReopensAs (HasFailed old (life disk)) a (Err r) (doubtful a.state (after a.state Restart))) (sym fault) (answer.refuses.cause fault, refl);
-          any_moment = not.any_moment;
+-- of one of two states
+record EitherOpened (old : Life) (engine : EngineState) (s u : State) (reply : Reply) : Type 0 where
+  pub archive : Archive
+  pub stands : IsStanding (Open engine) (opened archive)
+  pub ends : ReopensEither old (HasFailed old engine.life) s u (Ok reply) (opened archive)
+  pub any_moment : LeavesOnly old engine.life (RecoversTo (IsNear s u))
+
+either_opened : (old : Life) (engine : EngineState) (stopped : ℤ) (s u : State) (reply : Reply) → LeavesEither old s u → reply ≡ Reopened stopped → HasOpened old engine stopped → IsTrue engine.life.obeys → EitherOpened old engine s u reply
+either_opened old engine stopped s u reply leaves is answer obeys =
+    let o = answer.opened s u leaves obeys in
+    record {
+      archive = o.archive;
+      stands = record { desk = o.desk; consistent = o.consistent };
+      ends = subst (λ (r : Reply). ReopensEither old (HasFailed old engine.life) s u (Ok r) (opened o.archive)) (sym is)
+          (record { read = o.read; is = o.is; recovers = o.recovers; stopped = o.stopped; fresh = o.fresh });
+      any_moment = o.any_moment;
+    }
+
+record EitherRefused (old : Life) (disk : Life) (s u : State) (refusal : Refusal) : Type 0 where
+  pub after : Standing
+  pub stands : IsStanding (Closed disk) after
+  pub ends : ReopensEither old (HasFailed old disk) s u (Err refusal) after
+  pub any_moment : LeavesOnly old disk (RecoversTo (IsNear s u))
+
+either_refused : (old : Life) (disk : Life) (s u : State) (refusal : Refusal) → LeavesEither old s u → HasNotOpened old disk refusal → IsTrue disk.obeys → EitherRefused old disk s u refusal
+either_refused old disk s u refusal leaves answer obeys =
+    let whole = answer.whole s u leaves obeys in
+    let not = whole.0 in
+    elim whole.1 [
+      | inl fault ↦ (let left = fault_leaves old disk s u not in record {
+        after = doubtful left.0 left.1;
+        stands = left.2;
+        ends = subst (λ (r : Refusal). ReopensEither old (HasFailed old disk) s u (Err r) (doubtful left.0 left.1)) (sym fault) (answer.refuses.cause fault, left.3);
+        any_moment = not.any_moment;
+      })
+      | inr memory ↦ record {
+        after = doubtful s u;
+        stands = either_before old disk s u (before_of old refusal disk answer memory) leaves;
+        ends = subst (λ (r : Refusal). ReopensEither old (HasFailed old disk) s u (Err r) (doubtful s u)) (sym memory) refl;
+        any_moment = not.any_moment;
+      }
+    ]
+
+-- ---- reopening, whatever stands
+
+abbrev Again : SeenArchive → SeenArchive → Standing → Result Reply Refusal → Type 0
+Again old new s outcome = Kept lines.Reopen old new s (Reopens (life_of old) (HasFailed (life_of old) (life_of new)) s) outcome
+
+-- an archive in which nothing is in doubt
+certain_again : (old new : SeenArchive) (s : Standing) (a : Archive) (outcome : Result Reply Refusal) → LeavesArchive (life_of old) a → ReadsMayStay (life_of old) → ((x : State) → IsEither a.state a.state x → MayStandAt s x)
+    → ((t : Standing) → LeavesOnly (life_of old) (life_of new) (RecoversTo (λ x. MayStandAt s x ⊎ (MayStandAt t x ⊎ ((y : State) × MayStandAt s y × (x ≡ after y Restart))))) → LeavesMeanwhile lines.Reopen (life_of old) (life_of new) s t)
+    → ((t : Standing) → ReopensAs (HasFailed (life_of old) (life_of new)) a outcome t → Reopens (life_of old) (HasFailed (life_of old) (life_of new)) s outcome t)
+    → IsTrue (life_of new).obeys → OpensDisk (life_of old) outcome new → Again old new s outcome
+certain_again old (Open engine) s a (Ok reply) leaves may stood meanwhile so obeys opens =
+    let done = certain_opened old engine opens.0 a reply leaves may opens.1 opens.2 obeys in
+    record {
+      after = opened (reopened a);
+      stands = done.0;
+      ends = so (opened (reopened a)) done.1;
+      meanwhile = meanwhile (opened (reopened a)) (near_stood (life_of old) engine.life a.state a.state (MayStandAt s) (MayStandAt (opened (reopened a))) stood done.2);
+    }
+certain_again old (Closed disk) s a (Ok reply) leaves may stood meanwhile so obeys opens = absurd opens
+certain_again old (Open engine) s a (Err refusal) leaves may stood meanwhile so obeys opens = absurd opens
+certain_again old (Closed disk) s a (Err refusal) leaves may stood meanwhile so obeys opens =
+    let done = certain_refused (life_of old) disk a refusal leaves opens obeys in
+    record {
+      after = done.after;
+      stands = done.stands;
+      ends = so done.after done.ends;
+      meanwhile = meanwhile done.after (near_stood (life_of old) disk a.state a.state (MayStandAt s) (MayStandAt done.after) stood done.any_moment);
+    }
+
+-- one of two states
+either_again : (old new : SeenArchive) (before : Standing) (s u : State) (outcome : Result Reply Refusal) → LeavesEither (life_of old) s u → ((x : State) → IsEither s u x → MayStandAt before x)
+    → ((t : Standing) → LeavesOnly (life_of old) (life_of new) (RecoversTo (λ x. MayStandAt before x ⊎ (MayStandAt t x ⊎ ((y : State) × MayStandAt before y × (x ≡ after y Restart))))) → LeavesMeanwhile lines.Reopen (life_of old) (life_of new) before t)
+    → ((t : Standing) → ReopensEither (life_of old) (HasFailed (life_of old) (life_of new)) s u outcome t → Reopens (life_of old) (HasFailed (life_of old) (life_of new)) before outcome t)
+    → IsTrue (life_of new).obeys → OpensDisk (life_of old) outcome new → Again old new before outcome
+either_again old (Open engine) before s u (Ok reply) leaves stood meanwhile so obeys opens =
+    let done = either_opened (life_of old) engine opens.0 s u reply leaves opens.1 opens.2 obeys in
+    record {
+      after = opened done.archive;
+      stands = done.stands;
+      ends = so (opened done.archive) done.ends;
+      meanwhile = meanwhile (opened done.archive) (near_stood (life_of old) engine.life s u (MayStandAt before) (MayStandAt (opened done.archive)) stood done.any_moment);
+    }
+either_again old (Closed disk) before s u (Ok reply) leaves stood meanwhile so obeys opens = absurd opens
+either_again old (Open engine) before s u (Err refusal) leaves stood meanwhile so obeys opens = absurd opens
+either_again old (Closed disk) before s u (Err refusal) leaves stood meanwhile so obeys opens =
+    let done = either_refused (life_of old) disk s u refusal leaves opens obeys in
+    record {
+      after = done.after;
+      stands = done.stands;
+      ends = so done.after done.ends;
+      meanwhile = meanwhile done.after (near_stood (life_of old) disk s u (MayStandAt before) (MayStandAt done.after) stood done.any_moment);
+    }
+
+-- a refused catalogue
+refused_again : (old new : SeenArchive) (image : DiskImage) (why : Refusal) (outcome : Result Reply Refusal) → IsRefused (life_of old) image why → IsTrue (life_of new).obeys → OpensDisk (life_of old) outcome new
+    → Again old new (refused image why) outcome
+refused_again old (Open engine) image why (Ok reply) is obeys opens = let desk = opens.2.desk obeys in absurd (no_catalogue (life_of old) why desk.header desk.entries is.0 desk.catalogue)
+refused_again old (Closed disk) image why (Ok reply) is obeys opens = absurd opens
+refused_again old (Open engine) image why (Err refusal) is obeys opens = absurd opens
+refused_again old (Closed disk) image why (Err refusal) is obeys opens =
+    elim (refused_once (life_of old) why refusal is.0 (opens.refuses.catalogue obeys)) [
+      | inl same ↦ stays_refused (λ fault. not_fault (life_of old) why is.0 (sym same ∙ fault)) (inl (ap (λ (r : Refusal). Err r) same))
+      | inr (inl memory) ↦ stays_refused (λ fault. let wrong : NoMemory ≡ DeviceFault = sym memory ∙ fault in absurd cc) (inr (ap (λ (r : Refusal). Err r) memory))
+      | inr (inr fault) ↦ record { after = unknown; stands = tt; ends = inr (ap (λ (r : Refusal). Err r) fault, opens.refuses.cause fault, refl); meanwhile = inl refl }
+    ]
+  where
+    not_fault : (life : Life) (why : Refusal) → IsRefusedBy life why → why ≡ DeviceFault → ⊥
+    not_fault life why is same = subst (IsRefusedBy life) same is
+
+    stays_refused : (refusal ≡ DeviceFault → ⊥) → Is (Err refusal) (Err why) ⊎ Is (Err refusal) (Err NoMemory) → Again old (Closed disk) (refused image why) (Err refusal)
+    stays_refused other answer =
+        let before : ReadsAsBefore (life_of old) disk = elim opens.refuses.kept [ inl fault ↦ absurd (other fault) | inr before ↦ before ] in
+        record {
+          after = refused image why;
+          stands = refused_still (life_of old) disk image why before.same is;
+          ends = inl (answer, refl);
+          meanwhile = inr before.any_moment;
         }
-        | inr memory ↦ record {
-          after = closed a;
-          stands = stays_closed old (life disk) a leaves (before_of old refusal disk answer memory);
-          ends = subst (λ (r : Refusal). ReopensAs (HasFailed old (life disk)) a (Err r) (closed a)) (sym memory) refl;
-          any_moment = not.any_moment;
-        }
-      ]
 
-  -- of one of two states
-  record EitherOpened (old : Life) (engine : Engine D) (s u : State) (reply : Reply) : Type 0 where
-    pub archive : Archive
-    pub stands : IsStanding life (Open engine) (opened archive)
-    pub ends : ReopensEither old (HasFailed old (life engine.storage.disk)) s u (Ok reply) (opened archive)
-    pub any_moment : LeavesOnly old (life engine.storage.disk) (RecoversTo (IsNear s u))
+opened_again_as : (old new : SeenArchive) (a : Archive) (outcome : Result Reply Refusal) (o : Option State) → a.doubt ≡ o → LeavesOpened (life_of old) a o → ReadsMayStay (life_of old) → IsTrue (life_of new).obeys → OpensDisk (life_of old) outcome new
+    → Again old new (opened a) outcome
+opened_again_as old new a outcome None certain leaves may obeys opens =
+    certain_again old new (opened a) a outcome leaves may (λ x either. inl (one_either a.state x either)) (λ t only. only)
+    (λ t ends. subst (λ (o : Option State). ReopensOpened (life_of old) (HasFailed (life_of old) (life_of new)) a o outcome t) (sym certain) ends) obeys opens
+opened_again_as old new a outcome (Some u) doubt leaves may obeys opens =
+    either_again old new (opened a) a.state u outcome leaves (λ x either. either_stands a u x doubt either) (λ t only. only)
+    (λ t ends. subst (λ (o : Option State). ReopensOpened (life_of old) (HasFailed (life_of old) (life_of new)) a o outcome t) (sym doubt) ends) obeys opens
 
-  either_opened : (old : Life) (engine : Engine D) (stopped : ℤ) (s u : State) (reply : Reply) → LeavesEither old s u → reply ≡ Reopened stopped → HasOpened old (seen life engine) stopped → IsTrue (life engine.storage.disk).obeys → EitherOpened old engine s u reply
-  either_opened old engine stopped s u reply leaves is answer obeys =
-      let o = answer.opened s u leaves obeys in
-      record {
-        archive = o.archive;
-        stands = record { desk = o.desk; consistent = o.consistent };
-        ends = subst (λ (r : Reply). ReopensEither old (HasFailed old (life engine.storage.disk)) s u (Ok r) (opened o.archive)) (sym is)
-            (record { read = o.read; is = o.is; recovers = o.recovers; stopped = o.stopped; fresh = o.fresh });
-        any_moment = o.any_moment;
-      }
-
-  record EitherRefused (old : Life) (disk : D) (s u : State) (refusal : Refusal) : Type 0 where
-    pub after : Standing
-    pub stands : IsStanding life (Closed disk) after
-    pub ends : ReopensEither old (HasFailed old (life disk)) s u (Err refusal) after
-    pub any_moment : LeavesOnly old (life disk) (RecoversTo (IsNear s u))
-
-  either_refused : (old : Life) (disk : D) (s u : State) (refusal : Refusal) → LeavesEither old s u → HasNotOpened old (life disk) refusal → IsTrue (life disk).obeys → EitherRefused old disk s u refusal
-  either_refused old disk s u refusal leaves answer obeys =
-      let whole = answer.whole s u leaves obeys in
-      let not = whole.0 in
-      elim whole.1 [
-        | inl fault ↦ (let left = fault_leaves old (life disk) s u not in record {
-          after = doubtful left.0 left.1;
-          stands = left.2;
-          ends = subst (λ (r : Refusal). ReopensEither old (HasFailed old (life disk)) s u (Err r) (doubtful left.0 left.1)) (sym fault) (answer.refuses.cause fault, left.3);
-          any_moment = not.any_moment;
-        })
-        | inr memory ↦ record {
-          after = doubtful s u;
-          stands = either_before old (life disk) s u (before_of old refusal disk answer memory) leaves;
-          ends = subst (λ (r : Refusal). ReopensEither old (HasFailed old (life disk)) s u (Err r) (doubtful s u)) (sym memory) refl;
-          any_moment = not.any_moment;
-        }
-      ]
-
-  -- ---- reopening, whatever stands
-
-  abbrev Again : ScriptArchive D → ScriptArchive D → Standing → Result Reply Refusal → Type 0
-  Again old new s outcome = Kept life lines.Reopen old new s (Reopens (life_of life old) (HasFailed (life_of life old) (life_of life new)) s) outcome
-
-  -- an archive in which nothing is in doubt
-  certain_again : (old new : ScriptArchive D) (s : Standing) (a : Archive) (outcome : Result Reply Refusal) → LeavesArchive (life_of life old) a → ((x : State) → IsEither a.state a.state x → MayStandAt s x)
-      → ((t : Standing) → LeavesOnly (life_of life old) (life_of life new) (RecoversTo (λ x. MayStandAt s x ⊎ (MayStandAt t x ⊎ ((y : State) × MayStandAt s y × (x ≡ after y Restart))))) → LeavesMeanwhile lines.Reopen (life_of life old) (life_of life new) s t)
-      → ((t : Standing) → ReopensAs (HasFailed (life_of life old) (life_of life new)) a outcome t → Reopens (life_of life old) (HasFailed (life_of life old) (life_of life new)) s outcome t)
-      → IsTrue (life_of life new).obeys → OpensDisk life (life_of life old) outcome new → Again old new s outcome
-  certain_again old (Open engine) s a (Ok reply) leaves stood meanwhile so obeys opens =
-      let done = certain_opened old engine opens.0 a reply leaves opens.1 opens.2 obeys in
-      record {
-        after = opened (reopened a);
-        stands = done.0;
-        ends = so (opened (reopened a)) done.1;
-        meanwhile = meanwhile (opened (reopened a)) (near_stood (life_of life old) (life engine.storage.disk) a.state a.state (MayStandAt s) (MayStandAt (opened (reopened a))) stood done.2);
-      }
-  certain_again old (Closed disk) s a (Ok reply) leaves stood meanwhile so obeys opens = absurd opens
-  certain_again old (Open engine) s a (Err refusal) leaves stood meanwhile so obeys opens = absurd opens
-  certain_again old (Closed disk) s a (Err refusal) leaves stood meanwhile so obeys opens =
-      let done = certain_refused (life_of life old) disk a refusal leaves opens obeys in
-      record {
-        after = done.after;
-        stands = done.stands;
-        ends = so done.after done.ends;
-        meanwhile = meanwhile done.after (near_stood (life_of life old) (life disk) a.state a.state (MayStandAt s) (MayStandAt done.after) stood done.any_moment);
-      }
-
-  -- one of two states
-  either_again : (old new : ScriptArchive D) (before : Standing) (s u : State) (outcome : Result Reply Refusal) → LeavesEither (life_of life old) s u → ((x : State) → IsEither s u x → MayStandAt before x)
-      → ((t : Standing) → LeavesOnly (life_of life old) (life_of life new) (RecoversTo (λ x. MayStandAt before x ⊎ (MayStandAt t x ⊎ ((y : State) × MayStandAt before y × (x ≡ after y Restart))))) → LeavesMeanwhile lines.Reopen (life_of life old) (life_of life new) before t)
-      → ((t : Standing) → ReopensEither (life_of life old) (HasFailed (life_of life old) (life_of life new)) s u outcome t → Reopens (life_of life old) (HasFailed (life_of life old) (life_of life new)) before outcome t)
-      → IsTrue (life_of life new).obeys → OpensDisk life (life_of life old) outcome new → Again old new before outcome
-  either_again old (Open engine) before s u (Ok reply) leaves stood meanwhile so obeys opens =
-      let done = either_opened (life_of life old) engine opens.0 s u reply leaves opens.1 opens.2 obeys in
-      record {
-        after = opened done.archive;
-        stands = done.stands;
-        ends = so (opened done.archive) done.ends;
-        meanwhile = meanwhile (opened done.archive) (near_stood (life_of life old) (life engine.storage.disk) s u (MayStandAt before) (MayStandAt (opened done.archive)) stood done.any_moment);
-      }
-  either_again old (Closed disk) before s u (Ok reply) leaves stood meanwhile so obeys opens = absurd opens
-  either_again old (Open engine) before s u (Err refusal) leaves stood meanwhile so obeys opens = absurd opens
-  either_again old (Closed disk) before s u (Err refusal) leaves stood meanwhile so obeys opens =
-      let done = either_refused (life_of life old) disk s u refusal leaves opens obeys in
-      record {
-        after = done.after;
-        stands = done.stands;
-        ends = so done.after done.ends;
-        meanwhile = meanwhile done.after (near_stood (life_of life old) (life disk) s u (MayStandAt before) (MayStandAt done.after) stood done.any_moment);
-      }
-
-  -- a refused catalogue
-  refused_again : (old new : ScriptArchive D) (image : DiskImage) (why : Refusal) (outcome : Result Reply Refusal) → IsRefused (life_of life old) image why → IsTrue (life_of life new).obeys → OpensDisk life (life_of life old) outcome new
-      → Again old new (refused image why) outcome
-  refused_again old (Open engine) image why (Ok reply) is obeys opens = let desk = opens.2.desk obeys in absurd (no_catalogue (life_of life old) why desk.header desk.entries is.0 desk.catalogue)
-  refused_again old (Closed disk) image why (Ok reply) is obeys opens = absurd opens
-  refused_again old (Open engine) image why (Err refusal) is obeys opens = absurd opens
-  refused_again old (Closed disk) image why (Err refusal) is obeys opens =
-      elim (refused_once (life_of life old) why refusal is.0 (opens.refuses.catalogue obeys)) [
-        | inl same ↦ stays_refused (λ fault. not_fault (life_of life old) why is.0 (sym same ∙ fault)) (inl (ap (λ (r : Refusal). Err r) same))
-        | inr (inl memory) ↦ stays_refused (λ fault. let wrong : NoMemory ≡ DeviceFault = sym memory ∙ fault in absurd cc) (inr (ap (λ (r : Refusal). Err r) memory))
-        | inr (inr fault) ↦ record { after = unknown; stands = tt; ends = inr (ap (λ (r : Refusal). Err r) fault, opens.refuses.cause fault, refl); meanwhile = inl refl }
-      ]
-    where
-      not_fault : (life : Life) (why : Refusal) → IsRefusedBy life why → why ≡ DeviceFault → ⊥
-      not_fault life why is same = subst (IsRefusedBy life) same is
-
-      stays_refused : (refusal ≡ DeviceFault → ⊥) → Is (Err refusal) (Err why) ⊎ Is (Err refusal) (Err NoMemory) → Again old (Closed disk) (refused image why) (Err refusal)
-      stays_refused other answer =
-          let before : ReadsAsBefore (life_of life old) (life disk) = elim opens.refuses.kept [ inl fault ↦ absurd (other fault) | inr before ↦ before ] in
-          record {
-            after = refused image why;
-            stands = refused_still (life_of life old) (life disk) image why before.same is;
-            ends = inl (answer, refl);
-            meanwhile = inr before.any_moment;
-          }
-
-  opened_again_as : (old new : ScriptArchive D) (a : Archive) (outcome : Result Reply Refusal) (o : Option State) → a.doubt ≡ o → LeavesOpened (life_of life old) a o → IsTrue (life_of life new).obeys → OpensDisk life (life_of life old) outcome new
-      → Again old new (opened a) outcome
-  opened_again_as old new a outcome None certain leaves obeys opens =
-      certain_again old new (opened a) a outcome leaves (λ x either. inl (one_either a.state x either)) (λ t only. only)
-      (λ t ends. subst (λ (o : Option State). ReopensOpened (life_of life old) (HasFailed (life_of life old) (life_of life new)) a o outcome t) (sym certain) ends) obeys opens
-  opened_again_as old new a outcome (Some u) doubt leaves obeys opens =
-      either_again old new (opened a) a.state u outcome leaves (λ x either. either_stands a u x doubt either) (λ t only. only)
-      (λ t ends. subst (λ (o : Option State). ReopensOpened (life_of life old) (HasFailed (life_of life old) (life_of life new)) a o outcome t) (sym doubt) ends) obeys opens
-
-  pub reopen_kept : (old new : ScriptArchive D) (s : Standing) (outcome : Result Reply Refusal) → IsStanding life old s → IsTrue (life_of life new).obeys → OpensDisk life (life_of life old) outcome new
-      → Kept life lines.Reopen old new s (Reopens (life_of life old) (HasFailed (life_of life old) (life_of life new)) s) outcome
-  reopen_kept old new s outcome stands obeys opens = by s (standing_left life old s stands)
-    where
-      by : (s : Standing) → LeavesStanding (life_of life old) s → Again old new s outcome
-      by (opened a) leaves = opened_again_as old new a outcome a.doubt refl leaves obeys opens
-      by (closed a) leaves = certain_again old new (closed a) a outcome leaves (λ x either. one_either a.state x either) (λ t only. only) (λ t ends. ends) obeys opens
-      by (doubtful s u) leaves = either_again old new (doubtful s u) s u outcome leaves (λ x either. either) (λ t only. only) (λ t ends. ends) obeys opens
-      by (refused image why) is = refused_again old new image why outcome is obeys opens
-      by unknown leaves = record { after = unknown; stands = is_unknown life new; ends = refl; meanwhile = tt }
+pub reopen_kept : (old new : SeenArchive) (s : Standing) (outcome : Result Reply Refusal) → LeavesStanding (life_of old) s → ReadsMayStay (life_of old) → IsTrue (life_of new).obeys → OpensDisk (life_of old) outcome new
+    → Kept lines.Reopen old new s (Reopens (life_of old) (HasFailed (life_of old) (life_of new)) s) outcome
+reopen_kept old new s outcome left may obeys opens = by s left
+  where
+    by : (s : Standing) → LeavesStanding (life_of old) s → Again old new s outcome
+    by (opened a) leaves = opened_again_as old new a outcome a.doubt refl leaves may obeys opens
+    by (closed a) leaves = certain_again old new (closed a) a outcome leaves may (λ x either. one_either a.state x either) (λ t only. only) (λ t ends. ends) obeys opens
+    by (doubtful s u) leaves = either_again old new (doubtful s u) s u outcome leaves (λ x either. either) (λ t only. only) (λ t ends. ends) obeys opens
+    by (refused image why) is = refused_again old new image why outcome is obeys opens
+    by unknown leaves = record { after = unknown; stands = is_unknown new; ends = refl; meanwhile = tt }

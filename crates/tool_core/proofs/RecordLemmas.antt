@@ -16,10 +16,9 @@ use Rattle.control_lines.specs.declared.line.Line.{Line}
 use Rattle.control_lines.specs.declared.line.Line.TheVariants as lines
 use Rattle.engine_core.specs.Engine.{DiskGoesOn}
 use Rattle.engine_core.specs.Recovery.{RecoversTo}
-use Rattle.tool_core.specs.declared.archive.ScriptArchive.{ScriptArchive}
-use Rattle.tool_core.specs.declared.archive.ScriptArchive.TheVariants.{Open, Closed}
 use Rattle.tool_core.specs.Answering as answering
-use Rattle.tool_core.specs.Archives.{archive_ways, life_of}
+use Rattle.tool_core.specs.Archives.{Closed, Open, SeenArchive, archive_ways, life_of}
+use Rattle.tool_core.specs.Script.{LeavesStanding}
 use Rattle.tool_core.specs.ScriptLines.{Calls, LeavesMeanwhile, MayStandAt, OrWant, Records, Standing, ThenSettles, WhereOpen, WritesBytes, closed, doubtful, opened, refused, unknown}
 use Rattle.tool_core.proofs.GoesOnLemmas.{failed_first, failed_later, settles_go_on, writes_go_on}
 use Rattle.tool_core.proofs.StandingLemmas.{IsStanding, recovers_as}
@@ -67,33 +66,33 @@ want_as : (F G : Type 0) (session : ℤ) (bytes : List ℕ) (a b : Archive) (out
 want_as F G session bytes a b outcome cause (inl ends) = inl (read_cause F G session bytes a b outcome cause ends)
 want_as F G session bytes a b outcome cause (inr want) = inr (want.0, let same : opened b ≡ opened a = want.1 in cc)
 
-module _ {D : Type 0} (life : D → Life) (session : ℤ) (bytes : List ℕ) where
+module _ (session : ℤ) (bytes : List ℕ) where
   abbrev at : Line
   at = lines.Block session bytes
 
   -- what both calls end with
-  abbrev Both : ScriptArchive D → ScriptArchive D → Standing → Result Reply Refusal → Type 0
-  Both old new s outcome = Kept life at old new s (WhereOpen (Records (HasFailed (life_of life old) (life_of life new)) session bytes) s) outcome
+  abbrev Both : SeenArchive → SeenArchive → Standing → Result Reply Refusal → Type 0
+  Both old new s outcome = Kept at old new s (WhereOpen (Records (HasFailed (life_of old) (life_of new)) session bytes) s) outcome
 
   -- what the first of them ends with
-  abbrev First : ScriptArchive D → ScriptArchive D → Standing → Result Reply Refusal → Type 0
-  First old mid s outcome = Kept life at old mid s (OrWant s (WhereOpen (WritesBytes (HasFailed (life_of life old) (life_of life mid)) session bytes) s)) outcome
+  abbrev First : SeenArchive → SeenArchive → Standing → Result Reply Refusal → Type 0
+  First old mid s outcome = Kept at old mid s (OrWant s (WhereOpen (WritesBytes (HasFailed (life_of old) (life_of mid)) session bytes) s)) outcome
 
   -- what may stand behind both, by what stands behind the second
   abbrev Stood : Archive → Standing → State → Type 0
   Stood a t x = MayStand a x ⊎ (MayStandAt t x ⊎ ⊥)
 
   -- the block was written, and is settled
-  settled_then : (old mid new : ScriptArchive D) (a b c : Archive) (reply : Reply) (outcome : Result Reply Refusal)
-      → OrWant (opened a) (WhereOpen (WritesBytes (HasFailed (life_of life old) (life_of life mid)) session bytes) (opened a)) (Ok reply) (opened b)
-      → LeavesOnly (life_of life old) (life_of life mid) (RecoversTo (Stood a (opened b)))
-      → IsStanding life new (opened c) → Calls (HasFailed (life_of life mid) (life_of life new)) (events.Settle session) b outcome c
-      → LeavesOnly (life_of life mid) (life_of life new) (RecoversTo (Stood b (opened c)))
-      → DiskGoesOn (life_of life old) (life_of life mid) → DiskGoesOn (life_of life mid) (life_of life new) → Both old new (opened a) outcome
+  settled_then : (old mid new : SeenArchive) (a b c : Archive) (reply : Reply) (outcome : Result Reply Refusal)
+      → OrWant (opened a) (WhereOpen (WritesBytes (HasFailed (life_of old) (life_of mid)) session bytes) (opened a)) (Ok reply) (opened b)
+      → LeavesOnly (life_of old) (life_of mid) (RecoversTo (Stood a (opened b)))
+      → IsStanding new (opened c) → Calls (HasFailed (life_of mid) (life_of new)) (events.Settle session) b outcome c
+      → LeavesOnly (life_of mid) (life_of new) (RecoversTo (Stood b (opened c)))
+      → DiskGoesOn (life_of old) (life_of mid) → DiskGoesOn (life_of mid) (life_of new) → Both old new (opened a) outcome
   settled_then old mid new a b c reply outcome wrote before stands ends later began more =
-      let F = HasFailed (life_of life old) (life_of life mid) in
-      let G = HasFailed (life_of life old) (life_of life new) in
-      let H = HasFailed (life_of life mid) (life_of life new) in
+      let F = HasFailed (life_of old) (life_of mid) in
+      let G = HasFailed (life_of old) (life_of new) in
+      let H = HasFailed (life_of mid) (life_of new) in
       let same = write_want F session bytes a b reply wrote in
       record {
         after = opened c;
@@ -101,12 +100,12 @@ module _ {D : Type 0} (life : D → Life) (session : ℤ) (bytes : List ℕ) whe
         ends = (
           Ok reply,
           b,
-          want_as F G session bytes a b (Ok reply) (failed_first (life_of life old) (life_of life mid) (life_of life new) more) wrote,
-          wider_cause b (events.Settle session) H G outcome c (failed_later (life_of life old) (life_of life mid) (life_of life new) began) ends,
+          want_as F G session bytes a b (Ok reply) (failed_first (life_of old) (life_of mid) (life_of new) more) wrote,
+          wider_cause b (events.Settle session) H G outcome c (failed_later (life_of old) (life_of mid) (life_of new) began) ends,
         );
         meanwhile =
-            goes_on_part (life_of life old) (life_of life mid) (life_of life new) (RecoversTo (Stood a (opened c))) (RecoversTo (Stood b (opened c)))
-            (weaker (life_of life old) (life_of life mid) (RecoversTo (Stood a (opened c))) (RecoversTo (Stood a (opened b))) before
+            goes_on_part (life_of old) (life_of mid) (life_of new) (RecoversTo (Stood a (opened c))) (RecoversTo (Stood b (opened c)))
+            (weaker (life_of old) (life_of mid) (RecoversTo (Stood a (opened c))) (RecoversTo (Stood a (opened b))) before
             (λ image. recovers_as (Stood a (opened b)) (Stood a (opened c)) image (λ x stood. first_stood x same.0 same.1 stood)))
             later
             (λ image. recovers_as (Stood b (opened c)) (Stood a (opened c)) image (λ x stood. later_stood x same.0 same.1 stood));
@@ -121,15 +120,15 @@ module _ {D : Type 0} (life : D → Life) (session : ℤ) (bytes : List ℕ) whe
       later_stood x state doubt (inl behind) = inl (mid_stands a b x state doubt behind)
       later_stood x state doubt (inr after) = inr after
 
-  then_settled : (old mid new : ScriptArchive D) (a : Archive) (reply : Reply) (outcome : Result Reply Refusal) → First old mid (opened a) (Ok reply) → IsTrue (life_of life new).obeys
-      → DiskGoesOn (life_of life old) (life_of life mid) → DiskGoesOn (life_of life mid) (life_of life new)
-      → answering.ThenSettles (archive_ways life) session (Ok reply) mid outcome new → Both old new (opened a) outcome
+  then_settled : (old mid new : SeenArchive) (a : Archive) (reply : Reply) (outcome : Result Reply Refusal) → First old mid (opened a) (Ok reply) → IsTrue (life_of new).obeys
+      → DiskGoesOn (life_of old) (life_of mid) → DiskGoesOn (life_of mid) (life_of new)
+      → answering.ThenSettles archive_ways session (Ok reply) mid outcome new → Both old new (opened a) outcome
   then_settled old mid new a reply outcome first obeys began more settled = by first.after first.stands first.ends first.meanwhile
     where
-      behind : (b : Archive) → OrWant (opened a) (WhereOpen (WritesBytes (HasFailed (life_of life old) (life_of life mid)) session bytes) (opened a)) (Ok reply) (opened b)
-          → LeavesOnly (life_of life old) (life_of life mid) (RecoversTo (Stood a (opened b)))
-          → (t : Standing) → IsStanding life new t → WhereOpen (Calls (HasFailed (life_of life mid) (life_of life new)) (events.Settle session)) (opened b) outcome t
-          → LeavesMeanwhile at (life_of life mid) (life_of life new) (opened b) t → Both old new (opened a) outcome
+      behind : (b : Archive) → OrWant (opened a) (WhereOpen (WritesBytes (HasFailed (life_of old) (life_of mid)) session bytes) (opened a)) (Ok reply) (opened b)
+          → LeavesOnly (life_of old) (life_of mid) (RecoversTo (Stood a (opened b)))
+          → (t : Standing) → IsStanding new t → WhereOpen (Calls (HasFailed (life_of mid) (life_of new)) (events.Settle session)) (opened b) outcome t
+          → LeavesMeanwhile at (life_of mid) (life_of new) (opened b) t → Both old new (opened a) outcome
       behind b wrote before (opened c) stands ends later = settled_then old mid new a b c reply outcome wrote before stands ends later began more
       behind b wrote before (closed c) stands ends later = absurd ends
       behind b wrote before (doubtful s u) stands ends later = absurd ends
@@ -140,10 +139,10 @@ module _ {D : Type 0} (life : D → Life) (session : ℤ) (bytes : List ℕ) whe
       no_want t (inl none) = absurd none
       no_want t (inr (wrong, same)) = absurd cc
 
-      by : (t : Standing) → IsStanding life mid t → OrWant (opened a) (WhereOpen (WritesBytes (HasFailed (life_of life old) (life_of life mid)) session bytes) (opened a)) (Ok reply) t
-          → LeavesMeanwhile at (life_of life old) (life_of life mid) (opened a) t → Both old new (opened a) outcome
+      by : (t : Standing) → IsStanding mid t → OrWant (opened a) (WhereOpen (WritesBytes (HasFailed (life_of old) (life_of mid)) session bytes) (opened a)) (Ok reply) t
+          → LeavesMeanwhile at (life_of old) (life_of mid) (opened a) t → Both old new (opened a) outcome
       by (opened b) stands wrote before =
-          let later = event_kept life at (events.Settle session) mid new (opened b) outcome stands obeys settled in
+          let later = event_kept at (events.Settle session) mid new (opened b) outcome stands obeys settled in
           behind b wrote before later.after later.stands later.ends later.meanwhile
       by (closed b) stands wrote before = no_want (closed b) wrote
       by (doubtful s u) stands wrote before = no_want (doubtful s u) wrote
@@ -151,15 +150,15 @@ module _ {D : Type 0} (life : D → Life) (session : ℤ) (bytes : List ℕ) whe
       by unknown stands wrote before = no_want unknown wrote
 
   -- the block was refused
-  not_written : (old mid new : ScriptArchive D) (a : Archive) (refusal : Refusal) (outcome : Result Reply Refusal) → First old mid (opened a) (Err refusal) → (outcome ≡ Err refusal) → new ≡ mid → Both old new (opened a) outcome
+  not_written : (old mid new : SeenArchive) (a : Archive) (refusal : Refusal) (outcome : Result Reply Refusal) → First old mid (opened a) (Err refusal) → (outcome ≡ Err refusal) → new ≡ mid → Both old new (opened a) outcome
   not_written old mid new a refusal outcome first is same =
-      subst (λ (x : ScriptArchive D). Both old x (opened a) outcome) (sym same)
+      subst (λ (x : SeenArchive). Both old x (opened a) outcome) (sym same)
       (subst (λ (o : Result Reply Refusal). Both old mid (opened a) o) (sym is) (by first.after first.stands first.ends first.meanwhile))
     where
-      by : (t : Standing) → IsStanding life mid t → OrWant (opened a) (WhereOpen (WritesBytes (HasFailed (life_of life old) (life_of life mid)) session bytes) (opened a)) (Err refusal) t
-          → LeavesMeanwhile at (life_of life old) (life_of life mid) (opened a) t → Both old mid (opened a) (Err refusal)
+      by : (t : Standing) → IsStanding mid t → OrWant (opened a) (WhereOpen (WritesBytes (HasFailed (life_of old) (life_of mid)) session bytes) (opened a)) (Err refusal) t
+          → LeavesMeanwhile at (life_of old) (life_of mid) (opened a) t → Both old mid (opened a) (Err refusal)
       by (opened b) stands wrote before =
-          record { after = opened b; stands = stands; ends = (Err refusal, b, want_as (HasFailed (life_of life old) (life_of life mid)) (HasFailed (life_of life old) (life_of life mid)) session bytes a b (Err refusal) (λ failed. failed) wrote, (refl, refl)); meanwhile = before }
+          record { after = opened b; stands = stands; ends = (Err refusal, b, want_as (HasFailed (life_of old) (life_of mid)) (HasFailed (life_of old) (life_of mid)) session bytes a b (Err refusal) (λ failed. failed) wrote, (refl, refl)); meanwhile = before }
       by (closed b) stands (inl none) before = absurd none
       by (closed b) stands (inr (want, wrong)) before = absurd cc
       by (doubtful s u) stands (inl none) before = absurd none
@@ -169,34 +168,34 @@ module _ {D : Type 0} (life : D → Life) (session : ℤ) (bytes : List ℕ) whe
       by unknown stands (inl none) before = absurd none
       by unknown stands (inr (want, wrong)) before = absurd cc
 
-  open_both : (old mid new : ScriptArchive D) (a : Archive) (wrote outcome : Result Reply Refusal) → First old mid (opened a) wrote → IsTrue (life_of life new).obeys
-      → DiskGoesOn (life_of life old) (life_of life mid) → DiskGoesOn (life_of life mid) (life_of life new)
-      → answering.ThenSettles (archive_ways life) session wrote mid outcome new → Both old new (opened a) outcome
+  open_both : (old mid new : SeenArchive) (a : Archive) (wrote outcome : Result Reply Refusal) → First old mid (opened a) wrote → IsTrue (life_of new).obeys
+      → DiskGoesOn (life_of old) (life_of mid) → DiskGoesOn (life_of mid) (life_of new)
+      → answering.ThenSettles archive_ways session wrote mid outcome new → Both old new (opened a) outcome
   open_both old mid new a (Ok reply) outcome first obeys began more settled = then_settled old mid new a reply outcome first obeys began more settled
   open_both old mid new a (Err refusal) outcome first obeys began more settled = not_written old mid new a refusal outcome first settled.0 settled.1
 
   -- where none is open
-  closed_both : (disk : D) (mid new : ScriptArchive D) (s : Standing) (wrote outcome : Result Reply Refusal) → IsStanding life (Closed disk) s → (wrote ≡ Err Broken) × (mid ≡ Closed disk)
-      → answering.ThenSettles (archive_ways life) session wrote mid outcome new → Both (Closed disk) new s outcome
+  closed_both : (disk : Life) (mid new : SeenArchive) (s : Standing) (wrote outcome : Result Reply Refusal) → IsStanding (Closed disk) s → (wrote ≡ Err Broken) × (mid ≡ Closed disk)
+      → answering.ThenSettles archive_ways session wrote mid outcome new → Both (Closed disk) new s outcome
   closed_both disk mid new s (Ok reply) outcome stands is settled = (let wrong : Ok reply ≡ Err Broken = is.0 in absurd cc)
   closed_both disk mid new s (Err refusal) outcome stands is settled = by s stands (settled.0 ∙ is.0) (settled.1 ∙ is.1)
     where
-      by : (s : Standing) → IsStanding life (Closed disk) s → outcome ≡ Err Broken → new ≡ Closed disk → Both (Closed disk) new s outcome
+      by : (s : Standing) → IsStanding (Closed disk) s → outcome ≡ Err Broken → new ≡ Closed disk → Both (Closed disk) new s outcome
       by (opened a) stands answer same = absurd stands
-      by (closed a) stands answer same = kept_same life at (Closed disk) new (closed a) _ outcome same stands (answer, refl)
-      by (doubtful s u) stands answer same = kept_same life at (Closed disk) new (doubtful s u) _ outcome same stands (answer, refl)
-      by (refused image why) stands answer same = kept_same life at (Closed disk) new (refused image why) _ outcome same stands (answer, refl)
-      by unknown stands answer same = kept_same life at (Closed disk) new unknown _ outcome same tt refl
+      by (closed a) stands answer same = kept_same at (Closed disk) new (closed a) _ outcome same stands stands (answer, refl)
+      by (doubtful s u) stands answer same = kept_same at (Closed disk) new (doubtful s u) _ outcome same stands stands (answer, refl)
+      by (refused image why) stands answer same = kept_same at (Closed disk) new (refused image why) _ outcome same stands stands (answer, refl)
+      by unknown stands answer same = kept_same at (Closed disk) new unknown _ outcome same tt tt refl
 
   -- a block, whatever stands
-  pub record_kept : (old new : ScriptArchive D) (s : Standing) (outcome : Result Reply Refusal) → IsStanding life old s → IsTrue (life_of life new).obeys → answering.Records (archive_ways life) session bytes old outcome new
-      → Kept life (lines.Block session bytes) old new s (WhereOpen (Records (HasFailed (life_of life old) (life_of life new)) session bytes) s) outcome
-  record_kept (Open e) new (opened a) outcome stands obeys (wrote, mid, written, settled) =
-      let began = writes_go_on life session bytes (Open e) wrote mid written in
-      let more = settles_go_on life session wrote mid outcome new settled in
-      open_both (Open e) mid new a wrote outcome (bytes_kept life at session bytes (Open e) mid (opened a) wrote stands (more.obeyed obeys) written) obeys began more settled
-  record_kept (Open e) new (closed a) outcome stands obeys all = absurd stands
-  record_kept (Open e) new (doubtful s u) outcome stands obeys all = absurd stands
-  record_kept (Open e) new (refused image why) outcome stands obeys all = absurd stands
-  record_kept (Open e) new unknown outcome stands obeys all = record { after = unknown; stands = is_unknown life new; ends = refl; meanwhile = tt }
-  record_kept (Closed disk) new s outcome stands obeys (wrote, mid, written, settled) = closed_both disk mid new s wrote outcome stands (closed_bytes life session bytes disk mid wrote written) settled
+  pub record_kept : (old new : SeenArchive) (s : Standing) (outcome : Result Reply Refusal) → IsStanding old s → LeavesStanding (life_of old) s → IsTrue (life_of new).obeys → answering.Records archive_ways session bytes old outcome new
+      → Kept (lines.Block session bytes) old new s (WhereOpen (Records (HasFailed (life_of old) (life_of new)) session bytes) s) outcome
+  record_kept (Open e) new (opened a) outcome stands left obeys (wrote, mid, written, settled) =
+      let began = writes_go_on session bytes (Open e) wrote mid written in
+      let more = settles_go_on session wrote mid outcome new settled in
+      open_both (Open e) mid new a wrote outcome (bytes_kept at session bytes (Open e) mid (opened a) wrote stands left (more.obeyed obeys) written) obeys began more settled
+  record_kept (Open e) new (closed a) outcome stands left obeys all = absurd stands
+  record_kept (Open e) new (doubtful s u) outcome stands left obeys all = absurd stands
+  record_kept (Open e) new (refused image why) outcome stands left obeys all = absurd stands
+  record_kept (Open e) new unknown outcome stands left obeys all = record { after = unknown; stands = is_unknown new; ends = refl; meanwhile = tt }
+  record_kept (Closed disk) new s outcome stands left obeys (wrote, mid, written, settled) = closed_both disk mid new s wrote outcome stands (closed_bytes session bytes disk mid wrote written) settled

@@ -14,10 +14,7 @@ use Rattle.control_lines.specs.declared.line.Line.{Line}
 use Rattle.engine_core.specs.Consistent.{IsCrashConsistent, KeepsArchive}
 use Rattle.engine_core.specs.Engine.{EngineState, IsTied}
 use Rattle.engine_core.specs.Recovery.{IsEither, Recovers, RecoversTo}
-use Rattle.engine_core.specs.Seen.{seen}
-use Rattle.tool_core.specs.declared.archive.ScriptArchive.{ScriptArchive}
-use Rattle.tool_core.specs.declared.archive.ScriptArchive.TheVariants.{Open, Closed}
-use Rattle.tool_core.specs.Archives.{life_of}
+use Rattle.tool_core.specs.Archives.{Closed, IsEngine, Open, ReadsMayStay, SeenArchive, life_of}
 use Rattle.tool_core.specs.Script.{LeavesArchive, LeavesOpened, LeavesStanding}
 use Rattle.tool_core.specs.ScriptLines.{LeavesMeanwhile, Standing, closed, doubtful, opened, refused, unknown}
 
@@ -56,27 +53,35 @@ opened_leaves : (e : EngineState) (a : Archive) → IsTied e.log e.desk → e.de
 opened_leaves e a tied desk was None certain = kept e a tied desk was certain
 opened_leaves e a tied desk was (Some u) doubt = λ image left. recovers_as (MayStand a) (IsEither a.state u) image (λ x stands. stands_either a u x doubt stands) (was.images image left)
 
-module _ {D : Type 0} (life : D → Life) where
-  -- An open archive is crash-consistent; a closed one is what its disk leaves; where there is none the disk reads as it did, and its
-  -- catalogue is refused.
-  abbrev pub IsStanding : ScriptArchive D → Standing → Type 0
-  IsStanding archive unknown = Unit {0}
-  IsStanding (Open engine) (opened a) = KeepsArchive (seen life engine) a
-  IsStanding (Open engine) standing = ⊥
-  IsStanding (Closed disk) (opened a) = ⊥
-  IsStanding (Closed disk) standing = LeavesStanding (life disk) standing
+-- what is so of each archive that is open, and of each disk
+abbrev pub IsOfDisk : SeenArchive → Type 0
+IsOfDisk (Open engine) = IsEngine engine
+IsOfDisk (Closed life) = ReadsMayStay life
 
-  pub standing_left : (archive : ScriptArchive D) (s : Standing) → IsStanding archive s → LeavesStanding (life_of life archive) s
-  standing_left (Open engine) (opened a) stands = opened_leaves (seen life engine) a engine.tied stands.desk stands.consistent a.doubt refl
-  standing_left (Open engine) (closed a) stands = absurd stands
-  standing_left (Open engine) (doubtful s u) stands = absurd stands
-  standing_left (Open engine) (refused image why) stands = absurd stands
-  standing_left (Open engine) unknown stands = tt
-  standing_left (Closed disk) (opened a) stands = absurd stands
-  standing_left (Closed disk) (closed a) stands = stands
-  standing_left (Closed disk) (doubtful s u) stands = stands
-  standing_left (Closed disk) (refused image why) stands = stands
-  standing_left (Closed disk) unknown stands = tt
+pub reads_may_stay : (archive : SeenArchive) → IsOfDisk archive → ReadsMayStay (life_of archive)
+reads_may_stay (Open engine) of_disk = of_disk.stays
+reads_may_stay (Closed life) of_disk = of_disk
+
+-- An open archive is crash-consistent; a closed one is what its disk leaves; where there is none the disk reads as it did, and its
+-- catalogue is refused.
+abbrev pub IsStanding : SeenArchive → Standing → Type 0
+IsStanding archive unknown = Unit {0}
+IsStanding (Open engine) (opened a) = KeepsArchive engine a
+IsStanding (Open engine) standing = ⊥
+IsStanding (Closed life) (opened a) = ⊥
+IsStanding (Closed life) standing = LeavesStanding life standing
+
+pub standing_left : (archive : SeenArchive) (s : Standing) → IsOfDisk archive → IsStanding archive s → LeavesStanding (life_of archive) s
+standing_left (Open engine) (opened a) of_disk stands = opened_leaves engine a of_disk.tied stands.desk stands.consistent a.doubt refl
+standing_left (Open engine) (closed a) of_disk stands = absurd stands
+standing_left (Open engine) (doubtful s u) of_disk stands = absurd stands
+standing_left (Open engine) (refused image why) of_disk stands = absurd stands
+standing_left (Open engine) unknown of_disk stands = tt
+standing_left (Closed life) (opened a) of_disk stands = absurd stands
+standing_left (Closed life) (closed a) of_disk stands = stands
+standing_left (Closed life) (doubtful s u) of_disk stands = stands
+standing_left (Closed life) (refused image why) of_disk stands = stands
+standing_left (Closed life) unknown of_disk stands = tt
 
 -- ---- no moment passes
 

@@ -18,15 +18,13 @@ use Rattle.control_core.specs.Desk.{DeskState}
 use Rattle.control_core.specs.Exact.{Archive, CallEnds, told_of}
 use Rattle.control_core.specs.Machine.{Ended, Ends, Outcome, Outside, Passing, RefusesCall, Step, Stepped, Unread}
 use Rattle.control_core.specs.Turns.{verify_tests}
-use Rattle.engine_core.specs.declared.engine.Engine.{Engine}
-use Rattle.engine_core.specs.Calls.{HasFailedOften, faults_in, is_fault}
+use Rattle.engine_core.specs.Calls.{AnswersEvent, HasFailedOften, faults_in, is_fault}
 use Rattle.engine_core.specs.Consistent.{IsCrashConsistent}
-use Rattle.engine_core.specs.Engine.{DiskGoesOn, archive_of}
-use Rattle.engine_core.specs.Seen.{seen}
+use Rattle.engine_core.specs.Engine.{DiskGoesOn, EngineState, archive_of}
 use Rattle.engine_core.specs.Shown.{CountsShown}
 use Rattle.tool_core.specs.declared.fault.EarlyEnd.{EarlyEnd}
 use Rattle.tool_core.specs.declared.reports.Verdict.{Verdict}
-use Rattle.tool_core.specs.Reports.{AnswersEach, HasReported, HasReportedFirst, InTurn, InTurnAndOne, IsEngineOf, desk_in, life_in, verifies_by}
+use Rattle.tool_core.specs.Reports.{AnswersEach, HasReported, HasReportedFirst, InTurn, InTurnAndOne, IsEngineOf, Verifications, verifies_by}
 use Rattle.tool_core.proofs.CallLemmas.{answered_at, wider_cause}
 
 -- a device fault is answered where a call of the disk has failed; those of both have their causes
@@ -95,65 +93,70 @@ shown_before old mid d e ids outcomes quiet same shown =
     subst (λ (x : DeskState). AllZip (λ id outcome. IfSome (registration_in x.register id) (λ g. CountsShown (reads old.now) g outcome)) ids outcomes) same
     (subst (λ (files : Files). AllZip (λ id outcome. IfSome (registration_in e.register id) (λ g. CountsShown (reads files) g outcome)) ids outcomes) quiet.now shown)
 
-module _ {D : Type 0} (life : D → Life) where
-  none_yet : (engine : Engine D) → AnswersEach life engine engine [] []
-  none_yet engine = record { goes_on = record { obeyed = λ obeys. obeys; faults = omega arith }; each = refl; quiet = quiet_here (life_in life engine); shown = λ obeys. tt; cause = omega arith; stays = λ a is. is; exact = λ a is obeys. tt }
+none_yet : (engine : EngineState) → AnswersEach engine engine [] []
+none_yet engine = record { goes_on = record { obeyed = λ obeys. obeys; faults = omega arith }; each = refl; quiet = quiet_here engine.life; shown = λ obeys. tt; cause = omega arith; stays = λ a is. is; exact = λ a is obeys. tt }
 
-  one_desk : (old new : Engine D) (id : ℤ) (outcome : Result Reply Refusal) → verifies_by life old id outcome new → desk_in new ≡ desk_in old
-  one_desk old new id outcome answers = verified_leaves (desk_in old) (desk_in new) id (told_of (desk_in old) (Verify id) outcome) answers.ends.machine
+one_desk : (old new : EngineState) (id : ℤ) (outcome : Result Reply Refusal) → AnswersEvent old new (Verify id) outcome → new.desk ≡ old.desk
+one_desk old new id outcome answers = verified_leaves old.desk new.desk id (told_of old.desk (Verify id) outcome) answers.ends.machine
 
-  -- the archive of one verifying stays, and its answer is one that the call may have
-  stays_one : (old new : Engine D) (id : ℤ) (outcome : Result Reply Refusal) → verifies_by life old id outcome new → (a : Archive) → IsEngineOf life a old → IsEngineOf life a new
-  stays_one old new id outcome answers a was =
-      let ended = answered_at (seen life old) (seen life new) a (Verify id) outcome was.desk was.consistent answers (λ cut. absurd (true≢false (sym cut))) in
-      record { desk = ap (λ (b : Archive). b.desk) ended.ends.1; consistent = subst (λ (b : Archive). IsCrashConsistent (life_in life new) new.storage.log b) ended.ends.1 ended.consistent }
+-- the archive of one verifying stays, and its answer is one that the call may have
+stays_one : (old new : EngineState) (id : ℤ) (outcome : Result Reply Refusal) → AnswersEvent old new (Verify id) outcome → (a : Archive) → IsEngineOf a old → IsEngineOf a new
+stays_one old new id outcome answers a was =
+    let ended = answered_at old new a (Verify id) outcome was.desk was.consistent answers (λ cut. absurd (true≢false (sym cut))) in
+    record { desk = ap (λ (b : Archive). b.desk) ended.ends.1; consistent = subst (λ (b : Archive). IsCrashConsistent new.life new.log b) ended.ends.1 ended.consistent }
 
-  exact_one : (old new : Engine D) (id : ℤ) (outcome : Result Reply Refusal) → verifies_by life old id outcome new → (a : Archive) → IsEngineOf life a old → IsTrue (life_in life new).obeys → CallEnds a (Verify id) (Unit {0}) outcome a
-  exact_one old new id outcome answers a was obeys =
-      let ended = answered_at (seen life old) (seen life new) a (Verify id) outcome was.desk was.consistent answers (λ cut. obeys) in
-      let b : Archive = archive_of (seen life new) ended.after in
-      let ends = wider_cause a (Verify id) (HasFailed (life_in life old) (life_in life new)) (Unit {0}) outcome b (λ failed. tt) (ended.ends.0 (λ reads. obeys)) in
-      subst (λ (x : Archive). CallEnds a (Verify id) (Unit {0}) outcome x) ended.ends.1 ends
+exact_one : (old new : EngineState) (id : ℤ) (outcome : Result Reply Refusal) → AnswersEvent old new (Verify id) outcome → (a : Archive) → IsEngineOf a old → IsTrue new.life.obeys → CallEnds a (Verify id) (Unit {0}) outcome a
+exact_one old new id outcome answers a was obeys =
+    let ended = answered_at old new a (Verify id) outcome was.desk was.consistent answers (λ cut. obeys) in
+    let b : Archive = archive_of new ended.after in
+    let ends = wider_cause a (Verify id) (HasFailed old.life new.life) (Unit {0}) outcome b (λ failed. tt) (ended.ends.0 (λ reads. obeys)) in
+    subst (λ (x : Archive). CallEnds a (Verify id) (Unit {0}) outcome x) ended.ends.1 ends
 
-  -- one before the others
-  before : (old mid new : Engine D) (id : ℤ) (ids : List ℤ) (outcome : Result Reply Refusal) (outcomes : List (Result Reply Refusal)) → verifies_by life old id outcome mid → AnswersEach life mid new ids outcomes → AnswersEach life old new (id ∷ ids) (outcome ∷ outcomes)
-  before old mid new id ids outcome outcomes first rest = record {
-    goes_on = goes_then (life_in life old) (life_in life mid) (life_in life new) first.ends.goes_on rest.goes_on;
-    each = ap suc rest.each;
-    quiet = quiet_then (life_in life old) (life_in life mid) (life_in life new) first.touches rest.quiet;
-    shown = λ obeys. (first.shows (rest.goes_on.obeyed obeys), shown_before (life_in life old) (life_in life mid) (desk_in old) (desk_in mid) ids outcomes first.touches (one_desk old mid id outcome first) (rest.shown obeys));
-    cause = faults_then (life_in life old) (life_in life mid) (life_in life new) outcome outcomes first.ends.goes_on first.ends.cause rest.cause;
-    stays = λ a is. rest.stays a (stays_one old mid id outcome first a is);
-    exact = λ a is obeys. (exact_one old mid id outcome first a is (rest.goes_on.obeyed obeys), rest.exact a (stays_one old mid id outcome first a is) obeys);
-  }
+-- one before the others
+before : (old mid new : EngineState) (id : ℤ) (ids : List ℤ) (outcome : Result Reply Refusal) (outcomes : List (Result Reply Refusal)) → AnswersEvent old mid (Verify id) outcome → AnswersEach mid new ids outcomes → AnswersEach old new (id ∷ ids) (outcome ∷ outcomes)
+before old mid new id ids outcome outcomes first rest = record {
+  goes_on = goes_then old.life mid.life new.life first.ends.goes_on rest.goes_on;
+  each = ap suc rest.each;
+  quiet = quiet_then old.life mid.life new.life first.touches rest.quiet;
+  shown = λ obeys. (first.shows (rest.goes_on.obeyed obeys), shown_before old.life mid.life old.desk mid.desk ids outcomes first.touches (one_desk old mid id outcome first) (rest.shown obeys));
+  cause = faults_then old.life mid.life new.life outcome outcomes first.ends.goes_on first.ends.cause rest.cause;
+  stays = λ a is. rest.stays a (stays_one old mid id outcome first a is);
+  exact = λ a is obeys. (exact_one old mid id outcome first a is (rest.goes_on.obeyed obeys), rest.exact a (stays_one old mid id outcome first a is) obeys);
+}
 
-  -- a later engine, of whose call no answer was written
-  later : (old mid new : Engine D) (ids : List ℤ) (outcomes : List (Result Reply Refusal)) (id : ℤ) (outcome : Result Reply Refusal) → AnswersEach life old mid ids outcomes → verifies_by life mid id outcome new → AnswersEach life old new ids outcomes
-  later old mid new ids outcomes id outcome so_far last = record {
-    goes_on = goes_then (life_in life old) (life_in life mid) (life_in life new) so_far.goes_on last.ends.goes_on;
-    each = so_far.each;
-    quiet = quiet_then (life_in life old) (life_in life mid) (life_in life new) so_far.quiet last.touches;
-    shown = λ obeys. so_far.shown (last.ends.goes_on.obeyed obeys);
-    cause = faults_since (life_in life old) (life_in life mid) (life_in life new) outcomes so_far.cause last.ends.goes_on;
-    stays = λ a is. stays_one mid new id outcome last a (so_far.stays a is);
-    exact = λ a is obeys. so_far.exact a is (last.ends.goes_on.obeyed obeys);
-  }
+-- a later engine, of whose call no answer was written
+later : (old mid new : EngineState) (ids : List ℤ) (outcomes : List (Result Reply Refusal)) (id : ℤ) (outcome : Result Reply Refusal) → AnswersEach old mid ids outcomes → AnswersEvent mid new (Verify id) outcome → AnswersEach old new ids outcomes
+later old mid new ids outcomes id outcome so_far last = record {
+  goes_on = goes_then old.life mid.life new.life so_far.goes_on last.ends.goes_on;
+  each = so_far.each;
+  quiet = quiet_then old.life mid.life new.life so_far.quiet last.touches;
+  shown = λ obeys. so_far.shown (last.ends.goes_on.obeyed obeys);
+  cause = faults_since old.life mid.life new.life outcomes so_far.cause last.ends.goes_on;
+  stays = λ a is. stays_one mid new id outcome last a (so_far.stays a is);
+  exact = λ a is obeys. so_far.exact a is (last.ends.goes_on.obeyed obeys);
+}
 
-  in_turn : (old new : Engine D) (ids : List ℤ) (outcomes : List (Result Reply Refusal)) → InTurn (verifies_by life) old new ids outcomes → AnswersEach life old new ids outcomes
-  in_turn old new [] [] is = subst (λ (e : Engine D). AnswersEach life old e [] []) (sym is) (none_yet old)
-  in_turn old new (id ∷ ids) (o ∷ os) (mid, first, turn) = before old mid new id ids o os first (in_turn mid new ids os turn)
+-- ---- of whoever is seen as an engine
+
+module _ {A : Type 0} (view : A → EngineState) where
+  -- all that verifying each in turn promises
+  abbrev pub EachSeen : Verifications A
+  EachSeen old new ids outcomes = AnswersEach (view old) (view new) ids outcomes
+
+  in_turn : (old new : A) (ids : List ℤ) (outcomes : List (Result Reply Refusal)) → InTurn (verifies_by view) old new ids outcomes → EachSeen old new ids outcomes
+  in_turn old new [] [] is = subst (λ (a : A). EachSeen old a [] []) (sym is) (none_yet (view old))
+  in_turn old new (id ∷ ids) (o ∷ os) (mid, first, turn) = before (view old) (view mid) (view new) id ids o os first (in_turn mid new ids os turn)
   in_turn old new [] (o ∷ os) turn = absurd turn
   in_turn old new (id ∷ ids) [] turn = absurd turn
 
-  and_one : (old new : Engine D) (ids : List ℤ) (outcomes : List (Result Reply Refusal)) → InTurnAndOne (verifies_by life) old new ids outcomes → AnswersEach life old new ids outcomes
-  and_one old new ids os (mid, turn, inl is) = subst (λ (e : Engine D). AnswersEach life old e ids os) (sym is) (in_turn old mid ids os turn)
-  and_one old new ids os (mid, turn, inr (id, outcome, last)) = later old mid new ids os id outcome (in_turn old mid ids os turn) last
+  and_one : (old new : A) (ids : List ℤ) (outcomes : List (Result Reply Refusal)) → InTurnAndOne (verifies_by view) old new ids outcomes → EachSeen old new ids outcomes
+  and_one old new ids os (mid, turn, inl is) = subst (λ (a : A). EachSeen old a ids os) (sym is) (in_turn old mid ids os turn)
+  and_one old new ids os (mid, turn, inr (id, outcome, last)) = later (view old) (view mid) (view new) ids os id outcome (in_turn old mid ids os turn) last
 
-  -- all that verifying each in turn promises
-  pub verified : (ids : List ℤ) (old new : Engine D) (contents written : Option (List ℕ)) (verdict : Verdict) → HasReported (InTurn (verifies_by life)) ids old new contents written verdict
-      → HasReported (AnswersEach life) ids old new contents written verdict
+  pub verified : (ids : List ℤ) (old new : A) (contents written : Option (List ℕ)) (verdict : Verdict) → HasReported (InTurn (verifies_by view)) ids old new contents written verdict
+      → HasReported AnswersEach ids (view old) (view new) contents written verdict
   verified ids old new contents written verdict did = record { outcomes = did.outcomes; answers = in_turn old new ids did.outcomes did.answers; told = did.told; judged = did.judged }
 
-  pub verified_first : (ids : List ℤ) (old new : Engine D) (contents written : Option (List ℕ)) (end : EarlyEnd) → HasReportedFirst (InTurnAndOne (verifies_by life)) ids old new contents written end
-      → HasReportedFirst (AnswersEach life) ids old new contents written end
+  pub verified_first : (ids : List ℤ) (old new : A) (contents written : Option (List ℕ)) (end : EarlyEnd) → HasReportedFirst (InTurnAndOne (verifies_by view)) ids old new contents written end
+      → HasReportedFirst AnswersEach ids (view old) (view new) contents written end
   verified_first ids old new contents written end did = record { outcomes = did.outcomes; answers = and_one old new (take (length did.outcomes) ids) did.outcomes did.answers; told = did.told }

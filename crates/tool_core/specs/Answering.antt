@@ -33,6 +33,15 @@ pub record Ways (A : Type 0) : Type 1 where
   pub reopen : A → Ends A
   pub compact : A → Ends A
 
+-- what an answerer promises that is seen so
+abbrev pub ways_seen : {A B : Type 0} → (A → B) → Ways B → Ways A
+ways_seen view ways = record {
+  terms = λ old. ways.terms (view old);
+  call = λ event old outcome new. ways.call event (view old) outcome (view new);
+  reopen = λ old outcome new. ways.reopen (view old) outcome (view new);
+  compact = λ old outcome new. ways.compact (view old) outcome (view new);
+}
+
 -- the bytes of a block are read by these terms, which may want memory; without terms they are not read
 abbrev pub BlockIsRead : Result Geometry Refusal → List ℕ → Result Block Refusal → Type 0
 BlockIsRead (Err refusal) bytes read = read ≡ Err refusal

@@ -4,17 +4,15 @@ use Rattle.std.specs.List.{AllZip, flat_map, list_all}
 use Rattle.std.specs.Io.KnownBytes.{Appends}
 use Rattle.frame_core.specs.declared.refusal.Refusal.{Refusal}
 use Rattle.disk_core.specs.DiskImage.{reads}
-use Rattle.disk_core.specs.Life.{IsQuiet, Life}
+use Rattle.disk_core.specs.Life.{IsQuiet}
 use Rattle.archive_model.specs.declared.reply.Reply.{Reply}
 use Rattle.archive_model.specs.Register.{id_of, registration_in}
 use Rattle.control_core.specs.declared.event.Event.TheVariants.{Verify}
 use Rattle.control_core.specs.Desk.{DeskState}
 use Rattle.control_core.specs.Exact.{Archive, CallEnds}
-use Rattle.engine_core.specs.declared.engine.Engine.{Engine}
 use Rattle.engine_core.specs.Calls.{AnswersEvent, HasFailedOften, faults_in}
-use Rattle.engine_core.specs.Engine.{DiskGoesOn}
+use Rattle.engine_core.specs.Engine.{DiskGoesOn, EngineState}
 use Rattle.engine_core.specs.Consistent.{KeepsArchive}
-use Rattle.engine_core.specs.Seen.{seen}
 use Rattle.engine_core.specs.Shown.{CountsShown}
 use Rattle.tool_core.specs.declared.fault.EarlyEnd.{EarlyEnd}
 use Rattle.tool_core.specs.declared.fault.EarlyEnd.TheVariants as ends
@@ -82,34 +80,25 @@ module _ {A : Type 0} (each : Verifications A) (ids : List ℤ) where
     pub answers : each old new (take (length outcomes) ids) outcomes
     pub told : IsWrittenBefore end contents written (outcomes_text outcomes)
 
--- what is known of an engine's archive
-abbrev pub desk_in : {D : Type 0} → Engine D → DeskState
-desk_in engine = engine.desk.state
+-- the engine is a crash-consistent archive's
+abbrev pub IsEngineOf : Archive → EngineState → Type 0
+IsEngineOf a engine = KeepsArchive engine a
 
-module _ {D : Type 0} (life : D → Life) where
-  -- the disk of an engine
-  abbrev pub life_in : Engine D → Life
-  life_in engine = life engine.storage.disk
+-- a recording is verified as the engine that is seen so answers that event
+abbrev pub verifies_by : {A : Type 0} → (A → EngineState) → Verification A
+verifies_by view old id outcome new = AnswersEvent (view old) (view new) (Verify id) outcome
 
-  -- the engine is a crash-consistent archive's
-  abbrev pub IsEngineOf : Archive → Engine D → Type 0
-  IsEngineOf a engine = KeepsArchive (seen life engine) a
-
-  -- a recording is verified as the engine answers that event
-  abbrev pub verifies_by : Verification (Engine D)
-  verifies_by old id outcome new = AnswersEvent (seen life old) (seen life new) (Verify id) outcome
-
-  -- An answer to the verifying of each of these recordings, so many of them device faults at most as calls of the disk have
-  -- failed; where the disk obeys the crash model each is one that the call may have over the archive. The archive stays,
-  -- whatever was read.
-  pub record AnswersEach (old new : Engine D) (ids : List ℤ) (outcomes : List (Result Reply Refusal)) : Type 0 where
-    pub goes_on : DiskGoesOn (life_in old) (life_in new)
-    pub each : length outcomes ≡ length ids
-    -- Whatever the archive is: no file has changed, and each answer tells what the files show of its recording.
-    pub quiet : IsQuiet (life_in old) (life_in new)
-    pub shown : IsTrue (life_in new).obeys →
-        AllZip (λ id outcome. IfSome (registration_in (desk_in old).register id) (λ g. CountsShown (reads (life_in old).now) g outcome)) ids outcomes
-    pub cause : HasFailedOften (faults_in outcomes) (life_in old) (life_in new)
-    pub stays : (a : Archive) → IsEngineOf a old → IsEngineOf a new
-    pub exact : (a : Archive) → IsEngineOf a old → IsTrue (life_in new).obeys →
-        AllZip (λ id outcome. CallEnds a (Verify id) (Unit {0}) outcome a) ids outcomes
+-- An answer to the verifying of each of these recordings, so many of them device faults at most as calls of the disk have
+-- failed; where the disk obeys the crash model each is one that the call may have over the archive. The archive stays,
+-- whatever was read.
+pub record AnswersEach (old new : EngineState) (ids : List ℤ) (outcomes : List (Result Reply Refusal)) : Type 0 where
+  pub goes_on : DiskGoesOn old.life new.life
+  pub each : length outcomes ≡ length ids
+  -- Whatever the archive is: no file has changed, and each answer tells what the files show of its recording.
+  pub quiet : IsQuiet old.life new.life
+  pub shown : IsTrue new.life.obeys →
+      AllZip (λ id outcome. IfSome (registration_in old.desk.register id) (λ g. CountsShown (reads old.life.now) g outcome)) ids outcomes
+  pub cause : HasFailedOften (faults_in outcomes) old.life new.life
+  pub stays : (a : Archive) → IsEngineOf a old → IsEngineOf a new
+  pub exact : (a : Archive) → IsEngineOf a old → IsTrue new.life.obeys →
+      AllZip (λ id outcome. CallEnds a (Verify id) (Unit {0}) outcome a) ids outcomes

@@ -2,7 +2,8 @@
 
 ghost use Rattle.std.specs.Prelude.{◌≡◌, IfErr, IfOk};
 ghost use Rattle.engine_core.specs.Opening.{ReadsAsBefore};
-ghost use Rattle.tool_core.specs.Archives.{BeginsAs, archive_ways, closed_by, history_of, life_of};
+ghost use Rattle.tool_core.specs.Answering.{ways_seen};
+ghost use Rattle.tool_core.specs.Archives.{BeginsAs, archive_seen, archive_ways, closed_by, history_of, life_of};
 
 use crate::answerer::Answerer;
 use crate::compacting::reopened;
@@ -32,7 +33,7 @@ impl<D: Disk> ScriptArchive<D> {
     /// is opened. Where it is refused none is open. Which of these it was stands beside it. Want of memory hands the disk
     /// back, and has changed nothing that is read. Costs what `Engine::create_or_open` costs.
     pub fn of_disk(alloc: Global, disk: D) -> Result<(ScriptArchive<D>, Beginning), D>
-        ensures begun { IfOk result (λ found. BeginsAs D.life (D.life disk) found.1 found.0) }
+        ensures begun { IfOk result (λ found. BeginsAs (D.life disk) found.1 (archive_seen D.life found.0)) }
         ensures unopened { IfErr result (λ back. ReadsAsBefore (D.life disk) (D.life back)) }
     {
         match Engine::create_or_open(alloc, disk, HISTORY) {
@@ -44,7 +45,7 @@ impl<D: Disk> ScriptArchive<D> {
 
     /// The disk, with the files as they are.
     pub fn into_disk(self) -> D
-        ensures { D.life result ≡ life_of D.life self }
+        ensures { D.life result ≡ life_of (archive_seen D.life self) }
     {
         match self {
             ScriptArchive::Open(engine) => engine.into_disk(),
@@ -55,7 +56,7 @@ impl<D: Disk> ScriptArchive<D> {
 
 /// Each call is answered as `Engine::step` answers it. Where none is open, calls are `Broken`, and so is `compact`.
 impl<D: Disk> Answerer for ScriptArchive<D> {
-    ghost ways = { archive_ways D.life };
+    ghost ways = { ways_seen (archive_seen D.life) archive_ways };
 
     fn terms(&self, session: &i64) -> Result<Geometry, Refusal> {
         match self {
@@ -93,7 +94,7 @@ impl<D: Disk> Answerer for ScriptArchive<D> {
 
     /// How much of its history it has used, where it is open.
     fn history(&self) -> Option<HistoryUse>
-        ensures { result ≡ history_of self.now }
+        ensures { result ≡ history_of (archive_seen D.life self.now) }
     {
         match self {
             ScriptArchive::Open(engine) => Some(HistoryUse {

@@ -3,6 +3,7 @@
 ghost use Rattle.std.specs.Prelude.{◌≡◌, ◌⊎◌, ◌<◌, IfErr, IfOk, IsErrAnd, codes};
 ghost use Rattle.std.specs.Io.KnownBytes.{Appends};
 ghost use Rattle.frame_core.specs.declared.refusal.Refusal.TheVariants.{BadParameter};
+ghost use Rattle.engine_core.specs.Seen.{seen};
 ghost use Rattle.tool_core.specs.declared.commands.Stopped.TheVariants.{Refused};
 ghost use Rattle.tool_core.specs.Commands.{FailsToCompact, FailsToCreate, FailsToList, FailsToVerify, HasListed, HasVerified, IsCreated, IsOpenedBy, IsUnopenedBy};
 ghost use Rattle.tool_core.specs.Archives.{HasCompacted};
@@ -46,9 +47,9 @@ pub fn create_archive<W: Write, D: Disk>(
     history: u32,
     writer: &mut W,
 ) -> Result<D, CommandFault<D>>
-    ensures created { IfOk result (λ back. IsCreated D.life history (D.life disk) (D.life back)
+    ensures created { IfOk result (λ back. IsCreated history (D.life disk) (D.life back)
         × Appends (W.contents writer.old) (W.contents writer.new) (codes "created\n")) }
-    ensures fault { IfErr result (λ fault. FailsToCreate D.life history (D.life disk) fault.disk fault.why
+    ensures fault { IfErr result (λ fault. FailsToCreate history (D.life disk) (D.life fault.disk) fault.why
         (W.contents writer.old) (W.contents writer.new)) }
     // A limit out of its range is refused before the disk is asked.
     ensures limit { (history < 1) ⊎ (16777216 < history) → IsErrAnd result (λ fault.
@@ -80,9 +81,9 @@ pub fn compact_archive<W: Write, D: Disk, O: Observer>(
     writer: &mut W,
     observer: &mut O,
 ) -> Result<D, CommandFault<D>>
-    ensures compacted { IfOk result (λ back. HasCompacted D.life (D.life disk) (D.life back)
+    ensures compacted { IfOk result (λ back. HasCompacted (D.life disk) (D.life back)
         × Appends (W.contents writer.old) (W.contents writer.new) (codes "compacted\n")) }
-    ensures fault { IfErr result (λ fault. FailsToCompact D.life (D.life disk) fault.disk fault.why
+    ensures fault { IfErr result (λ fault. FailsToCompact (D.life disk) (D.life fault.disk) fault.why
         (W.contents writer.old) (W.contents writer.new)) }
 {
     let disk = match compact_disk(alloc, disk) {
@@ -111,9 +112,9 @@ pub fn list_archive<W: Write, D: Disk, O: Observer>(
     writer: &mut W,
     observer: &mut O,
 ) -> Result<D, CommandFault<D>>
-    ensures listed { IfOk result (λ back. HasListed D.life (D.life disk) (D.life back)
+    ensures listed { IfOk result (λ back. HasListed (D.life disk) (D.life back)
         (W.contents writer.old) (W.contents writer.new)) }
-    ensures fault { IfErr result (λ fault. FailsToList D.life (D.life disk) fault.disk fault.why
+    ensures fault { IfErr result (λ fault. FailsToList (D.life disk) (D.life fault.disk) fault.why
         (W.contents writer.old) (W.contents writer.new)) }
 {
     let engine = opened(alloc, disk, observer)?;
@@ -139,9 +140,9 @@ pub fn verify_archive<W: Write, D: Disk, O: Observer>(
     writer: &mut W,
     observer: &mut O,
 ) -> Result<(D, Verdict), CommandFault<D>>
-    ensures verified { IfOk result (λ found. HasVerified D.life (D.life disk) (D.life found.0)
+    ensures verified { IfOk result (λ found. HasVerified (D.life disk) (D.life found.0)
         (W.contents writer.old) (W.contents writer.new) found.1) }
-    ensures fault { IfErr result (λ fault. FailsToVerify D.life (D.life disk) fault.disk fault.why
+    ensures fault { IfErr result (λ fault. FailsToVerify (D.life disk) (D.life fault.disk) fault.why
         (W.contents writer.old) (W.contents writer.new)) }
 {
     let mut engine = opened(alloc, disk, observer)?;
@@ -162,8 +163,8 @@ fn opened<D: Disk, O: Observer>(
     disk: D,
     observer: &mut O,
 ) -> Result<Engine<D>, CommandFault<D>>
-    ensures opened { IfOk result (λ engine. IsOpenedBy D.life (D.life disk) engine) }
-    ensures refused { IfErr result (λ fault. IsUnopenedBy D.life (D.life disk) fault.disk fault.why) }
+    ensures opened { IfOk result (λ engine. IsOpenedBy (D.life disk) (seen D.life engine)) }
+    ensures refused { IfErr result (λ fault. IsUnopenedBy (D.life disk) (D.life fault.disk) fault.why) }
 {
     match Engine::open(alloc, disk) {
         Ok((engine, _)) => {

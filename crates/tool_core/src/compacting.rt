@@ -1,7 +1,7 @@
 //! The archive of a disk opened, closed and compacted. docs/STORAGE.md, "Compaction".
 
 ghost use Rattle.std.specs.Prelude.{IfErr, IfOk, MatchResult};
-ghost use Rattle.tool_core.specs.Archives.{CompactsDisk, HasCompacted, HasNotCompacted};
+ghost use Rattle.tool_core.specs.Archives.{CompactsDisk, HasCompacted, HasNotCompacted, archive_seen};
 
 use crate::archive::ScriptArchive;
 use archive_model::Reply;
@@ -16,8 +16,8 @@ use std::alloc::Global;
 /// Refused as `Engine::open` and `engine_core::compact` refuse. Costs what these cost.
 pub(crate) fn compact_disk<D: Disk>(alloc: Global, disk: D) -> Result<D, OpenRefusal<D>>
     ensures { MatchResult result
-        (λ back. HasCompacted D.life (D.life disk) (D.life back))
-        (λ refused. HasNotCompacted D.life (D.life disk) (D.life refused.disk) refused.refusal) }
+        (λ back. HasCompacted (D.life disk) (D.life back))
+        (λ refused. HasNotCompacted (D.life disk) (D.life refused.disk) refused.refusal) }
 {
     let (engine, _) = Engine::open(alloc, disk)?;
     let mut disk = engine.into_disk();
@@ -33,7 +33,7 @@ pub(crate) fn reopened<D: Disk>(
     alloc: Global,
     disk: D,
 ) -> (ScriptArchive<D>, Result<Reply, Refusal>)
-    ensures { CompactsDisk D.life (D.life disk) result.1 result.0 }
+    ensures { CompactsDisk (D.life disk) result.1 (archive_seen D.life result.0) }
 {
     let disk = match compact_disk(alloc, disk) {
         Ok(disk) => disk,

@@ -8,7 +8,8 @@ ghost use Rattle.control_core.specs.Decisions.{listed};
 ghost use Rattle.control_lines.specs.ReplyText.{reply_text};
 ghost use Rattle.tool_core.specs.Answering.{FailsToAnswer};
 ghost use Rattle.control_core.specs.Desk.{DeskState};
-ghost use Rattle.tool_core.specs.Reports.{HasReported, HasReportedFirst, HasReportedOne, InTurn, InTurnAndOne, Verification, desk_in, ids_in, verifies_by};
+ghost use Rattle.engine_core.specs.Seen.{seen};
+ghost use Rattle.tool_core.specs.Reports.{HasReported, HasReportedFirst, HasReportedOne, InTurn, InTurnAndOne, Verification, ids_in, verifies_by};
 
 use crate::answers::{write_outcome, write_reply};
 use crate::fault::EarlyEnd;
@@ -70,9 +71,9 @@ pub trait Verifiable {
 }
 
 impl<D: Disk> Verifiable for Engine<D> {
-    ghost desk_of = { desk_in };
+    ghost desk_of = { λ engine. engine.desk.state };
 
-    ghost verifies = { verifies_by D.life };
+    ghost verifies = { verifies_by (seen D.life) };
 
     fn desk(&self) -> &Desk {
         self.desk()

@@ -195,9 +195,9 @@ pub fn run_script<R: Read + Drop, W: Write, D: Disk, O: Observer>(
 ) -> Result<D, ScriptFault<D>>
     // Whatever the disk holds and does: each line is answered as `Engine::step`, `Engine::open` and `compact` say.
     ensures whole { IfOk result (λ back. WritesText (R.remaining reader) (W.contents writer.old) (W.contents writer.new)
-        (IsScript D.life (D.life disk) (D.life back))) }
+        (IsScript (D.life disk) (D.life back))) }
     ensures early { IfErr result (λ fault. EndsEarly (early_end_of fault)
-        (IsScriptOfFirst D.life (D.life disk) (D.life (disk_of fault)))
+        (IsScriptOfFirst (D.life disk) (D.life (disk_of fault)))
         (R.remaining reader) (W.contents writer.old) (W.contents writer.new)
         ⊎ IsUnopened (D.life disk) (D.life (disk_of fault)) (W.contents writer.old) (W.contents writer.new) (early_end_of fault)) }
     // Where the disk obeys the crash model: the exact answers, and what a crash leaves at every moment.

@@ -7,4 +7,4 @@ use Rattle.folder_commands.proofs.commands.run.Goals as goal
 pub returns : goal.returns
 returns g c =
     let begins = begins_watched g.given c.in_ok-disk_of.field-0 c.new-disk.result c.in_ok-disk_of.ensures.begun c.new-disk.ensures in
-    run_ends _ g.given (g.I.Read.remaining c.args.input) (g.W.Write.contents c.args.writer.now) (g.W.Write.contents c.run_over.new.writer) _ (ending_in c.run_over.result) begins c.run_over.ensures
+    run_ends g.given (g.I.Read.remaining c.args.input) (g.W.Write.contents c.args.writer.now) (g.W.Write.contents c.run_over.new.writer) _ (ending_in c.run_over.result) begins c.run_over.ensures

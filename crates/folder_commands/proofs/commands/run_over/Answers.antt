@@ -13,5 +13,5 @@ returns g c =
     let life = g.D.Disk.life in
     let contents = g.W.Write.contents c.args.writer.now in
     let written = g.W.Write.contents c.run_script.new.writer in
-    subst (RunsOver life (life c.args.disk) (g.I.Read.remaining c.args.input) contents written) (sym (c.cut.ensures ∙ ap Cut c.end.ensures))
+    subst (RunsOver (life c.args.disk) (g.I.Read.remaining c.args.input) contents written) (sym (c.cut.ensures ∙ ap Cut c.end.ensures))
     (life (disk_of c.in-Err.fault), record { early = c.in-Err.ensures.early; kept = c.in-Err.ensures.kept_early })

@@ -28,4 +28,4 @@ returns-then-words g c =
 pub returns : goal.returns
 returns g c =
     let begins = begins_watched g.given c.in_ok-disk.disk c.new-disk.result c.in_ok-disk.ensures.begun c.new-disk.ensures in
-    served g.given c.args.words.now _ _ c.in_ok-options.ensures c.in_ok-ports.ensures _ _ (ending_in c.serve_disk.result) begins c.serve_disk.ensures
+    served g.given c.args.words.now _ _ c.in_ok-options.ensures c.in_ok-ports.ensures _ (ending_in c.serve_disk.result) begins c.serve_disk.ensures

@@ -7,5 +7,5 @@ use Rattle.folder_commands.proofs.serving.serve_disk.Goals as goal
 
 pub returns : goal.returns
 returns g c =
-    subst (ServesOver g.D.Disk.life c.args.options.now.is_strict (g.D.Disk.life c.args.disk)) (sym (c.cut.ensures ∙ ap Cut c.end.ensures))
+    subst (ServesOver c.args.options.now.is_strict (g.D.Disk.life c.args.disk)) (sym (c.cut.ensures ∙ ap Cut c.end.ensures))
     (g.D.Disk.life (disk_of c.in-Err.fault), c.in-Err.ensures.early)

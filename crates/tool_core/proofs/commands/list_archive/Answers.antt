@@ -1,5 +1,6 @@
 -- What the opening says, and what is written behind it.
 use Rattle.std.proofs.Common.{rules}
+use Rattle.engine_core.specs.Seen.{seen}
 use Rattle.tool_core.proofs.CommandLemmas.{unlisted}
 use Rattle.tool_core.proofs.commands.list_archive.Goals as goal
 
@@ -8,7 +9,7 @@ returns-in_err-engine-clause-fault g c = unlisted g.D.Disk.life (g.D.Disk.life c
 
 pub returns-in-Ok-clause-listed : goal.returns-in-Ok-clause-listed
 returns-in-Ok-clause-listed g c = record {
-  engine = c.in_ok-engine.engine;
+  engine = seen g.D.Disk.life c.in_ok-engine.engine;
   opened = c.in_ok-engine.ensures.opened;
   left = c.into_disk-disk.ensures;
   told = search rules;
@@ -16,7 +17,7 @@ returns-in-Ok-clause-listed g c = record {
 
 pub returns-in-Err-clause-fault : goal.returns-in-Err-clause-fault
 returns-in-Err-clause-fault g c = record {
-  engine = c.in_ok-engine.engine;
+  engine = seen g.D.Disk.life c.in_ok-engine.engine;
   opened = c.in_ok-engine.ensures.opened;
   left = c.into_disk-disk.ensures;
   told = search rules;
