@@ -6,7 +6,7 @@ mostly with bank B in use, and a tenth is of catalogue version 1 (`version_1/`).
 mostly a late one. Then it mostly also changes or cuts what stands past the gate, or damages or removes a segment file. In the others it
 puts bytes past the last gate: a whole entry, a half one or random bytes. Some of these entries settle blocks that it records. Then:
 
-1. `describe`, `list --read-only`, `verify --read-only` and `export` look at the folder. `list --read-only` and `export` never warn.
+1. `describe`, `list --read-only`, `verify --read-only` and `export` look at the folder. `list --read-only`, `verify --read-only` and `export` never warn.
 2. `verify`, `list`, `run` and `compact` each open a copy.
 3. `run` answers random lines in another copy, and the archive is listed and verified again.
 

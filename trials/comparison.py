@@ -121,7 +121,7 @@ def look_only(tool: Path, folder: Path, files: Files, what: str) -> None:
     told = [(done.returncode, done.stdout.decode(), done.stderr.decode()) for done in told]
     try:
         archive = looked_at(files)
-        right = [(0, "".join(f"{line}\n" for line in archive.answer("list 0 1024")), ""), verification(archive, warning(files))]
+        right = [(0, "".join(f"{line}\n" for line in archive.answer("list 0 1024")), ""), verification(archive)]
     except Refused as refused:
         right = [(3 if " 15 " in str(refused) else 1, "", f"{refused}\n")] * 2
     expect(f"{what}: list --read-only", told[0], right[0])

@@ -103,7 +103,7 @@ def main() -> int:
         for number in range(1, calls + 1):
             for error in (errno.ENOSPC, errno.EIO):
                 trial.fail(number, error)
-    print(f"each of {calls} calls failed twice, {trial.looked} times in the look: nothing was lost; `reopen` went on {trial.reopened} times")
+    print(f"each of {calls} calls failed twice, {trial.looked} in the look: nothing was lost; `reopen` succeeded {trial.reopened} times")
     return 0
 
 

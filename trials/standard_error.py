@@ -335,7 +335,6 @@ def rows(tool: Program) -> list[Row]:
             Row(f"{' '.join(words)} of a closed gate", words, 0, output, HIDDEN(109) + error, [two, overwrite("catalogue-a.bank", 109, b"\0")])
             for words, output, error in (
                 (["verify", "."], "verified 1\n", summary(1, 1, 64, 0, 0)),
-                (["verify", ".", "--read-only"], "verified 1\n", summary(1, 1, 64, 0, 0)),
                 (["list", "."], LISTED, ""),
                 (["compact", "."], "compacted\n", ""),
             )
@@ -347,6 +346,10 @@ def rows(tool: Program) -> list[Row]:
             [recorded, overwrite("catalogue-a.bank", 89, b"\0")]),
         Row("the same without its frames", ["list", "."], 0, LISTED.replace(" 64 42", " 0 42"), "",
             [recorded, overwrite("catalogue-a.bank", 89, b"\0"), overwrite("0-0.rec", 0, b"\0")]),
+        Row(
+            "verify of a closed gate, only read", ["verify", ".", "--read-only"], 0, "verified 1\n", summary(1, 1, 64, 0, 0),
+            [two, overwrite("catalogue-a.bank", 109, b"\0")],
+        ),
         # export
         Row("export", export, 0, "exported\n", "", [recorded]),
         Row("export of nothing", ["export", "./gone", *export[2:]], 3, "", FAULT + "the folder is not there\n"),

@@ -14,7 +14,7 @@ use tool_core::Screen;
 
 /// The bank behind whose closed gate entries may be hidden, and where the gate stands in its file.
 #[derive(Clone, Copy)]
-struct HiddenPlace {
+pub(crate) struct HiddenPlace {
     bank: Bank,
     gate: u64,
 }
@@ -47,9 +47,29 @@ pub(crate) fn warns_of_hidden<R: Eprint>(
     true
 }
 
+/// Where entries that were answered may be hidden still: a second look at the catalogue of a folder, after one that found this
+/// place. None if either look found none, or the second one another place: a process that writes the folder has opened its
+/// entry's gate meanwhile. Costs a read of the catalogue if the first look found one.
+pub(crate) fn still_hidden_place(
+    rt: HostRuntime,
+    folder: Path<'_>,
+    before: Option<HiddenPlace>,
+) -> Option<HiddenPlace>
+    ghost given: { Given }
+    ensures { IfSome result (λ place. MayHideEntries given) }
+{
+    let before = before?;
+    let place = hidden_place(rt, folder)?;
+    if place.gate == before.gate && place.bank.file() == before.bank.file() {
+        Some(place)
+    } else {
+        None
+    }
+}
+
 /// Where entries that were answered may be hidden in the catalogue of a folder, which is only read. None if none may be, or the
 /// folder can't be looked at.
-fn hidden_place(rt: HostRuntime, folder: Path<'_>) -> Option<HiddenPlace>
+pub(crate) fn hidden_place(rt: HostRuntime, folder: Path<'_>) -> Option<HiddenPlace>
     ghost given: { Given }
     ensures { IfSome result (λ place. MayHideEntries given) }
 {

@@ -9,7 +9,7 @@ ghost use Rattle.folder_commands.specs.Looking.{DescribesFolder, ListsAsItStands
 ghost use Rattle.folder_commands.specs.Status.{ending_of};
 
 use crate::commands::{opening_of, progress_of};
-use crate::hidden::warns_of_hidden;
+use crate::hidden::{hidden_place, still_hidden_place};
 use crate::outcome::Ended;
 use crate::reason::Reason;
 use crate::status::Ending;
@@ -39,7 +39,7 @@ pub(crate) fn list_read_only<W: Write>(
 
 /// Reads each recorded frame of the archive in a folder as it stands, and writes what was found of each recording. How far it
 /// has come is shown on standard error, where that is a terminal; what it found in all is told there, and that the archive is
-/// being written where it is, or that its catalogue may hide entries.
+/// being written where it is.
 pub(crate) fn verify_read_only<W: Write>(
     rt: HostRuntime,
     folder: Path<'_>,
@@ -50,7 +50,6 @@ pub(crate) fn verify_read_only<W: Write>(
 {
     let screen = Screen::new(&rt);
     let mut disk = folder_of(rt, folder)?;
-    let _ = warns_of_hidden(rt, folder, &screen);
     let progress = progress_of(&rt, &screen, &mut disk);
     let faults = FaultTeller::new(rt.alloc(), &screen, Stage::Working);
     let disk = Watched::new(disk, (faults, (opening_of(&rt, &screen), progress)));
@@ -85,7 +84,7 @@ fn judged(finding: Finding) -> Result<(), Ended>
 }
 
 /// Writes what is known of the archive in a folder as it stands, as a page or as JSON. It is told on standard error if its
-/// catalogue may hide entries.
+/// catalogue may hide entries, before and after that.
 pub(crate) fn describe<W: Write>(
     rt: HostRuntime,
     folder: Path<'_>,
@@ -98,10 +97,15 @@ pub(crate) fn describe<W: Write>(
     let form = if json { Form::Json } else { Form::Page };
     let screen = Screen::new(&rt);
     let disk = Watched::new(folder_of(rt, folder)?, opening_of(&rt, &screen));
-    let _ = warns_of_hidden(rt, folder, &screen);
+    let hidden = hidden_place(rt, folder);
     let mut teller = OpeningTeller::new(&screen);
     match describe_archive(rt.alloc(), disk, form, writer, &mut teller) {
-        Ok(_) => Ok(()),
+        Ok(_) => {
+            if let Some(place) = still_hidden_place(rt, folder, hidden) {
+                screen.tell(place);
+            }
+            Ok(())
+        }
         Err(fault) => Err(stopped(fault)),
     }
 }

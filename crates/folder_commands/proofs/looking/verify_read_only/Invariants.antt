@@ -2,6 +2,3 @@ use Rattle.folder_commands.proofs.looking.verify_read_only.Given as goal
 
 abbrev pub ghost-folder_of : goal.ghost-folder_of
 ghost-folder_of g a = g.given
-
-abbrev pub ghost-warns_of_hidden : goal.ghost-warns_of_hidden
-ghost-warns_of_hidden g a = g.given
