@@ -62,7 +62,7 @@ pub use Rattle.engine_core.specs.Moves.{AddsEntry, ChangesThese, Enters, EntryLe
 pub use Rattle.engine_core.specs.Opening.{ReadsAsBefore}
 pub use Rattle.engine_core.specs.Reading.{IsOutside, RecordingIsRead}
 pub use Rattle.engine_core.specs.Recovery.{HoldsRecording, IsDurable, IsEither, IsSound, Recovers, RecoversTo, first_of, last_of}
-pub use Rattle.engine_core.specs.Seen.{seen}
+pub use Rattle.engine_core.specs.Seen.{seen, state_of}
 pub use Rattle.frame_core.proofs.LimitsLemmas.{is_power}
 pub use Rattle.frame_core.specs.Block.{AreEncodable, IsBlock, covered, end_position}
 pub use Rattle.frame_core.specs.FrameEncoding.{IsAligned, aligned_length, stored}
@@ -74,9 +74,8 @@ pub use Rattle.frame_core.specs.declared.frame.FrameKind.TheVariants.{Heartbeat,
 pub use Rattle.frame_core.specs.declared.geometry.Geometry.{Geometry}
 pub use Rattle.frame_core.specs.declared.refusal.Refusal.{Refusal}
 pub use Rattle.frame_core.specs.declared.refusal.Refusal.TheVariants.{BadPosition, Damaged, DeviceFault, NoMemory}
-pub use Rattle.recording_reads.specs.Reading.{RefusesBoundaryIn, RefusesCount, TellsBoundaryIn}
+pub use Rattle.recording_reads.specs.Reading.{RefusesBoundaryIn, RefusesCount, RefusesPoll, TellsBoundaryIn}
 pub use Rattle.recording_reads.specs.Recording.{layout_of}
-pub use Rattle.replay_core.specs.Poll.{RefusesPoll}
 pub use Rattle.segment_store.specs.Layout.{IsFromStart, IsLayout, file_of, offset_of}
 pub use Rattle.segment_store.specs.Stale.{SweepsAtMost}
 pub use Rattle.segment_store.specs.Stored.{AreDurableBytes, AreDurableFrames, ChangesFile, HoldsFrames}

@@ -15,4 +15,7 @@ pub mod ShownLemmas
 pub mod TouchLemmas
 pub mod KeepLemmas
 pub mod InsideLemmas
+pub mod FollowLemmas
+pub mod PageLemmas
+pub mod PageCallLemmas
 pub mod AskLemmas

@@ -13,6 +13,7 @@ pub mod Touching
 pub mod Catalogued
 -- what only private functions say
 pub mod Moves
+pub mod KeptPages
 pub mod Making
 pub mod Replaying
 pub mod Settling

@@ -3,13 +3,12 @@ use Rattle.std.specs.Prelude.{ℕ, ℤ, true, false, IfSome, unsigned_abs, Resul
 use Rattle.disk_core.specs.DiskImage.{DiskImage}
 use Rattle.frame_core.specs.declared.refusal.Refusal.{Refusal}
 use Rattle.frame_core.specs.declared.refusal.Refusal.TheVariants.{BadPosition, Damaged, DeviceFault, NoMemory}
-use Rattle.replay_core.specs.Poll.{RefusesPoll}
 use Rattle.archive_model.specs.declared.registration.Registration.{Registration}
 use Rattle.archive_model.specs.declared.reply.Reply.{Reply}
 use Rattle.archive_model.specs.declared.reply.Reply.TheVariants as replies
 use Rattle.archive_model.specs.Register.{registration_in}
 use Rattle.archive_model.specs.State.{geometry_of}
-use Rattle.recording_reads.specs.Reading.{GivesShown, HasFrames, RefusesBoundaryIn, RefusesCount, TellsBoundaryIn}
+use Rattle.recording_reads.specs.Reading.{GivesShown, HasFrames, RefusesBoundaryIn, RefusesCount, RefusesPoll, TellsBoundaryIn}
 use Rattle.recording_reads.specs.Recording.{layout_of}
 use Rattle.control_core.specs.declared.callers.OpenReplay.{OpenReplay}
 use Rattle.control_core.specs.declared.event.Event.{Event}

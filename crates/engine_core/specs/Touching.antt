@@ -1,5 +1,5 @@
 -- Which files a call may change, what of them, and by how many calls of the disk: docs/ARCHITECTURE.md, "The engine".
-use Rattle.std.specs.Prelude.{◌≡◌, ◌≢◌, ◌⊎◌, ◌+◌, ◌≤◌, ℤ, IfSome, IsSomeAnd, IsErrOf, Bool, true, false, Option, Some, None, is_some, Result, ◌||◌, MatchOption, unsigned_abs}
+use Rattle.std.specs.Prelude.{◌≡◌, ◌≢◌, ◌⊎◌, ◌+◌, ◌≤◌, ◌≤ℤ◌, ℤ, IfSome, IsSomeAnd, IsErrOf, Bool, true, false, Option, Some, None, is_some, Result, ◌||◌, MatchOption, unsigned_abs}
 use Rattle.disk_core.specs.declared.file_id.FileId.{FileId}
 use Rattle.disk_core.specs.declared.file_id.FileId.TheVariants.{BankA, BankB}
 use Rattle.disk_core.specs.DiskImage.{reads}
@@ -41,13 +41,15 @@ abbrev pub IsSettledFile : DeskState → ℤ → FileId → Type 0
 IsSettledFile d session file =
     IsSomeAnd (session_in d session) (λ s. IsSomeAnd s.written (λ (w : Written). IsSegmentAt d session w.first file))
 
--- A block was written, or nothing: below it its segment file reads as before, and nothing of it becomes unsynced.
+-- A block was written at or behind the recorded position of its recording, or nothing was: below it its segment file reads
+-- as before, and nothing of it becomes unsynced.
 pub record WritesBlock (d : DeskState) (session : ℤ) (block : Block) (old new : Life) : Type 0 where
   pub changes : ChangesThese (IsSegmentAt d session block.position) 1 old new
   pub keeps : IfSome (written_by d (session_in d session)) (λ g.
       KeepsBelow (offset_of (layout_of g.descriptor) (unsigned_abs block.position))
       (old.now (file_of (layout_of g.descriptor) (unsigned_abs block.position)))
       (new.now (file_of (layout_of g.descriptor) (unsigned_abs block.position))))
+  pub behind : IsQuiet old new ⊎ IsSomeAnd (written_by d (session_in d session)) (λ g. g.recorded ≤ℤ block.position)
 
 -- Blocks were recorded, or nothing: each segment file reads as before.
 pub record SettlesBlocks (e : EngineState) (session : ℤ) (new : Life) : Type 0 where

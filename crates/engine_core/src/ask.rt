@@ -8,7 +8,7 @@ ghost use Rattle.engine_core.specs.Catalogued.{KeepsFound, register_made};
 ghost use Rattle.engine_core.specs.Shown.{AsksDecided};
 ghost use Rattle.engine_core.specs.Touching.{Touches, WantsMemory};
 
-use crate::Engine;
+use crate::stored::StoredArchive;
 use archive_model::Reply;
 use control_core::{Decision, Request, decide};
 use disk_core::Disk;
@@ -16,8 +16,8 @@ use frame_core::Refusal;
 use recording_reads::is_boundary;
 use std::alloc::Global;
 
-impl<D: Disk> Engine<D> {
-    ghost use Rattle.engine_core.specs.Seen.{HasEnded, seen};
+impl<D: Disk> StoredArchive<D> {
+    ghost use Rattle.engine_core.specs.Seen.{HasEnded, state_of};
 
     /// Answers a request: by what the desk decides, and where that is a command, by adding its entry to the catalogue, which
     /// takes four calls of the disk. Where a truncation lies strictly inside a recording, frames of the position's term are read first.
@@ -29,9 +29,9 @@ impl<D: Disk> Engine<D> {
         ensures shows { IsTrue (D.life self.new.storage.disk).obeys →
             AsksDecided (reads (D.life self.old.storage.disk).now) self.old.desk.state
             (decision_of self.old.desk.state request.now) result }
-        ensures touches { Touches (seen D.life self.old) (events.Ask request.now) (D.life self.new.storage.disk) }
+        ensures touches { Touches (state_of D.life self.old) (events.Ask request.now) (D.life self.new.storage.disk) }
         ensures memory { WantsMemory self.old.desk.state (events.Ask request.now) result }
-        ensures catalogue { KeepsFound (seen D.life self.old) (seen D.life self.new)
+        ensures catalogue { KeepsFound (state_of D.life self.old) (state_of D.life self.new)
             (register_made self.old.desk.state (events.Ask request.now)) }
     {
         match decide(alloc, &self.desk, request) {

@@ -1,20 +1,25 @@
 //! An archive on one thread, made anew or opened. docs/ARCHITECTURE.md, "The engine"; docs/STORAGE.md, "Opening".
 
-ghost use Rattle.engine_core.specs.Engine.{IsTied};
+ghost use Rattle.engine_core.specs.KeptPages.{KeepsPages};
+ghost use Rattle.replay_core.specs.Pages.{kept};
 
+use crate::opening;
 use crate::start::{make, open_listed};
-use crate::{Storage, opening};
+use crate::stored::StoredArchive;
 use control_core::Desk;
 use disk_core::Disk;
 use frame_core::Refusal;
+use replay_core::PageCache;
 use std::alloc::Global;
 
-/// An archive: its files with the log of its catalogue, and its desk. While no write has failed, log and desk count alike.
+/// An archive, and pages that are kept of its recordings. What a kept page has is what the disk reads: docs/STORAGE.md, "Pages".
 #[derive(Drop)]
-pub struct Engine<D> {
-    pub(crate) storage: Storage<D>,
-    pub(crate) desk: Desk,
-    pub ghost tied: { IsTied storage.log desk.state },
+pub struct Engine<D: Disk> {
+    pub(crate) archive: StoredArchive<D>,
+    pub(crate) pages: PageCache,
+    // How many truncations were accepted, up to the last `u64`: of the pages that were kept before the last one none is asked.
+    pub(crate) generation: u64,
+    pub ghost paged: { KeepsPages (D.life archive.storage.disk) archive.desk.state.register generation (kept pages) },
 }
 
 /// Why an archive was neither made nor opened, and its disk.
@@ -37,27 +42,27 @@ impl<D: Disk> Engine<D> {
 
     /// The disk, with the files as they are.
     pub fn into_disk(self) -> D
-        ensures { D.life result ≡ D.life self.storage.disk }
+        ensures { D.life result ≡ D.life self.archive.storage.disk }
     {
-        self.storage.disk
+        self.archive.storage.disk
     }
 
     /// What the archive knows but its frames: docs/CONTROL.md, "Control state".
     pub fn desk(&self) -> &Desk
-        ensures { result.now.state ≡ self.now.desk.state }
+        ensures { result.now.state ≡ self.now.archive.desk.state }
     {
-        &self.desk
+        &self.archive.desk
     }
 
     /// A new archive without recordings on a disk without files, with this limit of its history. From then on every
     /// image that a crash may leave recovers to the state without recordings.
     ///
     /// `BadParameter` where the limit is not from 1 to 16,777,216, before the disk is asked, or where a file is there, and
-    /// `NoMemory` for the listing: then nothing was done. `DeviceFault` where a call of the disk fails: what the banks hold then is unknown. The disk comes
+    /// `NoMemory` for the listing and the pages: then nothing was done. `DeviceFault` where a call of the disk fails: what the banks hold then is unknown. The disk comes
     /// back. docs/STORAGE.md, "Banks"; docs/CONTROL.md, "Limits". By six calls of the disk behind a listing.
     pub fn create(alloc: Global, disk: D, history_limit: u32) -> Result<Engine<D>, OpenRefusal<D>>
         ensures made { IfOk result (λ engine. IsMadeIn (D.life disk)
-            (D.life engine.storage.disk) history_limit) }
+            (D.life engine.archive.storage.disk) history_limit) }
         ensures keeps { IfOk result (λ engine. KeepsArchive (seen D.life engine)
             (new_archive history_limit)) }
         ensures refused { IfErr result (λ refused.
@@ -67,7 +72,7 @@ impl<D: Disk> Engine<D> {
             IsErrAnd result (λ refused.
             (refused.refusal ≡ BadParameter) × (D.life refused.disk ≡ D.life disk)) }
         ensures faults { MatchResult result
-            (λ engine. (D.life disk).faults ≤ (D.life engine.storage.disk).faults)
+            (λ engine. (D.life disk).faults ≤ (D.life engine.archive.storage.disk).faults)
             (λ refused. (D.life disk).faults ≤ (D.life refused.disk).faults) }
     {
         let mut disk = disk;
@@ -89,7 +94,7 @@ impl<D: Disk> Engine<D> {
     /// alone. Over any other disk the desk is that of its catalogue and a restart; or `NotCatalogue`, `NewerVersion` and
     /// `Damaged`, as `catalogue_log::open`, and then each file reads as before. The disk comes back; an opening may be tried again. docs/STORAGE.md,
     /// "Opening" and "Recovery". Costs a call of the disk for each file and for each 64 KiB of the catalogue, four more
-    /// where a recording was active, and the memory of the listing and the recordings.
+    /// where a recording was active, and the memory of the listing, the recordings and the pages.
     pub fn open(alloc: Global, disk: D) -> Result<(Engine<D>, i64), OpenRefusal<D>>
         ensures { MatchResult result
             (λ opened. HasOpened (D.life disk) (seen D.life opened.0) opened.1)

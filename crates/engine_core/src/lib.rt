@@ -14,6 +14,7 @@ mod settle;
 mod start;
 mod step;
 mod storage;
+mod stored;
 mod sweep;
 mod verify;
 mod write;

@@ -13,7 +13,7 @@ ghost use Rattle.engine_core.specs.Catalogued.{AddsCommand, KeepsFound};
 ghost use Rattle.engine_core.specs.Making.{CommitsEntry, Restarts, after_failure};
 ghost use Rattle.engine_core.specs.Moves.{ChangesThese};
 
-use crate::Engine;
+use crate::stored::StoredArchive;
 use archive_model::{Command, Reply};
 use catalogue_log::Entry;
 use control_core::Desk;
@@ -21,8 +21,8 @@ use disk_core::Disk;
 use frame_core::Refusal;
 use std::alloc::Global;
 
-impl<D: Disk> Engine<D> {
-    ghost use Rattle.engine_core.specs.Seen.{seen};
+impl<D: Disk> StoredArchive<D> {
+    ghost use Rattle.engine_core.specs.Seen.{state_of};
 
     /// Makes a command that is accepted: its entry is added to the catalogue, and then the desk follows. All memory is
     /// taken first. `NoMemory`, which leaves everything as it was; `DeviceFault` where a write fails: the archive is then
@@ -31,7 +31,7 @@ impl<D: Disk> Engine<D> {
         requires requested { IsRequested command }
         requires allowed { Allows self.old.desk.state command }
         requires works { IsFalse self.old.desk.state.is_broken }
-        ensures made { CommitsEntry (seen D.life self.old) (seen D.life self.new) (λ a. Accepts
+        ensures made { CommitsEntry (state_of D.life self.old) (state_of D.life self.new) (λ a. Accepts
             (book_of a) command)
             (reply_after self.old.desk.state command) (λ a. archive_after a command) result }
         ensures quiet { IfErr result (λ refusal. refusal ≢ DeviceFault →
@@ -41,8 +41,8 @@ impl<D: Disk> Engine<D> {
         ensures touches { ChangesThese (λ file. file ≡ bank_file self.old.storage.log.bank) 4
             (D.life self.old.storage.disk) (D.life self.new.storage.disk) }
         // Whatever the segment files hold.
-        ensures entries { AddsCommand (seen D.life self.old) (seen D.life self.new) command result }
-        ensures catalogue { KeepsFound (seen D.life self.old) (seen D.life self.new)
+        ensures entries { AddsCommand (state_of D.life self.old) (state_of D.life self.new) command result }
+        ensures catalogue { KeepsFound (state_of D.life self.old) (state_of D.life self.new)
             (desk_after self.old.desk.state command).register }
     {
         let entry = Entry::of_command(alloc, &self.desk.next_recording(), &command)?;
@@ -64,7 +64,7 @@ impl<D: Disk> Engine<D> {
     /// docs/STORAGE.md, "Opening". Costs a lookup at each recording.
     pub(crate) fn restart(&mut self, alloc: Global) -> Result<i64, Refusal>
         requires { IsFalse self.old.desk.state.is_broken }
-        ensures { Restarts (seen D.life self.old) (seen D.life self.new) result }
+        ensures { Restarts (state_of D.life self.old) (state_of D.life self.new) result }
     {
         let stopped = self.desk.active_count() as i64;
         if stopped > 0 {

@@ -15,15 +15,15 @@ ghost use Rattle.engine_core.specs.Consistent.{IsCrashConsistent};
 ghost use Rattle.engine_core.specs.Replaying.{IsDecided, ShowsOpening};
 ghost use Rattle.engine_core.specs.Shown.{OpensShown};
 
-use crate::Engine;
+use crate::stored::StoredArchive;
 use archive_model::Reply;
 use control_core::{Desk, Opening, OpeningDecision, decide_open};
 use disk_core::Disk;
 use frame_core::Refusal;
 use recording_reads::is_boundary;
 
-impl<D: Disk> Engine<D> {
-    ghost use Rattle.engine_core.specs.Seen.{HasEnded, seen};
+impl<D: Disk> StoredArchive<D> {
+    ghost use Rattle.engine_core.specs.Seen.{HasEnded, state_of};
 
     /// Opens a replay of a recording, from a position of its stream on and over so many bytes: position -1 means the start,
     /// length -1 that there is no end. Answers the replay's number. Where the position lies strictly inside the recording,
@@ -44,7 +44,7 @@ impl<D: Disk> Engine<D> {
             OpensShown (reads (D.life self.old.storage.disk).now) self.old.desk.state recording.now
             (open_decision self.old.desk.state recording.now position.now length.now) result }
         ensures quiet { IsQuiet (D.life self.old.storage.disk) (D.life self.new.storage.disk) }
-        ensures catalogue { KeepsFound (seen D.life self.old) (seen D.life self.new) self.old.desk.state.register }
+        ensures catalogue { KeepsFound (state_of D.life self.old) (state_of D.life self.new) self.old.desk.state.register }
     {
         let opening = decided_opening(
             &mut self.storage.disk,

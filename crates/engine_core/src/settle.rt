@@ -15,8 +15,8 @@ ghost use Rattle.engine_core.specs.Moves.{SettlesAt};
 ghost use Rattle.engine_core.specs.Settling.{IsSettlement};
 ghost use Rattle.engine_core.specs.Touching.{SettlesBlocks, WantsMemory};
 
-use crate::Engine;
 use crate::making::failed;
+use crate::stored::StoredArchive;
 use archive_model::Reply;
 use catalogue_log::Entry;
 use control_core::{FoundSession, Settling, Written, decide_settle};
@@ -37,8 +37,8 @@ struct Settlement {
     written: Written,
 }
 
-impl<D: Disk> Engine<D> {
-    ghost use Rattle.engine_core.specs.Seen.{HasEnded, seen};
+impl<D: Disk> StoredArchive<D> {
+    ghost use Rattle.engine_core.specs.Seen.{HasEnded, state_of};
 
     /// Records what a recorder session wrote as one entry of the history, by five calls of the disk, and answers up to
     /// where its recording is recorded then, in bytes of the stream: a crash from then on leaves it recorded. Where the
@@ -48,9 +48,9 @@ impl<D: Disk> Engine<D> {
     /// where the disk fails, with the archive broken. Costs a lookup at each session and recording.
     pub(crate) fn settle(&mut self, session: &i64) -> Result<Reply, Refusal>
         ensures ends { HasEnded D.life self.old self.new (events.Settle session.now) result }
-        ensures touches { SettlesBlocks (seen D.life self.old) session.now (D.life self.new.storage.disk) }
+        ensures touches { SettlesBlocks (state_of D.life self.old) session.now (D.life self.new.storage.disk) }
         ensures memory { WantsMemory self.old.desk.state (events.Settle session.now) result }
-        ensures catalogue { KeepsFound (seen D.life self.old) (seen D.life self.new)
+        ensures catalogue { KeepsFound (state_of D.life self.old) (state_of D.life self.new)
             (register_made self.old.desk.state (events.Settle session.now)) }
     {
         let decided = decide_settle(&self.desk, session)?;
@@ -72,12 +72,12 @@ impl<D: Disk> Engine<D> {
     /// the archive is then broken.
     fn settle_blocks(&mut self, session: &i64, settlement: &Settlement) -> Result<Reply, Refusal>
         requires { IsSettlement self.old.desk.state session.now settlement.now }
-        ensures settles { CommitsEntry (seen D.life self.old) (seen D.life self.new)
+        ensures settles { CommitsEntry (state_of D.life self.old) (state_of D.life self.new)
             (λ a. settle_decision a.desk session.now ≡ Ok (Blocks settlement.now.recording settlement.now.written))
             (replies.Settled settlement.now.written.last) (λ a. settled_archive a session.now settlement.now.recording) result }
         ensures touches { SettlesAt (D.life self.old.storage.disk) (D.life self.new.storage.disk)
             (file_of settlement.now.layout (unsigned_abs settlement.now.written.first)) (bank_file self.old.storage.log.bank) }
-        ensures catalogue { KeepsFound (seen D.life self.old) (seen D.life self.new)
+        ensures catalogue { KeepsFound (state_of D.life self.old) (state_of D.life self.new)
             (settled (session_in self.old.desk.state session.now) self.old.desk.state).register }
     {
         let position = settlement.written.last;

@@ -1,16 +1,58 @@
 //! Events answered one after another. docs/CONTROL.md, "Requests"; docs/STORAGE.md, "Recovery".
 
-ghost use Rattle.std.specs.Prelude.{◌≡◌, IfErr, IfOk};
+ghost use Rattle.std.specs.Prelude.{◌≡◌, IfErr, IfOk, IsTrue};
 ghost use Rattle.frame_core.specs.declared.refusal.Refusal.TheVariants.{NoMemory};
-ghost use Rattle.engine_core.specs.Calls.{IsRun};
+ghost use Rattle.control_core.specs.Orderly.{KeepsDesk};
+ghost use Rattle.replay_core.specs.Pages.{kept};
+ghost use Rattle.engine_core.specs.Calls.{AnswersEvent, IsRun};
+ghost use Rattle.engine_core.specs.KeptPages.{KeepsPages, generation_after};
 ghost use Rattle.engine_core.specs.Touching.{WantsMemory};
 
 use crate::Engine;
+use crate::stored::StoredArchive;
 use archive_model::Reply;
-use control_core::Event;
+use control_core::{Desk, Event};
 use disk_core::Disk;
 use frame_core::Refusal;
+use replay_core::PageCache;
 use std::alloc::Global;
+
+impl<D: Disk> StoredArchive<D> {
+    ghost use Rattle.engine_core.specs.Seen.{state_of};
+
+    /// Answers an event, as `Engine::step` does. A poll reads through kept pages of a generation, and keeps those that it reads.
+    fn answer(
+        &mut self,
+        alloc: Global,
+        pages: &mut PageCache,
+        generation: u64,
+        event: &Event,
+    ) -> Result<Reply, Refusal>
+        requires paged { KeepsPages (D.life self.old.storage.disk) self.old.desk.state.register generation (kept pages.old) }
+        ensures answered { AnswersEvent (state_of D.life self.old) (state_of D.life self.new) event.now result }
+        ensures memory { WantsMemory self.old.desk.state event.now result }
+        // What is kept, the disk read before the event.
+        ensures paged { IsTrue (D.life self.new.storage.disk).obeys →
+            KeepsPages (D.life self.old.storage.disk) self.old.desk.state.register generation (kept pages.new) }
+    {
+        match event {
+            Event::Ask(request) => self.ask(alloc, request),
+            Event::Write { session, block } => self.write(session, block),
+            Event::Settle { session } => self.settle(session),
+            Event::ReplayOpen {
+                recording,
+                position,
+                length,
+            } => self.open_replay(recording, position, length),
+            Event::ReplayPoll { replay, max } => {
+                self.poll(alloc, pages, generation, replay, max)
+            }
+            Event::ReplayClose { replay } => self.close(replay),
+            Event::Sweep => self.sweep(alloc),
+            Event::Verify { recording } => self.verify(alloc, recording),
+        }
+    }
+}
 
 impl<D: Disk> Engine<D> {
     ghost use Rattle.engine_core.specs.Seen.{HasAnswered, seen};
@@ -23,22 +65,14 @@ impl<D: Disk> Engine<D> {
     /// event costs: docs/ARCHITECTURE.md, "The engine".
     pub fn step(&mut self, alloc: Global, event: &Event) -> Result<Reply, Refusal>
         ensures answered { HasAnswered D.life self.old self.new event.now result }
-        ensures memory { WantsMemory self.old.desk.state event.now result }
+        ensures memory { WantsMemory self.old.archive.desk.state event.now result }
     {
-        match event {
-            Event::Ask(request) => self.ask(alloc, request),
-            Event::Write { session, block } => self.write(session, block),
-            Event::Settle { session } => self.settle(session),
-            Event::ReplayOpen {
-                recording,
-                position,
-                length,
-            } => self.open_replay(recording, position, length),
-            Event::ReplayPoll { replay, max } => self.poll(alloc, replay, max),
-            Event::ReplayClose { replay } => self.close(replay),
-            Event::Sweep => self.sweep(alloc),
-            Event::Verify { recording } => self.verify(alloc, recording),
-        }
+        a_desk_is_orderly(&self.archive.desk);
+        let result = self
+            .archive
+            .answer(alloc, &mut self.pages, self.generation, event);
+        self.generation = generation_after(&result, self.generation);
+        result
     }
 
     /// Answers events, one after another. A crash at any moment of it leaves a state that stood after the first of them.
@@ -60,4 +94,21 @@ impl<D: Disk> Engine<D> {
         }
         Ok(outcomes)
     }
+}
+
+/// The generation of kept pages after an event: the next one where it was a truncation that was accepted, up to the last.
+fn generation_after(outcome: &Result<Reply, Refusal>, generation: u64) -> u64
+    ensures { result ≡ generation_after outcome.now generation }
+{
+    match outcome {
+        Ok(Reply::Truncated { .. }) => generation.saturating_add(1),
+        _ => generation,
+    }
+}
+
+/// What a desk keeps: a law of `Desk`, which costs nothing.
+fn a_desk_is_orderly(desk: &Desk)
+    ensures { KeepsDesk desk.now.state.register desk.now.state.callers }
+{
+    let _broken = desk.is_broken();
 }

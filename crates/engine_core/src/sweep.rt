@@ -9,7 +9,7 @@ ghost use Rattle.engine_core.specs.Catalogued.{KeepsFound};
 ghost use Rattle.engine_core.specs.Moves.{registered_keep, registered_keeps};
 ghost use Rattle.engine_core.specs.Touching.{Touches};
 
-use crate::Engine;
+use crate::stored::StoredArchive;
 use archive_model::{Registration, Reply};
 use control_core::{Desk, decide_sweep};
 use disk_core::Disk;
@@ -18,8 +18,8 @@ use recording_reads::layout_of;
 use segment_store::Keep;
 use std::alloc::Global;
 
-impl<D: Disk> Engine<D> {
-    ghost use Rattle.engine_core.specs.Seen.{HasEnded, seen};
+impl<D: Disk> StoredArchive<D> {
+    ghost use Rattle.engine_core.specs.Seen.{HasEnded, state_of};
 
     /// Removes the first segment file that no recording needs, by two calls of the disk behind a listing, and answers
     /// whether there was one.
@@ -28,8 +28,8 @@ impl<D: Disk> Engine<D> {
     /// as it is, and no fault breaks it. docs/STORAGE.md, "Stale files". Costs a step for each file and recording.
     pub(crate) fn sweep(&mut self, alloc: Global) -> Result<Reply, Refusal>
         ensures ends { HasEnded D.life self.old self.new events.Sweep result }
-        ensures touches { Touches (seen D.life self.old) events.Sweep (D.life self.new.storage.disk) }
-        ensures catalogue { KeepsFound (seen D.life self.old) (seen D.life self.new) self.old.desk.state.register }
+        ensures touches { Touches (state_of D.life self.old) events.Sweep (D.life self.new.storage.disk) }
+        ensures catalogue { KeepsFound (state_of D.life self.old) (state_of D.life self.new) self.old.desk.state.register }
     {
         decide_sweep(&self.desk)?;
         let keeps = keeps_of(alloc, &self.desk)?;

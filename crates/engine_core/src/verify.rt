@@ -8,7 +8,7 @@ ghost use Rattle.control_core.specs.declared.event.Event.TheVariants as events;
 ghost use Rattle.engine_core.specs.Catalogued.{KeepsFound};
 ghost use Rattle.engine_core.specs.Shown.{CountsShown};
 
-use crate::Engine;
+use crate::stored::StoredArchive;
 use archive_model::Reply;
 use control_core::decide_verify;
 use disk_core::Disk;
@@ -16,8 +16,8 @@ use frame_core::Refusal;
 use recording_reads::count_frames;
 use std::alloc::Global;
 
-impl<D: Disk> Engine<D> {
-    ghost use Rattle.engine_core.specs.Seen.{HasEnded, seen};
+impl<D: Disk> StoredArchive<D> {
+    ghost use Rattle.engine_core.specs.Seen.{HasEnded, state_of};
 
     /// Reads each recorded frame of a recording, and answers how many there are.
     ///
@@ -29,7 +29,7 @@ impl<D: Disk> Engine<D> {
             IfSome (registration_in self.old.desk.state.register recording.now) (λ g.
             CountsShown (reads (D.life self.old.storage.disk).now) g result) }
         ensures quiet { IsQuiet (D.life self.old.storage.disk) (D.life self.new.storage.disk) }
-        ensures catalogue { KeepsFound (seen D.life self.old) (seen D.life self.new) self.old.desk.state.register }
+        ensures catalogue { KeepsFound (state_of D.life self.old) (state_of D.life self.new) self.old.desk.state.register }
     {
         let known = decide_verify(&self.desk, recording)?;
         let frames = count_frames(alloc, &mut self.storage.disk, known)?;

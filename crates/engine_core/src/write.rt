@@ -4,16 +4,16 @@ ghost use Rattle.control_core.specs.declared.event.Event.TheVariants as events;
 ghost use Rattle.engine_core.specs.Catalogued.{KeepsFound};
 ghost use Rattle.engine_core.specs.Touching.{WantsMemory, WritesBlock};
 
-use crate::Engine;
 use crate::making::failed;
+use crate::stored::StoredArchive;
 use archive_model::Reply;
 use control_core::decide_write;
 use disk_core::Disk;
 use frame_core::{Block, Refusal};
 use recording_reads::layout_of;
 
-impl<D: Disk> Engine<D> {
-    ghost use Rattle.engine_core.specs.Seen.{HasEnded, seen};
+impl<D: Disk> StoredArchive<D> {
+    ghost use Rattle.engine_core.specs.Seen.{HasEnded, state_of};
 
     /// Writes a recorder session's block behind what it wrote before, or behind what is recorded, by one call of the disk,
     /// and answers where it ends, in bytes of the stream. It is durable once it is settled, with what was written before.
@@ -25,7 +25,7 @@ impl<D: Disk> Engine<D> {
         ensures touches { WritesBlock self.old.desk.state session.now block.now
             (D.life self.old.storage.disk) (D.life self.new.storage.disk) }
         ensures memory { WantsMemory self.old.desk.state (events.Write session.now block.now) result }
-        ensures catalogue { KeepsFound (seen D.life self.old) (seen D.life self.new) self.old.desk.state.register }
+        ensures catalogue { KeepsFound (state_of D.life self.old) (state_of D.life self.new) self.old.desk.state.register }
     {
         let found = decide_write(&self.desk, session, block)?;
         let layout = layout_of(&found.writer.known.descriptor);

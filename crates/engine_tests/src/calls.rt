@@ -61,10 +61,10 @@ fn frame(alloc: Global, kind: FrameKind, position: i64, length: i64) -> Frame {
     }
 }
 
-/// `hello` at a position.
-fn hello(alloc: Global, position: i64) -> Result<Frame, AllocError> {
+/// Five bytes at a position.
+fn message(alloc: Global, position: i64, payload: &[u8; 5]) -> Result<Frame, AllocError> {
     let mut frame = frame(alloc, FrameKind::Message, position, 37);
-    frame.payload = Items::from_vec(b"hello".to_vec(alloc)?);
+    frame.payload = Items::from_vec(payload.to_vec(alloc)?);
     Ok(frame)
 }
 
@@ -81,13 +81,13 @@ fn block_of(alloc: Global, position: i64, frame: Frame) -> Result<Block, AllocEr
     Ok(Block { position, frames })
 }
 
-/// The block of `hello` at a position.
-fn hello_block(alloc: Global, position: i64) -> Result<Block, AllocError> {
-    block_of(alloc, position, hello(alloc, position)?)
+/// The block of five bytes at a position.
+fn message_block(alloc: Global, position: i64, payload: &[u8; 5]) -> Result<Block, AllocError> {
+    block_of(alloc, position, message(alloc, position, payload)?)
 }
 
 /// The call of a word with its numbers: those of docs/CONTROL.md, "Lines", in their order. `start` has the position alone,
-/// `extend` the recording and the position. A session writes `hello` or a pad to its term's end at a position.
+/// `extend` the recording and the position. A session writes `hello` (`write`), `world` or a pad to its term's end at a position.
 pub fn event_of(
     alloc: Global,
     word: &str,
@@ -99,7 +99,11 @@ pub fn event_of(
         "start" => Ok(Event::Ask(Request::Start(fields(alloc, of)?))),
         "write" => Ok(Event::Write {
             session: of,
-            block: hello_block(alloc, at)?,
+            block: message_block(alloc, at, b"hello")?,
+        }),
+        "world" => Ok(Event::Write {
+            session: of,
+            block: message_block(alloc, at, b"world")?,
         }),
         "pad" => Ok(Event::Write {
             session: of,

@@ -10,6 +10,8 @@ mod damage;
 #[cfg(test)]
 mod merging;
 #[cfg(test)]
+mod pages;
+#[cfg(test)]
 mod random;
 #[cfg(test)]
 mod reference;

@@ -1,9 +1,10 @@
 //! 200 calls by chance, with a stop after each change of the disk, three crashes and an opening each: what is opened is
 //! what the plain book makes of the calls that were accepted, or of these and the one in flight. And compactions among such
-//! calls, each stopped after each of its changes: what is opened is what the book makes of the calls before.
+//! calls, each stopped after each of its changes: what is opened is what the book makes of the calls before. And replays
+//! between 500 such calls: they give the frames of the book.
 
 use crate::calls::{TERM, answer, event_of, made, opened, told};
-use crate::reference::{LIMIT, Story, text_after, text_of, text_of_book};
+use crate::reference::{LIMIT, Story, polled, replayed, text_after, text_of, text_of_book};
 use archive_model::{Command, Reply};
 use control_core::Event;
 use disk_core::MemoryDisk;
@@ -369,5 +370,80 @@ fn each_stop_leaves_a_beginning_of_the_calls(rt: HostRuntime) -> Result<(), Fail
 #[test]
 fn each_stop_of_a_compaction_leaves_the_state(rt: HostRuntime) -> Result<(), Fail> {
     assert!(rt; compactions_survived(rt.alloc())?);
+    Ok(())
+}
+
+/// Where a recording ends.
+fn end_of(story: &Story, recording: i64) -> i64 {
+    story
+        .book
+        .recording(&recording)
+        .map_or(0, |found| found.recorded_position())
+}
+
+/// Stops a recording, truncates it by less than two terms and extends it, as far as that is accepted.
+fn go_back(alloc: Global, run: &mut Run, recording: i64, throw: i64) -> Result<(), Refusal> {
+    let end = end_of(&run.story, recording);
+    let term = end.wrapping_sub(end.wrapping_rem_euclid(TERM));
+    let back = throw.wrapping_rem(2).wrapping_mul(TERM);
+    let to = term.wrapping_sub(back).wrapping_add(throw.wrapping_mul(64));
+    run.make(alloc, event_of(alloc, "stop", recording, 2_000, 0)?)?;
+    run.make(alloc, event_of(alloc, "truncate", recording, to, 0)?)?;
+    let end = end_of(&run.story, recording);
+    run.make(alloc, event_of(alloc, "extend", recording, end, 0)?)
+}
+
+/// Makes a call, of those that write `world` half of the time, or goes back.
+fn call_or_go_back(
+    alloc: Global,
+    run: &mut Run,
+    dice: &mut Dice,
+    recording: i64,
+) -> Result<(), Refusal> {
+    let throw = dice.below(48);
+    if throw < 6 {
+        return go_back(alloc, run, recording, throw);
+    }
+    match call_by_chance(dice, &run.story) {
+        ("write", of, at) if throw < 27 => run.make(alloc, event_of(alloc, "world", of, at, 0)?),
+        (word, of, at) => run.make(alloc, event_of(alloc, word, of, at, 0)?),
+    }
+}
+
+/// Whether a replay of a recording gives the frames of the book.
+fn is_replayed(alloc: Global, run: &mut Run, recording: i64) -> Result<bool, Refusal> {
+    let Some(found) = run.story.book.recording(&recording) else {
+        return Ok(true);
+    };
+    let frames = polled(alloc, found)?;
+    Ok(replayed(alloc, &mut run.engine, recording)? == frames)
+}
+
+/// Makes a call, and replays the recording of one of the last two sessions.
+fn call_and_replay(alloc: Global, run: &mut Run, dice: &mut Dice) -> Result<bool, Refusal> {
+    let number = session_by_chance(dice, &run.story);
+    let recording = run.story.session(number).map_or(0, |found| found.recording);
+    call_or_go_back(alloc, run, dice, recording)?;
+    is_replayed(alloc, run, recording)
+}
+
+/// Whether the replays between 500 calls give the frames of the book.
+fn replays_are_right(alloc: Global, thrown: u32) -> Result<bool, Refusal> {
+    let mut run = Run::new(alloc, 1_000_000)?;
+    let mut dice = Dice { thrown };
+    for _ in 0..500 {
+        if !call_and_replay(alloc, &mut run, &mut dice)? {
+            return Ok(false);
+        }
+    }
+    Ok(true)
+}
+
+/// The pages of a recording are kept from one replay to the next.
+#[test]
+fn replays_between_calls_give_the_frames_of_the_book(rt: HostRuntime) -> Result<(), Fail> {
+    for thrown in [3, 5, 11] {
+        assert!(rt; replays_are_right(rt.alloc(), thrown)?, "{thrown}");
+    }
     Ok(())
 }

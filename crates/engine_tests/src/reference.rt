@@ -175,7 +175,8 @@ fn listed(alloc: Global, book: &Book) -> Result<Vec<u8>, Refusal> {
     print_reply(alloc, &Reply::Recordings(descriptors))
 }
 
-fn polled(alloc: Global, recording: &Recording) -> Result<Vec<u8>, Refusal> {
+/// The frames of a whole recording of the book, and behind them that a replay of it is done.
+pub fn polled(alloc: Global, recording: &Recording) -> Result<Vec<u8>, Refusal> {
     let start = recording.descriptor().start_position;
     let frames = recording.poll(alloc, &start, &LAST_NUMBER, 4_096)?;
     print_reply(alloc, &Reply::Polled { frames, next: None })
@@ -265,4 +266,35 @@ fn frames_in(
     let event = Event::ReplayPoll { replay, max: 4_096 };
     let polled = answer(alloc, engine, &event);
     told(alloc, &polled)
+}
+
+/// The frames of a whole recording of an archive, and behind them that a replay of it is done, though it may go on.
+pub fn replayed(
+    alloc: Global,
+    engine: &mut Engine<MemoryDisk>,
+    recording: i64,
+) -> Result<Vec<u8>, Refusal> {
+    let event = Event::ReplayOpen {
+        recording,
+        position: -1,
+        length: -1,
+    };
+    match answer(alloc, engine, &event)? {
+        Reply::ReplayOpened { replay } => polled_once(alloc, engine, replay),
+        _ => Err(Refusal::BadLine),
+    }
+}
+
+/// The same of a replay, which is closed then.
+fn polled_once(
+    alloc: Global,
+    engine: &mut Engine<MemoryDisk>,
+    replay: i64,
+) -> Result<Vec<u8>, Refusal> {
+    let polled = answer(alloc, engine, &Event::ReplayPoll { replay, max: 4_096 });
+    let _ = answer(alloc, engine, &Event::ReplayClose { replay });
+    match polled? {
+        Reply::Polled { frames, .. } => print_reply(alloc, &Reply::Polled { frames, next: None }),
+        _ => Err(Refusal::BadLine),
+    }
 }

@@ -1,7 +1,6 @@
 -- A disk of which nothing is said but how often a call failed (the proof of `reads_may_stay` has to stand here).
 use Rattle.std.specs.Prelude.{ℕ, false, [], None}
 use Rattle.std.proofs.Common.{refl}
-use Rattle.disk_core.specs.declared.file_id.FileId.{FileId}
 use Rattle.disk_core.specs.DiskImage.{MayLeave, begun, durable, reads}
 use Rattle.disk_core.specs.Life.{Life}
 use Rattle.disk_core.specs.Memory.{well_stays}

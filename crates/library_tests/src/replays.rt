@@ -4,12 +4,12 @@ use crate::segments::{GEOMETRY, LAYOUT, store};
 use crate::vectors::{HELLO_AT_0, HELLO_AT_64, HELLO_AT_128};
 use disk_core::MemoryDisk;
 use frame_core::{Frame, Refusal};
-use replay_core::{Replay, Store};
+use replay_core::{PageCache, Replay, Store};
 use std::alloc::Global;
 use std::process::Abort;
 use std::test::Fail;
 
-/// A poll of a replay of the recording.
+/// A poll of a replay of the recording. No page of it lies whole below what is recorded, so a frame is a call of the disk.
 #[tactic(auto, using(crate::proofs::SegmentFacts::layout_of_the_tests, crate::proofs::SegmentFacts::geometry_of_the_tests))]
 fn polled(
     rt: &impl Abort,
@@ -20,10 +20,13 @@ fn polled(
     most: usize,
 ) -> Result<Vec<Frame>, Refusal> {
     assert!(rt; replay.next >= 0);
+    let mut pages = PageCache::new(alloc, 256)?;
     let mut store = Store {
         disk,
+        pages: &mut pages,
         layout: LAYOUT,
         geometry: GEOMETRY,
+        generation: 0,
     };
     replay.poll(alloc, &mut store, recorded, most)
 }

@@ -40,7 +40,7 @@ const MID_STREAM: Layout = Layout {
     segment_length: 131_072,
 };
 
-const FIRST: FileId = FileId::Segment {
+pub(crate) const FIRST: FileId = FileId::Segment {
     recording: 0,
     base: 0,
 };
@@ -86,7 +86,7 @@ fn synced(disk: &mut MemoryDisk) -> Result<(), Refusal> {
 
 /// The frame at a position.
 #[tactic(auto, using(crate::proofs::SegmentFacts::layout_of_the_tests, crate::proofs::SegmentFacts::geometry_of_the_tests))]
-fn frame_at(
+pub(crate) fn frame_at(
     alloc: Global,
     disk: &mut MemoryDisk,
     position: u32,

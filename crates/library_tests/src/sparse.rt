@@ -4,7 +4,7 @@ ghost use Rattle.std.specs.Prelude.{◌≡◌, ◌≤◌, ◌≤ℤ◌, ◌+◌,
 
 use disk_core::{Disk, Fault, FileId, ListFault};
 use frame_core::{Frame, FrameKind, Geometry, Refusal};
-use replay_core::{Replay, Store};
+use replay_core::{PageCache, Replay, Store};
 use segment_store::{Layout, read_frame};
 use std::alloc::Global;
 use std::test::Fail;
@@ -131,10 +131,13 @@ fn first_frame(alloc: Global, disk: &mut SparseDisk) -> Result<Frame, Refusal> {
 fn polled(alloc: Global, disk: &mut SparseDisk, replay: &mut Replay) -> Result<usize, Refusal>
     requires { pos 0 ≤ℤ replay.old.next }
 {
+    let mut pages = PageCache::new(alloc, 256)?;
     let mut store = Store {
         disk,
+        pages: &mut pages,
         layout: LAYOUT,
         geometry: GEOMETRY,
+        generation: 0,
     };
     let frames = replay.poll(alloc, &mut store, i64::from(TERM_LENGTH), 10)?;
     Ok(frames.len())
@@ -175,12 +178,13 @@ fn counted_memory_of_a_short_file(rt: HostRuntime) -> Result<(), Fail> {
     Ok(())
 }
 
+/// The pad's header lies in the first of the pages that one call reads: 16 of 4,096 bytes, and none of what follows them.
 #[test]
 fn a_long_pad_is_replayed(rt: HostRuntime) -> Result<(), Fail> {
     let mut disk = SparseDisk::new(LONG_PAD, 32);
     let mut replay = Replay::new(0, 0, -1);
     assert!(rt; replay.next >= 0);
     assert!(rt; polled(rt.alloc(), &mut disk, &mut replay)? == 1);
-    assert!(rt; replay.next == 1_073_741_824 && disk.most <= 1_408);
+    assert!(rt; replay.next == 1_073_741_824 && disk.most == 65_536);
     Ok(())
 }

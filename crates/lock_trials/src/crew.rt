@@ -22,7 +22,7 @@ use std::time::Instant;
 
 /// What threads left.
 #[derive(Drop)]
-pub(crate) struct Left<D> {
+pub(crate) struct Left<D: Disk> {
     /// The archive.
     pub engine: Engine<D>,
     /// The records of its calls, or their number.

@@ -52,7 +52,7 @@ pub(crate) fn made<D: Disk + Drop>(
 }
 
 /// The archive of a disk.
-fn opened<D: Disk + Drop>(alloc: Global, disk: D) -> Result<Engine<D>, Refusal> {
+pub(crate) fn opened<D: Disk + Drop>(alloc: Global, disk: D) -> Result<Engine<D>, Refusal> {
     match Engine::open(alloc, disk) {
         Ok((engine, _)) => Ok(engine),
         Err(refused) => Err(refused.refusal),

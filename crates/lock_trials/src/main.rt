@@ -1,6 +1,6 @@
 //! Threads that share an archive: what trials/threads.py and bench/threads.py run. The first word says what, and the rest how
 //! much: `memory RUNS SEED`, or `census` with what was answered; `folder FOLDER SEED TURNS`; `speed HOW DISK SIZE BLOCKS`, and
-//! how many blocks a settle has where that is not one.
+//! how many blocks a settle has where that is not one; `polls FOLDER REPLAYS FRAMES`, for bench/polls.py.
 #![tactic(auto)]
 
 mod blocks;
@@ -9,6 +9,7 @@ mod chance;
 mod crew;
 mod folder;
 mod job;
+mod polls;
 mod recorder;
 mod retention;
 mod seat;
@@ -57,6 +58,7 @@ fn obeyed<R: Threads + Wait + Clock + Print + Sync>(
         "census" => runs(rt, host.alloc(), true, words),
         "folder" => recorded(rt, host, words),
         "speed" => measured(rt, host, words),
+        "polls" => polled(rt, host, words),
         _ => Err(Refusal::BadLine),
     }
 }
@@ -158,4 +160,10 @@ fn measured<R: Threads + Wait + Clock + Print + Sync>(
     };
     let microseconds = speed::measured(rt, host, how, disk, load)?;
     printed(println!(rt; "{microseconds}").is_ok())
+}
+
+fn polled<R: Clock + Print>(rt: &R, host: HostRuntime, words: &[String]) -> Result<(), Refusal> {
+    let (replays, most) = (number(words, 3)?, number(words, 4)?);
+    let (frames, took) = polls::replayed(rt, host, word(words, 2)?, replays, most)?;
+    printed(println!(rt; "{frames} frames, {took} microseconds").is_ok())
 }

@@ -61,7 +61,7 @@ fn timed<D: Disk + Drop + Send, R: Threads + Wait + Clock + Print + Sync>(
 }
 
 /// How long the threads worked, where each call was answered Ok.
-fn took_of<D: Drop>(left: Result<Left<D>, Refusal>) -> Result<u128, Refusal> {
+fn took_of<D: Disk + Drop>(left: Result<Left<D>, Refusal>) -> Result<u128, Refusal> {
     let left = left?;
     if are_right(left.works.as_slice()) {
         left.took.ok_or(Refusal::DeviceFault)

@@ -1,3 +1,4 @@
 pub mod CountLemmas
 pub mod PlacedLemmas
 pub mod BoundaryLemmas
+pub mod UnpagedLemmas

@@ -1,10 +1,13 @@
 -- What is read of a recording, whatever its files hold: docs/CONTROL.md, "Replays"; docs/STORAGE.md, "Boundaries" and "Damaged frames".
-use Rattle.std.specs.Prelude.{◌≡◌, ◌⊎◌, ◌-◌, ◌%◌, ◌≤ℤ◌, ℕ, ℤ, pos, max, Bool, true, false, IsTrue, List, length, unsigned_abs}
+use Rattle.std.specs.Prelude.{◌≡◌, ◌⊎◌, ◌-◌, ◌%◌, ◌<◌, ◌<ℤ◌, ◌≤ℤ◌, ℕ, ℤ, pos, max, Bool, true, false, IsTrue, List, length, unsigned_abs}
 use Rattle.disk_core.specs.DiskImage.{DiskImage}
 use Rattle.frame_core.specs.declared.frame.Frame.{Frame}
+use Rattle.frame_core.specs.declared.geometry.Geometry.{Geometry}
 use Rattle.frame_core.specs.declared.refusal.Refusal.{Refusal}
 use Rattle.frame_core.specs.declared.refusal.Refusal.TheVariants.{Damaged, DeviceFault, NoMemory}
+use Rattle.segment_store.specs.declared.layout.Layout.{Layout}
 use Rattle.segment_store.specs.Boundary.{BreaksAt, BreaksFrom, IsChain, IsReached, RefusesReached}
+use Rattle.segment_store.specs.DamagedFrame.{IsDamaged}
 use Rattle.replay_core.specs.Poll.{ArePolled}
 use Rattle.archive_model.specs.declared.descriptor.Descriptor.{Descriptor}
 use Rattle.archive_model.specs.declared.registration.Registration.{Registration}
@@ -40,6 +43,26 @@ pub record GivesShown (image : DiskImage) (g : Registration) (replay : OpenRepla
   pub given : List Frame
   pub polled : ArePolled image (layout_of g.descriptor) (geometry_of g.descriptor) g.recorded replay.bound (unsigned_abs most) (unsigned_abs replay.next) given end
   pub placed : frames ≡ placed replay.next given
+
+-- the frames break off where one is asked for: fewer were given, and none stands at this position, which lies before the
+-- bound and the recorded position
+pub record PollBreaksOff (image : DiskImage) (l : Layout) (g : Geometry) (recorded bound : ℤ) (most from : ℕ) (at : ℤ) : Type 0 where
+  pub frames : List Frame
+  pub to : ℕ
+  pub stand : IsChain image l g recorded from frames to
+  pub fewer : length frames < most
+  pub is : at ≡ pos to
+  pub before : pos to <ℤ bound
+  pub within : pos to <ℤ recorded
+  pub damaged : IsDamaged image l g recorded to
+
+-- why no frames are given: the damage is promised where the disk obeys the crash model
+abbrev pub RefusesPoll : Bool → DiskImage → Layout → Geometry → ℤ → ℤ → ℕ → ℕ → Refusal → Type 0
+RefusesPoll obeys image l g recorded bound most from DeviceFault = Unit {0}
+RefusesPoll obeys image l g recorded bound most from NoMemory = Unit {0}
+RefusesPoll obeys image l g recorded bound most from (Damaged recording at) =
+    (recording ≡ l.recording) × (IsTrue obeys → PollBreaksOff image l g recorded bound most from at)
+RefusesPoll obeys image l g recorded bound most from _ = ⊥
 
 -- ---- boundaries
 

@@ -13,7 +13,8 @@ use Rattle.segment_store.specs.DamagedFrame.{ShowsFrame}
 use Rattle.segment_store.specs.Stored.{HoldsFrames}
 use Rattle.segment_store.proofs.DurableLemmas.{stored_shown, one_shown}
 use Rattle.segment_store.proofs.ReadLemmas.{belongs_covers, belongs_ends}
-use Rattle.replay_core.specs.Poll.{BeginBefore, Belong, ArePolled, BreaksOff, before}
+use Rattle.replay_core.specs.Pages.{Pages}
+use Rattle.replay_core.specs.Poll.{AgreeOn, BeginBefore, Belong, ArePolled, BreaksOff, before}
 
 -- what begins at or past the bound does not begin before it
 not_before : (bound : ℤ) (from : ℕ) (test : Bool) → int_lt (pos from) bound ≡ test → bound ≤ℤ pos from → test ≡ false
@@ -83,8 +84,8 @@ pub all_given : (image : DiskImage) (l : Layout) (g : Geometry) (held frames : L
 all_given image l g held frames from to end most bound holds encodable belong polls =
     given image l g bound frames held most from end to (held_shown image l g (pos to) held from to holds encodable belong) polls.stand polls.before polls.few polls.all
 
-pub none_breaks_off : (image : DiskImage) (l : Layout) (g : Geometry) (held : List Frame) (from to most : ℕ) (bound at : ℤ) → HoldsFrames image l from held to → AreEncodable held → Belong l g (pos to) from held
-    → BreaksOff image l g (pos to) bound most from at → ⊥
-none_breaks_off image l g held from to most bound at holds encodable belong breaks =
-    let next = goes_on image l g (pos to) breaks.frames held from breaks.to to (held_shown image l g (pos to) held from to holds encodable belong) breaks.stand (omega (arith, ints, breaks.within)) in
+pub none_breaks_off : (image : DiskImage) (l : Layout) (g : Geometry) (generation : ℕ) (pages : Pages) (held : List Frame) (from to most : ℕ) (bound at : ℤ) → HoldsFrames image l from held to → AreEncodable held
+    → Belong l g (pos to) from held → ((frames : List Frame) → AgreeOn image l generation pages from frames) → BreaksOff image l g generation pages (pos to) bound most from at → ⊥
+none_breaks_off image l g generation pages held from to most bound at holds encodable belong agree breaks =
+    let next = goes_on image l g (pos to) breaks.frames held from breaks.to to (held_shown image l g (pos to) held from to holds encodable belong) (breaks.stand (agree breaks.frames)) (omega (arith, ints, breaks.within)) in
     breaks.damaged next.0 next.1

@@ -1,2 +1,5 @@
+pub mod KeptLemmas
+pub mod PageLemmas
+pub mod ShownLemmas
 pub mod PollLemmas
 pub mod GivenLemmas

@@ -5,10 +5,17 @@ use Rattle.frame_core.specs.declared.frame.Frame.{Frame}
 use Rattle.frame_core.specs.declared.geometry.Geometry.{Geometry}
 use Rattle.frame_core.specs.declared.refusal.Refusal.{Refusal}
 use Rattle.frame_core.specs.declared.refusal.Refusal.TheVariants.{Damaged, DeviceFault, NoMemory}
-use Rattle.frame_core.specs.FrameEncoding.{aligned_length}
+use Rattle.frame_core.specs.FrameEncoding.{aligned_length, encoded}
 use Rattle.segment_store.specs.declared.layout.Layout.{Layout}
 use Rattle.segment_store.specs.Boundary.{IsChain}
 use Rattle.segment_store.specs.DamagedFrame.{IsDamaged, belongs_at}
+use Rattle.replay_core.specs.Pages.{Pages, AgreeOver}
+
+-- kept pages of a recording's generation agree with the disk on the bytes of frames that follow one another from a position
+abbrev pub AgreeOn : DiskImage → Layout → ℕ → Pages → ℕ → List Frame → Type 0
+AgreeOn image l generation pages from [] = Unit {0}
+AgreeOn image l generation pages from (f ∷ fs) =
+    AgreeOver image l generation pages from (length (encoded f)) × AgreeOn image l generation pages (from + aligned_length f) fs
 
 -- of frames that follow one another from a position, each begins before a bound
 abbrev pub BeginBefore : ℤ → ℕ → List Frame → Type 0
@@ -26,12 +33,12 @@ pub record ArePolled (image : DiskImage) (l : Layout) (g : Geometry) (recorded b
   -- and no fewer than that, or than there are
   pub all : (length frames ≡ most) ⊎ (bound ≤ℤ pos to) ⊎ (recorded ≤ℤ pos to)
 
--- the frames break off where one is asked for: fewer were given, and none stands at this position, which lies before the
--- bound and the recorded position
-pub record BreaksOff (image : DiskImage) (l : Layout) (g : Geometry) (recorded bound : ℤ) (most from : ℕ) (at : ℤ) : Type 0 where
+-- the frames break off where one is asked for: fewer were given, which stand there where kept pages agree with the disk on
+-- them, and none stands at this position, which lies before the bound and the recorded position
+pub record BreaksOff (image : DiskImage) (l : Layout) (g : Geometry) (generation : ℕ) (pages : Pages) (recorded bound : ℤ) (most from : ℕ) (at : ℤ) : Type 0 where
   pub frames : List Frame
   pub to : ℕ
-  pub stand : IsChain image l g recorded from frames to
+  pub stand : AgreeOn image l generation pages from frames → IsChain image l g recorded from frames to
   pub fewer : length frames < most
   pub is : at ≡ pos to
   pub before : pos to <ℤ bound
@@ -39,12 +46,12 @@ pub record BreaksOff (image : DiskImage) (l : Layout) (g : Geometry) (recorded b
   pub damaged : IsDamaged image l g recorded to
 
 -- why no frames are given: the damage is promised where the disk obeys the crash model
-abbrev pub RefusesPoll : Bool → DiskImage → Layout → Geometry → ℤ → ℤ → ℕ → ℕ → Refusal → Type 0
-RefusesPoll obeys image l g recorded bound most from DeviceFault = Unit {0}
-RefusesPoll obeys image l g recorded bound most from NoMemory = Unit {0}
-RefusesPoll obeys image l g recorded bound most from (Damaged recording at) =
-    (recording ≡ l.recording) × (IsTrue obeys → BreaksOff image l g recorded bound most from at)
-RefusesPoll obeys image l g recorded bound most from _ = ⊥
+abbrev pub RefusesPoll : Bool → DiskImage → Layout → Geometry → ℕ → Pages → ℤ → ℤ → ℕ → ℕ → Refusal → Type 0
+RefusesPoll obeys image l g generation pages recorded bound most from DeviceFault = Unit {0}
+RefusesPoll obeys image l g generation pages recorded bound most from NoMemory = Unit {0}
+RefusesPoll obeys image l g generation pages recorded bound most from (Damaged recording at) =
+    (recording ≡ l.recording) × (IsTrue obeys → BreaksOff image l g generation pages recorded bound most from at)
+RefusesPoll obeys image l g generation pages recorded bound most from _ = ⊥
 
 -- where a replay goes on, of which frames were asked for: further, and no further than what is recorded, from before its
 -- bound; or where it stood, at its bound or where the recording ends

@@ -1,9 +1,13 @@
 //! Replays: where one goes on, what a poll of it gives, and when it is done.
 #![tactic(auto)]
 
+mod cache;
+mod gathering;
 pub mod laws;
 mod polling;
 mod replay;
+mod store;
 
-pub use polling::Store;
+pub use cache::{PageCache, PageKey};
 pub use replay::Replay;
+pub use store::Store;

@@ -1,6 +1,7 @@
 -- What becomes of a disk that is served.
 use Rattle.std.proofs.Common.{◌≡◌, inl, inr, refl, Bool, true, false, List, Option, None, Result, Ok, Err, subst, sym}
 use Rattle.std.specs.Prelude.{IfErr, IfOk, IsOk, MatchResult}
+use Rattle.disk_core.specs.declared.disk.Disk as Disk
 use Rattle.disk_core.specs.Life.{Life}
 use Rattle.engine_core.specs.Engine.{EngineState}
 use Rattle.tool_core.specs.declared.fault.EarlyEnd.{EarlyEnd}
@@ -25,8 +26,8 @@ pub counted_alone : (old : Life) (opening : EngineState) (keeps strict : Bool) (
 counted_alone old opening keeps strict new stop end ends is = subst (λ k. EndsOrLacks old opening k strict new stop end) is ends
 
 -- what closing gave
-pub ends_history : {D : Type 0} (life : D → Life) (opening : EngineState) (keeps strict : Bool) (passes : List (PassView Made)) (engine : Engine D) (begun : DeskState) (history : Stored Call) (new : Life) (stop : Option Stop)
-    → ((calls : List Member) × ClosesWith opening keeps passes calls (engine_seen life (view_of engine calls)) begun history) → new ≡ life engine.storage.disk → stop ≡ stop_of strict engine.desk.state → EndsHistory opening keeps strict new stop
+pub ends_history : {D : Type 0} {dg : Disk.Ghosts D} (life : D → Life) (opening : EngineState) (keeps strict : Bool) (passes : List (PassView Made)) (engine : Engine D dg) (begun : DeskState) (history : Stored Call) (new : Life) (stop : Option Stop)
+    → ((calls : List Member) × ClosesWith opening keeps passes calls (engine_seen life (view_of engine calls)) begun history) → new ≡ life engine.archive.storage.disk → stop ≡ stop_of strict engine.archive.desk.state → EndsHistory opening keeps strict new stop
 ends_history life opening keeps strict passes engine begun history new stop (calls, closes) is stops =
     record { passes = passes; calls = calls; now = engine_seen life (view_of engine calls); begun = begun; history = history; closes = closes; left = is; stops = stops }
 

@@ -250,7 +250,7 @@ fn serve_open<
     benches: Benches,
     engine: Engine<D>,
 ) -> (Served<D>, Result<(), EarlyEnd>)
-    ensures { EndsOrLacks (D.life engine.storage.disk) (seen D.life engine) false with.now.is_strict
+    ensures { EndsOrLacks (D.life engine.archive.storage.disk) (seen D.life engine) false with.now.is_strict
         (D.life result.0.disk) result.0.stop result.1 }
 {
     let Ok(opened) = Opened::new(with.alloc, false) else {
@@ -276,7 +276,7 @@ fn serve_named<
     requires counts { A.passes ≡ 64 + with.now.places.count }
     requires stores { opened.keeps ≡ A.keeps }
     requires opens { engine_seen D.life (view_of engine []) ≡ A.opening }
-    ensures { EndsOrLacks (D.life engine.storage.disk) A.opening A.keeps with.now.is_strict
+    ensures { EndsOrLacks (D.life engine.archive.storage.disk) A.opening A.keeps with.now.is_strict
         (D.life result.0.disk) result.0.stop result.1 }
 {
     let places = with.places;
@@ -301,7 +301,7 @@ fn serve_named<
 
 /// What comes back of an archive for whose serving there was no memory.
 fn lacking<D: Disk + Drop>(engine: Engine<D>) -> (Served<D>, Result<(), EarlyEnd>)
-    ensures { (result.1 ≡ Err Memory) × (D.life result.0.disk ≡ D.life engine.storage.disk) }
+    ensures { (result.1 ≡ Err Memory) × (D.life result.0.disk ≡ D.life engine.archive.storage.disk) }
 {
     let served = Served {
         disk: engine.into_disk(),

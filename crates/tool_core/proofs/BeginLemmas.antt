@@ -3,6 +3,7 @@ use Rattle.std.proofs.Common.{◌≡◌, ◌≢◌, ◌⊎◌, ◌∙◌, ap, re
 use Rattle.std.specs.Prelude.{Option, Some, None, IfErr, IfOk, IsSome, Result}
 use Rattle.frame_core.specs.declared.refusal.Refusal.{Refusal}
 use Rattle.frame_core.specs.declared.refusal.Refusal.TheVariants.{BadParameter, DeviceFault, NoMemory}
+use Rattle.disk_core.specs.declared.disk.Disk as Disk
 use Rattle.disk_core.specs.declared.file_id.FileId.{FileId}
 use Rattle.disk_core.specs.DiskImage.{DiskImage, Files, MayLeave, bytes_of, reads}
 use Rattle.disk_core.specs.Life.{HasFailed, IsQuiet, LeavesOnly, Life}
@@ -211,11 +212,11 @@ starts one_state old (beginnings.Refused refusal) (Open engine) first banks may 
 starts one_state old (beginnings.Refused refusal) (Closed disk) first banks may is obeys begins = none_open old disk refusal first banks may is.0 is.1 obeys begins
 
 -- where it is refused by anything but want of memory none is open
-pub closed_then : {D : Type 0} (life : D → Life) (old : Life) (refusal : Refusal) (disk : D) (result : Result (ScriptArchive D × Beginning) D) → result ≡ closed_by refusal disk → NeitherMadeNorOpened 1048576 old (life disk) refusal
+pub closed_then : {D : Type 0} {dg : Disk.Ghosts D} (life : D → Life) (old : Life) (refusal : Refusal) (disk : D) (result : Result (ScriptArchive D dg × Beginning) D) → result ≡ closed_by refusal disk → NeitherMadeNorOpened 1048576 old (life disk) refusal
     → IfOk result (λ found. BeginsAs old found.1 (archive_seen life found.0))
-closed_then life old refusal disk result is answer = subst (λ (r : Result (ScriptArchive _ × Beginning) _). IfOk r (λ found. BeginsAs old found.1 (archive_seen life found.0))) (sym is) (by refusal answer)
+closed_then {dg = dg} life old refusal disk result is answer = subst (λ (r : Result (ScriptArchive _ _ × Beginning) _). IfOk r (λ found. BeginsAs old found.1 (archive_seen life found.0))) (sym is) (by refusal answer)
   where
-    by : (r : Refusal) → NeitherMadeNorOpened 1048576 old (life disk) r → IfOk (closed_by r disk) (λ found. BeginsAs old found.1 (archive_seen life found.0))
+    by : (r : Refusal) → NeitherMadeNorOpened 1048576 old (life disk) r → IfOk (closed_by {dg = dg} r disk) (λ found. BeginsAs old found.1 (archive_seen life found.0))
     by NoMemory answer = tt
     by r answer = ((λ same. let wrong : r ≡ NoMemory = same in absurd cc), answer)
 
@@ -233,9 +234,9 @@ no_memory old new (inl out) = let wrong : NoMemory ≡ BadParameter = out.0 in a
 no_memory old new (inr (inl refuses)) = quiet_before old new refuses.1
 no_memory old new (inr (inr is)) = elim is.1.refuses.kept [ inl fault ↦ (let wrong : NoMemory ≡ DeviceFault = fault in absurd cc) | inr before ↦ before ]
 
-pub back_then : {D : Type 0} (life : D → Life) (old : Life) (refusal : Refusal) (disk : D) (result : Result (ScriptArchive D × Beginning) D) → result ≡ closed_by refusal disk → NeitherMadeNorOpened 1048576 old (life disk) refusal → IfErr result (λ back. ReadsAsBefore old (life back))
-back_then life old refusal disk result is answer = subst (λ (r : Result (ScriptArchive _ × Beginning) _). IfErr r (λ back. ReadsAsBefore old (life back))) (sym is) (by refusal answer)
+pub back_then : {D : Type 0} {dg : Disk.Ghosts D} (life : D → Life) (old : Life) (refusal : Refusal) (disk : D) (result : Result (ScriptArchive D dg × Beginning) D) → result ≡ closed_by refusal disk → NeitherMadeNorOpened 1048576 old (life disk) refusal → IfErr result (λ back. ReadsAsBefore old (life back))
+back_then {dg = dg} life old refusal disk result is answer = subst (λ (r : Result (ScriptArchive _ _ × Beginning) _). IfErr r (λ back. ReadsAsBefore old (life back))) (sym is) (by refusal answer)
   where
-    by : (r : Refusal) → NeitherMadeNorOpened 1048576 old (life disk) r → IfErr (closed_by r disk) (λ back. ReadsAsBefore old (life back))
+    by : (r : Refusal) → NeitherMadeNorOpened 1048576 old (life disk) r → IfErr (closed_by {dg = dg} r disk) (λ back. ReadsAsBefore old (life back))
     by NoMemory answer = no_memory old (life disk) answer
     by r answer = tt

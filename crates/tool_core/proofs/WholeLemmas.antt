@@ -2,6 +2,7 @@
 use Rattle.std.proofs.Common.{◌≡◌, ℕ, List, Option, Result, Ok, Err, IsTrue, subst, sym}
 use Rattle.std.specs.Prelude.{IfErr, OnOk}
 use Rattle.std.proofs.KnownBytes.{Keeps-refl}
+use Rattle.disk_core.specs.declared.disk.Disk as Disk
 use Rattle.disk_core.specs.Life.{Life}
 use Rattle.tool_core.specs.declared.archive.ScriptArchive.{ScriptArchive}
 use Rattle.tool_core.specs.declared.archive.ScriptArchive.TheVariants as archives
@@ -21,8 +22,8 @@ use Rattle.tool_core.proofs.OpeningLemmas.{OneState}
 use Rattle.tool_core.proofs.StandingLemmas.{IsOfDisk}
 
 -- what is so of each archive of a disk
-pub seen_of_disk : {D : Type 0} (life : D → Life) → ((disk : D) → ReadsMayStay (life disk)) → (archive : ScriptArchive D) → IsOfDisk (archive_seen life archive)
-seen_of_disk life stays (archives.Open engine) = record { tied = engine.tied; stays = stays engine.storage.disk }
+pub seen_of_disk : {D : Type 0} {dg : Disk.Ghosts D} (life : D → Life) → ((disk : D) → ReadsMayStay (life disk)) → (archive : ScriptArchive D dg) → IsOfDisk (archive_seen life archive)
+seen_of_disk life stays (archives.Open engine) = record { tied = engine.archive.tied; stays = stays engine.archive.storage.disk }
 seen_of_disk life stays (archives.Closed disk) = stays disk
 
 module _ {A : Type 0} (view : A → SeenArchive) (old : Life) (input contents written : Option (List ℕ)) (first : A) (last : ScriptState A) (beginning : Beginning) (begins : BeginsAs old beginning (view first)) (begun : ScriptState A) (is_begun : begun ≡ begun_with first) (new : Life) (left : new ≡ life_of (view last.archive)) where

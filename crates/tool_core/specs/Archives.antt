@@ -6,6 +6,7 @@ use Rattle.frame_core.specs.declared.geometry.Geometry.{Geometry}
 use Rattle.frame_core.specs.declared.refusal.Refusal.{Refusal}
 use Rattle.frame_core.specs.declared.refusal.Refusal.TheVariants.{Broken, NoMemory}
 use Rattle.disk_core.specs.DiskImage.{MayLeave, reads}
+use Rattle.disk_core.specs.declared.disk.Disk as Disk
 use Rattle.disk_core.specs.Life.{Life}
 use Rattle.archive_model.specs.declared.reply.Reply.TheVariants.{Compacted, Reopened}
 use Rattle.control_core.specs.declared.event.Event.{Event}
@@ -35,7 +36,7 @@ pub data SeenArchive : Type 0 where
   Closed : Life → SeenArchive
 
 -- what is seen of an archive over a disk
-abbrev pub archive_seen : {D : Type 0} → (D → Life) → ScriptArchive D → SeenArchive
+abbrev pub archive_seen : {D : Type 0} {dg : Disk.Ghosts D} → (D → Life) → ScriptArchive D dg → SeenArchive
 archive_seen life (archives.Open engine) = Open (seen life engine)
 archive_seen life (archives.Closed disk) = Closed (life disk)
 
@@ -154,7 +155,7 @@ history_of (Open engine) = Some (record { counted = engine.desk.counted; limit =
 history_of (Closed life) = None
 
 -- none is open by a refusal, or the disk goes back for want of memory
-abbrev pub closed_by : {D : Type 0} → Refusal → D → Result (ScriptArchive D × Beginning) D
+abbrev pub closed_by : {D : Type 0} {dg : Disk.Ghosts D} → Refusal → D → Result (ScriptArchive D dg × Beginning) D
 closed_by NoMemory disk = Err disk
 closed_by refusal disk = Ok (archives.Closed disk, beginnings.Refused refusal)
 

@@ -21,7 +21,7 @@ const HISTORY: u32 = 1_048_576;
 
 /// An archive, or the disk of one that could not be opened.
 #[derive(Drop)]
-pub enum ScriptArchive<D> {
+pub enum ScriptArchive<D: Disk> {
     /// It is open.
     Open(Engine<D>),
     /// None is open.

@@ -71,7 +71,7 @@ pub trait Verifiable {
 }
 
 impl<D: Disk> Verifiable for Engine<D> {
-    ghost desk_of = { λ engine. engine.desk.state };
+    ghost desk_of = { λ engine. engine.archive.desk.state };
 
     ghost verifies = { verifies_by (seen D.life) };
 

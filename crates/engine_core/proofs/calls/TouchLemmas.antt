@@ -1,5 +1,5 @@
 -- Which files a call touches.
-use Rattle.std.proofs.Common.{◌≡◌, ◌∙◌, ◌⊎◌, inl, inr, sym, ap, subst, refl, ◌+◌, ◌≤◌, ℕ, ℤ, Bool, true, true≢false, List, length, Option, Some, None, arith}
+use Rattle.std.proofs.Common.{◌≡◌, ◌∙◌, ◌⊎◌, inl, inr, sym, ap, subst, refl, ◌+◌, ◌≤◌, ◌≤ℤ◌, ℕ, ℤ, Bool, true, true≢false, List, length, Option, Some, None, arith}
 use Rattle.std.proofs.lemmas.Bool.{or_left, or_right}
 use Rattle.std.specs.Prelude.{MatchOption, IfSome, IsSomeAnd, IsErrOf, Result, Ok, Err, is_some, unsigned_abs}
 use Rattle.engine_core.proofs.Words.{Block, ChangesFile, ChangesThese, Command, Decides, DeskState, DiskImage, EngineState, FileId, FileState, Files, IsQuiet, Keep, KeepsSegments, Layout, Life, NoMemory, Refusal, RefusesBoundaryIn, Registration, Reply, Request, SettlesAt, SweepsAtMost, Tests, checked, checks, command_in, decision_of, file_of, layout_of, moment, offset_of, registered_keeps, session_in, takes_memory}
@@ -52,6 +52,7 @@ pub nothing_written : (d : DeskState) (session : ℤ) (block : Block) (life : Li
 nothing_written d session block life = record {
   changes = quiet_these _ 1 life life (still_quiet life);
   keeps = by (written_by d (session_in d session));
+  behind = inl (still_quiet life);
 }
   where
     p : ℕ
@@ -89,9 +90,9 @@ pub nothing_at : (life : Life) (segment bank : FileId) → SettlesAt life life s
 nothing_at life segment bank = record { changes = quiet_these _ 5 life life (still_quiet life); segments = λ file a b. refl }
 
 -- a session's block was written, or could not be
-pub block_written : (d : DeskState) (session : ℤ) (block : Block) (layout : Layout) (end : ℤ) (at : IsTarget d session block layout end) (old new : Life) → ChangesFile (file_of layout (unsigned_abs block.position)) old new → moment new ≤ moment old + 1
+pub block_written : (d : DeskState) (session : ℤ) (block : Block) (layout : Layout) (end : ℤ) (at : IsTarget d session block layout end) (old new : Life) → at.registration.recorded ≤ℤ block.position → ChangesFile (file_of layout (unsigned_abs block.position)) old new → moment new ≤ moment old + 1
     → KeepsBelow (offset_of layout (unsigned_abs block.position)) (old.now (file_of layout (unsigned_abs block.position))) (new.now (file_of layout (unsigned_abs block.position))) → WritesBlock d session block old new
-block_written d session block layout end at old new changes calls keeps =
+block_written d session block layout end at old new behind changes calls keeps =
     let p : ℕ = unsigned_abs block.position in
     let writes : written_by d (session_in d session) ≡ Some at.registration = ap (written_by d) at.found ∙ at.known in
     record {
@@ -102,6 +103,7 @@ block_written d session block layout end at old new changes calls keeps =
       };
       keeps = subst (λ (o : Option Registration). IfSome o (λ g. KeepsBelow (offset_of (layout_of g.descriptor) p) (old.now (file_of (layout_of g.descriptor) p)) (new.now (file_of (layout_of g.descriptor) p)))) (sym writes)
           (subst (λ (l : Layout). KeepsBelow (offset_of l p) (old.now (file_of l p)) (new.now (file_of l p))) at.layout_is keeps);
+      behind = inr (subst (λ (o : Option Registration). IsSomeAnd o (λ g. g.recorded ≤ℤ block.position)) (sym writes) behind);
     }
 
 -- a sweep was made

@@ -136,10 +136,13 @@ module _ (d : DeskState) (n : ℤ) (block : Block) (layout : Layout) (end : ℤ)
     pub from_start : IsFromStart layout block.position
     from_start = subst (λ (l : Layout). IsFromStart l block.position) (sym at.layout_is) (block_from_start d n at.session at.registration (span_to block end) at.keeps at.found at.known let_through.goes_on)
 
+    pub behind_recorded : at.registration.recorded ≤ℤ block.position
+    behind_recorded = block_behind d n at.session at.registration (span_to block end) at.keeps at.found at.known let_through.goes_on
+
     lies : (o : Option Written) → at.session.written ≡ o
         → LiesBehind (with_block (span_to block end) o) at.registration
     lies o has =
-        let behind : at.registration.recorded ≤ℤ block.position = block_behind d n at.session at.registration (span_to block end) at.keeps at.found at.known let_through.goes_on in
+        let behind : at.registration.recorded ≤ℤ block.position = behind_recorded in
         let ends = ends_inside in
         let last = at.end_is in
         let geometry = geometry_of at.registration.descriptor in

@@ -89,7 +89,7 @@ same_rest s x y none =
     ap (λ (n : ℕ). (n + y) % s) whole ∙ mul-add-mod_self_right (x / s) s y
 
 -- a base of a segment behind the start is the first base of what begins there, with the same bases behind it
-later_bases : (start t s p q k : ℕ) → start < p → p ≡ k * t → segment_base start t s p ≡ p → p ≤ q
+pub later_bases : (start t s p q k : ℕ) → start < p → p ≡ k * t → segment_base start t s p ≡ p → p ≤ q
     → segment_base p t s q ≡ segment_base start t s q
 later_bases start t s p q k behind whole base later =
     let term : p % t ≡ 0 = ap (λ (n : ℕ). n % t) whole ∙ mul-mod_left k t in

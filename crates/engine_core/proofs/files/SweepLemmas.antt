@@ -20,19 +20,19 @@ use Rattle.engine_core.proofs.files.WriteLemmas.{natural}
 
 -- tests of a list
 
-or_left : (a b : Bool) → a ≡ true → a || b ≡ true
+pub or_left : (a b : Bool) → a ≡ true → a || b ≡ true
 or_left true b is = refl
 or_left false b is = absurd (true≢false (sym is))
 
-or_right : (a b : Bool) → b ≡ true → a || b ≡ true
+pub or_right : (a b : Bool) → b ≡ true → a || b ≡ true
 or_right true b is = refl
 or_right false b is = is
 
-and_both : (a b : Bool) → a ≡ true → b ≡ true → a && b ≡ true
+pub and_both : (a b : Bool) → a ≡ true → b ≡ true → a && b ≡ true
 and_both true b first second = second
 and_both false b first second = absurd (true≢false (sym first))
 
-and_not : (a b : Bool) → b ≡ true → a && not b ≡ false
+pub and_not : (a b : Bool) → b ≡ true → a && not b ≡ false
 and_not true true is = refl
 and_not true false is = absurd (true≢false (sym is))
 and_not false b is = refl
@@ -71,7 +71,7 @@ between : (l : Layout) (p q : ℕ) → 0 < unsigned_abs l.segment_length
 unfolding base_of
 between l p q some from before behind = base_between (unsigned_abs l.start_position) (unsigned_abs l.term_length) (unsigned_abs l.segment_length) p q some from before behind
 
-base_kept : (l : Layout) (recorded : ℤ) (p : ℕ) → 0 < unsigned_abs l.segment_length → unsigned_abs l.start_position ≤ p → pos p <ℤ recorded → is_base_of_recorded l recorded (pos (base_of l p)) ≡ true
+pub base_kept : (l : Layout) (recorded : ℤ) (p : ℕ) → 0 < unsigned_abs l.segment_length → unsigned_abs l.start_position ≤ p → pos p <ℤ recorded → is_base_of_recorded l recorded (pos (base_of l p)) ≡ true
 unfolding is_base_of_recorded
 base_kept l recorded p some from before =
     let first : ℕ = max (base_of l p) (unsigned_abs l.start_position) in
@@ -80,7 +80,7 @@ base_kept l recorded p some from before =
     let same : base_of l first ≡ base_of l p = between l p first some (omega arith) within (omega arith) in
     and_both (int_lt (pos first) recorded) (base_of l first == base_of l p) inside (subst (λ (n : ℕ). (n == base_of l p) ≡ true) (sym same) (grind (arith, nat_tests)))
 
-start_kept : (l : Layout) (p : ℕ) → 0 < unsigned_abs l.term_length
+pub start_kept : (l : Layout) (p : ℕ) → 0 < unsigned_abs l.term_length
     → unsigned_abs l.term_length ≤ unsigned_abs l.segment_length → unsigned_abs l.start_position ≤ p
     → int_le (pos (base_of l (unsigned_abs l.start_position))) (pos (base_of l p)) ≡ true
 unfolding base_of
@@ -88,7 +88,7 @@ start_kept l p some less from =
     let low = low_base (unsigned_abs l.start_position) (unsigned_abs l.term_length) (unsigned_abs l.segment_length) p some less from in
     grind (arith, nat_tests)
 
-length_low : (length : ℤ) → is_term_length length ≡ true → pos 0 ≤ℤ length
+pub length_low : (length : ℤ) → is_term_length length ≡ true → pos 0 ≤ℤ length
 length_low length is = let power = is_power length is in subst (λ (z : ℤ). pos 0 ≤ℤ z) (sym power.3) (omega (arith, ints))
 
 -- a position is one that the recording keeps: recorded, or where it is active any from its start on
@@ -144,7 +144,7 @@ other_than : (keeps : List Keep) (this file : FileId) → is_stale keeps this �
     → is_stale keeps file ≡ false → file ≢ this
 other_than keeps this file stale fresh same = true≢false (sym stale ∙ ap (is_stale keeps) (sym same) ∙ fresh)
 
-fresh_kept : (keeps : List Keep) (old new : Life) → IsQuiet old new ⊎ ((file : FileId) × SweepsAtMost keeps file old new) → (file : FileId) → is_stale keeps file ≡ false → new.now file ≡ old.now file
+pub fresh_kept : (keeps : List Keep) (old new : Life) → IsQuiet old new ⊎ ((file : FileId) × SweepsAtMost keeps file old new) → (file : FileId) → is_stale keeps file ≡ false → new.now file ≡ old.now file
 fresh_kept keeps old new (inl quiet) file fresh = ap (λ (files : Files). files file) quiet.now
 fresh_kept keeps old new (inr swept) file fresh = swept.1.touches.changes.others file (other_than keeps swept.0 file swept.1.stale fresh)
 

@@ -1,11 +1,11 @@
 -- How an archive is opened: what its files give.
-use Rattle.std.proofs.Common.{◌≡◌, ◌≢◌, ◌⊎◌, ◌∙◌, inl, inr, sym, ap, subst, ℕ, ℤ, pos, IsSome, List, [], length, arith}
-use Rattle.std.specs.Prelude.{IsTrue, MatchResult, Result, Ok, Err}
+use Rattle.std.proofs.Common.{◌≡◌, ◌≢◌, ◌⊎◌, ◌∙◌, ◌≤◌, inl, inr, sym, ap, subst, ℕ, ℤ, pos, IsSome, List, [], length, arith}
+use Rattle.std.specs.Prelude.{IfOk, IsTrue, MatchResult, Result, Ok, Err}
 use Rattle.engine_core.proofs.Words.{AreFilesWith, BankA, BankB, BankHeader, BankVersion, ChangesBank, DeskState, DeviceFault, DiskGoesOn, DiskImage, EngineState, Entry, FileId, FileState, Files, HasEntries, HasFailed, IsCatalogue, IsEither, IsLogIn, IsQuiet, IsSound, KeepsBank, LeavesOnly, Life, LogState, MayLeave, NoMemory, ReadsAsBefore, Recovers, RecoversTo, Refusal, RegisterState, Restart, Restarts, State, after, after_entries, all_stopped, bank_file, durable, goes_on_part, log_catalogue, moment, no_recordings, now_leaves, opened_archive, opened_desk, reads, register_of, rest_left, weaker}
 use Rattle.frame_core.specs.declared.refusal.Refusal.TheVariants.{BadParameter}
 use Rattle.archive_model.specs.Register as register
 use Rattle.catalogue_entries.specs.declared.entry.Entry.TheVariants as entries
-use Rattle.catalogue_log.specs.Banks.{other_of}
+use Rattle.catalogue_log.specs.Banks.{HasClosedGate, other_of}
 use Rattle.catalogue_log.specs.Catalogue.{RefusesCatalogue}
 use Rattle.catalogue_log.specs.declared.banks.Spare.{Spare}
 use Rattle.catalogue_log.specs.LogState.{TellsBanks, banks_of, is_usable}
@@ -13,7 +13,7 @@ use Rattle.catalogue_log.proofs.CallerLemmas.{fault_refuses, same_image, told_in
 use Rattle.engine_core.specs.Catalogued.{LeavesCatalogue, OpensCatalogue}
 use Rattle.engine_core.specs.Making.{HasNotStarted}
 use Rattle.engine_core.specs.Opened.{HadFiles, HasNotOpened, HasOpened, IsDeskOf, IsFresh, IsNear, IsNotOpened, IsOpened, LeavesEither, NeitherMadeNorOpened, OpensBy}
-use Rattle.engine_core.specs.Opening.{RefusesNew, RefusesOpening}
+use Rattle.engine_core.specs.Opening.{IsMadeIn, RefusesNew, RefusesOpening}
 use Rattle.engine_core.proofs.calls.EndedLemmas.{recovers_as}
 use Rattle.engine_core.proofs.openings.OpeningLemmas.{none_there, nothing_synced, one_there, read_synced}
 use Rattle.engine_core.proofs.openings.RestartLemmas.{active_same, opened_consistent, register_restarted}
@@ -268,13 +268,28 @@ module _ (old mid : Life) (quiet : IsQuiet old mid) where
       }
 
   -- no archive is made where no file is
-  pub unmade_behind : (new : Life) (limit : ℕ) (files : List FileId) (refusal : Refusal) → files ≡ [] → (IsTrue mid.obeys → AreFilesWith (λ file. IsSome (reads old.now file)) files) → DiskGoesOn mid new → (refusal ≡ DeviceFault) × HasFailed mid new
+  pub unmade_behind : (new : Life) (limit : ℕ) (files : List FileId) (refusal : Refusal) → files ≡ [] → (IsTrue mid.obeys → AreFilesWith (λ file. IsSome (reads old.now file)) files) → DiskGoesOn mid new → ((refusal ≡ DeviceFault) × HasFailed mid new) ⊎ ((refusal ≡ NoMemory) × (new ≡ mid))
       → NeitherMadeNorOpened limit old new refusal
-  unmade_behind new limit files refusal none all goes failed =
+  unmade_behind new limit files refusal none all goes (inr memory) =
+      inr (inl (
+        (λ is. let wrong : BadParameter ≡ NoMemory = sym is ∙ memory.0 in absurd cc),
+        subst (λ (r : Refusal). RefusesNew old new limit r) (sym memory.0) (subst (IsQuiet old) (sym memory.1) quiet),
+      ))
+  unmade_behind new limit files refusal none all goes (inl failed) =
       inr (inl (
         (λ is. let wrong : BadParameter ≡ DeviceFault = sym is ∙ failed.0 in absurd cc),
         subst (λ (r : Refusal). RefusesNew old new limit r) (sym failed.0) (still_failed new failed.1, inr (λ obeys. none_there old files none (all (goes.obeyed obeys)))),
       ))
 
+  -- where no file was, an archive was made
+  pub made_behind : (new : Life) (limit : ℕ) (files : List FileId) → files ≡ [] → (IsTrue mid.obeys → AreFilesWith (λ file. IsSome (reads old.now file)) files) → 1 ≤ limit → limit ≤ 16777216 → DiskGoesOn mid new → HasClosedGate new.now BankB
+      → IsMadeIn old new limit
+  made_behind new limit files none all some most goes spare = record { some = some; most = most; empty = λ obeys. none_there old files none (all (goes.obeyed obeys)); spare = spare }
+
   pub had_files : (new : Life) (files : List FileId) → (files ≡ [] → ⊥) → (IsTrue mid.obeys → AreFilesWith (λ file. IsSome (reads old.now file)) files) → DiskGoesOn mid new → HadFiles old new
   had_files new files some all goes obeys = one_there old files some (all (goes.obeyed obeys))
+
+-- what holds of what was made
+pub made_then : {T E : Type 0} (result : Result T E) (P Q R : T → Type 0) (S : E → Type 0) → ((x : T) → P x → Q x → R x) → IfOk result P → MatchResult result Q S → IfOk result R
+made_then (Ok x) P Q R S both p q = both x p q
+made_then (Err e) P Q R S both p q = tt

@@ -12,7 +12,7 @@ returns-in_err-engine-clause-fault g c = unverified g.D.Disk.life (g.D.Disk.life
 pub returns-in-Ok-clause-verified : goal.returns-in-Ok-clause-verified
 returns-in-Ok-clause-verified g c =
     let engine = c.in_ok-engine.engine in
-    let told : HasReported (InTurn (verifies_by (seen g.D.Disk.life))) (ids_in engine.desk.state) engine c.verify_recordings-outcome.new.archive (g.W.Write.contents c.args.writer.now) (g.W.Write.contents c.verify_recordings-outcome.new.writer) c.in-Ok.verdict = search rules in
+    let told : HasReported (InTurn (verifies_by (seen g.D.Disk.life))) (ids_in engine.archive.desk.state) engine c.verify_recordings-outcome.new.archive (g.W.Write.contents c.args.writer.now) (g.W.Write.contents c.verify_recordings-outcome.new.writer) c.in-Ok.verdict = search rules in
     record {
       opened = seen g.D.Disk.life engine;
       opens = c.in_ok-engine.ensures.opened;
@@ -24,7 +24,7 @@ returns-in-Ok-clause-verified g c =
 pub returns-in-Err-clause-fault : goal.returns-in-Err-clause-fault
 returns-in-Err-clause-fault g c =
     let engine = c.in_ok-engine.engine in
-    let told : HasReportedFirst (InTurnAndOne (verifies_by (seen g.D.Disk.life))) (ids_in engine.desk.state) engine c.verify_recordings-outcome.new.archive (g.W.Write.contents c.args.writer.now) (g.W.Write.contents c.verify_recordings-outcome.new.writer) c.in-Err.end = search rules in
+    let told : HasReportedFirst (InTurnAndOne (verifies_by (seen g.D.Disk.life))) (ids_in engine.archive.desk.state) engine c.verify_recordings-outcome.new.archive (g.W.Write.contents c.args.writer.now) (g.W.Write.contents c.verify_recordings-outcome.new.writer) c.in-Err.end = search rules in
     record {
       opened = seen g.D.Disk.life engine;
       opens = c.in_ok-engine.ensures.opened;
