@@ -241,30 +241,31 @@ fn frames_of_each(
     Ok(text)
 }
 
-/// The frames of a whole recording.
-fn frames_of(
+/// The number of a replay of a whole recording, which is opened.
+fn opened_replay(
     alloc: Global,
     engine: &mut Engine<MemoryDisk>,
     recording: i64,
-) -> Result<Vec<u8>, Refusal> {
+) -> Result<i64, Refusal> {
     let event = Event::ReplayOpen {
         recording,
         position: -1,
         length: -1,
     };
     match answer(alloc, engine, &event)? {
-        Reply::ReplayOpened { replay } => frames_in(alloc, engine, replay),
+        Reply::ReplayOpened { replay } => Ok(replay),
         _ => Err(Refusal::BadLine),
     }
 }
 
-fn frames_in(
+/// The frames of a whole recording.
+fn frames_of(
     alloc: Global,
     engine: &mut Engine<MemoryDisk>,
-    replay: i64,
+    recording: i64,
 ) -> Result<Vec<u8>, Refusal> {
-    let event = Event::ReplayPoll { replay, max: 4_096 };
-    let polled = answer(alloc, engine, &event);
+    let replay = opened_replay(alloc, engine, recording)?;
+    let polled = answer(alloc, engine, &Event::ReplayPoll { replay, max: 4_096 });
     told(alloc, &polled)
 }
 
@@ -274,15 +275,8 @@ pub fn replayed(
     engine: &mut Engine<MemoryDisk>,
     recording: i64,
 ) -> Result<Vec<u8>, Refusal> {
-    let event = Event::ReplayOpen {
-        recording,
-        position: -1,
-        length: -1,
-    };
-    match answer(alloc, engine, &event)? {
-        Reply::ReplayOpened { replay } => polled_once(alloc, engine, replay),
-        _ => Err(Refusal::BadLine),
-    }
+    let replay = opened_replay(alloc, engine, recording)?;
+    polled_once(alloc, engine, replay)
 }
 
 /// The same of a replay, which is closed then.
