@@ -23,7 +23,7 @@ from dataclasses import dataclass
 from pathlib import Path
 
 from measure import compiled
-from tool import ROOT, Fault, conclude, expect, file_system, program, room, run
+from tool import ROOT, Fault, conclude, expect, file_system, program, room, run, stop_positions
 
 sys.path.insert(0, str(ROOT / "trials"))
 from serving import Server, settles  # noqa: E402
@@ -104,8 +104,7 @@ def served(tool: Path, sender: Path, folder: Path, frames: int, kind: Kind) -> F
     expect("the server's status", server.process.wait(60), 0)
     microseconds, naks, repeats, position, status_messages = map(int, numbers)
     entries = settles(folder)
-    stops = [int(line.split()[5]) for line in run([tool, "list", folder])[:-1]]
-    expect("what is recorded", stops, [position])
+    expect("what is recorded", stop_positions(tool, folder), [position])
     counts = server.counts()
     rest = (f"dropped by the system {lost}, NAKs {naks}, sent again {repeats}, status messages {status_messages}; the server counted "
             + ", ".join(f"{name} {count}" for name, count in counts.items()))

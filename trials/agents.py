@@ -15,7 +15,7 @@ import subprocess
 import time
 from pathlib import Path
 
-from tool import ROOT, Fault, Stream, conclude, expect, file_system, go_round, needs, program, replayed, room, run, trial_words
+from tool import ROOT, Fault, Stream, conclude, expect, file_system, go_round, needs, program, replayed, room, run, stop_positions, trial_words
 
 AGENTS = ROOT / "crates/agent_trials/out/agent_trials"
 TESTS = ROOT / "crates/live_tests/out/live_tests_tests"
@@ -77,7 +77,7 @@ class Followed:
 
     def look(self) -> None:
         """What was seen is there; what was settled and not seen may be."""
-        stops = [int(line.split()[5]) for line in run([self.tool, "list", self.folder], is_stopped=True)[:-1]]
+        stops = stop_positions(self.tool, self.folder, is_stopped=True)
         if len(stops) < 2 and max(self.seen) > 0:
             raise Fault(f"{len(stops)} recordings are there")
         for number, stop in enumerate(stops):

@@ -35,7 +35,7 @@ from serving import (
 )
 from tool import (
     INITIAL_TERM, ROOT, SESSION_ID, STREAM_ID, Fault, conclude, dissected, expect, file_system, program, read_numbers, room, run,
-    run_trials, trial_words,
+    run_trials, stop_positions, trial_words,
 )
 
 sys.path.insert(0, str(ROOT / "examples"))
@@ -215,7 +215,7 @@ def receiver(tool: Path, archive: Path, port: int, *options: str) -> Iterator[tu
 
 def joined_right(tool: Path, archive: Path, sent: Publication, begins: list[int], answered: list[int]) -> int:
     """Each recording has what was sent from its beginning on, and at least what was answered; how many frames."""
-    stops = [int(line.split()[5]) for line in run([tool, "list", archive])[:-1]]
+    stops = stop_positions(tool, archive)
     expect("how many recordings there are", len(stops), len(begins))
     for number, (stop, position) in enumerate(zip(stops, answered, strict=True)):
         if stop < position:

@@ -27,7 +27,7 @@ from pathlib import Path
 from readers.catalogue import SETTLE, read_banks
 from tool import (
     INITIAL_TERM, ROOT, SESSION_ID, STREAM_ID, Fault, Stream, conclude, dissected, expect, file_system, program, replayed, room, run,
-    run_trials, told_of_frame, trial_words,
+    run_trials, stop_positions, told_of_frame, trial_words,
 )
 
 sys.path.insert(0, str(ROOT / "examples"))
@@ -251,7 +251,7 @@ def settles(archive: Path) -> int:
 
 def compare(tool: Path, archive: Path, recording: int, sent: Publication, begin: int = 0) -> int:
     """A recording has each frame that was sent from a position on, as far as it was recorded; how many."""
-    stops = [int(line.split()[5]) for line in run([tool, "list", archive])[:-1]]
+    stops = stop_positions(tool, archive)
     right = []
     position = begin
     while position < stops[recording]:
@@ -445,7 +445,7 @@ class Killed:
 
     def look(self) -> None:
         """What was answered is there."""
-        stops = [int(line.split()[5]) for line in run([self.tool, "list", self.archive], is_stopped=True)[:-1]]
+        stops = stop_positions(self.tool, self.archive, is_stopped=True)
         for recording, answered in self.answered.items():
             if stops[recording] < answered:
                 raise Fault(f"recording {recording}: answered {answered}, it stopped at {stops[recording]}")

@@ -17,7 +17,7 @@ import subprocess
 import time
 from pathlib import Path
 
-from tool import ROOT, Fault, Stream, conclude, expect, file_system, go_round, needs, program, replayed, room, run, trial_words
+from tool import ROOT, Fault, Stream, conclude, expect, file_system, go_round, needs, program, replayed, room, run, stop_positions, trial_words
 
 THREADS = ROOT / "crates/lock_trials/out/lock_trials"
 STREAM = Stream(term_length=65_536, segment_length=65_536)
@@ -95,8 +95,7 @@ class Storm:
 
     def stops(self) -> list[int]:
         """Opens the archive again: where each recording stopped."""
-        told = run([self.tool, "list", self.folder], is_stopped=True)
-        stops = [int(line.split()[5]) for line in told[:-1]]
+        stops = stop_positions(self.tool, self.folder, is_stopped=True)
         if len(stops) < sum(each.is_known for each in self.recordings):
             raise Fault(f"{len(stops)} recordings are there")
         return stops

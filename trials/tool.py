@@ -200,6 +200,11 @@ def run(words: Sequence[str | Path], lines: Iterable[str] = (), failed: Sequence
     return ended.stdout.splitlines()
 
 
+def stop_positions(tool: Path, folder: Path, is_stopped: bool = False) -> list[int]:
+    """Opens an archive: where each recording stopped, which it does by that at the latest."""
+    return [int(line.split()[5]) for line in run([tool, "list", folder], is_stopped=is_stopped)[:-1]]
+
+
 def replayed(tool: Path, folder: Path, recording: int, begin: int, frames: int) -> list[str]:
     """The frames that a replay of a recording tells from a position on, by polls enough for so many."""
     polls = [f"poll 0 {MOST_AT_ONCE}"] * (frames // MOST_AT_ONCE + 1)
