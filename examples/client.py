@@ -14,7 +14,7 @@ from collections.abc import Iterator
 
 
 PATIENCE = 5  # seconds in which a server may begin to listen
-LONG_REPLIES = {"list": "recording ", "poll": "frame ", "images": "image "}  # what all lines but the last begin with
+LONG_REPLIES = {"list": "recording ", "poll": "frame ", "poll-to": "frame ", "images": "image "}  # all lines but the last
 
 
 def connected(address: tuple[str, int], seconds: float) -> socket.socket:

@@ -97,9 +97,11 @@ def filled(command: str, folder: Path, control: int) -> list[str]:
     receive = free_port(socket.SOCK_DGRAM)
     values = [
         (r"(?<=^create )\S+", str(folder / "new")), (r"<folder>|<copy>|/var/lib/recorder", str(folder / "archive")),
-        (r"(?<=--pcap )<file>", str(folder / "frames.pcap")), (r"<file>", str(folder / "archive/0-0.rec")),
+        (r"(?<=--pcap )<file>", str(folder / "frames.pcap")), (r"(?<=--metrics )<file>", str(folder / "metrics")),
+        (r"<file>", str(folder / "archive/0-0.rec")),
         (r"(?<=--control )\S+", str(control)), (r"(?<=--receive )\S+", str(receive)), (r"<IPv4 address>", "127.0.0.1"),
         (r"(?<=--to )<position>", "128"), (r"<recording>|<position>", "0"), (r"<seconds>|<entries>|<milliseconds>", "60"), (r"<bytes>", "65536"),
+        (r"<count>", "2"), (r"<stream id>", "1001"),
         (r"<command>", "export"),
     ]
     for pattern, value in values:

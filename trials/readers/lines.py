@@ -60,6 +60,7 @@ LINES: dict[bytes, tuple[list[Kind], str]] = {
     b"source": ([LONG], r"source (?:0|N [^ ]+)"),
     b"replay": ([LONG, LONG, LONG], r"replay N"),
     b"poll": ([LONG, LONG], r"done|more N"),
+    b"poll-to": ([LONG, LONG, LONG], r"done|more N"),
     b"close": ([LONG], r"closed"),
     b"sweep": ([], r"swept [01]"),
     b"verify": ([LONG], r"verified N"),
@@ -74,7 +75,7 @@ LINES: dict[bytes, tuple[list[Kind], str]] = {
 }
 REPLIES = {word: re.compile(reply.replace("N", "(?:0|[1-9][0-9]*)")) for word, (_, reply) in LINES.items()}
 # How the lines before the last line of a reply begin.
-BEFORE = {b"list": "recording ", b"poll": "frame "}
+BEFORE = {b"list": "recording ", b"poll": "frame ", b"poll-to": "frame "}
 
 REFUSALS = (
     "UnknownRecording ActiveRecording NotActive ActiveReplay BadPosition BadExtension MaxRecordings MaxReplays UnknownReplay "

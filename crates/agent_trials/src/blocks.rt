@@ -1,5 +1,6 @@
 //! Recordings, their blocks and datagrams.
 
+use agents_core::BlockSource;
 use archive_model::{Channel, ExtendFields, SourceIdentity, StartFields};
 use frame_core::{Block, Frame, FrameKind, Items, Setup};
 use std::alloc::{AllocError, Global};
@@ -11,6 +12,9 @@ pub(crate) const SHORT_TERM: i32 = 65_536;
 
 /// Bytes of a term of a recording of large blocks.
 pub(crate) const LONG_TERM: i32 = 1_073_741_824;
+
+/// The bytes that a frame of a small block covers.
+const SMALL_FRAME: i64 = 64;
 
 /// The frames of a large block.
 const FRAMES: i64 = 46;
@@ -82,17 +86,58 @@ fn message(term_length: i32, position: i64, length: i64, payload: Items<u8>) -> 
     }
 }
 
-/// The block of one frame of 64 bytes, which tells its position and its recording.
-pub(crate) fn small_block(
+/// A frame of 64 bytes, which tells its position and its recording.
+fn small_frame(alloc: Global, position: i64, recording: i64) -> Result<Frame, AllocError> {
+    let mut payload = position.to_le_bytes().to_vec(alloc)?;
+    payload.extend_from_slice(&recording.to_le_bytes())?;
+    Ok(message(SHORT_TERM, position, 48, Items::from_vec(payload)))
+}
+
+/// The block of so many of them.
+fn small_block(
     alloc: Global,
     position: i64,
     recording: i64,
+    count: u32,
 ) -> Result<Block, AllocError> {
-    let mut payload = position.to_le_bytes().to_vec(alloc)?;
-    payload.extend_from_slice(&recording.to_le_bytes())?;
     let mut frames = Items::new(alloc);
-    frames.push(message(SHORT_TERM, position, 48, Items::from_vec(payload)))?;
+    for index in 0..count {
+        let at = position.wrapping_add(i64::from(index).wrapping_mul(SMALL_FRAME));
+        frames.push(small_frame(alloc, at, recording)?)?;
+    }
     Ok(Block { position, frames })
+}
+
+/// Small blocks from a position on, so many.
+#[derive(Drop)]
+pub(crate) struct Blocks {
+    /// Where it allocates.
+    pub alloc: Global,
+    /// The recording that the frames tell.
+    pub recording: i64,
+    /// Where the next block begins, in bytes of the stream.
+    pub next: i64,
+    /// How many frames each block has.
+    pub frames: u32,
+    /// How many blocks are left.
+    pub left: u32,
+}
+
+impl BlockSource for Blocks {
+    ghost use Rattle.std.specs.Prelude.{⊤};
+
+    ghost gives = { λ old block new. ⊤ };
+
+    fn next(&mut self) -> Option<Block> {
+        if self.left == 0 {
+            return None;
+        }
+        let block = small_block(self.alloc, self.next, self.recording, self.frames).ok()?;
+        self.left -= 1;
+        let length = i64::from(self.frames).wrapping_mul(SMALL_FRAME);
+        self.next = self.next.wrapping_add(length);
+        Some(block)
+    }
 }
 
 /// The datagram of the frames of a large block, of 1,408 bytes each.

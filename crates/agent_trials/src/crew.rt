@@ -66,7 +66,12 @@ pub(crate) fn begin<D: Disk>(
     }
 }
 
-fn ask<D: Disk>(alloc: Global, engine: &mut Engine<D>, event: Event) -> Result<Reply, Refusal> {
+/// The answer to an event.
+pub(crate) fn ask<D: Disk>(
+    alloc: Global,
+    engine: &mut Engine<D>,
+    event: Event,
+) -> Result<Reply, Refusal> {
     engine.step(alloc, &event)
 }
 

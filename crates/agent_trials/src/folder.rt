@@ -4,14 +4,14 @@
 ghost use Rattle.std.specs.Prelude.{◌≡◌, ◌<◌, IfSome};
 ghost use Rattle.agents_core.specs.Runs.{AreSeated};
 
-use crate::blocks::{SHORT_TERM, small_block};
+use crate::blocks::{Blocks, SHORT_TERM};
 use crate::crew::{Plan, begin, crewed};
 use crate::pairs::run;
-use agents_core::{BlockSource, Receiver, Recorder, RecorderSeat};
+use agents_core::{Receiver, Recorder, RecorderSeat};
 use archive_lock::{Naming, SharedArchive};
 use disk_core::Disk;
 use engine_core::Engine;
-use frame_core::{Block, Refusal};
+use frame_core::Refusal;
 use host_disk::HostDisk;
 use position_board::{Board, Reader};
 use std::alloc::{AllocError, Global};
@@ -21,31 +21,6 @@ use std::rt::Clock;
 use std::sync::Wait;
 use std::sync::atomic::{AtomicBool, Ordering};
 use std::thread::{self, Threads, join};
-
-/// Blocks of one frame from a position on, so many.
-#[derive(Drop)]
-struct Blocks {
-    alloc: Global,
-    recording: i64,
-    next: i64,
-    left: u32,
-}
-
-impl BlockSource for Blocks {
-    ghost use Rattle.std.specs.Prelude.{⊤};
-
-    ghost gives = { λ old block new. ⊤ };
-
-    fn next(&mut self) -> Option<Block> {
-        if self.left == 0 {
-            return None;
-        }
-        let block = small_block(self.alloc, self.next, self.recording).ok()?;
-        self.left -= 1;
-        self.next = self.next.wrapping_add(64);
-        Some(block)
-    }
-}
 
 /// Records so many blocks into each of two recordings of the archive of a folder.
 pub(crate) fn recorded<R: Threads + Wait + Clock + Print + Sync>(
@@ -73,7 +48,7 @@ pub(crate) fn recorded<R: Threads + Wait + Clock + Print + Sync>(
 }
 
 /// The archive of a folder.
-fn engine_of(host: HostRuntime, folder: &str) -> Result<Engine<HostDisk>, Refusal> {
+pub(crate) fn engine_of(host: HostRuntime, folder: &str) -> Result<Engine<HostDisk>, Refusal> {
     let Ok(disk) = HostDisk::open(host, host.alloc(), Path::new(folder)) else {
         return Err(Refusal::DeviceFault);
     };
@@ -125,6 +100,7 @@ fn receivers(
             alloc,
             recording,
             next: if recording == 0 { starts[0] } else { starts[1] },
+            frames: 1,
             left,
         };
         receivers.push(Receiver { source })?;
@@ -209,7 +185,7 @@ fn follow<R: Wait + Print>(
     unreachable!()
 }
 
-fn say_end<R: Print>(rt: &R) -> Result<(), Refusal> {
+pub(crate) fn say_end<R: Print>(rt: &R) -> Result<(), Refusal> {
     say_line(rt, b"ended\n")
 }
 
@@ -228,7 +204,7 @@ fn say_one<R: Print>(rt: &R, alloc: Global, slot: usize, seen: i64) -> Result<()
     say_line(rt, line.as_bytes())
 }
 
-fn say_line<R: Print>(rt: &R, line: &[u8]) -> Result<(), Refusal> {
+pub(crate) fn say_line<R: Print>(rt: &R, line: &[u8]) -> Result<(), Refusal> {
     match rt.write_all(line) {
         Ok(()) => Ok(()),
         Err(_) => Err(Refusal::DeviceFault),

@@ -1,13 +1,16 @@
-//! Recorders with their receivers and a follower, as trials/agents.py and bench/agents.py run them. The first word says what,
-//! and the rest how much: `folder FOLDER BLOCKS`; `look LOOKS`; `queue BLOCKS`, `alone BLOCKS`, `both BLOCKS`.
+//! Recorders with their receivers and followers, as trials/agents.py, trials/bounded.py and bench/agents.py run them. The first
+//! word says what, and the rest how much: `folder FOLDER BLOCKS`; `bounded LOG DATA BLOCKS BEGIN`; `look LOOKS`;
+//! `queue BLOCKS`, `alone BLOCKS`, `both BLOCKS`.
 #![tactic(auto)]
 
 mod blocks;
+mod bounded;
 mod crew;
 mod folder;
 mod pairs;
 mod speed;
 
+use crate::bounded::Folders;
 use anyhow::{Result, bail};
 use frame_core::Refusal;
 use std::env;
@@ -42,6 +45,7 @@ fn obeyed<R: Threads + Wait + Clock + Print + Sync>(
 ) -> Result<(), Refusal> {
     match word(words, 1)? {
         "folder" => folder::recorded(rt, host, word(words, 2)?, number(words, 3)?),
+        "bounded" => handed_out(rt, host, words),
         "look" => looked(rt, host, number(words, 2)?),
         "queue" => measured(rt, host, true, number(words, 2)?),
         "alone" => measured(rt, host, false, number(words, 2)?),
@@ -62,6 +66,19 @@ fn number(words: &[String], index: usize) -> Result<u32, Refusal> {
         Ok(number) => Ok(number),
         Err(_) => Err(Refusal::BadLine),
     }
+}
+
+/// Records a log and data, and hands out the data no further than the log is durable.
+fn handed_out<R: Threads + Wait + Print + Sync>(
+    rt: &R,
+    host: HostRuntime,
+    words: &[String],
+) -> Result<(), Refusal> {
+    let folders = Folders {
+        log: word(words, 2)?,
+        data: word(words, 3)?,
+    };
+    bounded::handed_out(rt, host, folders, number(words, 4)?, number(words, 5)?)
 }
 
 /// Prints the microseconds of looks, and of as many loads.

@@ -1,14 +1,17 @@
 //! Receivers with their recorders, whose runs nothing ends from outside.
 
+ghost use Rattle.std.specs.Prelude.{◌≡◌, IfSome};
 ghost use Rattle.agents_core.specs.Runs.{AreSeated};
 
-use agents_core::{Agents, BlockSource, FrameSink, Gate, Receiver, Recorder, run_agents};
+use agents_core::{
+    Agents, BlockSource, FrameSink, Gate, Receiver, Recorder, RecorderSeat, run_agents,
+};
 use archive_lock::{Naming, SharedArchive};
 use archive_model::PolledFrame;
 use disk_core::Disk;
 use frame_core::Refusal;
 use position_board::Board;
-use std::alloc::Global;
+use std::alloc::{AllocError, Global};
 use std::sync::Wait;
 use std::thread::Threads;
 
@@ -70,4 +73,51 @@ fn accepted(recorders: &[Recorder]) -> Result<(), Refusal> {
         }
     }
     Ok(())
+}
+
+/// Runs a receiver and a recorder until both have ended: what refused the recorder, if anything did.
+pub(crate) fn run_one<
+    S: BlockSource + Drop + Send,
+    D: Disk + Drop + Send,
+    A: Naming + Send + Sync,
+    R: Threads + Wait + Sync,
+>(
+    rt: &R,
+    alloc: Global,
+    archive: &SharedArchive<D, A>,
+    board: &Board,
+    source: S,
+    seat: RecorderSeat,
+) -> Result<(), Refusal>
+    requires pass { seat.pass.table ≡ A.table }
+    requires writer { seat.writer.table ≡ board.now }
+{
+    let (Ok(receivers), Some(recorders)) = (
+        receivers(alloc, source),
+        recorders::<A>(alloc, board, seat),
+    ) else {
+        return Err(Refusal::NoMemory);
+    };
+    run(rt, alloc, archive, board, receivers, recorders)
+}
+
+fn receivers<S: BlockSource + Drop>(
+    alloc: Global,
+    source: S,
+) -> Result<Vec<Receiver<S>>, AllocError> {
+    let mut receivers = Vec::new(alloc);
+    receivers.push(Receiver { source })?;
+    Ok(receivers)
+}
+
+fn recorders<A: Naming>(alloc: Global, board: &Board, seat: RecorderSeat) -> Option<Vec<Recorder>>
+    requires { (seat.pass.table ≡ A.table) × (seat.writer.table ≡ board.now) }
+    ensures { IfSome result (λ recorders. AreSeated A.table board.now recorders.items) }
+{
+    let _ = board;
+    let recorder = Recorder {
+        seat,
+        refused: None,
+    };
+    vec![in alloc; recorder].ok()
 }

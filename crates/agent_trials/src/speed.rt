@@ -1,19 +1,18 @@
 //! What a look costs beside a load, and what a queue between a receiver and a recorder costs beside one thread.
 
-ghost use Rattle.std.specs.Prelude.{◌≡◌, ◌<◌, IfSome};
-ghost use Rattle.agents_core.specs.Runs.{AreSeated};
+ghost use Rattle.std.specs.Prelude.{◌≡◌, ◌<◌};
 
 use crate::blocks::{LONG_TERM, SETUP, datagrams};
 use crate::crew::{Plan, begin, crewed};
-use crate::pairs::run;
-use agents_core::{BlockSource, DatagramEnd, ImageSource, Receiver, Recorder, RecorderSeat};
+use crate::pairs::run_one;
+use agents_core::{BlockSource, DatagramEnd, ImageSource, RecorderSeat};
 use archive_lock::{Naming, SharedArchive};
 use disk_core::{Disk, MemoryDisk};
 use engine_core::Engine;
 use frame_core::Refusal;
 use image_core::Image;
 use position_board::{Board, Reader};
-use std::alloc::{AllocError, Global};
+use std::alloc::Global;
 use std::io::Print;
 use std::rt::Clock;
 use std::sync::Wait;
@@ -199,59 +198,12 @@ fn timed<
 {
     let begun = now(rt);
     let outcome = if has_queue {
-        apart(rt, alloc, archive, board, source, seat)
+        run_one(rt, alloc, archive, board, source, seat)
     } else {
         alone(rt, alloc, archive, board, source, seat)
     };
     let took = since(rt, begun);
     outcome.and(took.ok_or(Refusal::DeviceFault))
-}
-
-/// A receiver and a recorder.
-fn apart<
-    S: BlockSource + Drop + Send,
-    D: Disk + Drop + Send,
-    A: Naming + Send + Sync,
-    R: Threads + Wait + Sync,
->(
-    rt: &R,
-    alloc: Global,
-    archive: &SharedArchive<D, A>,
-    board: &Board,
-    source: S,
-    seat: RecorderSeat,
-) -> Result<(), Refusal>
-    requires pass { seat.pass.table ≡ A.table }
-    requires writer { seat.writer.table ≡ board.now }
-{
-    let (Ok(receivers), Some(recorders)) = (
-        receivers(alloc, source),
-        recorders::<A>(alloc, board, seat),
-    ) else {
-        return Err(Refusal::NoMemory);
-    };
-    run(rt, alloc, archive, board, receivers, recorders)
-}
-
-fn receivers<S: BlockSource + Drop>(
-    alloc: Global,
-    source: S,
-) -> Result<Vec<Receiver<S>>, AllocError> {
-    let mut receivers = Vec::new(alloc);
-    receivers.push(Receiver { source })?;
-    Ok(receivers)
-}
-
-fn recorders<A: Naming>(alloc: Global, board: &Board, seat: RecorderSeat) -> Option<Vec<Recorder>>
-    requires { (seat.pass.table ≡ A.table) × (seat.writer.table ≡ board.now) }
-    ensures { IfSome result (λ recorders. AreSeated A.table board.now recorders.items) }
-{
-    let _ = board;
-    let recorder = Recorder {
-        seat,
-        refused: None,
-    };
-    vec![in alloc; recorder].ok()
 }
 
 /// One thread, without a queue.

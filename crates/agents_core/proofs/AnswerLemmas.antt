@@ -11,9 +11,9 @@ use Rattle.control_core.specs.declared.asked.Told.{Told}
 use Rattle.control_core.specs.declared.asked.Told.TheVariants as told
 use Rattle.control_core.specs.declared.callers.OpenReplay.{OpenReplay}
 use Rattle.control_core.specs.declared.event.Event.{Event}
-use Rattle.control_core.specs.declared.event.Event.TheVariants.{ReplayPoll, Settle}
+use Rattle.control_core.specs.declared.event.Event.TheVariants.{Settle}
 use Rattle.control_core.specs.Desk.{DeskState}
-use Rattle.control_core.specs.Exact.{asked_of, plain, plain_poll}
+use Rattle.control_core.specs.Exact.{asked_of, plain, plain_poll, poll_event}
 use Rattle.control_core.specs.Machine.{Breaks, Either, Ended, Ends, GivesFrames, Outcome, Passing, Polls, Run, Settles, Step, Unread, recording_of}
 use Rattle.control_core.specs.Turns.{open_replay_in, poll_tests, session_in, settle_tests}
 use Rattle.control_core.specs.Changes.{settled, settled_position}
@@ -66,20 +66,25 @@ unread_told : (d n : DeskState) (o : Outcome) → Unread d o n → IfOk o IsPoll
 unread_told d n o (inl x) = subst (λ (y : Outcome). IfOk y IsPolledTold) (sym x.0) tt
 unread_told d n o (inr x) = subst (λ (y : Outcome). IfOk y IsPolledTold) (sym x.2.0) tt
 
-frames_told : (d n : DeskState) (found : Option OpenReplay) (r : Option Registration) (o : Outcome) → GivesFrames d found r o n → IfOk o IsPolledTold
-frames_told d n None r o h = absurd h
-frames_told d n (Some replay) None o h = absurd h
-frames_told d n (Some replay) (Some r) o h = subst (λ (y : Outcome). IfOk y IsPolledTold) (sym h.2.0) tt
+frames_told : (d n : DeskState) (limit : Option ℤ) (found : Option OpenReplay) (r : Option Registration) (o : Outcome) → GivesFrames d limit found r o n → IfOk o IsPolledTold
+frames_told d n limit None r o h = absurd h
+frames_told d n limit (Some replay) None o h = absurd h
+frames_told d n limit (Some replay) (Some r) o h = subst (λ (y : Outcome). IfOk y IsPolledTold) (sym h.2.0) tt
 
-polled_or_unread : (d n : DeskState) (found : Option OpenReplay) (o : Outcome) → Either (Unread d) (GivesFrames d found (recording_of d found)) o n → IfOk o IsPolledTold
-polled_or_unread d n found o (inl x) = unread_told d n o x
-polled_or_unread d n found o (inr x) = frames_told d n found (recording_of d found) o x
+polled_or_unread : (d n : DeskState) (limit : Option ℤ) (found : Option OpenReplay) (o : Outcome) → Either (Unread d) (GivesFrames d limit found (recording_of d found)) o n → IfOk o IsPolledTold
+polled_or_unread d n limit found o (inl x) = unread_told d n o x
+polled_or_unread d n limit found o (inr x) = frames_told d n limit found (recording_of d found) o x
 
-told_polled : (d n : DeskState) (number most : ℤ) (o : Outcome) → Polls d number most o n → IfOk o IsPolledTold
-told_polled d n number most o h =
+told_polled : (d n : DeskState) (number most : ℤ) (limit : Option ℤ) (o : Outcome) → Polls d number most limit o n → IfOk o IsPolledTold
+told_polled d n number most limit o h =
     let found = open_replay_in d number in
-    of_passing (λ o. IfOk o IsPolledTold) (λ r. tt) d (poll_tests d number most) (Either (Unread d) (GivesFrames d found (recording_of d found))) o n
-    (polled_or_unread d n found o) checks h
+    of_passing (λ o. IfOk o IsPolledTold) (λ r. tt) d (poll_tests d number most limit) (Either (Unread d) (GivesFrames d limit found (recording_of d found))) o n
+    (polled_or_unread d n limit found o) checks h
+
+-- a poll's step is one of the machine's polls
+poll_step : (d n : DeskState) (from number most : ℤ) (limit : Option ℤ) (outcome : Result Reply Refusal) → Step d (asked_of (poll_event number most limit)) (told_at from (poll_event number most limit) outcome) n → Polls d number most limit (plain_poll from outcome) n
+poll_step d n from number most None outcome h = h
+poll_step d n from number most (Some limit) outcome h = h
 
 abbrev pub IsPolledReply : Reply → Type 0
 IsPolledReply reply = (frames : List PolledFrame) × (next : Option ℤ) × (reply ≡ replies.Polled frames next)
@@ -115,11 +120,11 @@ settling_told opening p q session (Ok reply) ends =
     let step = call_step opening p q (Settle session) (Ok reply) (ends tt) in
     settled_reply (Ok reply) (told_settled step.0 step.1 session (plain (Ok reply)) step.2)
 
--- a poll is answered by frames, or refused
-pub poll_told : (opening : EngineState) (p q : PassView Made) (number most : ℤ) (outcome : Result Reply Refusal) → (IsNoted outcome → EndsWithAnswer opening p (ReplayPoll number most) outcome q)
+-- a poll is answered by frames, or refused, with a limit or without
+pub poll_told : (opening : EngineState) (p q : PassView Made) (number most : ℤ) (limit : Option ℤ) (outcome : Result Reply Refusal) → (IsNoted outcome → EndsWithAnswer opening p (poll_event number most limit) outcome q)
     → IfOk outcome IsPolledReply
-poll_told opening p q number most (Err refusal) ends = tt
-poll_told opening p q number most (Ok reply) ends =
-    let step = call_step opening p q (ReplayPoll number most) (Ok reply) (ends tt) in
+poll_told opening p q number most limit (Err refusal) ends = tt
+poll_told opening p q number most limit (Ok reply) ends =
+    let step = call_step opening p q (poll_event number most limit) (Ok reply) (ends tt) in
     let from = (ends tt).call.from in
-    polled_reply from (Ok reply) (told_polled step.0 step.1 number most (plain_poll from (Ok reply)) step.2)
+    polled_reply from (Ok reply) (told_polled step.0 step.1 number most limit (plain_poll from (Ok reply)) (poll_step step.0 step.1 from number most limit (Ok reply) step.2))

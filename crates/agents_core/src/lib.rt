@@ -3,12 +3,14 @@
 
 mod agents;
 mod block_source;
+mod bounded;
 mod datagram_end;
 mod frame_sink;
 mod gate;
 mod handoff;
 mod image_source;
 mod item;
+pub mod laws;
 mod receiver;
 mod recorder;
 mod replayer;
@@ -17,6 +19,7 @@ mod seat;
 
 pub use agents::Agents;
 pub use block_source::BlockSource;
+pub use bounded::{BoundedReplayer, Turn};
 pub use datagram_end::DatagramEnd;
 pub use frame_sink::FrameSink;
 pub use gate::Gate;

@@ -1,6 +1,6 @@
 //! A replayer: looks at a slot, polls a replay, and hands on the frames. docs/ARCHITECTURE.md, "Agents".
 
-ghost use Rattle.std.specs.Prelude.{◌≡◌, ◌<◌, ℤ, IsTrue, List, None, Option};
+ghost use Rattle.std.specs.Prelude.{◌≡◌, ◌<◌, ℤ, IsTrue, List, None, Option, is_none};
 ghost use Rattle.frame_core.specs.declared.refusal.Refusal.{Refusal};
 ghost use Rattle.archive_model.specs.declared.reply.PolledFrame.{PolledFrame};
 ghost use Rattle.archive_model.specs.declared.reply.Reply.TheVariants.{Polled};
@@ -79,9 +79,11 @@ impl<K: FrameSink> Replayer<K> {
 }
 
 /// The frames of a poll, and whether its replay is done.
-fn polled(reply: Reply) -> (Items<PolledFrame>, bool)
+pub(crate) fn polled(reply: Reply) -> (Items<PolledFrame>, bool)
     requires { (frames : List PolledFrame) × (next : Option ℤ) × (reply ≡ Polled frames next) }
-    ensures { result.0 ≡ frames_of_reply reply }
+    ensures frames { result.0 ≡ frames_of_reply reply }
+    ensures done { (frames : List PolledFrame) (next : Option ℤ) → reply ≡ Polled frames next →
+        result.1 ≡ is_none next }
 {
     match reply {
         Reply::Polled { frames, next } => (frames, next.is_none()),

@@ -111,13 +111,13 @@ opening_refused : (a : Archive) (decision : Result Opening Refusal) (refusal : R
 opening_refused a (Err r) refusal b h = h.1
 opening_refused a (Ok o) refusal b h = absurd (let clash = h.0 in cc)
 
-polled_refused : (a : Archive) (replay : OpenReplay) (most : ℤ) (found : Option Recording) (refusal : Refusal) (b : Archive) → PolledEnds a replay most found (Err refusal) b → b ≡ a
-polled_refused a replay most None refusal b h = absurd h
-polled_refused a replay most (Some r) refusal b h = absurd (let clash = h.0 in cc)
+polled_refused : (a : Archive) (replay : OpenReplay) (most : ℤ) (limit : Option ℤ) (found : Option Recording) (refusal : Refusal) (b : Archive) → PolledEnds a replay most limit found (Err refusal) b → b ≡ a
+polled_refused a replay most limit None refusal b h = absurd h
+polled_refused a replay most limit (Some r) refusal b h = absurd (let clash = h.0 in cc)
 
-polling_refused : (a : Archive) (most : ℤ) (decision : Result OpenReplay Refusal) (refusal : Refusal) (b : Archive) → PollingEnds a most decision (Err refusal) b → b ≡ a
-polling_refused a most (Err r) refusal b h = h.1
-polling_refused a most (Ok replay) refusal b h = polled_refused a replay most (recording_at a replay.recording) refusal b h
+polling_refused : (a : Archive) (most : ℤ) (limit : Option ℤ) (decision : Result OpenReplay Refusal) (refusal : Refusal) (b : Archive) → PollingEnds a most limit decision (Err refusal) b → b ≡ a
+polling_refused a most limit (Err r) refusal b h = h.1
+polling_refused a most limit (Ok replay) refusal b h = polled_refused a replay most limit (recording_at a replay.recording) refusal b h
 
 sweep_refused : (a : Archive) (decision : Result (Unit {0}) Refusal) (refusal : Refusal) (b : Archive) → SweepEnds a decision (Err refusal) b → b ≡ a
 sweep_refused a (Err r) refusal b h = h.1
@@ -128,7 +128,8 @@ refused_unchanged a (events.Ask request) refusal b h = decision_refused a (asked
 refused_unchanged a (events.Write session block) refusal b (fits, says, h) = left a _ _ refusal b h
 refused_unchanged a (events.Settle session) refusal b h = settling_refused a session (settle_decision a.desk session) refusal b h
 refused_unchanged a (events.ReplayOpen id position size) refusal b h = opening_refused a (asked_opening a id (open_decision a.desk id position size)) refusal b h
-refused_unchanged a (events.ReplayPoll number most) refusal b h = polling_refused a most (poll_decision a.desk number most) refusal b h
+refused_unchanged a (events.ReplayPoll number most) refusal b h = polling_refused a most None (poll_decision a.desk number most None) refusal b h
+refused_unchanged a (events.ReplayPollTo number most limit) refusal b h = polling_refused a most (Some limit) (poll_decision a.desk number most (Some limit)) refusal b h
 refused_unchanged a (events.ReplayClose number) refusal b h = left a _ (close_decision a.desk number) refusal b h
 refused_unchanged a events.Sweep refusal b h = sweep_refused a (checked (sweep_tests a.desk) checks (Ok tt)) refusal b h
 refused_unchanged a (events.Verify id) refusal b h = left a _ _ refusal b h
@@ -239,13 +240,13 @@ opened_one : (a : Archive) (event : Event) (decision : Result Opening Refusal) (
 opened_one a event (Err r) reply b h = absurd (let clash = h.0 in cc)
 opened_one a event (Ok o) reply b h = same_book a _ b event h.1 refl
 
-polled_one : (a : Archive) (event : Event) (replay : OpenReplay) (most : ℤ) (found : Option Recording) (reply : Reply) (b : Archive) → PolledEnds a replay most found (Ok reply) b → MakesAtMostOne a event b
-polled_one a event replay most None reply b h = absurd h
-polled_one a event replay most (Some r) reply b h = same_book a _ b event h.1 refl
+polled_one : (a : Archive) (event : Event) (replay : OpenReplay) (most : ℤ) (limit : Option ℤ) (found : Option Recording) (reply : Reply) (b : Archive) → PolledEnds a replay most limit found (Ok reply) b → MakesAtMostOne a event b
+polled_one a event replay most limit None reply b h = absurd h
+polled_one a event replay most limit (Some r) reply b h = same_book a _ b event h.1 refl
 
-polling_one : (a : Archive) (event : Event) (most : ℤ) (decision : Result OpenReplay Refusal) (reply : Reply) (b : Archive) → PollingEnds a most decision (Ok reply) b → MakesAtMostOne a event b
-polling_one a event most (Err r) reply b h = absurd (let clash = h.0 in cc)
-polling_one a event most (Ok replay) reply b h = polled_one a event replay most (recording_at a replay.recording) reply b h
+polling_one : (a : Archive) (event : Event) (most : ℤ) (limit : Option ℤ) (decision : Result OpenReplay Refusal) (reply : Reply) (b : Archive) → PollingEnds a most limit decision (Ok reply) b → MakesAtMostOne a event b
+polling_one a event most limit (Err r) reply b h = absurd (let clash = h.0 in cc)
+polling_one a event most limit (Ok replay) reply b h = polled_one a event replay most limit (recording_at a replay.recording) reply b h
 
 sweep_one : (a : Archive) (decision : Result (Unit {0}) Refusal) (reply : Reply) (b : Archive) → SweepEnds a decision (Ok reply) b → MakesAtMostOne a events.Sweep b
 sweep_one a (Err r) reply b h = absurd (let clash = h.0 in cc)
@@ -257,7 +258,8 @@ at_most_one a (events.Ask request) reply b consistent h =
 at_most_one a (events.Write session block) reply b consistent (fits, says, h) = left_one a _ (events.Write session block) (write_decision a.desk session _ fits) reply b refl h
 at_most_one a (events.Settle session) reply b consistent h = settled_one a session (settle_decision a.desk session) reply b consistent refl h
 at_most_one a (events.ReplayOpen id position size) reply b consistent h = opened_one a (events.ReplayOpen id position size) (asked_opening a id (open_decision a.desk id position size)) reply b h
-at_most_one a (events.ReplayPoll number most) reply b consistent h = polling_one a (events.ReplayPoll number most) most (poll_decision a.desk number most) reply b h
+at_most_one a (events.ReplayPoll number most) reply b consistent h = polling_one a (events.ReplayPoll number most) most None (poll_decision a.desk number most None) reply b h
+at_most_one a (events.ReplayPollTo number most limit) reply b consistent h = polling_one a (events.ReplayPollTo number most limit) most (Some limit) (poll_decision a.desk number most (Some limit)) reply b h
 at_most_one a (events.ReplayClose number) reply b consistent h = left_one a _ (events.ReplayClose number) (close_decision a.desk number) reply b refl h
 at_most_one a events.Sweep reply b consistent h = sweep_one a (checked (sweep_tests a.desk) checks (Ok tt)) reply b h
 at_most_one a (events.Verify id) reply b consistent h = left_one a a (events.Verify id) _ reply b refl h

@@ -40,7 +40,7 @@ use Rattle.control_core.specs.Callers.{moved_to, replay_number, session_number, 
 use Rattle.control_core.specs.Desk.{DeskState}
 use Rattle.control_core.specs.Changes.{after_close, after_open, after_poll, settled, settled_by}
 use Rattle.control_core.specs.Decisions.{decision_of}
-use Rattle.control_core.specs.Turns.{begins_at, close_decision, open_decision, open_tests, opened_at, opening_decided, opening_in, opening_of, poll_decision, poll_tests, open_replay_in, open_replay_of, session_in, settle_decision, sweep_tests, write_decision}
+use Rattle.control_core.specs.Turns.{begins_at, close_decision, held_to, open_decision, open_tests, opened_at, opening_decided, opening_in, opening_of, poll_decision, poll_tests, open_replay_in, open_replay_of, session_in, settle_decision, sweep_tests, write_decision}
 use Rattle.control_core.specs.Seats.{AreApart, KeepsSeats}
 use Rattle.control_core.specs.Agreement.{Agrees, WroteBlocks}
 use Rattle.control_core.specs.Exact.{Archive, ArchiveEnds, CallEnds, DecisionEnds, Leaves, LeftByFault, OpeningEnds, PolledEnds, PollingEnds, SettlingEnds, SweepEnds, asked_frames, asked_opening, book_of, broken, frames_end, opened_archive, recording_at, settled_archive, span_of, with_desk, with_session_blocks, written}
@@ -81,17 +81,17 @@ closed a number consistent =
     with_replays a (after_close number a.desk) consistent refl refl refl (keeps_closed a.desk.register a.desk.callers number consistent.seats)
     (λ at_all. each_without replay_number (IsAtBoundary a.state) number a.desk.callers.replays at_all)
 
--- a replay that is moved to where its poll ends
-moved : (a : Archive) (number most : ℤ) (replay : OpenReplay) (r : Recording) → IsConsistent a → open_replay_in a.desk number ≡ Some replay → recording_at a replay.recording ≡ Some r
-    → StaysConsistent a (with_desk (after_poll replay.number (frames_end replay.next (polled replay.next replay.bound (unsigned_abs most) r)) a.desk) a)
-moved a number most replay r consistent is found =
-    let next = frames_end replay.next (polled replay.next replay.bound (unsigned_abs most) r) in
+-- a replay that is moved to where its poll up to a bound ends
+moved : (a : Archive) (number most bound : ℤ) (replay : OpenReplay) (r : Recording) → IsConsistent a → open_replay_in a.desk number ≡ Some replay → recording_at a replay.recording ≡ Some r
+    → StaysConsistent a (with_desk (after_poll replay.number (frames_end replay.next (polled replay.next bound (unsigned_abs most) r)) a.desk) a)
+moved a number most bound replay r consistent is found =
+    let next = frames_end replay.next (polled replay.next bound (unsigned_abs most) r) in
     let d = after_poll replay.number next a.desk in
     with_replays a d consistent refl refl refl (keeps_moved a.desk.register a.desk.callers replay.number next consistent.seats) (λ at_all.
     let at = goes_on_at a.state replay (each_found replay_number (IsAtBoundary a.state) number a.desk.callers.replays replay at_all is) in
     let this : at.recording ≡ r = (let same : Some at.recording ≡ Some r = sym at.found ∙ found in cc) in
     let boundary : is_boundary replay.next r ≡ true = subst (λ (x : Recording). is_boundary replay.next x ≡ true) this at.boundary in
-    let ends : is_boundary next r ≡ true = boundary_polled r replay.next replay.bound (unsigned_abs most) boundary in
+    let ends : is_boundary next r ≡ true = boundary_polled r replay.next bound (unsigned_abs most) boundary in
     let number_is : replay.number ≡ number = number_found replay_number number a.desk.callers.replays replay is in
     each_changed replay_number (IsAtBoundary a.state) (IsAtBoundary a.state) replay.number (pos 0) a.desk.callers.next_replay (moved_to next) a.desk.callers.replays consistent.seats.replays.rising
     (λ x there old.
@@ -299,23 +299,23 @@ opened_consistent : (a : Archive) (id position size : ℤ) (decision : Result Op
 opened_consistent a id position size (Err r) reply b consistent is h = absurd (let clash = h.0 in cc)
 opened_consistent a id position size (Ok o) reply b consistent is h = subst (StaysConsistent a) (sym h.1) (opened a id position size o consistent is)
 
-polled_consistent : (a : Archive) (number most : ℤ) (replay : OpenReplay) (found : Option Recording) (reply : Reply) (b : Archive) → IsConsistent a → open_replay_in a.desk number ≡ Some replay → recording_at a replay.recording ≡ found
-    → PolledEnds a replay most found (Ok reply) b → StaysConsistent a b
-polled_consistent a number most replay None reply b consistent is at h = absurd h
-polled_consistent a number most replay (Some r) reply b consistent is at h = subst (StaysConsistent a) (sym h.1) (moved a number most replay r consistent is at)
+polled_consistent : (a : Archive) (number most : ℤ) (limit : Option ℤ) (replay : OpenReplay) (found : Option Recording) (reply : Reply) (b : Archive) → IsConsistent a → open_replay_in a.desk number ≡ Some replay → recording_at a replay.recording ≡ found
+    → PolledEnds a replay most limit found (Ok reply) b → StaysConsistent a b
+polled_consistent a number most limit replay None reply b consistent is at h = absurd h
+polled_consistent a number most limit replay (Some r) reply b consistent is at h = subst (StaysConsistent a) (sym h.1) (moved a number most (held_to limit replay.bound) replay r consistent is at)
 
 -- what is polled is open
-pub polled_open : (d : DeskState) (number most : ℤ) (replay : OpenReplay) → poll_decision d number most ≡ Ok replay → open_replay_in d number ≡ Some replay
-polled_open d number most replay is = by (open_replay_in d number) (all_hold (poll_tests d number most) checks (open_replay_of (open_replay_in d number)) replay is).1
+pub polled_open : (d : DeskState) (number most : ℤ) (limit : Option ℤ) (replay : OpenReplay) → poll_decision d number most limit ≡ Ok replay → open_replay_in d number ≡ Some replay
+polled_open d number most limit replay is = by (open_replay_in d number) (all_hold (poll_tests d number most limit) checks (open_replay_of (open_replay_in d number)) replay is).1
   where
     by : (found : Option OpenReplay) → open_replay_of found ≡ Ok replay → found ≡ Some replay
     by None e = absurd cc
     by (Some x) e = cc
 
-polling_consistent : (a : Archive) (number most : ℤ) (decision : Result OpenReplay Refusal) (reply : Reply) (b : Archive) → IsConsistent a → poll_decision a.desk number most ≡ decision → PollingEnds a most decision (Ok reply) b → StaysConsistent a b
-polling_consistent a number most (Err r) reply b consistent is h = absurd (let clash = h.0 in cc)
-polling_consistent a number most (Ok replay) reply b consistent is h =
-    polled_consistent a number most replay (recording_at a replay.recording) reply b consistent (polled_open a.desk number most replay is) refl h
+polling_consistent : (a : Archive) (number most : ℤ) (limit : Option ℤ) (decision : Result OpenReplay Refusal) (reply : Reply) (b : Archive) → IsConsistent a → poll_decision a.desk number most limit ≡ decision → PollingEnds a most limit decision (Ok reply) b → StaysConsistent a b
+polling_consistent a number most limit (Err r) reply b consistent is h = absurd (let clash = h.0 in cc)
+polling_consistent a number most limit (Ok replay) reply b consistent is h =
+    polled_consistent a number most limit replay (recording_at a replay.recording) reply b consistent (polled_open a.desk number most limit replay is) refl h
 
 sweep_consistent : (a : Archive) (decision : Result (Unit {0}) Refusal) (reply : Reply) (b : Archive) → IsConsistent a → SweepEnds a decision (Ok reply) b → StaysConsistent a b
 sweep_consistent a (Err r) reply b consistent h = absurd (let clash = h.0 in cc)
@@ -327,7 +327,8 @@ answered a (events.Write session block) reply b consistent (fits, says, h) =
     left_consistent a (written a session block) (write_decision a.desk session (span_of block) fits) reply b (λ y is. wrote a session block consistent (write_allowed a session block fits y consistent says is)) h
 answered a (events.Settle session) reply b consistent h = settled_consistent a session (settle_decision a.desk session) reply b consistent refl h
 answered a (events.ReplayOpen id position size) reply b consistent h = opened_consistent a id position size (asked_opening a id (open_decision a.desk id position size)) reply b consistent refl h
-answered a (events.ReplayPoll number most) reply b consistent h = polling_consistent a number most (poll_decision a.desk number most) reply b consistent refl h
+answered a (events.ReplayPoll number most) reply b consistent h = polling_consistent a number most None (poll_decision a.desk number most None) reply b consistent refl h
+answered a (events.ReplayPollTo number most limit) reply b consistent h = polling_consistent a number most (Some limit) (poll_decision a.desk number most (Some limit)) reply b consistent refl h
 answered a (events.ReplayClose number) reply b consistent h = left_consistent a _ (close_decision a.desk number) reply b (λ y is. closed a number consistent) h
 answered a events.Sweep reply b consistent h = sweep_consistent a (checked (sweep_tests a.desk) checks (Ok tt)) reply b consistent h
 answered a (events.Verify id) reply b consistent h = left_consistent a a _ reply b (λ y is. unchanged a consistent) h

@@ -17,6 +17,7 @@ use Rattle.archive_model.specs.WellFormed.{IsKept}
 use Rattle.archive_model.proofs.WellLemmas.{both}
 use Rattle.archive_model.proofs.StateLemmas.{each_found, found_registration}
 use Rattle.archive_model.specs.Register.{RegisterState, is_end, registration_in}
+use Rattle.control_core.specs.declared.asked.Asked.TheVariants as calls
 use Rattle.control_core.specs.declared.asked.Told.TheVariants as told
 use Rattle.control_core.specs.declared.callers.OpenReplay.{OpenReplay}
 use Rattle.control_core.specs.declared.callers.RecorderSession.{RecorderSession}
@@ -32,7 +33,7 @@ use Rattle.control_core.specs.Callers.{replay_number, written_to}
 use Rattle.control_core.specs.Desk.{DeskState}
 use Rattle.control_core.specs.Changes.{after_close, after_open, after_poll, after_write, recorded_of, settled, settled_by, settled_position}
 use Rattle.control_core.specs.Decisions.{decision_of}
-use Rattle.control_core.specs.Turns.{begins_at, close_tests, continues, is_done_at, open_tests, opened_at, opening_decided, opening_of, poll_tests, open_replay_in, open_replay_of, session_in, settle_tests, settling_by, settling_of, sweep_tests, verify_tests, write_tests}
+use Rattle.control_core.specs.Turns.{begins_at, close_tests, continues, held_back, held_to, is_done_at, is_limit, open_tests, opened_at, opening_decided, opening_of, poll_decision, poll_tests, open_replay_in, open_replay_of, session_in, settle_tests, settling_by, settling_of, sweep_tests, verify_tests, write_tests}
 use Rattle.control_core.specs.Machine.{AtPosition, Breaks, Decided, Either, Ended, Faults, GivesFrames, Outcome, Passing, RefusesCall, Step, UnlessBoundary, Unread, recording_of}
 use Rattle.control_core.specs.Exact.{Archive, ArchiveEnds, DecisionEnds, Is, Leaves, OpeningEnds, PolledEnds, PollingEnds, SettlingEnds, SweepEnds, WriteEnds, asked_frames, asked_of, asked_opening, frames_end, frames_of_one, from_position, goes_on, plain, plain_poll, recording_at, settled_archive, span_of, told_of, with_desk, written, is_poll}
 use Rattle.control_core.specs.Consistent.{AreAtBoundaries, IsAtBoundary, IsConsistent}
@@ -198,10 +199,10 @@ is_done true next = refl
 is_done false next = refl
 
 -- what a poll of a replay of a recording gives
-gives : (a : Archive) (number most : ℤ) (replay : OpenReplay) (r : Recording) (o : Result Reply Refusal) (b : Archive) → open_replay_in a.desk number ≡ Some replay → IsKept r → is_boundary replay.next r ≡ true → 0 < unsigned_abs most
-    → PolledEnds a replay most (Some r) o b → GivesFrames a.desk (Some replay) (Some (registration_of r)) (plain_poll (from_position (open_replay_in a.desk number)) o) b.desk
-gives a number most replay r o b is kept boundary some h =
-    let frames = polled replay.next replay.bound (unsigned_abs most) r in
+gives : (a : Archive) (number most : ℤ) (limit : Option ℤ) (replay : OpenReplay) (r : Recording) (o : Result Reply Refusal) (b : Archive) → open_replay_in a.desk number ≡ Some replay → IsKept r → is_boundary replay.next r ≡ true → 0 < unsigned_abs most
+    → PolledEnds a replay most limit (Some r) o b → GivesFrames a.desk limit (Some replay) (Some (registration_of r)) (plain_poll (from_position (open_replay_in a.desk number)) o) b.desk
+gives a number most limit replay r o b is kept boundary some h =
+    let frames = polled replay.next (held_to limit replay.bound) (unsigned_abs most) r in
     let next = frames_end replay.next frames in
     let moved : Written = record { first = replay.next; last = next } in
     let answer : Result Reply Refusal = Ok (replies.Polled frames (goes_on r replay next)) in
@@ -209,48 +210,49 @@ gives a number most replay r o b is kept boundary some h =
     let done = is_done (is_done_at (registration_of r) replay.bound next) next in
     let told_is : plain_poll (from_position (open_replay_in a.desk number)) answer ≡ Ok (told.Polled moved (is_done_at (registration_of r) replay.bound next)) =
     ap (λ (found : Option OpenReplay). plain_poll (from_position found) answer) is ∙ ap (λ (t : Bool). Ok (told.Polled moved t)) done in
-    (moved, poll_moves r replay (unsigned_abs most) kept boundary some, (end.0 ∙ told_is, end.1))
+    (moved, poll_moves r (held_back limit replay) (unsigned_abs most) kept boundary some, (end.0 ∙ told_is, end.1))
 
 -- the recording of a replay, as the register has it
-gives_of : (a : Archive) (number most : ℤ) (replay : OpenReplay) (found : Option Recording) (o : Result Reply Refusal) (b : Archive) → IsConsistent a → AreAtBoundaries a → open_replay_in a.desk number ≡ Some replay → recording_at a replay.recording ≡ found → 0 < unsigned_abs most
-    → PolledEnds a replay most found o b → GivesFrames a.desk (Some replay) (option_map registration_of found) (plain_poll (from_position (open_replay_in a.desk number)) o) b.desk
-gives_of a number most replay None o b consistent at_all is at some h = absurd h
-gives_of a number most replay (Some r) o b consistent at_all is at some h =
+gives_of : (a : Archive) (number most : ℤ) (limit : Option ℤ) (replay : OpenReplay) (found : Option Recording) (o : Result Reply Refusal) (b : Archive) → IsConsistent a → AreAtBoundaries a → open_replay_in a.desk number ≡ Some replay → recording_at a replay.recording ≡ found → 0 < unsigned_abs most
+    → PolledEnds a replay most limit found o b → GivesFrames a.desk limit (Some replay) (option_map registration_of found) (plain_poll (from_position (open_replay_in a.desk number)) o) b.desk
+gives_of a number most limit replay None o b consistent at_all is at some h = absurd h
+gives_of a number most limit replay (Some r) o b consistent at_all is at some h =
     let kept = each_found id_of IsKept replay.recording a.state.recordings r consistent.well.kept at in
     let there = each_found replay_number (IsAtBoundary a.state) number a.desk.callers.replays replay at_all is in
     let boundary : is_boundary replay.next r ≡ true = subst (λ (x : Option Recording). IsSomeAnd x (λ y. IsTrue (is_boundary replay.next y))) at there in
-    gives a number most replay r o b is kept boundary some h
+    gives a number most limit replay r o b is kept boundary some h
 
-polls : (a : Archive) (number most : ℤ) (found : Option OpenReplay) (o : Result Reply Refusal) (b : Archive) → IsConsistent a → AreAtBoundaries a → open_replay_in a.desk number ≡ found → is_some found ≡ true → 0 < unsigned_abs most
-    → PollingEnds a most (open_replay_of found) o b → GivesFrames a.desk found (recording_of a.desk found) (plain_poll (from_position (open_replay_in a.desk number)) o) b.desk
-polls a number most None o b consistent at_all is there some h = absurd (true≢false (sym there))
-polls a number most (Some replay) o b consistent at_all is there some h =
+polls : (a : Archive) (number most : ℤ) (limit : Option ℤ) (found : Option OpenReplay) (o : Result Reply Refusal) (b : Archive) → IsConsistent a → AreAtBoundaries a → open_replay_in a.desk number ≡ found → is_some found ≡ true → 0 < unsigned_abs most
+    → PollingEnds a most limit (open_replay_of found) o b → GivesFrames a.desk limit found (recording_of a.desk found) (plain_poll (from_position (open_replay_in a.desk number)) o) b.desk
+polls a number most limit None o b consistent at_all is there some h = absurd (true≢false (sym there))
+polls a number most limit (Some replay) o b consistent at_all is there some h =
     let known : registration_in a.desk.register replay.recording ≡ option_map registration_of (recording_at a replay.recording) =
     ap (λ (g : RegisterState). registration_in g replay.recording) consistent.agrees ∙ found_registration replay.recording a.state.recordings in
-    subst (λ (x : Option Registration). GivesFrames a.desk (Some replay) x (plain_poll (from_position (open_replay_in a.desk number)) o) b.desk) (sym known)
-    (gives_of a number most replay (recording_at a replay.recording) o b consistent at_all is refl some h)
+    subst (λ (x : Option Registration). GivesFrames a.desk limit (Some replay) x (plain_poll (from_position (open_replay_in a.desk number)) o) b.desk) (sym known)
+    (gives_of a number most limit replay (recording_at a replay.recording) o b consistent at_all is refl some h)
 
-at_least_one : (most : ℤ) → (int_le (pos 1) most && int_le most (pos 4096)) ≡ true → 0 < unsigned_abs most
-at_least_one most is = let least = both is in let low = le_true (pos 1) most least.0 in omega (arith, ints, low)
+at_least_one : (most : ℤ) (limited : Bool) → (int_le (pos 1) most && int_le most (pos 4096) && limited) ≡ true → 0 < unsigned_abs most
+at_least_one most limited is = let least : (int_le (pos 1) most ≡ true) × (int_le most (pos 4096) ≡ true) = both (both is).0 in let low = le_true (pos 1) most least.0 in omega (arith, ints, low)
 
-exact_poll : (a : Archive) (number most : ℤ) (o : Result Reply Refusal) (b : Archive) → IsConsistent a → AreAtBoundaries a → ArchiveEnds a (events.ReplayPoll number most) o b
-    → Step a.desk (asked_of (events.ReplayPoll number most)) (told_of a.desk (events.ReplayPoll number most) o) b.desk
-exact_poll a number most o b consistent at_all h =
+exact_poll : (a : Archive) (number most : ℤ) (limit : Option ℤ) (o : Result Reply Refusal) (b : Archive) → IsConsistent a → AreAtBoundaries a → PollingEnds a most limit (poll_decision a.desk number most limit) o b
+    → Step a.desk (calls.ReplayPoll number most limit) (plain_poll (from_position (open_replay_in a.desk number)) o) b.desk
+exact_poll a number most limit o b consistent at_all h =
     let found = open_replay_in a.desk number in
-    let tests = poll_tests a.desk number most in
-    let gives_so : Outcome → DeskState → Type 0 = Either (Unread a.desk) (GivesFrames a.desk found (recording_of a.desk found)) in
-    checking a (plain_poll (from_position found)) (λ r. refl) (PollingEnds a most) (λ r o b h. h) tests checks (open_replay_of found) gives_so o b
+    let tests = poll_tests a.desk number most limit in
+    let gives_so : Outcome → DeskState → Type 0 = Either (Unread a.desk) (GivesFrames a.desk limit found (recording_of a.desk found)) in
+    checking a (plain_poll (from_position found)) (λ r. refl) (PollingEnds a most limit) (λ r o b h. h) tests checks (open_replay_of found) gives_so o b
     (λ all done.
-    let parts : ((int_le (pos 1) most && int_le most (pos 4096)) ≡ true) × ((is_some found && true) ≡ true) = both all in
+    let parts : ((int_le (pos 1) most && int_le most (pos 4096) && is_limit limit) ≡ true) × ((is_some found && true) ≡ true) = both all in
     let there : (is_some found ≡ true) × (true ≡ true) = both parts.1 in
-    inr (polls a number most found o b consistent at_all refl there.0 (at_least_one most parts.0) done)) h
+    inr (polls a number most limit found o b consistent at_all refl there.0 (at_least_one most (is_limit limit) parts.0) done)) h
 
 pub exact_is_allowed : (a : Archive) (event : Event) (o : Result Reply Refusal) (b : Archive) → (IsTrue (is_poll event) → IsConsistent a × AreAtBoundaries a) → ArchiveEnds a event o b → Step a.desk (asked_of event) (told_of a.desk event o) b.desk
 exact_is_allowed a (events.Ask request) o b consistent h = exact_decision a (decision_of a.desk request) o b h
 exact_is_allowed a (events.Write session block) o b consistent h = exact_write a session block o b h
 exact_is_allowed a (events.Settle session) o b consistent h = exact_settle a session o b h
 exact_is_allowed a (events.ReplayOpen id position size) o b consistent h = exact_open a id position size o b h
-exact_is_allowed a (events.ReplayPoll number most) o b consistent h = let was = consistent refl in exact_poll a number most o b was.0 was.1 h
+exact_is_allowed a (events.ReplayPoll number most) o b consistent h = let was = consistent refl in exact_poll a number most None o b was.0 was.1 h
+exact_is_allowed a (events.ReplayPollTo number most limit) o b consistent h = let was = consistent refl in exact_poll a number most (Some limit) o b was.0 was.1 h
 exact_is_allowed a (events.ReplayClose number) o b consistent h = exact_close a number o b h
 exact_is_allowed a events.Sweep o b consistent h = exact_sweep a o b h
 exact_is_allowed a (events.Verify id) o b consistent h = exact_verify a id o b h

@@ -24,7 +24,7 @@ use Rattle.control_core.specs.Desk.{DeskState}
 use Rattle.control_core.specs.Changes.{after_open, after_write, broken_desk, settled, settled_position}
 use Rattle.control_core.specs.Decisions.{command_in, decision_of}
 use Rattle.control_core.specs.Turns.{begins_at, open_tests, opened_at, opening_decided, opening_of, poll_tests, open_replay_in, session_in, settle_tests, sweep_tests, verify_tests, write_tests}
-use Rattle.control_core.specs.Machine.{AtPosition, Breaks, Decided, Either, Ended, Ends, Faults, GivesFrames, Outcome, Passing, RefusesCall, Step, Stepped, UnlessBoundary, Unread, recording_of}
+use Rattle.control_core.specs.Machine.{AtPosition, Breaks, Decided, Either, Ended, Ends, Faults, GivesFrames, Outcome, Passing, Polls, RefusesCall, Step, Stepped, UnlessBoundary, Unread, recording_of}
 use Rattle.control_core.specs.Exact.{Archive, CallEnds, LeftByFault, MakesState, asked_of, opens_by_frames, reads_files, span_of, told_of, waits_for_frames, writes_files, is_poll}
 use Rattle.control_core.specs.Consistent.{AreAtBoundaries, IsConsistent}
 use Rattle.control_core.proofs.ExactLemmas.{exact_is_allowed}
@@ -73,6 +73,12 @@ opening_unread d tests (r ∷ rs) decision ends o new by_frames end = by (tests 
     by true frames rest = rest frames
     by false frames rest = absurd (true≢false (sym frames))
 
+poll_unread : (d : DeskState) (number most : ℤ) (limit : Option ℤ) (new : DeskState) → passes (poll_tests d number most limit) checks ≡ true → new ≡ d → Polls d number most limit (Err DeviceFault) new
+poll_unread d number most limit new reads same =
+    let found = open_replay_in d number in
+    let ends : Ends = Either (Unread d) (GivesFrames d limit found (recording_of d found)) in
+    passed d (poll_tests d number most limit) checks ends (Err DeviceFault) new reads (inl (inl (refl, same)))
+
 -- ---- a fault in writing
 
 decided_breaks : (d : DeskState) (decision : Decision) (new : DeskState) → is_some (command_in decision) ≡ true → new ≡ broken_desk d → Decided d decision (Err DeviceFault) new
@@ -99,10 +105,8 @@ left_read a (events.ReplayOpen id position size) new reads same =
     let behind = checked tests (block_checks ++ last_checks) (Ok (opening_of d id position size)) in
     let opened : Ends = Passing d tests (block_checks ++ last_checks) (Ended (Ok (told.Reply (replies.ReplayOpened d.callers.next_replay))) (after_open id next (bound_of next size) d)) in
     opening_unread d tests first_checks (opened_at found behind next) (AtPosition d found next opened) (Err DeviceFault) new reads (λ by_frames. position_unread d found next behind opened new by_frames same)
-left_read a (events.ReplayPoll number most) new reads same =
-    let found = open_replay_in a.desk number in
-    let ends : Ends = Either (Unread a.desk) (GivesFrames a.desk found (recording_of a.desk found)) in
-    passed a.desk (poll_tests a.desk number most) checks ends (Err DeviceFault) new reads (inl (inl (refl, same)))
+left_read a (events.ReplayPoll number most) new reads same = poll_unread a.desk number most None new reads same
+left_read a (events.ReplayPollTo number most limit) new reads same = poll_unread a.desk number most (Some limit) new reads same
 left_read a (events.ReplayClose number) new reads same = absurd (true≢false (sym reads))
 left_read a events.Sweep new reads same =
     let ends : Ends = λ o x. ((removed : Bool) × Ended (Ok (told.Reply (replies.Swept removed))) a.desk o x) ⊎ Faults a.desk o x in
@@ -128,6 +132,7 @@ left_written a (events.Settle session) u new writes (reply, (b, ends, state)) sa
     passed_on a.desk (settle_tests a.desk session) checks done done (told.Reply reply) b.desk (Err DeviceFault) new (exact_is_allowed a (events.Settle session) (Ok reply) b (λ poll. absurd (true≢false (sym poll))) ends) (λ was. inr (inr (refl, same)))
 left_written a (events.ReplayOpen id position size) u new writes makes same = absurd (true≢false (sym writes))
 left_written a (events.ReplayPoll number most) u new writes makes same = absurd (true≢false (sym writes))
+left_written a (events.ReplayPollTo number most limit) u new writes makes same = absurd (true≢false (sym writes))
 left_written a (events.ReplayClose number) u new writes makes same = absurd (true≢false (sym writes))
 left_written a events.Sweep u new writes makes same = absurd (true≢false (sym writes))
 left_written a (events.Verify id) u new writes makes same = absurd (true≢false (sym writes))
@@ -149,6 +154,7 @@ told_as_is d (events.Write session block) refusal = refl
 told_as_is d (events.Settle session) refusal = refl
 told_as_is d (events.ReplayOpen id position size) refusal = refl
 told_as_is d (events.ReplayPoll number most) refusal = refl
+told_as_is d (events.ReplayPollTo number most limit) refusal = refl
 told_as_is d (events.ReplayClose number) refusal = refl
 told_as_is d events.Sweep refusal = refl
 told_as_is d (events.Verify id) refusal = refl

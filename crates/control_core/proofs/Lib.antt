@@ -14,6 +14,7 @@ pub mod AgreementLemmas
 pub mod DecidedLemmas
 pub mod CallLemmas
 pub mod PollLemmas
+pub mod PollEventLemmas
 mod BoundaryLemmas
 pub mod StayLemmas
 pub mod CommandLemmas

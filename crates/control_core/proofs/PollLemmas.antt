@@ -26,7 +26,7 @@ le_true a b e = search rules
 lt_true : (a b : ℤ) → int_lt a b ≡ true → a <ℤ b
 lt_true a b e = search rules
 
-lt_false : (a b : ℤ) → int_lt a b ≡ false → b ≤ℤ a
+pub lt_false : (a b : ℤ) → int_lt a b ≡ false → b ≤ℤ a
 lt_false a b e = search rules
 
 is_lt : (a b : ℤ) → a <ℤ b → int_lt a b ≡ true

@@ -58,13 +58,13 @@ opened_doubt : (a : Archive) (decision : Result Opening Refusal) (reply : Reply)
 opened_doubt a (Err r) reply b h = absurd (let clash = h.0 in cc)
 opened_doubt a (Ok o) reply b h = doubt_of a _ b refl h.1
 
-polled_doubt : (a : Archive) (replay : OpenReplay) (most : ℤ) (found : Option Recording) (reply : Reply) (b : Archive) → PolledEnds a replay most found (Ok reply) b → SameDoubt a b
-polled_doubt a replay most None reply b h = absurd h
-polled_doubt a replay most (Some r) reply b h = doubt_of a _ b refl h.1
+polled_doubt : (a : Archive) (replay : OpenReplay) (most : ℤ) (limit : Option ℤ) (found : Option Recording) (reply : Reply) (b : Archive) → PolledEnds a replay most limit found (Ok reply) b → SameDoubt a b
+polled_doubt a replay most limit None reply b h = absurd h
+polled_doubt a replay most limit (Some r) reply b h = doubt_of a _ b refl h.1
 
-polling_doubt : (a : Archive) (most : ℤ) (decision : Result OpenReplay Refusal) (reply : Reply) (b : Archive) → PollingEnds a most decision (Ok reply) b → SameDoubt a b
-polling_doubt a most (Err r) reply b h = absurd (let clash = h.0 in cc)
-polling_doubt a most (Ok replay) reply b h = polled_doubt a replay most (recording_at a replay.recording) reply b h
+polling_doubt : (a : Archive) (most : ℤ) (limit : Option ℤ) (decision : Result OpenReplay Refusal) (reply : Reply) (b : Archive) → PollingEnds a most limit decision (Ok reply) b → SameDoubt a b
+polling_doubt a most limit (Err r) reply b h = absurd (let clash = h.0 in cc)
+polling_doubt a most limit (Ok replay) reply b h = polled_doubt a replay most limit (recording_at a replay.recording) reply b h
 
 sweep_doubt : (a : Archive) (decision : Result (Unit {0}) Refusal) (reply : Reply) (b : Archive) → SweepEnds a decision (Ok reply) b → SameDoubt a b
 sweep_doubt a (Err r) reply b h = absurd (let clash = h.0 in cc)
@@ -75,7 +75,8 @@ same_doubt a (events.Ask request) reply b h = asked_doubt a (asked_frames a (dec
 same_doubt a (events.Write session block) reply b (fits, says, h) = left_doubt a _ (write_decision a.desk session _ fits) reply b refl h
 same_doubt a (events.Settle session) reply b h = settled_doubt a session (settle_decision a.desk session) reply b h
 same_doubt a (events.ReplayOpen id position size) reply b h = opened_doubt a (asked_opening a id (open_decision a.desk id position size)) reply b h
-same_doubt a (events.ReplayPoll number most) reply b h = polling_doubt a most (poll_decision a.desk number most) reply b h
+same_doubt a (events.ReplayPoll number most) reply b h = polling_doubt a most None (poll_decision a.desk number most None) reply b h
+same_doubt a (events.ReplayPollTo number most limit) reply b h = polling_doubt a most (Some limit) (poll_decision a.desk number most (Some limit)) reply b h
 same_doubt a (events.ReplayClose number) reply b h = left_doubt a _ (close_decision a.desk number) reply b refl h
 same_doubt a events.Sweep reply b h = sweep_doubt a (checked (sweep_tests a.desk) checks (Ok tt)) reply b h
 same_doubt a (events.Verify id) reply b h = left_doubt a a _ reply b refl h
@@ -119,6 +120,7 @@ unbroken a (events.Write session block) reply b consistent broke writes (fits, s
 unbroken a (events.Settle session) reply b consistent broke writes h = settled_unbroken a session (settle_decision a.desk session) reply b broke refl h
 unbroken a (events.ReplayOpen id position size) reply b consistent broke writes h = true≢false (sym writes)
 unbroken a (events.ReplayPoll number most) reply b consistent broke writes h = true≢false (sym writes)
+unbroken a (events.ReplayPollTo number most limit) reply b consistent broke writes h = true≢false (sym writes)
 unbroken a (events.ReplayClose number) reply b consistent broke writes h = true≢false (sym writes)
 unbroken a events.Sweep reply b consistent broke writes h = true≢false (sym writes)
 unbroken a (events.Verify id) reply b consistent broke writes h = true≢false (sym writes)

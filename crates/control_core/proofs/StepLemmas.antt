@@ -22,7 +22,7 @@ use Rattle.control_core.specs.declared.turns.Opening.{Opening}
 use Rattle.control_core.specs.Opened as opening
 use Rattle.control_core.specs.Changes.{after_close, after_open, after_write, desk_after, reply_after, settled, settled_position}
 use Rattle.control_core.specs.Desk.{DeskState}
-use Rattle.control_core.specs.Turns.{begins_at, close_tests, open_decision, open_tests, opened_at, opening_decided, opening_of, poll_decision, poll_tests, open_replay_in, open_replay_of, session_in, settle_tests, sweep_tests, verify_tests, write_tests}
+use Rattle.control_core.specs.Turns.{begins_at, close_tests, is_limit, open_decision, open_tests, opened_at, opening_decided, opening_of, poll_decision, poll_tests, open_replay_in, open_replay_of, session_in, settle_tests, sweep_tests, verify_tests, write_tests}
 use Rattle.control_core.specs.Machine.{AtPosition, Breaks, Decided, Does, Either, Ended, Ends, GivesFrames, Outcome, Passing, RefusesCall, Step, Stepped, UnlessBoundary, Unread, recording_of}
 use Rattle.control_core.specs.ByDecision.{OpensAs, OpensBy, PollsBy, SweepsBy, VerifiesBy}
 
@@ -39,15 +39,15 @@ module _ {X : Type 0} (d : DeskState) (F : Result X Refusal → Ends) (refuses :
       by true is h rest = rest (λ all. done (rw is all)) h
       by false is h rest = refuses r o new h
 
-pub poll_step : (d : DeskState) (number most : ℤ) (o : Outcome) (new : DeskState) → PollsBy d (poll_decision d number most) o new → Step d (calls.ReplayPoll number most) o new
-poll_step d number most o new h =
+pub poll_step : (d : DeskState) (number most : ℤ) (limit : Option ℤ) (o : Outcome) (new : DeskState) → PollsBy d limit (poll_decision d number most limit) o new → Step d (calls.ReplayPoll number most limit) o new
+poll_step d number most limit o new h =
     let found = open_replay_in d number in
-    by_checks d (PollsBy d) (λ r o new h. h) (poll_tests d number most) checks (open_replay_of found) (Either (Unread d) (GivesFrames d found (recording_of d found))) o new
+    by_checks d (PollsBy d limit) (λ r o new h. h) (poll_tests d number most limit) checks (open_replay_of found) (Either (Unread d) (GivesFrames d limit found (recording_of d found))) o new
     (λ all polled.
-    let parts : ((int_le (pos 1) most && int_le most (pos 4096)) ≡ true) × ((is_some found && true) ≡ true) = both all in
+    let parts : ((int_le (pos 1) most && int_le most (pos 4096) && is_limit limit) ≡ true) × ((is_some found && true) ≡ true) = both all in
     open_of found (both parts.1).0 polled) h
   where
-    open_of : (found : Option OpenReplay) → is_some found ≡ true → PollsBy d (open_replay_of found) o new → Either (Unread d) (GivesFrames d found (recording_of d found)) o new
+    open_of : (found : Option OpenReplay) → is_some found ≡ true → PollsBy d limit (open_replay_of found) o new → Either (Unread d) (GivesFrames d limit found (recording_of d found)) o new
     open_of None some polled = absurd (true≢false (sym some))
     open_of (Some replay) some polled = polled
 
@@ -139,10 +139,10 @@ position_stays d (Some r) position ends stays = record { is = by (is_end positio
     by true refusal new other h = stays.is refusal new other h
     by false refusal new other h = (boundary_stays d ends stays).is refusal new other h
 
-gives_stay : (d : DeskState) (found : Option OpenReplay) (known : Option Registration) → Stays d (GivesFrames d found known)
-gives_stay d None known = record { is = λ refusal new other h. absurd h }
-gives_stay d (Some replay) None = record { is = λ refusal new other h. absurd h }
-gives_stay d (Some replay) (Some r) = record { is = λ refusal new other h. absurd (let clash = h.2.0 in cc) }
+gives_stay : (d : DeskState) (limit : Option ℤ) (found : Option OpenReplay) (known : Option Registration) → Stays d (GivesFrames d limit found known)
+gives_stay d limit None known = record { is = λ refusal new other h. absurd h }
+gives_stay d limit (Some replay) None = record { is = λ refusal new other h. absurd h }
+gives_stay d limit (Some replay) (Some r) = record { is = λ refusal new other h. absurd (let clash = h.2.0 in cc) }
 
 swept_stays : (d : DeskState) → Stays d (SweepsBy d (Ok tt))
 swept_stays d = record { is = λ refusal new other h. elim h [ inl swept ↦ swept.1.1 | inr fault ↦ fault.1 ] }
@@ -165,9 +165,9 @@ step_stays d (calls.ReplayOpen id position size) =
     let tests = open_tests d id position size true in
     let opened = told_stays d (after_open id next (bound_of next size) d) (told.Reply (replies.ReplayOpened d.callers.next_replay)) in
     passing_stays d tests first_checks _ (position_stays d found next _ (passing_stays d tests (block_checks ++ last_checks) _ opened))
-step_stays d (calls.ReplayPoll number most) =
+step_stays d (calls.ReplayPoll number most limit) =
     let found = open_replay_in d number in
-    passing_stays d (poll_tests d number most) checks _ (either_stays d (Unread d) (GivesFrames d found (recording_of d found)) (unread_stays d) (gives_stay d found (recording_of d found)))
+    passing_stays d (poll_tests d number most limit) checks _ (either_stays d (Unread d) (GivesFrames d limit found (recording_of d found)) (unread_stays d) (gives_stay d limit found (recording_of d found)))
 step_stays d (calls.ReplayClose number) = passing_stays d (close_tests d number) checks _ (told_stays d (after_close number d) (told.Reply replies.Closed))
 step_stays d calls.Sweep = passing_stays d (sweep_tests d) checks (SweepsBy d (Ok tt)) (swept_stays d)
 step_stays d (calls.Verify id) = passing_stays d (verify_tests d id) checks (VerifiesBy d (Ok tt)) (verified_stays d)

@@ -1,5 +1,5 @@
 -- What a call that reads may be answered, by what is decided on it: docs/CONTROL.md, "Replays" and "Refusals".
-use Rattle.std.specs.Prelude.{◌⊎◌, ℤ, Bool, Some, Result, Ok, Err}
+use Rattle.std.specs.Prelude.{◌⊎◌, ℤ, Bool, Option, Some, Result, Ok, Err}
 use Rattle.frame_core.specs.declared.refusal.Refusal.{Refusal}
 use Rattle.archive_model.specs.declared.reply.Reply.TheVariants as replies
 use Rattle.archive_model.specs.Register.{registration_in}
@@ -23,9 +23,9 @@ OpensBy d (opening.Decided decided) = OpensAs d decided
 OpensBy d (opening.IfBoundary position decided) = UnlessBoundary d (OpensAs d decided)
 
 -- a poll gives frames, or cannot read them, or is refused
-abbrev pub PollsBy : DeskState → Result OpenReplay Refusal → Ends
-PollsBy d (Ok replay) = Either (Unread d) (GivesFrames d (Some replay) (registration_in d.register replay.recording))
-PollsBy d (Err refusal) = RefusesCall d refusal
+abbrev pub PollsBy : DeskState → Option ℤ → Result OpenReplay Refusal → Ends
+PollsBy d limit (Ok replay) = Either (Unread d) (GivesFrames d limit (Some replay) (registration_in d.register replay.recording))
+PollsBy d limit (Err refusal) = RefusesCall d refusal
 
 -- a sweep tells whether there was a stale file, or the device failed, or it is refused
 abbrev pub SweepsBy : DeskState → Result (Unit {0}) Refusal → Ends

@@ -39,7 +39,7 @@ use Rattle.control_core.specs.Callers.{last_number}
 use Rattle.control_core.specs.Desk.{DeskState, opened_desk}
 use Rattle.control_core.specs.Changes.{after_close, after_open, after_poll, after_write, broken_desk, desk_after, reply_after, settled}
 use Rattle.control_core.specs.Decisions.{accepted, command_in, decision_of}
-use Rattle.control_core.specs.Turns.{close_decision, is_done_at, open_decision, poll_decision, poll_tests, open_replay_in, session_in, settle_decision, sweep_tests, verify_tests, write_decision}
+use Rattle.control_core.specs.Turns.{close_decision, held_to, is_done_at, open_decision, poll_decision, poll_tests, open_replay_in, session_in, settle_decision, sweep_tests, verify_tests, write_decision}
 use Rattle.control_core.specs.Machine.{OrOutside, Outcome}
 
 -- The recordings with their frames, the desk, the blocks that each recorder session wrote and did not settle, and the
@@ -160,16 +160,22 @@ frames_end position (f ∷ fs) = frames_end (f.position +ℤ pos (aligned_length
 abbrev pub goes_on : Recording → OpenReplay → ℤ → Option ℤ
 goes_on r replay next = if is_done_at (registration_of r) replay.bound next then None else Some next
 
-abbrev pub PolledEnds : Archive → OpenReplay → ℤ → Option Recording → ArchiveEnd
-PolledEnds a replay most None = λ outcome new. ⊥
-PolledEnds a replay most (Some r) =
-    let frames = polled replay.next replay.bound (unsigned_abs most) r in
+-- the frames of a poll begin before its limit, if it has one; the replay's own bound decides if it is done
+abbrev pub PolledEnds : Archive → OpenReplay → ℤ → Option ℤ → Option Recording → ArchiveEnd
+PolledEnds a replay most limit None = λ outcome new. ⊥
+PolledEnds a replay most limit (Some r) =
+    let frames = polled replay.next (held_to limit replay.bound) (unsigned_abs most) r in
     let next = frames_end replay.next frames in
     Is (Ok (replies.Polled frames (goes_on r replay next))) (with_desk (after_poll replay.number next a.desk) a)
 
-abbrev pub PollingEnds : Archive → ℤ → Result OpenReplay Refusal → ArchiveEnd
-PollingEnds a most (Err refusal) = Is (Err refusal) a
-PollingEnds a most (Ok replay) = PolledEnds a replay most (recording_at a replay.recording)
+abbrev pub PollingEnds : Archive → ℤ → Option ℤ → Result OpenReplay Refusal → ArchiveEnd
+PollingEnds a most limit (Err refusal) = Is (Err refusal) a
+PollingEnds a most limit (Ok replay) = PolledEnds a replay most limit (recording_at a replay.recording)
+
+-- a poll with this limit, or without one
+abbrev pub poll_event : ℤ → ℤ → Option ℤ → Event
+poll_event number most None = events.ReplayPoll number most
+poll_event number most (Some limit) = events.ReplayPollTo number most limit
 
 -- ---- sweeping and verifying
 
@@ -188,7 +194,8 @@ ArchiveEnds a (events.Ask request) = DecisionEnds a (asked_frames a (decision_of
 ArchiveEnds a (events.Write session block) = WriteEnds a session block
 ArchiveEnds a (events.Settle session) = SettlingEnds a session (settle_decision a.desk session)
 ArchiveEnds a (events.ReplayOpen id position size) = OpeningEnds a (asked_opening a id (open_decision a.desk id position size))
-ArchiveEnds a (events.ReplayPoll number most) = PollingEnds a most (poll_decision a.desk number most)
+ArchiveEnds a (events.ReplayPoll number most) = PollingEnds a most None (poll_decision a.desk number most None)
+ArchiveEnds a (events.ReplayPollTo number most limit) = PollingEnds a most (Some limit) (poll_decision a.desk number most (Some limit))
 ArchiveEnds a (events.ReplayClose number) = Leaves a (with_desk (after_close number a.desk) a) (close_decision a.desk number)
 ArchiveEnds a events.Sweep = SweepEnds a (checked (sweep_tests a.desk) checks (Ok tt))
 ArchiveEnds a (events.Verify id) = Leaves a a (checked (verify_tests a.desk id) checks (Ok (replies.Verified (frames_of_one (recording_at a id)))))
@@ -213,7 +220,8 @@ has_blocks _ = false
 abbrev pub reads_files : DeskState → Event → Bool
 reads_files d (events.Ask request) = waits_for_frames (decision_of d request)
 reads_files d (events.ReplayOpen id position size) = opens_by_frames (open_decision d id position size)
-reads_files d (events.ReplayPoll number most) = passes (poll_tests d number most) checks
+reads_files d (events.ReplayPoll number most) = passes (poll_tests d number most None) checks
+reads_files d (events.ReplayPollTo number most limit) = passes (poll_tests d number most (Some limit)) checks
 reads_files d events.Sweep = passes (sweep_tests d) checks
 reads_files d (events.Verify id) = passes (verify_tests d id) checks
 reads_files d _ = false
@@ -228,6 +236,7 @@ writes_files d _ = false
 -- a poll gives recorded frames
 abbrev pub is_poll : Event → Bool
 is_poll (events.ReplayPoll number most) = true
+is_poll (events.ReplayPollTo number most limit) = true
 is_poll _ = false
 
 -- the state that the call makes where it is accepted
@@ -252,7 +261,8 @@ asked_of (events.Ask request) = calls.Ask request
 asked_of (events.Write session block) = calls.Write session (span_of block)
 asked_of (events.Settle session) = calls.Settle session
 asked_of (events.ReplayOpen id position size) = calls.ReplayOpen id position size
-asked_of (events.ReplayPoll number most) = calls.ReplayPoll number most
+asked_of (events.ReplayPoll number most) = calls.ReplayPoll number most None
+asked_of (events.ReplayPollTo number most limit) = calls.ReplayPoll number most (Some limit)
 asked_of (events.ReplayClose number) = calls.ReplayClose number
 asked_of events.Sweep = calls.Sweep
 asked_of (events.Verify id) = calls.Verify id
@@ -273,4 +283,5 @@ plain_poll first (Err refusal) = Err refusal
 
 abbrev pub told_of : DeskState → Event → Result Reply Refusal → Outcome
 told_of d (events.ReplayPoll number most) = plain_poll (from_position (open_replay_in d number))
+told_of d (events.ReplayPollTo number most limit) = plain_poll (from_position (open_replay_in d number))
 told_of d _ = plain

@@ -19,7 +19,7 @@ use Rattle.control_core.specs.Decided.{Refused, Answered, Accepted, IfBoundary}
 use Rattle.control_core.specs.Desk.{DeskState}
 use Rattle.control_core.specs.Changes.{after_close, after_open, after_poll, after_write, broken_desk, desk_after, reply_after, settled, settled_position}
 use Rattle.control_core.specs.Decisions.{decision_of}
-use Rattle.control_core.specs.Turns.{begins_at, close_tests, is_done_at, open_tests, poll_tests, open_replay_in, session_in, settle_tests, sweep_tests, verify_tests, write_tests}
+use Rattle.control_core.specs.Turns.{begins_at, close_tests, held_back, is_done_at, open_tests, poll_tests, open_replay_in, session_in, settle_tests, sweep_tests, verify_tests, write_tests}
 
 abbrev pub Outcome : Type 0
 Outcome = Result Told Refusal
@@ -112,21 +112,22 @@ MovesReplay r replay frames =
     × (((replay.next <ℤ frames.last) × (frames.last ≤ℤ r.recorded) × (replay.next <ℤ replay.bound))
     ⊎ ((frames.last ≡ replay.next) × ((replay.bound ≤ℤ replay.next) ⊎ (r.recorded ≤ℤ replay.next))))
 
-abbrev pub GivesFrames : DeskState → Option OpenReplay → Option Registration → Ends
-GivesFrames old None found outcome new = ⊥
-GivesFrames old (Some replay) None outcome new = ⊥
-GivesFrames old (Some replay) (Some r) outcome new =
-    (frames : Written) × MovesReplay r replay frames × Ended (Ok (told.Polled frames (is_done_at r replay.bound frames.last))) (after_poll replay.number frames.last old) outcome new
+-- A limit holds the replay back. Its own bound decides if it is done.
+abbrev pub GivesFrames : DeskState → Option ℤ → Option OpenReplay → Option Registration → Ends
+GivesFrames old limit None found outcome new = ⊥
+GivesFrames old limit (Some replay) None outcome new = ⊥
+GivesFrames old limit (Some replay) (Some r) outcome new =
+    (frames : Written) × MovesReplay r (held_back limit replay) frames × Ended (Ok (told.Polled frames (is_done_at r replay.bound frames.last))) (after_poll replay.number frames.last old) outcome new
 
 -- the recording that a replay gives
 abbrev pub recording_of : DeskState → Option OpenReplay → Option Registration
 recording_of d None = None
 recording_of d (Some replay) = registration_in d.register replay.recording
 
-abbrev pub Polls : DeskState → ℤ → ℤ → Ends
-Polls old number most =
+abbrev pub Polls : DeskState → ℤ → ℤ → Option ℤ → Ends
+Polls old number most limit =
     let found = open_replay_in old number in
-    Passing old (poll_tests old number most) checks (Either (Unread old) (GivesFrames old found (recording_of old found)))
+    Passing old (poll_tests old number most limit) checks (Either (Unread old) (GivesFrames old limit found (recording_of old found)))
 
 abbrev pub Closes : DeskState → ℤ → Ends
 Closes old number = Passing old (close_tests old number) checks (Ended (Ok (told.Reply replies.Closed)) (after_close number old))
@@ -144,7 +145,7 @@ Step old (calls.Ask request) = Decided old (decision_of old request)
 Step old (calls.Write session block) = Writes old session block
 Step old (calls.Settle session) = Settles old session
 Step old (calls.ReplayOpen recording position size) = Opens old recording position size
-Step old (calls.ReplayPoll replay most) = Polls old replay most
+Step old (calls.ReplayPoll replay most limit) = Polls old replay most limit
 Step old (calls.ReplayClose replay) = Closes old replay
 Step old calls.Sweep = Sweeps old
 Step old (calls.Verify recording) = Verifies old recording

@@ -1,6 +1,6 @@
 -- What is decided on a call that is no request: writing and settling, replays, sweeping and verifying.
 -- docs/CONTROL.md, "Recorder sessions", "Replays" and "Refusals".
-use Rattle.std.specs.Prelude.{◌≡◌, ◌≢◌, ◌<◌, ◌&&◌, ◌||◌, ◌++◌, not, ℤ, pos, negsuc, Bool, true, false, IsSomeAnd, IsTrue, length, nat_lt, int_le, Option, Some, None, is_some, Result, Ok, Err, if◌then◌else◌}
+use Rattle.std.specs.Prelude.{◌≡◌, ◌≢◌, ◌<◌, ◌&&◌, ◌||◌, ◌++◌, not, ℤ, pos, negsuc, Bool, true, false, IsSomeAnd, IsTrue, length, nat_lt, int_le, int_lt, Option, Some, None, is_some, Result, Ok, Err, if◌then◌else◌}
 use Rattle.std.specs.Bool.{MatchBool}
 use Rattle.std.specs.Ordering.{int_eq}
 use Rattle.frame_core.specs.declared.block.Block.{Block}
@@ -175,18 +175,33 @@ pub record MayOpen (d : DeskState) (o : Opening) : Type 0 where
 abbrev pub is_done_at : Registration → ℤ → ℤ → Bool
 is_done_at r bound next = is_done bound next r.recorded (is_active r)
 
-abbrev pub poll_tests : DeskState → ℤ → ℤ → Tests
-poll_tests d number most BadParameter = int_le (pos 1) most && int_le most (pos 4096)
-poll_tests d number most UnknownReplay = is_some (open_replay_in d number)
-poll_tests d number most _ = true
+-- a poll's frames begin before this position: the replay's bound, or a limit that is less
+abbrev pub held_to : Option ℤ → ℤ → ℤ
+held_to None bound = bound
+held_to (Some limit) bound = if int_lt limit bound then limit else bound
+
+-- the replay, with the lesser of limit and bound as its bound
+abbrev pub held_back : Option ℤ → OpenReplay → OpenReplay
+held_back limit replay = record replay { bound = held_to limit replay.bound }
+
+-- a limit is not below 0
+abbrev pub is_limit : Option ℤ → Bool
+is_limit None = true
+is_limit (Some limit) = int_le (pos 0) limit
+
+abbrev pub poll_tests : DeskState → ℤ → ℤ → Option ℤ → Tests
+poll_tests d number most limit BadParameter = int_le (pos 1) most && int_le most (pos 4096) && is_limit limit
+poll_tests d number most limit UnknownReplay = is_some (open_replay_in d number)
+poll_tests d number most limit _ = true
 
 -- a replay to be read from, if it is open
 abbrev pub open_replay_of : Option OpenReplay → Result OpenReplay Refusal
 open_replay_of None = Err UnknownReplay
 open_replay_of (Some replay) = Ok replay
 
-abbrev pub poll_decision : DeskState → ℤ → ℤ → Result OpenReplay Refusal
-poll_decision d number most = checked (poll_tests d number most) checks (open_replay_of (open_replay_in d number))
+-- the replay that a poll reads from, with a limit or without; or a refusal
+abbrev pub poll_decision : DeskState → ℤ → ℤ → Option ℤ → Result OpenReplay Refusal
+poll_decision d number most limit = checked (poll_tests d number most limit) checks (open_replay_of (open_replay_in d number))
 
 abbrev pub close_tests : DeskState → ℤ → Tests
 close_tests d number UnknownReplay = is_some (open_replay_in d number)

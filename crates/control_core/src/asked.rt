@@ -37,6 +37,9 @@ pub enum Asked {
         replay: i64,
         /// How many frames are taken at most.
         max: i64,
+        /// The limit, a position in bytes of the stream: only frames that begin before it are given. None for a poll without
+        /// a limit.
+        limit: Option<i64>,
     },
     /// Close a replay.
     ReplayClose {

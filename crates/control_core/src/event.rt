@@ -36,6 +36,15 @@ pub enum Event {
         /// How many frames are taken at most.
         max: i64,
     },
+    /// Take the next frames of a replay that begin before a limit.
+    ReplayPollTo {
+        /// The replay's number.
+        replay: i64,
+        /// How many frames are taken at most.
+        max: i64,
+        /// The limit, a position in bytes of the stream: only frames that begin before it are given.
+        limit: i64,
+    },
     /// Close a replay.
     ReplayClose {
         /// The replay's number.

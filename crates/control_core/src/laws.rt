@@ -1,6 +1,6 @@
 //! Laws of the definitions, each the contract of a function that does nothing.
 
-ghost use Rattle.std.specs.Prelude.{◌≡◌, ◌≢◌, ◌⊎◌, ℕ, ℤ, List, None, Some, Ok, Err, Result, IsFalse, IsTrue};
+ghost use Rattle.std.specs.Prelude.{◌≡◌, ◌≢◌, ◌⊎◌, ℕ, ℤ, List, Option, None, Some, Ok, Err, Result, IsFalse, IsTrue};
 ghost use Rattle.archive_model.specs.declared.command.Command.{Command};
 ghost use Rattle.archive_model.specs.Checks.{checked, checks};
 ghost use Rattle.archive_model.specs.Descriptor.{is_aligned};
@@ -198,8 +198,9 @@ pub fn a_run_is_a_history()
 /// What is decided on a call that reads says what the desk machine allows: whatever the files hold. docs/CONTROL.md,
 /// "Control state".
 pub fn what_is_decided_on_a_read_is_a_step()
-    ensures polled { (d : DeskState) (number most : ℤ) (outcome : Outcome) (new : DeskState) →
-        PollsBy d (poll_decision d number most) outcome new → Step d (ReplayPoll number most) outcome new }
+    ensures polled { (d : DeskState) (number most : ℤ) (limit : Option ℤ) (outcome : Outcome) (new : DeskState) →
+        PollsBy d limit (poll_decision d number most limit) outcome new →
+        Step d (ReplayPoll number most limit) outcome new }
     ensures opened { (d : DeskState) (id position size : ℤ) (outcome : Outcome) (new : DeskState) →
         OpensBy d (open_decision d id position size) outcome new →
         Step d (ReplayOpen id position size) outcome new }

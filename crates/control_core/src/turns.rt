@@ -11,7 +11,7 @@ ghost use Rattle.archive_model.specs.declared.reply.Reply.TheVariants.{Closed};
 ghost use Rattle.control_core.specs.Orderly.{KeepsDesk};
 ghost use Rattle.control_core.specs.Seats.{IsFoundReplay, IsReader, IsWriter};
 ghost use Rattle.control_core.specs.Opened.{IfOpensInside, said_opening};
-ghost use Rattle.control_core.specs.Turns.{AllowsWriting, RefusesWriting, begins_at, close_decision, extent_of, open_decision, open_tests, opened_at, poll_decision, settle_decision, sweep_tests, verify_tests};
+ghost use Rattle.control_core.specs.Turns.{AllowsWriting, RefusesWriting, begins_at, close_decision, extent_of, is_limit, open_decision, open_tests, opened_at, poll_decision, settle_decision, sweep_tests, verify_tests};
 
 use crate::callers::{FoundReplay, Reader, Writer, Written};
 use crate::desk::Desk;
@@ -240,20 +240,33 @@ fn behind_boundary(
     })
 }
 
-/// What is decided on a poll for at most so many frames: the replay to be read from, and where it stands, or a refusal.
-/// Costs the open replays.
-pub fn decide_poll<'a>(desk: &'a Desk, replay: &i64, max: &i64) -> Result<Reader<'a>, Refusal>
+/// What is decided on a poll for at most so many frames, with a limit or without: the replay to be read from, and where it
+/// stands, or a refusal. Costs the open replays.
+pub fn decide_poll<'a>(
+    desk: &'a Desk,
+    replay: &i64,
+    max: &i64,
+    limit: &Option<i64>,
+) -> Result<Reader<'a>, Refusal>
     ensures decided { MatchResult result
-        (λ reader. poll_decision desk.now.state replay.now max.now ≡ Ok reader.found.replay)
-        (λ refusal. poll_decision desk.now.state replay.now max.now ≡ Err refusal) }
+        (λ reader. poll_decision desk.now.state replay.now max.now limit.now
+        ≡ Ok reader.found.replay)
+        (λ refusal. poll_decision desk.now.state replay.now max.now limit.now ≡ Err refusal) }
     ensures found { IfOk result (IsReader replay.now desk.now.state) }
     ensures keeps { IfOk result (λ reader.
         KeepsDesk desk.now.state.register desk.now.state.callers) }
 {
-    if *max < 1 || *max > MAX_POLL {
+    if *max < 1 || *max > MAX_POLL || !is_limit(limit) {
         return Err(Refusal::BadParameter);
     }
     desk.replay(replay).ok_or(Refusal::UnknownReplay)
+}
+
+/// Whether a poll may have this limit: a limit is not below 0.
+fn is_limit(limit: &Option<i64>) -> bool
+    ensures { result ≡ is_limit limit.now }
+{
+    limit.is_none_or(|limit| limit >= 0)
 }
 
 /// What is decided on closing a replay, which is answered by `Closed`: the replay, and where it stands, or a refusal.

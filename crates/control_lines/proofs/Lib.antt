@@ -3,5 +3,6 @@ mod LinesLemmas
 mod HexCaseLemmas
 mod DigitLemmas
 mod PairLemmas
+mod PolledLemmas
 mod WordLemmas
 mod LineTextLemmas

@@ -25,9 +25,13 @@ descriptor_line d =
     told_with d.term_length (told_with d.mtu (told_with d.session_id (told_with d.stream_id (
     codes " " ++ (d.channel ++ codes "\n"))))))))))))
 
+-- a frame's encoding, and where the frame lies
+abbrev pub encoded_line : ℤ → List ℕ → List ℕ
+encoded_line position bytes = codes "frame " ++ (signed_decimal position ++ (codes " " ++ (encode_lower bytes ++ codes "\n")))
+
 -- a frame, and where it lies
 abbrev pub frame_line : PolledFrame → List ℕ
-frame_line f = codes "frame " ++ (signed_decimal f.position ++ (codes " " ++ (encode_lower (encoded f.frame) ++ codes "\n")))
+frame_line f = encoded_line f.position (encoded f.frame)
 
 -- who sends a recording's stream: the length of that text in bytes, and the text where it has any
 abbrev pub source_line : List ℕ → List ℕ

@@ -1,7 +1,7 @@
 -- The grammar of control lines as a table, a row for each first word: docs/CONTROL.md, "Lines".
 use Rattle.std.specs.Prelude.{ℕ, ℤ, Bool, true, false, ◌||◌, List, [], ◌∷◌, ◌++◌, codes}
 use Rattle.control_core.specs.declared.request.Request.TheVariants as asks
-use Rattle.control_core.specs.declared.event.Event.TheVariants.{Ask, Settle, ReplayOpen, ReplayPoll, ReplayClose, Sweep, Verify}
+use Rattle.control_core.specs.declared.event.Event.TheVariants.{Ask, Settle, ReplayOpen, ReplayPoll, ReplayPollTo, ReplayClose, Sweep, Verify}
 use Rattle.control_lines.specs.declared.line.Line.{Line}
 use Rattle.control_lines.specs.declared.line.Line.TheVariants.{Event, Write, Block, Reopen, Compact, Merge, Quit}
 use Rattle.control_lines.specs.declared.merge_line.MergeLine.TheVariants as merges
@@ -132,11 +132,16 @@ asking_rows =
     ∷ row (codes "source") (long & none) (λ recording. Event (Ask (asks.Source recording)))
     ∷ []
 
+-- a poll with a limit
+abbrev pub poll_to_row : Row
+poll_to_row = row (codes "poll-to") (long & long & long & none) (λ replay most limit. Event (ReplayPollTo replay most limit))
+
 -- replays, and the archive as a whole
 abbrev pub archive_rows : List Row
 archive_rows =
     row (codes "replay") (long & long & long & none) (λ recording position size. Event (ReplayOpen recording position size))
     ∷ row (codes "poll") (long & long & none) (λ replay most. Event (ReplayPoll replay most))
+    ∷ poll_to_row
     ∷ row (codes "close") (long & none) (λ replay. Event (ReplayClose replay))
     ∷ row (codes "sweep") none (Event Sweep)
     ∷ row (codes "verify") (long & none) (λ recording. Event (Verify recording))

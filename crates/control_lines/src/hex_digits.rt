@@ -1,8 +1,9 @@
-//! Bytes from hex digits. No branch depends on a digit, so that 32 pairs are read in a few steps of vectors.
+//! Bytes from hex digits, and hex digits of bytes. No branch and no lookup depends on a digit, so that many pairs are read
+//! or written in a few steps of vectors.
 
 ghost use Rattle.std.specs.Prelude.{◌≡◌, ◌*◌, ◌+◌, ◌<◌, ◌≤◌, ℕ, length, slice_index, unwrap_or, Ok, Err};
 ghost use Rattle.std.specs.Bool.{MatchBool};
-ghost use Rattle.hex.specs.Hex.{decode_of, hex_digit_value};
+ghost use Rattle.hex.specs.Hex.{decode_of, encode_lower, hex_digit_value, lower_digits};
 ghost use Rattle.frame_core.specs.declared.refusal.Refusal.TheVariants.{BadLine};
 ghost use Rattle.control_lines.specs.Numbers.{decoded};
 ghost use Rattle.control_lines.specs.HexDigits.{IsReadTo};
@@ -92,4 +93,29 @@ pub(crate) fn decode_over(text: &[u8], out: &mut [u8]) -> bool
         from += 32;
     }
     read_last(text, out, from, worst) < 16
+}
+
+/// The digit of a value, in lower case.
+#[inline(always)]
+fn lower_digit(value: u8) -> u8
+    requires { value < 16 }
+    ensures { result ≡ slice_index lower_digits value }
+{
+    let number = value + b'0';
+    let letter = value + (b'a' - 10);
+    if value < 10 { number } else { letter }
+}
+
+/// Puts the hex digits of bytes over `out`, in lower case. Costs the bytes' number.
+pub(crate) fn encode_over(bytes: &[u8], out: &mut [u8])
+    requires { length out.old ≡ 2 * length bytes.now }
+    ensures { out.new ≡ encode_lower bytes.now }
+{
+    for i in 0..bytes.len() {
+        let byte = bytes[i];
+        let high = lower_digit(byte >> 4);
+        let low = lower_digit(byte & 0x0f);
+        out[2 * i] = high;
+        out[2 * i + 1] = low;
+    }
 }

@@ -48,6 +48,11 @@ fn archive_line(alloc: Global, word: &str, words: &mut Words) -> Result<Line, Re
             replay: words.long()?,
             max: words.long()?,
         }),
+        "poll-to" => Line::Event(Event::ReplayPollTo {
+            replay: words.long()?,
+            max: words.long()?,
+            limit: words.long()?,
+        }),
         "close" => Line::Event(Event::ReplayClose {
             replay: words.long()?,
         }),

@@ -80,12 +80,13 @@ fn called(alloc: Global, desk: &Desk, kind: u8, number: i64, other: i64) -> Resu
     let refusal = match kind {
         0 => number_of(&decide_settle(desk, &number)),
         1 => opened(&decide_open(desk, &number, &other, &-1)),
-        2 => number_of(&decide_poll(desk, &number, &other)),
+        2 => number_of(&decide_poll(desk, &number, &other, &None)),
         3 => number_of(&decide_close(desk, &number)),
         4 => number_of(&decide_sweep(desk)),
         5 => number_of(&decide_verify(desk, &number)),
         7 => number_of(&read_terms(desk, &number)),
         8 => written(alloc, desk, number, other, 1_002)?,
+        9 => number_of(&decide_poll(desk, &number, &1, &Some(other))),
         _ => written(alloc, desk, number, other, 1_001)?,
     };
     Ok(refusal)
@@ -93,8 +94,9 @@ fn called(alloc: Global, desk: &Desk, kind: u8, number: i64, other: i64) -> Resu
 
 // Whether a write failed, the kind, the session, replay or recording, and another number. In each row that is refused the
 // next rule is broken, too; those of written blocks and of 64 open replays have tests of their own. A session that is not
-// there wrote nothing, so a full history does not refuse to settle it. Kind 8 writes a block of another stream.
-const CALLS: [(bool, u8, i64, i64, u8); 25] = [
+// there wrote nothing, so a full history does not refuse to settle it. Kind 8 writes a block of another stream, kind 9 polls
+// with a limit.
+const CALLS: [(bool, u8, i64, i64, u8); 28] = [
     (true, 0, 9, 0, 16),
     (false, 0, 9, 0, 12),
     (false, 0, 0, 0, 0),
@@ -106,6 +108,9 @@ const CALLS: [(bool, u8, i64, i64, u8); 25] = [
     (true, 2, 9, 4_097, 10),
     (true, 2, 9, 4_096, 9),
     (true, 2, 0, 1, 0),
+    (true, 9, 9, -1, 10),
+    (true, 9, 9, 0, 9),
+    (true, 9, 0, 0, 0),
     (true, 3, 9, 0, 9),
     (true, 3, 0, 0, 0),
     (true, 4, 0, 0, 16),

@@ -11,4 +11,6 @@ mod lines;
 #[cfg(test)]
 mod origins;
 #[cfg(test)]
+mod polled;
+#[cfg(test)]
 mod requests;

@@ -111,7 +111,7 @@ fn lines_with_bytes(rt: HostRuntime) -> Result<(), Fail> {
 }
 
 /// A line, and what it asks the archive for.
-const ASKED: [(&'static str, &'static str); 14] = [
+const ASKED: [(&'static str, &'static str); 15] = [
     ("list 0 -1", "Event(Ask(List { from: 0, count: -1 }))"),
     (
         "extend 1 1001 7 42 65536 1408 128",
@@ -134,6 +134,10 @@ const ASKED: [(&'static str, &'static str); 14] = [
     ("purge 1", "Event(Ask(PurgeRecording { recording: 1 }))"),
     ("positions 1", "Event(Ask(Positions { recording: 1 }))"),
     ("source 1", "Event(Ask(Source { recording: 1 }))"),
+    (
+        "poll-to 4 10 -1",
+        "Event(ReplayPollTo { replay: 4, max: 10, limit: -1 })",
+    ),
     ("close 4", "Event(ReplayClose { replay: 4 })"),
     ("sweep", "Event(Sweep)"),
     ("verify 1", "Event(Verify { recording: 1 })"),
@@ -216,6 +220,9 @@ source x
 source 1 
 source 1 2
 write 0
+poll-to 0 10
+poll-to 0 10 1 2
+poll-to 0 10 +1
 sweep 1
 compact 1";
 

@@ -6,7 +6,7 @@ use Rattle.frame_core.specs.declared.refusal.Refusal.{Refusal}
 use Rattle.frame_core.specs.declared.refusal.Refusal.TheVariants.{DeviceFault, NoMemory}
 use Rattle.segment_store.specs.Stale.{HasSwept}
 use Rattle.archive_model.specs.declared.reply.Reply.{Reply}
-use Rattle.archive_model.specs.declared.reply.Reply.TheVariants.{Swept}
+use Rattle.archive_model.specs.declared.reply.Reply.TheVariants.{Polled, Swept}
 use Rattle.archive_model.specs.Register.{RegisterState}
 use Rattle.archive_model.specs.State.{State}
 use Rattle.control_core.specs.declared.event.Event.{Event}
@@ -15,6 +15,7 @@ use Rattle.control_core.specs.declared.request.Request.TheVariants.{Truncate}
 use Rattle.control_core.specs.Exact.{Archive, ArchiveEnd, CallEnds, asked_of, broken, reads_files, told_of, with_desk}
 use Rattle.control_core.specs.Machine.{Stepped}
 use Rattle.control_core.specs.Runs.{Leave, StoodAmong, last_left}
+use Rattle.recording_reads.specs.Handing.{BeginBy}
 use Rattle.engine_core.specs.Recovery.{Recovers, RecoversTo}
 use Rattle.engine_core.specs.Engine.{Content, EngineState, DiskGoesOn, IsSpared, KeepsBank, archive_of}
 use Rattle.engine_core.specs.Consistent.{IsCrashConsistent, MayStandIn}
@@ -46,6 +47,7 @@ IfRead reading life Fact = (IsTrue reading → IsTrue life.obeys) → Fact
 abbrev pub Keeps : Event → Archive → Archive → Type 0
 Keeps (events.ReplayOpen id position size) a b = b ≡ with_desk b.desk a
 Keeps (events.ReplayPoll number most) a b = b ≡ with_desk b.desk a
+Keeps (events.ReplayPollTo number most limit) a b = b ≡ with_desk b.desk a
 Keeps events.Sweep a b = b ≡ a
 Keeps (events.Verify id) a b = b ≡ a
 Keeps _ a b = Unit {0}
@@ -72,12 +74,18 @@ pub record EndsEvent (old new : EngineState) (event : Event) (result : Result Re
   pub ended : (c : Content) → IsCrashConsistent old.life old.log (archive_of old c) → (IsTrue (is_cut event) → IsTrue new.life.obeys) →
       CallEnded old new (archive_of old c) (EndsAs old.life new.life event (archive_of old c) result)
 
+-- frames of a poll with a limit begin before it
+abbrev pub IsHeldBack : Event → Result Reply Refusal → Type 0
+IsHeldBack (events.ReplayPollTo number most limit) (Ok (Polled frames next)) = BeginBy limit frames
+IsHeldBack _ _ = Unit {0}
+
 -- What an engine did to answer an event.
 pub record AnswersEvent (old new : EngineState) (event : Event) (result : Result Reply Refusal) : Type 0 where
   pub ends : EndsEvent old new event result
   -- Whatever the archive is: what is told of frames is what the files show, and no other file is changed than the call's.
   pub shows : IsTrue new.life.obeys → Shows (reads old.life.now) old.desk event result
   pub touches : Touches old event new.life
+  pub held : IsHeldBack event result
   -- And a catalogue that was found whole is so at every moment, with what was recorded before the call or behind it.
   pub catalogue : KeepsFound old new (register_made old.desk event)
 

@@ -3,6 +3,7 @@ pub mod Recovery
 pub mod Engine
 pub mod Consistent
 pub mod Calls
+pub mod Handing
 pub mod Seen
 pub mod Opened
 pub mod Compacting

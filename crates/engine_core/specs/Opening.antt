@@ -1,11 +1,11 @@
 -- What syncing an archive's files does, before they are read: docs/STORAGE.md, "Opening".
-use Rattle.std.specs.Prelude.{◌≡◌, ◌≢◌, ◌⊎◌, ◌<◌, ◌≤◌, ℕ, None, IsSome, IsTrue}
+use Rattle.std.specs.Prelude.{◌≡◌, ◌≢◌, ◌⊎◌, ◌+◌, ◌<◌, ◌≤◌, ℕ, None, IsErrOf, IsSome, IsTrue, OnOk, Result}
 use Rattle.frame_core.specs.declared.refusal.Refusal.{Refusal}
 use Rattle.frame_core.specs.declared.refusal.Refusal.TheVariants.{BadParameter, DeviceFault, NoMemory}
 use Rattle.disk_core.specs.declared.file_id.FileId.{FileId}
 use Rattle.disk_core.specs.declared.file_id.FileId.TheVariants.{BankA, BankB}
 use Rattle.disk_core.specs.DiskImage.{MayLeave, durable, reads}
-use Rattle.disk_core.specs.Life.{HasFailed, IsQuiet, Life, LeavesOnly}
+use Rattle.disk_core.specs.Life.{HasFailed, IsQuiet, Life, LeavesOnly, moment}
 use Rattle.catalogue_log.specs.Banks.{HasClosedGate}
 use Rattle.catalogue_log.specs.Catalogue.{RefusesCatalogue}
 
@@ -26,6 +26,14 @@ pub record ReadsAsBefore (old new : Life) : Type 0 where
   pub any_moment : LeavesOnly old new (MayLeave old.now)
   pub obeyed : IsTrue new.obeys → IsTrue old.obeys
   pub faults : old.faults ≤ new.faults
+
+-- An archive's files, which are so many, were synced, and its catalogue read: each file reads as before, by at most two calls
+-- more than files. Where that was done each segment file is on the disk as it read; and a fault has its cause.
+pub record SyncsFiles {T : Type 0} (old new : Life) (count : ℕ) (result : Result T Refusal) : Type 0 where
+  pub before : ReadsAsBefore old new
+  pub synced : OnOk result (IsTrue new.obeys → AreOnDisk old new)
+  pub calls : moment new ≤ moment old + count + 2
+  pub cause : IsErrOf result DeviceFault → HasFailed old new
 
 -- no archive is made: the history limit is out of its range, or a file is there; a fault of the listing, or behind it where
 -- no file was; or want of memory for the listing

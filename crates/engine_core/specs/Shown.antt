@@ -1,5 +1,5 @@
 -- What a call that reads tells of the files, whatever the archive is: docs/CONTROL.md, "Replays"; docs/STORAGE.md, "Damaged frames".
-use Rattle.std.specs.Prelude.{ℕ, ℤ, true, false, IfSome, unsigned_abs, Result, Ok, Err}
+use Rattle.std.specs.Prelude.{ℕ, ℤ, true, false, IfSome, unsigned_abs, Option, Some, None, Result, Ok, Err}
 use Rattle.disk_core.specs.DiskImage.{DiskImage}
 use Rattle.frame_core.specs.declared.refusal.Refusal.{Refusal}
 use Rattle.frame_core.specs.declared.refusal.Refusal.TheVariants.{BadPosition, Damaged, DeviceFault, NoMemory}
@@ -19,7 +19,7 @@ use Rattle.control_core.specs.Decisions.{decision_of}
 use Rattle.control_core.specs.Desk.{DeskState}
 use Rattle.control_core.specs.Opened.{OpeningDecision}
 use Rattle.control_core.specs.Opened as opening
-use Rattle.control_core.specs.Turns.{open_decision, poll_decision}
+use Rattle.control_core.specs.Turns.{held_back, open_decision, poll_decision}
 
 -- ---- by answer
 
@@ -62,16 +62,17 @@ abbrev pub OpensShown : DiskImage → DeskState → ℤ → OpeningDecision → 
 OpensShown image d id (opening.IfBoundary position made) outcome = IfSome (registration_in d.register id) (λ g. AsksShown image g position outcome)
 OpensShown image d id (opening.Decided made) outcome = Unit {0}
 
--- a poll that is let through
-abbrev pub PollsDecided : DiskImage → DeskState → Result OpenReplay Refusal → ℤ → Result Reply Refusal → Type 0
-PollsDecided image d (Ok replay) most outcome = IfSome (registration_in d.register replay.recording) (λ g. PollsShown image g replay most outcome)
-PollsDecided image d (Err refusal) most outcome = Unit {0}
+-- a poll that is let through: a limit holds its replay back
+abbrev pub PollsDecided : DiskImage → DeskState → Result OpenReplay Refusal → ℤ → Option ℤ → Result Reply Refusal → Type 0
+PollsDecided image d (Ok replay) most limit outcome = IfSome (registration_in d.register replay.recording) (λ g. PollsShown image g (held_back limit replay) most outcome)
+PollsDecided image d (Err refusal) most limit outcome = Unit {0}
 
 -- what a call tells of frames is what the files show, of the recordings and replays that stood before it
 abbrev pub Shows : DiskImage → DeskState → Event → Result Reply Refusal → Type 0
 Shows image d (events.Ask request) outcome = AsksDecided image d (decision_of d request) outcome
 Shows image d (events.ReplayOpen id position size) outcome = OpensShown image d id (open_decision d id position size) outcome
-Shows image d (events.ReplayPoll number most) outcome = PollsDecided image d (poll_decision d number most) most outcome
+Shows image d (events.ReplayPoll number most) outcome = PollsDecided image d (poll_decision d number most None) most None outcome
+Shows image d (events.ReplayPollTo number most limit) outcome = PollsDecided image d (poll_decision d number most (Some limit)) most (Some limit) outcome
 Shows image d (events.Verify id) outcome = IfSome (registration_in d.register id) (λ g. CountsShown image g outcome)
 Shows image d (events.Write session block) outcome = Unit {0}
 Shows image d (events.Settle session) outcome = Unit {0}

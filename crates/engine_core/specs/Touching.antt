@@ -67,6 +67,7 @@ Touches e events.Sweep new =
     IsQuiet e.life new ⊎ ((file : FileId) × SweepsAtMost (registered_keeps e.desk.register) file e.life new × (moment new ≤ moment e.life + 2))
 Touches e (events.ReplayOpen id position size) new = IsQuiet e.life new
 Touches e (events.ReplayPoll number most) new = IsQuiet e.life new
+Touches e (events.ReplayPollTo number most limit) new = IsQuiet e.life new
 Touches e (events.ReplayClose number) new = IsQuiet e.life new
 Touches e (events.Verify id) new = IsQuiet e.life new
 
@@ -80,6 +81,7 @@ takes d (events.Write session block) = false
 takes d (events.Settle session) = has_blocks (settle_decision d session)
 takes d (events.ReplayOpen id position size) = true
 takes d (events.ReplayPoll number most) = true
+takes d (events.ReplayPollTo number most limit) = true
 takes d (events.ReplayClose number) = false
 takes d events.Sweep = true
 takes d (events.Verify id) = true

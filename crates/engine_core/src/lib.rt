@@ -21,5 +21,6 @@ mod write;
 
 pub use compacting::compact;
 pub use engine::{Engine, OpenRefusal};
+pub use replay_poll::Poll;
 pub use storage::Storage;
 pub use sweep::keeps_of;

@@ -14,7 +14,7 @@ ghost use Rattle.catalogue_log.specs.Banks.{HasClosedGate};
 ghost use Rattle.catalogue_log.specs.Catalogue.{RefusesCatalogue};
 ghost use Rattle.catalogue_entries.specs.Fold.{after_entries};
 ghost use Rattle.catalogue_log.specs.LogState.{IsAtRest, IsLogIn, banks_of};
-ghost use Rattle.engine_core.specs.Opening.{AreOnDisk, ReadsAsBefore, SyncsOnly};
+ghost use Rattle.engine_core.specs.Opening.{SyncsFiles, SyncsOnly};
 ghost use Rattle.archive_model.specs.declared.version.BankVersion.TheVariants.{Two};
 ghost use Rattle.control_core.specs.Desk.{opened_desk};
 ghost use Rattle.control_core.specs.Orderly.{AreLaid};
@@ -60,10 +60,7 @@ pub(crate) fn read_desk<D: Disk>(
         RefusesCatalogue (reads (D.life disk.old).now) refusal) }
     ensures whole { IfErr result (λ refusal. IsTrue (D.life disk.new).obeys → (x : State) →
         Recovers (reads (D.life disk.old).now) x → (refusal ≡ DeviceFault) ⊎ (refusal ≡ NoMemory)) }
-    ensures before { ReadsAsBefore (D.life disk.old) (D.life disk.new) }
-    ensures cause { IsErrOf result DeviceFault → HasFailed (D.life disk.old) (D.life disk.new) }
-    ensures synced { OnOk result (IsTrue (D.life disk.new).obeys → AreOnDisk (D.life disk.old) (D.life disk.new)) }
-    ensures calls { moment (D.life disk.new) ≤ moment (D.life disk.old) + length files.now + 2 }
+    ensures files { SyncsFiles (D.life disk.old) (D.life disk.new) (length files.now) result }
 {
     let (log, register) = open_files(alloc, disk, files)?;
     let counted = log.counted() as u64;
@@ -92,10 +89,7 @@ fn open_files<D: Disk>(
     ensures works { IfOk result (λ opened. IsFalse opened.0.is_broken) }
     ensures refused { IfErr result (λ refusal. IsTrue (D.life disk.new).obeys →
         RefusesCatalogue (reads (D.life disk.old).now) refusal) }
-    ensures before { ReadsAsBefore (D.life disk.old) (D.life disk.new) }
-    ensures cause { IsErrOf result DeviceFault → HasFailed (D.life disk.old) (D.life disk.new) }
-    ensures synced { OnOk result (IsTrue (D.life disk.new).obeys → AreOnDisk (D.life disk.old) (D.life disk.new)) }
-    ensures calls { moment (D.life disk.new) ≤ moment (D.life disk.old) + length files.now + 2 }
+    ensures files { SyncsFiles (D.life disk.old) (D.life disk.new) (length files.now) result }
 {
     sync_segments(disk, files)?;
     open_register(alloc, disk)

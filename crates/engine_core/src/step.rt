@@ -1,20 +1,23 @@
 //! Events answered one after another. docs/CONTROL.md, "Requests"; docs/STORAGE.md, "Recovery".
 
 ghost use Rattle.std.specs.Prelude.{◌≡◌, IfErr, IfOk, IsTrue};
+ghost use Rattle.control_core.specs.Exact.{poll_event};
 ghost use Rattle.frame_core.specs.declared.refusal.Refusal.TheVariants.{NoMemory};
 ghost use Rattle.control_core.specs.Orderly.{KeepsDesk};
 ghost use Rattle.replay_core.specs.Pages.{kept};
 ghost use Rattle.engine_core.specs.Calls.{AnswersEvent, IsRun};
+ghost use Rattle.engine_core.specs.Handing.{HandsPolled};
 ghost use Rattle.engine_core.specs.KeptPages.{KeepsPages, generation_after};
 ghost use Rattle.engine_core.specs.Touching.{WantsMemory};
 
 use crate::Engine;
+use crate::replay_poll::Poll;
 use crate::stored::StoredArchive;
 use archive_model::Reply;
 use control_core::{Desk, Event};
 use disk_core::Disk;
 use frame_core::Refusal;
-use replay_core::PageCache;
+use replay_core::{FrameTaker, PageCache};
 use std::alloc::Global;
 
 impl<D: Disk> StoredArchive<D> {
@@ -45,7 +48,20 @@ impl<D: Disk> StoredArchive<D> {
                 length,
             } => self.open_replay(recording, position, length),
             Event::ReplayPoll { replay, max } => {
-                self.poll(alloc, pages, generation, replay, max)
+                let poll = Poll {
+                    replay: *replay,
+                    max: *max,
+                    limit: None,
+                };
+                self.poll(alloc, pages, generation, &poll)
+            }
+            Event::ReplayPollTo { replay, max, limit } => {
+                let poll = Poll {
+                    replay: *replay,
+                    max: *max,
+                    limit: Some(*limit),
+                };
+                self.poll(alloc, pages, generation, &poll)
             }
             Event::ReplayClose { replay } => self.close(replay),
             Event::Sweep => self.sweep(alloc),
@@ -73,6 +89,26 @@ impl<D: Disk> Engine<D> {
             .answer(alloc, &mut self.pages, self.generation, event);
         self.generation = generation_after(&result, self.generation);
         result
+    }
+
+    /// Answers a poll as `step` does, but hands its frames on, each as it is read: where the replay goes on, or none where
+    /// it is done. `step` answers a poll by this, with a taker that keeps copies.
+    ///
+    /// Refused as `step`, and by `NoMemory` where the taker has none for a frame: the taker may then have taken some of the
+    /// frames, and the replay stays where it was. Takes no memory for a frame that pages have.
+    pub fn hand_on<T: FrameTaker>(
+        &mut self,
+        alloc: Global,
+        poll: &Poll,
+        taker: &mut T,
+    ) -> Result<Option<i64>, Refusal>
+        ensures { HandsPolled T.takes T.leaves taker.old taker.new
+            (HasAnswered D.life self.old self.new (poll_event poll.now.replay poll.now.max poll.now.limit)) result }
+    {
+        a_desk_is_orderly(&self.archive.desk);
+        let pages = &mut self.pages;
+        self.archive
+            .hand_on(alloc, pages, self.generation, poll, taker)
     }
 
     /// Answers events, one after another. A crash at any moment of it leaves a state that stood after the first of them.

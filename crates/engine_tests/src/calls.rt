@@ -126,6 +126,11 @@ fn plain_event(word: &str, of: i64, at: i64, length: i64) -> Event {
             replay: of,
             max: at,
         },
+        "poll-to" => Event::ReplayPollTo {
+            replay: of,
+            max: at,
+            limit: length,
+        },
         "close" => Event::ReplayClose { replay: of },
         "sweep" => Event::Sweep,
         "verify" => Event::Verify { recording: of },

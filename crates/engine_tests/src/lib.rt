@@ -8,6 +8,8 @@ mod crashes;
 #[cfg(test)]
 mod damage;
 #[cfg(test)]
+mod handing;
+#[cfg(test)]
 mod merging;
 #[cfg(test)]
 mod pages;

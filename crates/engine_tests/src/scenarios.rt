@@ -43,6 +43,43 @@ fn bounded_part_of_a_recording(rt: HostRuntime) -> Result<(), Fail> {
     played(&rt, rt.alloc(), BOUNDED_PART)
 }
 
+const HELD_BACK: &str = "\
+start 0: started 0 0
+write 0 0: written 64
+settle 0: settled 64
+replay 0 0 -1: replay 0
+poll-to 0 10 0: more 0
+poll-to 0 10 63: frame 0 2500000000c001000000000007000000e90300002a000000000000000000000068656c6c6f
+more 64
+poll-to 0 10 63: more 64
+write 0 64: written 128
+settle 0: settled 128
+write 0 128: written 192
+settle 0: settled 192
+replay 0 64 65: replay 1
+poll-to 1 10 65: frame 64 2500000000c001004000000007000000e90300002a000000000000000000000068656c6c6f
+more 128
+poll-to 1 10 128: more 128
+poll-to 1 10 -1: error 10 BadParameter
+poll-to 7 10 -1: error 10 BadParameter
+poll-to 7 10 0: error 9 UnknownReplay
+poll-to 1 0 5: error 10 BadParameter
+poll-to 1 10 1000: frame 128 2500000000c001008000000007000000e90300002a000000000000000000000068656c6c6f
+done
+poll-to 1 10 0: done
+stop 0 2000: stopped 192
+poll-to 0 10 128: frame 64 2500000000c001004000000007000000e90300002a000000000000000000000068656c6c6f
+more 128
+poll-to 0 10 192: frame 128 2500000000c001008000000007000000e90300002a000000000000000000000068656c6c6f
+done
+";
+
+/// A limit holds frames back, and does not decide if the replay is done.
+#[test]
+fn held_back_by_a_limit(rt: HostRuntime) -> Result<(), Fail> {
+    played(&rt, rt.alloc(), HELD_BACK)
+}
+
 const UNSETTLED: &str = "\
 start 0: started 0 0
 write 0 0: written 64

@@ -366,7 +366,7 @@ fn blocks(alloc: Global) -> Result<Vec<Block>, AllocError> {
 }
 
 /// The block of one frame at an offset of the first term.
-fn block_at(alloc: Global, offset: i32) -> Result<Block, AllocError> {
+pub(crate) fn block_at(alloc: Global, offset: i32) -> Result<Block, AllocError> {
     let frame = Frame {
         kind: FrameKind::Message,
         flags: 0xC0,

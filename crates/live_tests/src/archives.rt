@@ -5,6 +5,7 @@ ghost use Rattle.archive_lock.specs.Held.{engine_seen, view_of};
 ghost use Rattle.call_history.specs.Passes.{AllOfTable, new_passes};
 
 use crate::agents::two_pairs;
+use crate::held_back::one_pair;
 use crate::scenarios::{bounded_part, breaks, missing_pass};
 use crate::seat::Seat;
 use archive_lock::{Call, Made, Naming, SharedArchive};
@@ -26,6 +27,7 @@ pub(crate) enum Scenario {
     BoundedPart,
     Break,
     Agents,
+    HeldBack,
 }
 
 /// All seats of an archive.
@@ -48,11 +50,14 @@ pub(crate) fn played<R: Threads + Wait + Abort + Sync>(
     opened(rt, alloc, keeps, engine, scenario)
 }
 
-/// A new archive in memory; the disk of the one that breaks fails at the first call of the second settling.
+/// A new archive in memory. The disk of the one that breaks fails at the first call of the second settling, that of the
+/// replayer that is held back at its second read.
 fn made(alloc: Global, scenario: Scenario) -> Result<Engine<MemoryDisk>, Refusal> {
     let mut disk = MemoryDisk::new(alloc);
-    if matches!(scenario, Scenario::Break) {
-        disk.fail_at(19);
+    match scenario {
+        Scenario::Break => disk.fail_at(19),
+        Scenario::HeldBack => disk.fail_at(27),
+        _ => {}
     }
     match Engine::create(alloc, disk, 64) {
         Ok(engine) => Ok(engine),
@@ -128,6 +133,7 @@ fn play<D: Disk + Drop + Send, A: Naming + Send + Sync, R: Threads + Wait + Abor
         Scenario::BoundedPart => bounded_part(rt, alloc, archive, seats, keeps),
         Scenario::Break => breaks(rt, alloc, archive, seats, keeps),
         Scenario::Agents => two_pairs(rt, alloc, archive, seats),
+        Scenario::HeldBack => one_pair(rt, alloc, archive, seats),
     }
 }
 

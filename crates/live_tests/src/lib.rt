@@ -13,6 +13,8 @@ mod conversations;
 #[cfg(test)]
 mod crowds;
 #[cfg(test)]
+mod held_back;
+#[cfg(test)]
 mod leaving;
 #[cfg(test)]
 mod metrics;

@@ -9,4 +9,4 @@ mod polling;
 pub use boundary::{is_boundary, is_written_to};
 pub use counting::count_frames;
 pub use layout::layout_of;
-pub use polling::{Given, poll_frames};
+pub use polling::hand_frames;

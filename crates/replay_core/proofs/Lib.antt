@@ -3,3 +3,4 @@ pub mod PageLemmas
 pub mod ShownLemmas
 pub mod PollLemmas
 pub mod GivenLemmas
+pub mod TakingLemmas

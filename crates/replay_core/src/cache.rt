@@ -61,7 +61,7 @@ impl PageCache {
     }
 
     /// How many pages are read by one call of the disk at most: no more than are kept.
-    pub fn most_ahead(&self) -> usize
+    pub(crate) fn most_ahead(&self) -> usize
         ensures { result ≤ 16 }
     {
         PAGES_AHEAD.min(self.pages.cap().get())
@@ -69,7 +69,7 @@ impl PageCache {
 
     /// Adds to the gathered bytes what a page has from an offset on, until there are so many of them. False where the page
     /// is not kept, has none, or there is no memory for them.
-    pub fn gather_kept(&mut self, key: &PageKey, offset: usize, size: usize) -> bool
+    pub(crate) fn gather_kept(&mut self, key: &PageKey, offset: usize, size: usize) -> bool
         ensures added { AddsKept (kept self.old) key.now offset self.old.gathered.items self.new.gathered.items }
         ensures kept { StaysKept (kept self.old) (kept self.new) }
         ensures more { IsTrue result → length self.old.gathered.items < length self.new.gathered.items }
@@ -99,7 +99,7 @@ impl PageCache {
 
     /// Keeps a page, as the most recently used; the least recently used goes where there is no room. Keeps nothing where
     /// there is no memory for it.
-    pub fn keep(&mut self, alloc: Global, key: PageKey, bytes: &[u8])
+    pub(crate) fn keep(&mut self, alloc: Global, key: PageKey, bytes: &[u8])
         ensures kept { KeepsOne (kept self.old) (kept self.new) key bytes.now }
         ensures gathered { self.new.gathered ≡ self.old.gathered }
     {
@@ -129,7 +129,7 @@ impl PageCache {
     }
 
     /// What pages are read into, which is taken out. None where there is no memory for it.
-    pub fn take_window(&mut self, alloc: Global) -> Option<Vec<u8>>
+    pub(crate) fn take_window(&mut self, alloc: Global) -> Option<Vec<u8>>
         ensures same { self.new ≡ record self.old { window = self.new.window } }
     {
         match self.window.take() {
@@ -141,7 +141,7 @@ impl PageCache {
 
 /// Adds to gathered bytes what a part has from an offset on, of its first 4,096 bytes, until there are so many of them.
 /// False where it has none, or there is no memory for them.
-pub fn add_part(gathered: &mut Vec<u8>, part: &[u8], offset: usize, size: usize) -> bool
+pub(crate) fn add_part(gathered: &mut Vec<u8>, part: &[u8], offset: usize, size: usize) -> bool
     ensures added { AddsPart part.now offset gathered.old.items gathered.new.items }
     ensures more { IsTrue result → length gathered.old.items < length gathered.new.items }
     ensures none { result ≡ false → gathered.new.items ≡ gathered.old.items }

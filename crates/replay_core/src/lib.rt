@@ -7,7 +7,9 @@ pub mod laws;
 mod polling;
 mod replay;
 mod store;
+mod taking;
 
 pub use cache::{PageCache, PageKey};
 pub use replay::Replay;
 pub use store::Store;
+pub use taking::FrameTaker;

@@ -7,10 +7,12 @@ ghost use Rattle.frame_core.specs.declared.refusal.Refusal.TheVariants.{DeviceFa
 ghost use Rattle.frame_core.specs.Block.{covered};
 ghost use Rattle.segment_store.specs.Layout.{IsFromStart, IsGeometryOf, IsLayout};
 ghost use Rattle.replay_core.specs.Pages.{KeepsRead, kept};
+ghost use Rattle.replay_core.specs.Taking.{HandsOn, TookSome};
 ghost use Rattle.replay_core.specs.Poll.{AgreeOn, ArePolled, BeginBefore, IsDue, MovesTo, RefusesPoll};
 
 use crate::replay::Replay;
 use crate::store::Store;
+use crate::taking::{FrameCopies, FrameTaker};
 use disk_core::Disk;
 use frame_core::{Frame, Refusal};
 use std::alloc::Global;
@@ -58,14 +60,57 @@ impl Replay {
             × (store.new.generation ≡ store.old.generation) × (store.new.disk.ghost_name ≡ store.old.disk.ghost_name)
             × (store.new.pages.ghost_name ≡ store.old.pages.ghost_name) }
     {
-        let mut frames = Vec::new(alloc);
+        let mut copies = FrameCopies {
+            alloc,
+            frames: Vec::new(alloc),
+        };
+        self.hand_on(alloc, store, recorded, most, &mut copies)?;
+        Ok(copies.frames)
+    }
+
+    /// Hands the next frames on, those that `poll` gives, each as it is read; the replay then goes on behind them. Refused
+    /// as `poll`, and NoMemory where the taker has none for a frame: the replay then stays where it is, and the taker may
+    /// have taken some of the frames. Costs what `Store::hand_frame` costs, for each frame: no memory for those that pages
+    /// have.
+    pub fn hand_on<D: Disk, T: FrameTaker>(
+        &mut self,
+        alloc: Global,
+        store: &mut Store<'_, D>,
+        recorded: i64,
+        most: usize,
+        taker: &mut T,
+    ) -> Result<(), Refusal>
+        requires layout { IsLayout store.old.layout }
+        requires geometry { IsGeometryOf store.old.layout store.old.geometry }
+        requires from_start { IsFromStart store.old.layout self.old.next }
+        ensures handed { OnOk result (HandsOn T.takes taker.old taker.new (D.life store.new.disk.now).obeys
+            (reads (D.life store.old.disk.now).now) store.old.layout store.old.geometry store.old.generation
+            (kept store.old.pages.now) recorded self.old.bound most self.old.next self.new.next) }
+        ensures left { OnErr result (TookSome T.takes T.leaves taker.old taker.new self.old.next) }
+        ensures onwards { self.old.next ≤ℤ self.new.next }
+        ensures moves { OnOk result (0 < most → MovesTo recorded self.old.bound self.old.next self.new.next) }
+        ensures same { self.new ≡ record self.old { next = self.new.next } }
+        ensures err { OnErr result (self.new ≡ self.old) }
+        ensures refused { IfErr result (RefusesPoll (D.life store.new.disk.now).obeys
+            (reads (D.life store.old.disk.now).now) store.old.layout store.old.geometry store.old.generation
+            (kept store.old.pages.now) recorded self.old.bound most (unsigned_abs self.old.next)) }
+        ensures due { OnErr result (IsDue recorded self.old.bound most self.old.next) }
+        ensures pages { KeepsRead (IsTrue (D.life store.new.disk.now).obeys) (reads (D.life store.old.disk.now).now)
+            store.old.layout store.old.generation recorded (kept store.old.pages.now) (kept store.new.pages.now) }
+        ensures quiet { IsQuiet (D.life store.old.disk.now) (D.life store.new.disk.now) }
+        ensures cause { IsErrOf result DeviceFault → HasFailed (D.life store.old.disk.now) (D.life store.new.disk.now) }
+        ensures store { (store.new.layout ≡ store.old.layout) × (store.new.geometry ≡ store.old.geometry)
+            × (store.new.generation ≡ store.old.generation) × (store.new.disk.ghost_name ≡ store.old.disk.ghost_name)
+            × (store.new.pages.ghost_name ≡ store.old.pages.ghost_name) }
+    {
         let mut at = self.next;
-        while frames.len() < most && at < self.bound && at < recorded {
-            let frame = store.read_frame(alloc, at, recorded)?;
-            at += frame.aligned_length() as i64;
-            frames.push(frame)?;
+        let mut taken = 0;
+        while taken < most && at < self.bound && at < recorded {
+            let size = store.hand_frame(alloc, at, recorded, taker)?;
+            at += size as i64;
+            taken += 1;
         }
         self.next = at;
-        Ok(frames)
+        Ok(())
     }
 }

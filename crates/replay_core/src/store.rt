@@ -1,6 +1,6 @@
 //! What replays of a recording read from: a disk through pages. docs/STORAGE.md, "Pages" and "Damaged frames".
 
-ghost use Rattle.std.specs.Prelude.{◌≡◌, ◌<◌, ◌≤ℤ◌, ◌+◌, ◌^◌, pos, ℕ, true, length, IfOk, IfErr, IfSome, IsErrOf, IsTrue, unsigned_abs};
+ghost use Rattle.std.specs.Prelude.{◌≡◌, ◌⊎◌, ◌<◌, ◌≤ℤ◌, ◌+◌, ◌^◌, pos, ℕ, true, length, IfOk, IfErr, IfSome, IsErrOf, IsTrue, OnErr, unsigned_abs};
 ghost use Rattle.disk_core.specs.DiskImage.{reads};
 ghost use Rattle.disk_core.specs.Life.{HasFailed, IsQuiet};
 ghost use Rattle.frame_core.specs.FrameEncoding.{aligned_length, encoded};
@@ -9,9 +9,11 @@ ghost use Rattle.frame_core.specs.declared.refusal.Refusal.TheVariants.{DeviceFa
 ghost use Rattle.segment_store.specs.DamagedFrame.{RefusesFrame, ShowsFrame, belongs_at};
 ghost use Rattle.segment_store.specs.Layout.{IsFromStart, IsGeometryOf, IsLayout};
 ghost use Rattle.replay_core.specs.Pages.{AgreeOver, KeepsRead, kept};
+ghost use Rattle.replay_core.specs.Taking.{HandsOne, RefusesHanding};
 
 use crate::cache::PageCache;
 use crate::gathering::{Source, gather_frame};
+use crate::taking::FrameTaker;
 use disk_core::Disk;
 use frame_core::{Frame, Geometry, Refusal};
 use segment_store::{Layout, read_frame, shown_frame};
@@ -87,6 +89,63 @@ impl<D> Store<'_, D> {
                 limit,
             ),
         }
+    }
+
+    /// Hands the frame at a position on, as `read_frame` reads it: it is lent from what was gathered of pages, or from what
+    /// the disk was read into. How many bytes of the stream it covers. Refused as `read_frame`, and NoMemory where the taker
+    /// has none for it: then the taker is what its own refusal left. Takes memory for a payload only where pages don't have
+    /// the frame.
+    pub fn hand_frame<T: FrameTaker>(
+        &mut self,
+        alloc: Global,
+        position: i64,
+        limit: i64,
+        taker: &mut T,
+    ) -> Result<u64, Refusal>
+    where
+        D: Disk,
+        requires layout { IsLayout self.old.layout }
+        requires geometry { IsGeometryOf self.old.layout self.old.geometry }
+        requires recorded { IsFromStart self.old.layout position }
+        ensures handed { IfOk result (HandsOne T.takes taker.old taker.new (D.life self.new.disk.now).obeys
+            (reads (D.life self.old.disk.now).now) self.old.layout self.old.geometry self.old.generation
+            (kept self.old.pages.now) limit position) }
+        ensures small { IfOk result (λ size. size < 2 ^ 33) }
+        ensures left { OnErr result ((taker.new ≡ taker.old) ⊎ T.leaves taker.old taker.new) }
+        // Whatever pages have.
+        ensures refused { IfErr result (RefusesHanding (D.life self.new.disk.now).obeys
+            (reads (D.life self.old.disk.now).now) self.old.layout self.old.geometry limit position) }
+        ensures pages { KeepsRead (IsTrue (D.life self.new.disk.now).obeys) (reads (D.life self.old.disk.now).now)
+            self.old.layout self.old.generation limit (kept self.old.pages.now) (kept self.new.pages.now) }
+        ensures quiet { IsQuiet (D.life self.old.disk.now) (D.life self.new.disk.now) }
+        ensures cause { IsErrOf result DeviceFault → HasFailed (D.life self.old.disk.now) (D.life self.new.disk.now) }
+        ensures store { (self.new.layout ≡ self.old.layout) × (self.new.geometry ≡ self.old.geometry)
+            × (self.new.generation ≡ self.old.generation) × (self.new.disk.ghost_name ≡ self.old.disk.ghost_name)
+            × (self.new.pages.ghost_name ≡ self.old.pages.ghost_name) }
+    {
+        let source = Source {
+            layout: self.layout,
+            generation: self.generation,
+            limit,
+        };
+        let at = position.unsigned_abs();
+        let most = self.geometry.mtu.unsigned_abs() as usize;
+        gather_frame(alloc, self.disk, self.pages, &source, at, most)?;
+        let bytes = self.pages.gathered.as_slice();
+        if let Some(shown) = shown_frame(&self.layout, &self.geometry, at, &limit, bytes) {
+            taker.take(position, &shown)?;
+            return Ok(shown.aligned_length());
+        }
+        let frame = read_frame(
+            alloc,
+            self.disk,
+            &self.layout,
+            &self.geometry,
+            position,
+            limit,
+        )?;
+        taker.take(position, &frame.as_ref())?;
+        Ok(frame.aligned_length())
     }
 }
 

@@ -25,6 +25,5 @@ mod QuietLemmas
 mod StoredLemmas
 mod FrameLinesLemmas
 mod ListingLemmas
-mod PolledLemmas
 mod QuitLemmas
 mod SumLemmas

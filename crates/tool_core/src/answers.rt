@@ -7,9 +7,8 @@ ghost use Rattle.control_lines.specs.RefusalText.{refusal_text};
 ghost use Rattle.tool_core.specs.Answering.{FailsToAnswer, outcome_text};
 
 use crate::fault::EarlyEnd;
-use crate::polled::write_polled;
 use archive_model::Reply;
-use control_lines::{print_refusal, print_reply};
+use control_lines::{print_refusal, print_reply, write_polled};
 use frame_core::Refusal;
 use std::alloc::Global;
 use std::io::Write;
@@ -41,7 +40,7 @@ pub fn write_reply<W: Write>(alloc: Global, reply: &Reply, writer: &mut W) -> Re
         (λ fault. FailsToAnswer fault (W.contents writer.old) (W.contents writer.new)) }
 {
     if let Reply::Polled { frames, next } = reply {
-        return write_polled(frames.as_slice(), *next, writer);
+        return write_polled(frames.as_slice(), *next, writer).map_err(|_| EarlyEnd::Write);
     }
     let Ok(text) = print_reply(alloc, reply) else {
         return Err(EarlyEnd::Memory);

@@ -15,7 +15,6 @@ mod lines;
 mod merging;
 mod observer;
 mod pace;
-mod polled;
 mod progress;
 mod reports;
 mod screen;

@@ -184,6 +184,17 @@ fn bounded_part_of_a_recording(rt: HostRuntime) -> Result<(), Fail> {
 }
 
 #[test]
+fn bounded_part_held_back(rt: HostRuntime) -> Result<(), Fail> {
+    check(
+        rt.alloc(),
+        "start 1001 7 42 65536 1408 131072 0 1000 c; block 0 HELLO_AT_0; block 0 HELLO_AT_64; \
+        block 0 HELLO_AT_128; replay 0 64 65; poll-to 0 10 65; poll-to 0 10 128; poll-to 0 10 -1; poll-to 0 10 1000",
+        "started 0 0; settled 64; settled 128; settled 192; replay 0; frame 64 HELLO_AT_64; \
+        more 128; more 128; error 10 BadParameter; frame 128 HELLO_AT_128; done",
+    )
+}
+
+#[test]
 fn bad_frame_headers(rt: HostRuntime) -> Result<(), Fail> {
     check(
         rt.alloc(),

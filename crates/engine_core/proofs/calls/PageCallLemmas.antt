@@ -28,7 +28,9 @@ use Rattle.control_core.specs.Changes.{after_close, after_open, after_write, set
 use Rattle.control_core.specs.Exact.{plain, span_of}
 use Rattle.control_core.specs.Turns.{begins_at, close_tests, open_tests, poll_tests, settle_tests, sweep_tests, verify_tests, write_tests}
 use Rattle.control_core.specs.Machine.{AtPosition, Breaks, Closes, Commits, Decided, Either, Ended, Ends, Faults, GivesFrames, Opens, Outside, Passing, Polls, RefusesCall, Settles, Step, Sweeps, UnlessBoundary, Unread, Verifies, Writes, recording_of}
+use Rattle.frame_core.specs.declared.frame.Frame.{Frame}
 use Rattle.engine_core.specs.Calls.{AnswersEvent}
+use Rattle.engine_core.specs.Handing.{HandsPolled}
 use Rattle.engine_core.specs.KeptPages.{KeepsPages, generation_after}
 use Rattle.engine_core.specs.Moves.{ChangesThese, registered_keep}
 use Rattle.engine_core.specs.Touching.{Touches, WritesBlock, written_by}
@@ -169,16 +171,16 @@ open_same old id position size =
     passing_same old tests first_checks (AtPosition old found next rest)
     (at_same old found next rest (passing_same old tests (block_checks ++ last_checks) opened (ended_same old (Ok (told.Reply (replies.ReplayOpened old.callers.next_replay))) (after_open id next (bound_of next size) old) refl)))
 
-gives_same : (old : DeskState) (found : Option OpenReplay) (known : Option Registration) → KeepsRegister old (GivesFrames old found known)
-gives_same old None known outcome new gives = absurd gives
-gives_same old (Some replay) None outcome new gives = absurd gives
-gives_same old (Some replay) (Some r) outcome new gives = ap (λ (d : DeskState). d.register) gives.2.1
+gives_same : (old : DeskState) (limit : Option ℤ) (found : Option OpenReplay) (known : Option Registration) → KeepsRegister old (GivesFrames old limit found known)
+gives_same old limit None known outcome new gives = absurd gives
+gives_same old limit (Some replay) None outcome new gives = absurd gives
+gives_same old limit (Some replay) (Some r) outcome new gives = ap (λ (d : DeskState). d.register) gives.2.1
 
-poll_same : (old : DeskState) (number most : ℤ) → KeepsRegister old (Polls old number most)
-poll_same old number most =
+poll_same : (old : DeskState) (number most : ℤ) (limit : Option ℤ) → KeepsRegister old (Polls old number most limit)
+poll_same old number most limit =
     let found = open_replay_in old number in
-    let gives : Ends = GivesFrames old found (recording_of old found) in
-    passing_same old (poll_tests old number most) checks (Either (Unread old) gives) (either_same old (Unread old) gives (unread_same old) (gives_same old found (recording_of old found)))
+    let gives : Ends = GivesFrames old limit found (recording_of old found) in
+    passing_same old (poll_tests old number most limit) checks (Either (Unread old) gives) (either_same old (Unread old) gives (unread_same old) (gives_same old limit found (recording_of old found)))
 
 close_same : (old : DeskState) (number : ℤ) → KeepsRegister old (Closes old number)
 close_same old number =
@@ -216,7 +218,8 @@ event_goes old new event result keeps stepped = elim (stepped_or old (asked_of e
     by (events.Write session block) step = same_goes old new result (write_same old session (span_of block) (plain result) new step)
     by (events.Settle session) step = inl (settle_goes old new session (plain result) keeps step)
     by (events.ReplayOpen id position size) step = same_goes old new result (open_same old id position size (plain result) new step)
-    by (events.ReplayPoll number most) step = same_goes old new result (poll_same old number most (told_of old (events.ReplayPoll number most) result) new step)
+    by (events.ReplayPoll number most) step = same_goes old new result (poll_same old number most None (told_of old (events.ReplayPoll number most) result) new step)
+    by (events.ReplayPollTo number most limit) step = same_goes old new result (poll_same old number most (Some limit) (told_of old (events.ReplayPollTo number most limit) result) new step)
     by (events.ReplayClose number) step = same_goes old new result (close_same old number (plain result) new step)
     by events.Sweep step = same_goes old new result (sweep_same old (plain result) new step)
     by (events.Verify id) step = same_goes old new result (verify_same old id (plain result) new step)
@@ -345,6 +348,7 @@ event_bytes e (events.Write session block) new keeps touches = write_bytes e.des
 event_bytes e (events.Settle session) new keeps touches = settle_bytes e.life new e.desk.register touches.segments
 event_bytes e (events.ReplayOpen id position size) new keeps touches = quiet_bytes e.life new e.desk.register touches
 event_bytes e (events.ReplayPoll number most) new keeps touches = quiet_bytes e.life new e.desk.register touches
+event_bytes e (events.ReplayPollTo number most limit) new keeps touches = quiet_bytes e.life new e.desk.register touches
 event_bytes e (events.ReplayClose number) new keeps touches = quiet_bytes e.life new e.desk.register touches
 event_bytes e events.Sweep new keeps (inl quiet) = quiet_bytes e.life new e.desk.register quiet
 event_bytes e events.Sweep new keeps (inr swept) = sweep_bytes e.desk e.life new keeps (inr (swept.0, swept.1))
@@ -374,3 +378,9 @@ event_keeps old new event result generation pages keeps answers kept = elim (eve
     risen truncated next =
         subst (λ (o : Result Reply Refusal). KeepsPages new.life new.desk.register (generation_after o generation) pages) (sym truncated.1)
         (pages_past old.life new.life old.desk.register new.desk.register generation pages answers.ends.goes_on.obeyed next kept)
+
+-- and behind a poll whose frames were handed on
+pub handing_keeps : {T : Type 0} (takes : T → ℤ → Frame → T → Type 0) (leaves : T → T → Type 0) (from to : T) (old new : EngineState) (event : Event) (result : Result (Option ℤ) Refusal) (generation : ℕ) (pages : Pages) → KeepsDesk old.desk.register old.desk.callers
+    → HandsPolled takes leaves from to (AnswersEvent old new event) result → KeepsPages old.life old.desk.register generation pages → KeepsPages new.life new.desk.register generation pages
+handing_keeps takes leaves from to old new event (Ok next) generation pages keeps handed kept = event_keeps old new event (Ok (replies.Polled handed.0 next)) generation pages keeps handed.2 kept
+handing_keeps takes leaves from to old new event (Err refusal) generation pages keeps handed kept = event_keeps old new event (Err refusal) generation pages keeps handed.1 kept

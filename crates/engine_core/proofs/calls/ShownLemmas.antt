@@ -6,6 +6,7 @@ use Rattle.control_core.specs.Decided as decisions
 use Rattle.control_core.specs.declared.turns.Opening.{Opening}
 use Rattle.control_core.specs.Opened.{OpeningDecision}
 use Rattle.control_core.specs.Opened as opening
+use Rattle.control_core.specs.Turns.{held_back}
 use Rattle.engine_core.specs.Replaying.{ShowsBegin, ShowsOpening}
 use Rattle.engine_core.specs.Shown.{AsksDecided, AsksShown, CountsShown, OpensShown, PollsDecided, PollsShown}
 
@@ -187,13 +188,13 @@ module _ (image : DiskImage) (d : DeskState) where
   unpolled g replay most (Damaged recording at) refuses = refuses
   unpolled g replay most refusal refuses = absurd refuses
 
-  pub poll_refused_shown : (number most : ℤ) (refusal : Refusal) (outcome : Result Reply Refusal) → poll_decision d number most ≡ Err refusal → PollsDecided image d (poll_decision d number most) most outcome
-  poll_refused_shown number most refusal outcome is = subst (λ (o : Result OpenReplay Refusal). PollsDecided image d o most outcome) (sym is) tt
+  pub poll_refused_shown : (number most : ℤ) (limit : Option ℤ) (refusal : Refusal) (outcome : Result Reply Refusal) → poll_decision d number most limit ≡ Err refusal → PollsDecided image d (poll_decision d number most limit) most limit outcome
+  poll_refused_shown number most limit refusal outcome is = subst (λ (o : Result OpenReplay Refusal). PollsDecided image d o most limit outcome) (sym is) tt
 
-  pub polled_shown : (number most : ℤ) (replay : OpenReplay) (g : Registration) (outcome : Result Reply Refusal) → poll_decision d number most ≡ Ok replay → registration_in d.register replay.recording ≡ Some g → PollsShown image g replay most outcome
-      → PollsDecided image d (poll_decision d number most) most outcome
-  polled_shown number most replay g outcome is found shown =
-      subst (λ (o : Result OpenReplay Refusal). PollsDecided image d o most outcome) (sym is) (subst (λ (o : Option Registration). IfSome o (λ x. PollsShown image x replay most outcome)) (sym found) shown)
+  pub polled_shown : (number most : ℤ) (limit : Option ℤ) (replay : OpenReplay) (g : Registration) (outcome : Result Reply Refusal) → poll_decision d number most limit ≡ Ok replay → registration_in d.register replay.recording ≡ Some g
+      → PollsShown image g (held_back limit replay) most outcome → PollsDecided image d (poll_decision d number most limit) most limit outcome
+  polled_shown number most limit replay g outcome is found shown =
+      subst (λ (o : Result OpenReplay Refusal). PollsDecided image d o most limit outcome) (sym is) (subst (λ (o : Option Registration). IfSome o (λ x. PollsShown image x (held_back limit replay) most outcome)) (sym found) shown)
 
   -- ---- counting
 

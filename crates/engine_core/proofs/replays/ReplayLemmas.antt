@@ -1,18 +1,21 @@
 -- Calls that only read: how they end, and what becomes of the open replays.
 use Rattle.std.proofs.Common.{◌≡◌, ◌≢◌, ◌∙◌, ◌||◌, inl, inr, sym, ap, subst, refl, cond, ℤ, Bool, true, false, true≢false, IsTrue, List, [], ◌∷◌, Option, None, Some}
 use Rattle.std.specs.Prelude.{IsErrOf, IsFalse, IsSomeAnd, Result, Ok, Err, unsigned_abs}
-use Rattle.engine_core.proofs.Words.{Archive, ArchiveEnds, CallEnds, Content, DeskState, DeviceFault, Each, EndsAs, EndsEvent, EngineState, Event, HasBlocks, HasFailed, IsAtBoundary, IsConsistent, IsCrashConsistent, IsOutside, IsQuiet, IsTied, LogState, NoMemory, OpenReplay, PolledFrame, Recording, Refusal, Reply, Stepped, Tests, archive_of, asked_of, change, checked, checks, each_change, each_found, empty, found_number, is_boundary, open_replay_in, passes, poll_decision, polled, polled_open, recording_at, replay_number, told_of, with_desk}
+use Rattle.engine_core.proofs.Words.{Archive, ArchiveEnds, CallEnds, Content, DeskState, DeviceFault, Each, EndsAs, EndsEvent, EngineState, Event, HasBlocks, HasFailed, IsAtBoundary, IsConsistent, IsCrashConsistent, IsOutside, IsQuiet, IsTied, LogState, NoMemory, OpenReplay, Outcome, PolledFrame, Recording, Refusal, Reply, Stepped, Tests, archive_of, asked_of, change, checked, checks, each_change, each_found, empty, found_number, is_boundary, open_replay_in, passes, poll_decision, polled, polled_open, recording_at, replay_number, told_of, with_desk}
 use Rattle.archive_model.specs.declared.reply.Reply.TheVariants as replies
 use Rattle.archive_model.proofs.AnswerLemmas.{all_hold}
+use Rattle.control_core.specs.declared.asked.Asked.{Asked}
+use Rattle.control_core.specs.declared.asked.Asked.TheVariants as calls
 use Rattle.control_core.specs.declared.event.Event.TheVariants as events
 use Rattle.control_core.specs.Callers.{CallersState, moved_to}
 use Rattle.control_core.specs.Changes.{after_poll}
-use Rattle.control_core.specs.Exact.{Leaves, PolledEnds, PollingEnds, frames_end, goes_on, reads_files}
+use Rattle.control_core.specs.Exact.{ArchiveEnd, Leaves, PolledEnds, PollingEnds, frames_end, from_position, goes_on, plain_poll, poll_event, reads_files}
 use Rattle.control_core.specs.Seats.{KeepsSeats}
-use Rattle.control_core.specs.Turns.{poll_tests, open_replay_of}
+use Rattle.control_core.specs.Turns.{held_to, open_replay_of, poll_tests}
 use Rattle.control_core.proofs.FoundLemmas.{each_weaker}
+use Rattle.control_core.proofs.PollEventLemmas.{asked_of_poll, ends_of_poll, poll_reads, told_of_poll}
 use Rattle.control_core.proofs.StayLemmas.{blocks_stay, same_recording}
-use Rattle.engine_core.specs.Calls.{is_fault}
+use Rattle.engine_core.specs.Calls.{Keeps, is_fault}
 use Rattle.engine_core.proofs.files.CommitLemmas.{memory_is_no_fault}
 use Rattle.engine_core.proofs.calls.EndedLemmas.{quiet_goes_on, reread, same_bank, spared, still}
 
@@ -159,22 +162,43 @@ unkept a event faulted refusal memory = outside_read a event faulted refusal (in
 
 -- ---- a poll
 
--- each test of it holds
-pub poll_passes : (d : DeskState) (number most : ℤ) (replay : OpenReplay)
-    → poll_decision d number most ≡ Ok replay → passes (poll_tests d number most) checks ≡ true
-poll_passes d number most replay is = (all_hold (poll_tests d number most) checks (open_replay_of (open_replay_in d number)) replay is).0
+-- one with a limit ends as one without, but for its frames
+pub ends_poll : (a : Archive) (number most : ℤ) (limit : Option ℤ) (outcome : Result Reply Refusal) (b : Archive) → PollingEnds a most limit (poll_decision a.desk number most limit) outcome b → ArchiveEnds a (poll_event number most limit) outcome b
+ends_poll a number most limit outcome b ends = subst (λ (E : ArchiveEnd). E outcome b) (sym (ends_of_poll a number most limit)) ends
 
-pub poll_no_fault : (d : DeskState) (number most : ℤ) (refusal : Refusal) → poll_decision d number most ≡ Err refusal → IsErrOf {T = Reply} (Err refusal) DeviceFault → ⊥
-poll_no_fault d number most refusal is fault =
+pub steps_poll : (d : DeskState) (number most : ℤ) (limit : Option ℤ) (result : Result Reply Refusal) (new : DeskState) → Stepped d (calls.ReplayPoll number most limit) (plain_poll (from_position (open_replay_in d number)) result) new
+    → Stepped d (asked_of (poll_event number most limit)) (told_of d (poll_event number most limit) result) new
+steps_poll d number most limit result new steps =
+    subst (λ (asked : Asked). Stepped d asked (told_of d (poll_event number most limit) result) new) (sym (asked_of_poll number most limit))
+    (subst (λ (tells : Result Reply Refusal → Outcome). Stepped d (calls.ReplayPoll number most limit) (tells result) new) (sym (told_of_poll d number most limit)) steps)
+
+pub reads_poll : (d : DeskState) (number most : ℤ) (limit : Option ℤ) → passes (poll_tests d number most limit) checks ≡ true → IsTrue (reads_files d (poll_event number most limit))
+reads_poll d number most limit passed = poll_reads d number most limit ∙ passed
+
+pub keeps_poll : (number most : ℤ) (limit : Option ℤ) (a b : Archive) → b ≡ with_desk b.desk a → Keeps (poll_event number most limit) a b
+keeps_poll number most None a b same = same
+keeps_poll number most (Some limit) a b same = same
+
+pub poll_sweeps_nothing : (number most : ℤ) (limit : Option ℤ) → poll_event number most limit ≢ events.Sweep
+poll_sweeps_nothing number most None is = absurd cc
+poll_sweeps_nothing number most (Some limit) is = absurd cc
+
+-- each test of it holds
+pub poll_passes : (d : DeskState) (number most : ℤ) (limit : Option ℤ) (replay : OpenReplay)
+    → poll_decision d number most limit ≡ Ok replay → passes (poll_tests d number most limit) checks ≡ true
+poll_passes d number most limit replay is = (all_hold (poll_tests d number most limit) checks (open_replay_of (open_replay_in d number)) replay is).0
+
+pub poll_no_fault : (d : DeskState) (number most : ℤ) (limit : Option ℤ) (refusal : Refusal) → poll_decision d number most limit ≡ Err refusal → IsErrOf {T = Reply} (Err refusal) DeviceFault → ⊥
+poll_no_fault d number most limit refusal is fault =
     let same : refusal ≡ DeviceFault = cc in
-    by (open_replay_in d number) (checked_fault (poll_tests d number most) checks (open_replay_of (open_replay_in d number)) refl (is ∙ ap Err same))
+    by (open_replay_in d number) (checked_fault (poll_tests d number most limit) checks (open_replay_of (open_replay_in d number)) refl (is ∙ ap Err same))
   where
     by : (o : Option OpenReplay) → open_replay_of o ≡ Err DeviceFault → ⊥
     by None e = cc
     by (Some replay) e = cc
 
-pub polling_refused : (a : Archive) (number most : ℤ) (refusal : Refusal) → poll_decision a.desk number most ≡ Err refusal → ArchiveEnds a (events.ReplayPoll number most) (Err refusal) a
-polling_refused a number most refusal is = subst (λ (d : Result OpenReplay Refusal). PollingEnds a most d (Err refusal) a) (sym is) (refl, refl)
+pub polling_refused : (a : Archive) (number most : ℤ) (limit : Option ℤ) (refusal : Refusal) → poll_decision a.desk number most limit ≡ Err refusal → ArchiveEnds a (poll_event number most limit) (Err refusal) a
+polling_refused a number most limit refusal is = ends_poll a number most limit (Err refusal) a (subst (λ (d : Result OpenReplay Refusal). PollingEnds a most limit d (Err refusal) a) (sym is) (refl, refl))
 
 -- it is at a boundary
 pub open_at : (a : Archive) (number : ℤ) (replay : OpenReplay) (r : Recording) → open_replay_in a.desk number ≡ Some replay → recording_at a replay.recording ≡ Some r → Each (IsAtBoundary a.state) a.desk.callers.replays → is_boundary replay.next r ≡ true
@@ -190,17 +214,18 @@ moved_at a number next replay r found there boundary all = each_change replay_nu
     let same : replay ≡ x = cc in
     subst (λ (y : OpenReplay). IsAtBoundary a.state (moved_to next y)) same (subst (λ (o : Option Recording). IsSomeAnd o (λ (v : Recording). IsTrue (is_boundary next v))) (sym there) boundary))
 
-pub polled_ends : (a : Archive) (number most next : ℤ) (replay : OpenReplay) (r : Recording) (frames : List PolledFrame) (goes : Option ℤ) → poll_decision a.desk number most ≡ Ok replay → recording_at a replay.recording ≡ Some r
-    → frames ≡ polled replay.next replay.bound (unsigned_abs most) r → next ≡ frames_end replay.next frames → goes ≡ goes_on r replay next
-    → ArchiveEnds a (events.ReplayPoll number most) (Ok (replies.Polled frames goes)) (with_desk (after_poll number next a.desk) a)
-polled_ends a number most next replay r frames goes is there given ends on =
-    let all : List PolledFrame = polled replay.next replay.bound (unsigned_abs most) r in
+pub polled_ends : (a : Archive) (number most next : ℤ) (limit : Option ℤ) (replay : OpenReplay) (r : Recording) (frames : List PolledFrame) (goes : Option ℤ) → poll_decision a.desk number most limit ≡ Ok replay → recording_at a replay.recording ≡ Some r
+    → frames ≡ polled replay.next (held_to limit replay.bound) (unsigned_abs most) r → next ≡ frames_end replay.next frames → goes ≡ goes_on r replay next
+    → ArchiveEnds a (poll_event number most limit) (Ok (replies.Polled frames goes)) (with_desk (after_poll number next a.desk) a)
+polled_ends a number most next limit replay r frames goes is there given ends on =
+    let all : List PolledFrame = polled replay.next (held_to limit replay.bound) (unsigned_abs most) r in
     let same : next ≡ frames_end replay.next all = ends ∙ ap (frames_end replay.next) given in
-    let named : number ≡ replay.number = sym (found_number replay_number number a.desk.callers.replays replay (polled_open a.desk number most replay is)) in
+    let named : number ≡ replay.number = sym (found_number replay_number number a.desk.callers.replays replay (polled_open a.desk number most limit replay is)) in
     let answer : Result Reply Refusal = Ok (replies.Polled frames goes) in
     let after : Archive = with_desk (after_poll number next a.desk) a in
-    subst (λ (d : Result OpenReplay Refusal). PollingEnds a most d answer after) (sym is)
-    (subst (λ (o : Option Recording). PolledEnds a replay most o answer after) (sym there) (
+    ends_poll a number most limit answer after
+    (subst (λ (d : Result OpenReplay Refusal). PollingEnds a most limit d answer after) (sym is)
+    (subst (λ (o : Option Recording). PolledEnds a replay most limit o answer after) (sym there) (
       ap (λ (f : List PolledFrame). Ok (replies.Polled f goes)) given ∙ ap (λ (g : Option ℤ). Ok (replies.Polled all g)) (on ∙ ap (goes_on r replay) same),
       ap (λ (n : ℤ). with_desk (after_poll n next a.desk) a) named ∙ ap (λ (n : ℤ). with_desk (after_poll replay.number n a.desk) a) same,
-    ))
+    )))

@@ -44,3 +44,13 @@ returns-clause-tied g c =
       subst (IsTied log) (sym c.opened-desk.ensures) (record { works = λ works. c.in_ok-log.ensures.works; counted = λ works. sym is; limit = λ works. sym c.limit-limit.ensures; version = λ works. sym c.version-version.ensures }),
       ap (λ (d : DeskState). d.is_broken) c.opened-desk.ensures,
     )
+
+pub returns-in_err-log-clause-files : goal.returns-in_err-log-clause-files
+returns-in_err-log-clause-files g c =
+    let files = c.open_files.ensures.files in
+    record { before = files.before; synced = search rules; calls = files.calls; cause = λ fault. files.cause (search (rules, fault)) }
+
+pub returns-clause-files : goal.returns-clause-files
+returns-clause-files g c =
+    let files = c.open_files.ensures.files in
+    record { before = files.before; synced = search rules; calls = files.calls; cause = λ fault. absurd cc }

@@ -36,7 +36,7 @@ returns-then-is_err g c =
     )
 
 pub polled-frames-requires : goal.polled-frames-requires
-polled-frames-requires g c = poll_told g.A.Naming.opening c.args.self.now.pass c.call.new.pass _ _ (Ok c.in-Ok.reply) c.in-Ok.ensures.answers
+polled-frames-requires g c = poll_told g.A.Naming.opening c.args.self.now.pass c.call.new.pass _ _ None (Ok c.in-Ok.reply) c.in-Ok.ensures.answers
 
 pub returns-in-Ok : goal.returns-in-Ok
 returns-in-Ok g c =

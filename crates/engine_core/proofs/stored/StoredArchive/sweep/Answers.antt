@@ -58,12 +58,12 @@ returns-in_err-keeps-clause-touches g c = inl (still_quiet _)
 pub returns-in_err-removed-clause-touches : goal.returns-in_err-removed-clause-touches
 returns-in_err-removed-clause-touches g c =
     let registered : c.as_slice.result.now ≡ registered_keeps c.args.self.now.desk.state.register = search rules in
-    swept_touches (state_of g.D.Disk.life c.args.self.now) (g.D.Disk.life c.sweep.new.self.disk) c.as_slice.result.now registered c.sweep.ensures.bounded c.sweep.ensures.calls
+    swept_touches (state_of g.D.Disk.life c.args.self.now) (g.D.Disk.life c.sweep.new.self.disk) c.as_slice.result.now registered c.sweep.ensures.bounded.0 c.sweep.ensures.bounded.1
 
 pub returns-clause-touches : goal.returns-clause-touches
 returns-clause-touches g c =
     let registered : c.as_slice.result.now ≡ registered_keeps c.args.self.now.desk.state.register = search rules in
-    swept_touches (state_of g.D.Disk.life c.args.self.now) (g.D.Disk.life c.sweep.new.self.disk) c.as_slice.result.now registered c.sweep.ensures.bounded c.sweep.ensures.calls
+    swept_touches (state_of g.D.Disk.life c.args.self.now) (g.D.Disk.life c.sweep.new.self.disk) c.as_slice.result.now registered c.sweep.ensures.bounded.0 c.sweep.ensures.bounded.1
 
 pub returns-in_err-decide_sweep-clause-catalogue : goal.returns-in_err-decide_sweep-clause-catalogue
 returns-in_err-decide_sweep-clause-catalogue g c = still_keeps _ _
@@ -72,7 +72,7 @@ pub returns-in_err-keeps-clause-catalogue : goal.returns-in_err-keeps-clause-cat
 returns-in_err-keeps-clause-catalogue g c = still_keeps _ _
 
 pub returns-in_err-removed-clause-catalogue : goal.returns-in_err-removed-clause-catalogue
-returns-in_err-removed-clause-catalogue g c = banks_keep _ _ _ (swept_banks _ _ c.as_slice.result.now c.sweep.ensures.bounded) c.sweep.ensures.log refl
+returns-in_err-removed-clause-catalogue g c = banks_keep _ _ _ (swept_banks _ _ c.as_slice.result.now c.sweep.ensures.bounded.0) c.sweep.ensures.log refl
 
 pub returns-clause-catalogue : goal.returns-clause-catalogue
-returns-clause-catalogue g c = banks_keep _ _ _ (swept_banks _ _ c.as_slice.result.now c.sweep.ensures.bounded) c.sweep.ensures.log refl
+returns-clause-catalogue g c = banks_keep _ _ _ (swept_banks _ _ c.as_slice.result.now c.sweep.ensures.bounded.0) c.sweep.ensures.log refl
