@@ -1,6 +1,7 @@
 mod NothingLemmas
 mod AheadLemmas
 mod RunLemmas
+mod DiskLemmas
 mod HistoryLemmas
 mod SpanLemmas
 mod HeldLemmas

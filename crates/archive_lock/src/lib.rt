@@ -7,8 +7,10 @@ pub mod laws;
 mod naming;
 mod records;
 mod shared;
+mod standing;
 
-pub use held::{Closed, Held, MissingHeld};
+pub use held::{Closed, Held, MissingPass};
 pub use history::{Call, Made};
 pub use naming::Naming;
-pub use shared::{LockRefusal, MissingPass, SharedArchive};
+pub use shared::{LockRefusal, SharedArchive};
+pub use standing::Standing;
