@@ -92,7 +92,7 @@ read_keeps session (Ok block) old outcome new written = calls_keep (events.Write
 read_keeps session (Err refusal) old outcome new written = keeps_same old new written.1
 
 pub writes_keep : (session : ℤ) (bytes : List ℕ) (old : SeenArchive) (outcome : Result Reply Refusal) (new : SeenArchive) → WritesBytes archive_ways session bytes old outcome new → KeepsBanks old new
-writes_keep session bytes old outcome new (terms, read, are, is, written) = read_keeps session read old outcome new written
+writes_keep session bytes old outcome new (terms, read, mid, are, is, written) = read_keeps session read old outcome new (subst (λ (x : SeenArchive). WritesRead archive_ways session read x outcome new) are.1 written)
 
 settles_keep : (session : ℤ) (first : Result Reply Refusal) (mid : SeenArchive) (outcome : Result Reply Refusal) (new : SeenArchive) → ThenSettles archive_ways session first mid outcome new → KeepsBanks mid new
 settles_keep session (Ok reply) mid outcome new settled = calls_keep (events.Settle session) mid outcome new settled

@@ -131,7 +131,8 @@ closed_read session bytes disk new (Err refusal) (Err other) outcome same is wri
     (written.0 ∙ ap (λ (r : Refusal). Err r) (one ∙ two), written.1)
 
 pub closed_bytes : (session : ℤ) (bytes : List ℕ) (disk : Life) (new : SeenArchive) (outcome : Result Reply Refusal) → answering.WritesBytes archive_ways session bytes (Closed disk) outcome new → (outcome ≡ Err Broken) × (new ≡ Closed disk)
-closed_bytes session bytes disk new outcome (terms, read, are, is, written) = closed_read session bytes disk new terms read outcome are is written
+closed_bytes session bytes disk new outcome (terms, read, mid, are, is, written) =
+    closed_read session bytes disk new terms read outcome are.0 is (subst (λ (x : SeenArchive). WritesRead archive_ways session read x outcome new) are.1 written)
 
 pub is_unknown : (x : SeenArchive) → IsStanding x unknown
 is_unknown (Open e) = tt
@@ -141,8 +142,9 @@ is_unknown (Closed d) = tt
 pub bytes_kept : (line : Line) (session : ℤ) (bytes : List ℕ) (old new : SeenArchive) (s : Standing) (outcome : Result Reply Refusal) → IsStanding old s → LeavesStanding (life_of old) s → IsTrue (life_of new).obeys
     → answering.WritesBytes archive_ways session bytes old outcome new
     → Kept line old new s (OrWant s (WhereOpen (WritesBytes (HasFailed (life_of old) (life_of new)) session bytes) s)) outcome
-bytes_kept line session bytes (Open old) new (opened a) outcome stands left obeys (terms, read, are, is, written) =
-    open_read line session bytes old new a terms read outcome stands left obeys (are ∙ ap (λ (d : DeskState). terms_in d session) stands.desk) is written
+bytes_kept line session bytes (Open old) new (opened a) outcome stands left obeys (terms, read, mid, are, is, written) =
+    open_read line session bytes old new a terms read outcome stands left obeys (are.0 ∙ ap (λ (d : DeskState). terms_in d session) stands.desk) is
+    (subst (λ (x : SeenArchive). WritesRead archive_ways session read x outcome new) are.1 written)
 bytes_kept line session bytes (Open old) new unknown outcome stands left obeys all = record { after = unknown; stands = is_unknown new; ends = inl refl; meanwhile = tt }
 bytes_kept line session bytes (Open old) new (closed a) outcome stands left obeys all = absurd stands
 bytes_kept line session bytes (Open old) new (doubtful s u) outcome stands left obeys all = absurd stands

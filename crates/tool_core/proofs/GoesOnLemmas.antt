@@ -49,7 +49,7 @@ read_goes_on session (Ok block) old outcome new written = calls_go_on (events.Wr
 read_goes_on session (Err refusal) old outcome new written = same_goes old new written.1
 
 pub writes_go_on : (session : ℤ) (bytes : List ℕ) (old : SeenArchive) (outcome : Result Reply Refusal) (new : SeenArchive) → WritesBytes archive_ways session bytes old outcome new → DiskGoesOn (life_of old) (life_of new)
-writes_go_on session bytes old outcome new (terms, read, are, is, written) = read_goes_on session read old outcome new written
+writes_go_on session bytes old outcome new (terms, read, mid, are, is, written) = read_goes_on session read old outcome new (subst (λ (x : SeenArchive). WritesRead archive_ways session read x outcome new) are.1 written)
 
 pub settles_go_on : (session : ℤ) (first : Result Reply Refusal) (mid : SeenArchive) (outcome : Result Reply Refusal) (new : SeenArchive) → ThenSettles archive_ways session first mid outcome new → DiskGoesOn (life_of mid) (life_of new)
 settles_go_on session (Ok reply) mid outcome new settled = calls_go_on (events.Settle session) mid outcome new settled

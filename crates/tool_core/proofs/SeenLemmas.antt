@@ -23,7 +23,7 @@ module _ {A B : Type 0} (view : A → B) (ways : Ways B) where
   writes_read session (Err refusal) old outcome new written = (written.0, ap view written.1)
 
   writes_bytes : (session : ℤ) (bytes : List ℕ) (old : A) (outcome : Result Reply Refusal) (new : A) → WritesBytes Seen session bytes old outcome new → WritesBytes ways session bytes (view old) outcome (view new)
-  writes_bytes session bytes old outcome new (terms, read, are, is, written) = (terms, read, are, is, writes_read session read old outcome new written)
+  writes_bytes session bytes old outcome new (terms, read, mid, are, is, written) = (terms, read, view mid, are, is, writes_read session read mid outcome new written)
 
   then_settles : (session : ℤ) (first : Result Reply Refusal) (mid : A) (outcome : Result Reply Refusal) (new : A) → ThenSettles Seen session first mid outcome new → ThenSettles ways session first (view mid) outcome (view new)
   then_settles session (Ok reply) mid outcome new settled = settled

@@ -28,7 +28,7 @@ use Rattle.tool_core.specs.Transcript.{AnswersAll, AnswersSome, WritesText}
 -- What an answerer promises: the terms by which the bytes that a session writes are read, and what a call, opening anew
 -- and writing the history anew may end with.
 pub record Ways (A : Type 0) : Type 1 where
-  pub terms : A → ℤ → Result Geometry Refusal → Type 0
+  pub terms : ℤ → A → Result Geometry Refusal → A → Type 0
   pub call : Event → A → Ends A
   pub reopen : A → Ends A
   pub compact : A → Ends A
@@ -36,7 +36,7 @@ pub record Ways (A : Type 0) : Type 1 where
 -- what an answerer promises that is seen so
 abbrev pub ways_seen : {A B : Type 0} → (A → B) → Ways B → Ways A
 ways_seen view ways = record {
-  terms = λ old. ways.terms (view old);
+  terms = λ session old terms new. ways.terms session (view old) terms (view new);
   call = λ event old outcome new. ways.call event (view old) outcome (view new);
   reopen = λ old outcome new. ways.reopen (view old) outcome (view new);
   compact = λ old outcome new. ways.compact (view old) outcome (view new);
@@ -90,8 +90,8 @@ module _ {A : Type 0} (ways : Ways A) where
   -- a block's bytes are read by the session's terms, and then it is written
   abbrev pub WritesBytes : ℤ → List ℕ → A → Ends A
   WritesBytes session bytes old outcome new =
-      (terms : Result Geometry Refusal) × (read : Result Block Refusal)
-      × ways.terms old session terms × BlockIsRead terms bytes read × WritesRead session read old outcome new
+      (terms : Result Geometry Refusal) × (read : Result Block Refusal) × (mid : A)
+      × ways.terms session old terms mid × BlockIsRead terms bytes read × WritesRead session read mid outcome new
 
   -- what was written is settled; a refusal is the answer
   abbrev pub ThenSettles : ℤ → Result Reply Refusal → A → Ends A

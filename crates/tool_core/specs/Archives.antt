@@ -116,7 +116,7 @@ CompactsArchive (Closed old) outcome new = (outcome ≡ Err Broken) × (new ≡ 
 
 abbrev pub archive_ways : Ways SeenArchive
 archive_ways = record {
-  terms = TermsAre;
+  terms = λ session old terms new. TermsAre old session terms × (new ≡ old);
   call = CallsEngine;
   reopen = λ old. OpensDisk (life_of old);
   compact = CompactsArchive;

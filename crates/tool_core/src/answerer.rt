@@ -14,8 +14,8 @@ pub trait Answerer {
     ghost ways: { Ways Self };
 
     /// The terms by which the bytes that a recorder session writes are read, as `control_core::read_terms`.
-    fn terms(&self, session: &i64) -> Result<Geometry, Refusal>
-        ensures { ways.terms self.now session.now result };
+    fn terms(&mut self, session: &i64) -> Result<Geometry, Refusal>
+        ensures { ways.terms session.now self.old result self.new };
 
     /// Answers an event.
     fn call(&mut self, alloc: Global, event: &Event) -> Result<Reply, Refusal>

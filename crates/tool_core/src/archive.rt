@@ -58,7 +58,7 @@ impl<D: Disk> ScriptArchive<D> {
 impl<D: Disk> Answerer for ScriptArchive<D> {
     ghost ways = { ways_seen (archive_seen D.life) archive_ways };
 
-    fn terms(&self, session: &i64) -> Result<Geometry, Refusal> {
+    fn terms(&mut self, session: &i64) -> Result<Geometry, Refusal> {
         match self {
             ScriptArchive::Open(engine) => read_terms(engine.desk(), session),
             ScriptArchive::Closed(_) => Err(Refusal::Broken),
