@@ -59,7 +59,7 @@ impl<D: Disk> Answerer for ScriptArchive<D> {
     ghost ways = { ways_seen (archive_seen D.life) archive_ways };
 
     fn terms(&mut self, session: &i64) -> Result<Geometry, Refusal> {
-        match self {
+        match &*self {
             ScriptArchive::Open(engine) => read_terms(engine.desk(), session),
             ScriptArchive::Closed(_) => Err(Refusal::Broken),
         }
