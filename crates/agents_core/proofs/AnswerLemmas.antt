@@ -2,6 +2,7 @@
 use Rattle.std.proofs.Common.{◌≡◌, inl, inr, ◌++◌, ℤ, Bool, true, false, List, [], ◌∷◌, Option, Some, None, Result, Ok, Err, sym, refl, ap, subst}
 use Rattle.std.specs.Prelude.{IfOk, MatchBool, ⊤}
 use Rattle.frame_core.specs.declared.refusal.Refusal.{Refusal}
+use Rattle.disk_core.specs.Life.{Life}
 use Rattle.archive_model.specs.declared.registration.Registration.{Registration}
 use Rattle.archive_model.specs.declared.reply.PolledFrame.{PolledFrame}
 use Rattle.archive_model.specs.declared.reply.Reply.{Reply}
@@ -100,9 +101,9 @@ last_step : (d e : DeskState) (xs : List Member) (x : Member) → Run d (desk_ca
 last_step d e [] x run = (d, run.0, run.1)
 last_step d e (y ∷ ys) x run = last_step run.0 e ys x run.2
 
-call_step : (opening : EngineState) (p q : PassView Made) (event : Event) (outcome : Result Reply Refusal) (ends : EndsWithAnswer opening p event outcome q)
+call_step : {D : Type 0} (life : D → Life) (opening : EngineState) (p q : PassView Made) (event : Event) (outcome : Result Reply Refusal) (ends : EndsWithAnswer life opening p event outcome q)
     → (m : DeskState) × (n : DeskState) × Step m (asked_of event) (told_at ends.call.from event outcome) n
-call_step opening p q event outcome ends =
+call_step life opening p q event outcome ends =
     let gains = ends.extends.gains in
     let run = ends.extends.legal.run in
     let run' = subst (λ (seen : List Member). Run opening.desk (desk_calls seen) run.0) gains.seen run.1 in
@@ -113,18 +114,18 @@ call_step opening p q event outcome ends =
     )
 
 -- a settling is answered by a position, or refused
-pub settling_told : (opening : EngineState) (p q : PassView Made) (session : ℤ) (outcome : Result Reply Refusal) → (IsNoted outcome → EndsWithAnswer opening p (Settle session) outcome q)
+pub settling_told : {D : Type 0} (life : D → Life) (opening : EngineState) (p q : PassView Made) (session : ℤ) (outcome : Result Reply Refusal) → (IsNoted outcome → EndsWithAnswer life opening p (Settle session) outcome q)
     → IfOk outcome (λ reply. (position : ℤ) × (reply ≡ replies.Settled position))
-settling_told opening p q session (Err refusal) ends = tt
-settling_told opening p q session (Ok reply) ends =
-    let step = call_step opening p q (Settle session) (Ok reply) (ends tt) in
+settling_told life opening p q session (Err refusal) ends = tt
+settling_told life opening p q session (Ok reply) ends =
+    let step = call_step life opening p q (Settle session) (Ok reply) (ends tt) in
     settled_reply (Ok reply) (told_settled step.0 step.1 session (plain (Ok reply)) step.2)
 
 -- a poll is answered by frames, or refused, with a limit or without
-pub poll_told : (opening : EngineState) (p q : PassView Made) (number most : ℤ) (limit : Option ℤ) (outcome : Result Reply Refusal) → (IsNoted outcome → EndsWithAnswer opening p (poll_event number most limit) outcome q)
+pub poll_told : {D : Type 0} (life : D → Life) (opening : EngineState) (p q : PassView Made) (number most : ℤ) (limit : Option ℤ) (outcome : Result Reply Refusal) → (IsNoted outcome → EndsWithAnswer life opening p (poll_event number most limit) outcome q)
     → IfOk outcome IsPolledReply
-poll_told opening p q number most limit (Err refusal) ends = tt
-poll_told opening p q number most limit (Ok reply) ends =
-    let step = call_step opening p q (poll_event number most limit) (Ok reply) (ends tt) in
+poll_told life opening p q number most limit (Err refusal) ends = tt
+poll_told life opening p q number most limit (Ok reply) ends =
+    let step = call_step life opening p q (poll_event number most limit) (Ok reply) (ends tt) in
     let from = (ends tt).call.from in
     polled_reply from (Ok reply) (told_polled step.0 step.1 number most limit (plain_poll from (Ok reply)) (poll_step step.0 step.1 from number most limit (Ok reply) step.2))

@@ -95,3 +95,7 @@ module _ {T : Type 0} where
 
   pub totals : (by : ℕ) (v : Passed T) → v.puts ≡ true → v.takes ≡ true → Learns IsInOrder by v (λ items. v.put ≡ v.taken ++ items)
   totals by v a b items views h at = let mine = h.each by v at in (mine.puts a).1 ∙ h.order ∙ ap (λ l. l ++ items) (sym (mine.takes b).1)
+
+  -- what waits is what was put last
+  pub waits_last : (by : ℕ) (v : Passed T) → v.puts ≡ true → Learns IsInOrder by v (λ items. (taken : List T) × (v.put ≡ taken ++ items))
+  waits_last by v may items views h at = (h.taken, ((h.each by v at).puts may).1 ∙ h.order)

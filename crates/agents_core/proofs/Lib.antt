@@ -8,3 +8,4 @@ mod BoundedLemmas
 pub mod RunLemmas
 mod SourceLemmas
 pub mod HandedOutLemmas
+pub mod PassLemmas

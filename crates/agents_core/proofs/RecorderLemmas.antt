@@ -6,6 +6,7 @@ use Rattle.std.proofs.lemmas.List.{append-nil}
 use Rattle.atomic_table.specs.Seated.{TableId}
 use Rattle.frame_core.specs.declared.block.Block.{Block}
 use Rattle.frame_core.specs.declared.refusal.Refusal.{Refusal}
+use Rattle.disk_core.specs.Life.{Life}
 use Rattle.frame_core.specs.declared.refusal.Refusal.TheVariants.{NoMemory}
 use Rattle.archive_model.specs.declared.reply.Reply.{Reply}
 use Rattle.archive_model.specs.declared.reply.Reply.TheVariants.{Settled}
@@ -33,20 +34,20 @@ pub record IsNotedCall (p : PassView Made) (event : Event) (outcome : Result Rep
   pub answered : call.outcome ≡ outcome
   pub own : q.own ≡ p.own ++ call ∷ []
 
-pub noted_call : (opening : EngineState) (p q : PassView Made) (event : Event) (outcome : Result Reply Refusal) → EndsWithAnswer opening p event outcome q → IsNotedCall p event outcome q
-noted_call opening p q event outcome ends = record { call = ends.call; asked = ends.asked; answered = ends.answered; own = ends.extends.gains.own }
+pub noted_call : {D : Type 0} (life : D → Life) (opening : EngineState) (p q : PassView Made) (event : Event) (outcome : Result Reply Refusal) → EndsWithAnswer life opening p event outcome q → IsNotedCall p event outcome q
+noted_call life opening p q event outcome ends = record { call = ends.call; asked = ends.asked; answered = ends.answered; own = ends.extends.gains.own }
 
 refusal_or : (refusal : Refusal) → IsNoted (Err refusal) ⊎ (refusal ≡ NoMemory)
 refusal_or NoMemory = inr refl
 refusal_or refusal = inl tt
 
 -- a call was refused: it is one of the history, or there was no memory for it
-pub refused_how : (opening : EngineState) (p q : PassView Made) (event : Event) (refusal : Refusal) → (IsNoted (Err refusal) → EndsWithAnswer opening p event (Err refusal) q) → (refusal ≡ NoMemory → q ≡ p)
+pub refused_how : {D : Type 0} (life : D → Life) (opening : EngineState) (p q : PassView Made) (event : Event) (refusal : Refusal) → (IsNoted (Err refusal) → EndsWithAnswer life opening p event (Err refusal) q) → (refusal ≡ NoMemory → q ≡ p)
     → IsNotedCall p event (Err refusal) q ⊎ ((refusal ≡ NoMemory) × (q ≡ p))
-refused_how opening p q event refusal answers unnoted = by (refusal_or refusal)
+refused_how life opening p q event refusal answers unnoted = by (refusal_or refusal)
   where
     by : IsNoted (Err refusal) ⊎ (refusal ≡ NoMemory) → IsNotedCall p event (Err refusal) q ⊎ ((refusal ≡ NoMemory) × (q ≡ p))
-    by (inl noted) = inl (noted_call opening p q event (Err refusal) (answers noted))
+    by (inl noted) = inl (noted_call life opening p q event (Err refusal) (answers noted))
     by (inr none) = inr (none, unnoted none)
 
 -- what a write and a settling make of a turn
@@ -64,10 +65,10 @@ raised_table position w true = refl
 raised_table position w false = refl
 
 -- the write was refused
-pub turn_unwritten : (opening : EngineState) (old : Recorder) (mid : SeatView) (block : Block) (refusal : Refusal) → (IsNoted (Err refusal) → EndsWithAnswer opening old.seat.pass (Write old.seat.session block) (Err refusal) mid.pass)
-    → (refusal ≡ NoMemory → mid.pass ≡ old.seat.pass) → mid.pass.table ≡ old.seat.pass.table → mid ≡ record old.seat { pass = mid.pass }
+pub turn_unwritten : {D : Type 0} (life : D → Life) (opening : EngineState) (old : Recorder) (mid : SeatView) (block : Block) (refusal : Refusal) → (IsNoted (Err refusal) → EndsWithAnswer life opening old.seat.pass (Write old.seat.session block) (Err refusal) mid.pass)
+    → (refusal ≡ NoMemory → mid.pass ≡ old.seat.pass) → mid.pass.table ≡ old.seat.pass.table → mid.pass.number ≡ old.seat.pass.number → mid ≡ record old.seat { pass = mid.pass }
     → RecorderRan (block ∷ []) old (record { seat = mid; refused = Some refusal }) (Some refusal)
-turn_unwritten opening old mid block refusal answers unnoted table same = by (refused_how opening old.seat.pass mid.pass (Write old.seat.session block) refusal answers unnoted)
+turn_unwritten life opening old mid block refusal answers unnoted table number same = by (refused_how life opening old.seat.pass mid.pass (Write old.seat.session block) refusal answers unnoted)
   where
     by : IsNotedCall old.seat.pass (Write old.seat.session block) (Err refusal) mid.pass ⊎ ((refusal ≡ NoMemory) × (mid.pass ≡ old.seat.pass)) → RecorderRan (block ∷ []) old (record { seat = mid; refused = Some refusal }) (Some refusal)
     by (inl noted) = record {
@@ -78,6 +79,7 @@ turn_unwritten opening old mid block refusal answers unnoted table same = by (re
       refused = refl;
       session = ap (λ (s : SeatView). s.session) same;
       pass = table;
+      number = number;
       board = ap (λ (s : SeatView). s.writer.table) same;
     }
     by (inr none) = record {
@@ -88,14 +90,15 @@ turn_unwritten opening old mid block refusal answers unnoted table same = by (re
       refused = refl;
       session = ap (λ (s : SeatView). s.session) same;
       pass = table;
+      number = number;
       board = ap (λ (s : SeatView). s.writer.table) same;
     }
 
 -- the block was written
-module _ (opening : EngineState) (old : Recorder) (mid new : SeatView) (block : Block) (reply : Reply) (written : EndsWithAnswer opening old.seat.pass (Write old.seat.session block) (Ok reply) mid.pass) (table : mid.pass.table ≡ old.seat.pass.table)
-    (same : mid ≡ record old.seat { pass = mid.pass }) (table' : new.pass.table ≡ mid.pass.table) (session : new.session ≡ mid.session) where
+module _ {D : Type 0} (life : D → Life) (opening : EngineState) (old : Recorder) (mid new : SeatView) (block : Block) (reply : Reply) (written : EndsWithAnswer life opening old.seat.pass (Write old.seat.session block) (Ok reply) mid.pass) (table : mid.pass.table ≡ old.seat.pass.table)
+    (number : mid.pass.number ≡ old.seat.pass.number) (same : mid ≡ record old.seat { pass = mid.pass }) (table' : new.pass.table ≡ mid.pass.table) (number' : new.pass.number ≡ mid.pass.number) (session : new.session ≡ mid.session) where
   write : IsNotedCall old.seat.pass (Write old.seat.session block) (Ok reply) mid.pass
-  write = noted_call opening old.seat.pass mid.pass (Write old.seat.session block) (Ok reply) written
+  write = noted_call life opening old.seat.pass mid.pass (Write old.seat.session block) (Ok reply) written
 
   same_session : mid.session ≡ old.seat.session
   same_session = ap (λ (s : SeatView). s.session) same
@@ -110,10 +113,10 @@ module _ (opening : EngineState) (old : Recorder) (mid new : SeatView) (block : 
   both_own settle own = own ∙ ap (λ (calls : List Made). calls ++ settle ∷ []) write.own ∙ append_assoc old.seat.pass.own (write.call ∷ []) (settle ∷ [])
 
   -- and settled
-  pub turn_settled : (position : ℤ) → EndsWithAnswer opening mid.pass (Settle mid.session) (Ok (Settled position)) new.pass → new.writer ≡ raised_unless_below position mid.writer
+  pub turn_settled : (position : ℤ) → EndsWithAnswer life opening mid.pass (Settle mid.session) (Ok (Settled position)) new.pass → new.writer ≡ raised_unless_below position mid.writer
       → RecorderRan (block ∷ []) old (record { seat = new; refused = old.refused }) None
   turn_settled position settled raised =
-      let settle = noted_call opening mid.pass new.pass (Settle mid.session) (Ok (Settled position)) settled in
+      let settle = noted_call life opening mid.pass new.pass (Settle mid.session) (Ok (Settled position)) settled in
       let asked : settle.call.asked ≡ Settle old.seat.session = settle.asked ∙ ap Settle same_session in record {
         calls = write.call ∷ settle.call ∷ [];
         own = both_own settle.call settle.own;
@@ -123,13 +126,14 @@ module _ (opening : EngineState) (old : Recorder) (mid new : SeatView) (block : 
         refused = refl;
         session = session ∙ same_session;
         pass = table' ∙ table;
+        number = number' ∙ number;
         board = ap (λ (w : Published). w.table) raised ∙ raised_table position mid.writer (int_le (last_position mid.writer.positions) position) ∙ ap (λ (w : Published). w.table) same_writer;
       }
 
   -- its settling was refused
-  pub turn_unsettled : (refusal : Refusal) → (IsNoted (Err refusal) → EndsWithAnswer opening mid.pass (Settle mid.session) (Err refusal) new.pass) → (refusal ≡ NoMemory → new.pass ≡ mid.pass) → new.writer ≡ mid.writer
+  pub turn_unsettled : (refusal : Refusal) → (IsNoted (Err refusal) → EndsWithAnswer life opening mid.pass (Settle mid.session) (Err refusal) new.pass) → (refusal ≡ NoMemory → new.pass ≡ mid.pass) → new.writer ≡ mid.writer
       → RecorderRan (block ∷ []) old (record { seat = new; refused = Some refusal }) (Some refusal)
-  turn_unsettled refusal answers unnoted kept = by (refused_how opening mid.pass new.pass (Settle mid.session) refusal answers unnoted)
+  turn_unsettled refusal answers unnoted kept = by (refused_how life opening mid.pass new.pass (Settle mid.session) refusal answers unnoted)
     where
       by : IsNotedCall mid.pass (Settle mid.session) (Err refusal) new.pass ⊎ ((refusal ≡ NoMemory) × (new.pass ≡ mid.pass)) → RecorderRan (block ∷ []) old (record { seat = new; refused = Some refusal }) (Some refusal)
       by (inl settle) = let asked : settle.call.asked ≡ Settle old.seat.session = settle.asked ∙ ap Settle same_session in record {
@@ -141,6 +145,7 @@ module _ (opening : EngineState) (old : Recorder) (mid new : SeatView) (block : 
         refused = refl;
         session = session ∙ same_session;
         pass = table' ∙ table;
+        number = number' ∙ number;
         board = ap (λ (w : Published). w.table) (kept ∙ same_writer);
       }
       by (inr none) = record {
@@ -151,6 +156,7 @@ module _ (opening : EngineState) (old : Recorder) (mid new : SeatView) (block : 
         refused = refl;
         session = session ∙ same_session;
         pass = table' ∙ table;
+        number = number' ∙ number;
         board = ap (λ (w : Published). w.table) (kept ∙ same_writer);
       }
 
@@ -170,7 +176,7 @@ raised_append (call ∷ calls) more w = raised_append calls more (raised_after c
 
 -- nothing was taken
 pub recorder_none : (r : Recorder) → RecorderRan [] r r None
-recorder_none r = record { calls = []; own = sym (append-nil r.seat.pass.own); turns = (refl, refl); writer = refl; refused = refl; session = refl; pass = refl; board = refl }
+recorder_none r = record { calls = []; own = sym (append-nil r.seat.pass.own); turns = (refl, refl); writer = refl; refused = refl; session = refl; pass = refl; number = refl; board = refl }
 
 -- turns, of which none was refused, and then turns
 pub recorder_more : (old mid new : Recorder) (xs ys : List Block) (stop : Option Refusal) → RecorderRan xs old mid None → RecorderRan ys mid new stop → RecorderRan (xs ++ ys) old new stop
@@ -182,6 +188,7 @@ recorder_more old mid new xs ys stop a b = record {
   refused = b.refused ∙ ap (option_or stop) a.refused;
   session = b.session ∙ a.session;
   pass = b.pass ∙ a.pass;
+  number = b.number ∙ a.number;
   board = b.board ∙ a.board;
 }
 

@@ -4,6 +4,7 @@ use Rattle.std.specs.Prelude.{◌⊎◌, Contains}
 use Rattle.std.proofs.lemmas.List.Elements.{Contains-append_left, Contains-append_right}
 use Rattle.frame_core.specs.declared.refusal.Refusal.{Refusal}
 use Rattle.frame_core.specs.declared.refusal.Refusal.TheVariants.{NoMemory}
+use Rattle.disk_core.specs.Life.{Life}
 use Rattle.archive_model.specs.declared.reply.Reply.{Reply}
 use Rattle.archive_model.specs.declared.reply.Reply.TheVariants.{Settled}
 use Rattle.archive_model.specs.Keyed.{Each}
@@ -13,7 +14,7 @@ use Rattle.engine_core.specs.Engine.{EngineState}
 use Rattle.call_history.specs.Values.{PassView}
 use Rattle.position_board.specs.Positions.{Published, with_position}
 use Rattle.archive_lock.specs.declared.history.Made.{Made}
-use Rattle.archive_lock.specs.History.{EndsWithAnswer, IsNoted}
+use Rattle.archive_lock.specs.History.{EndsWithAnswer, IsNoted, Member}
 use Rattle.agents_core.specs.Seat.{IsSettledIn, RaisedAreSettled, raised_positions, settling_outcome}
 
 pub each_append : {X : Type 0} (P : X → Type 0) (xs ys : List X) → Each P xs → Each P ys → Each P (xs ++ ys)
@@ -42,9 +43,9 @@ one_more P [] position is all = tt
 one_more P (x ∷ xs) position is all = each_append P xs (position ∷ []) all (is, tt)
 
 -- a position that was answered to a settling of the pass may be raised
-pub settled_then_raised : (opening : EngineState) (p q : PassView Made) (w new : Published) (session position : ℤ) (answer : Result ℤ Refusal) (outcome : Result Reply Refusal) → settling_outcome answer ≡ outcome → answer ≡ Ok position
-    → (IsNoted outcome → EndsWithAnswer opening p (Settle session) outcome q) → new ≡ with_position position w → RaisedAreSettled p w → RaisedAreSettled q new
-settled_then_raised opening p q w new session position answer outcome told is answers risen all =
+pub settled_then_raised : {D : Type 0} (life : D → Life) (opening : EngineState) (p q : PassView Made) (w new : Published) (session position : ℤ) (answer : Result ℤ Refusal) (outcome : Result Reply Refusal) → settling_outcome answer ≡ outcome → answer ≡ Ok position
+    → (IsNoted outcome → EndsWithAnswer life opening p (Settle session) outcome q) → new ≡ with_position position w → RaisedAreSettled p w → RaisedAreSettled q new
+settled_then_raised life opening p q w new session position answer outcome told is answers risen all =
     let e : Ok (Settled position) ≡ outcome = ap settling_outcome (sym is) ∙ told in
     let ends = answers (subst IsNoted e tt) in
     let own = ends.extends.gains.own in
@@ -59,10 +60,14 @@ noted_or (Err NoMemory) = inr refl
 noted_or outcome = inl tt
 
 -- what was raised stays settled over any call
-pub settled_over : (opening : EngineState) (p q : PassView Made) (w : Published) (event : Event) (outcome : Result Reply Refusal) → (IsNoted outcome → EndsWithAnswer opening p event outcome q) → (outcome ≡ Err NoMemory → q ≡ p)
+pub settled_over : {D : Type 0} (life : D → Life) (opening : EngineState) (p q : PassView Made) (w : Published) (event : Event) (outcome : Result Reply Refusal) → (IsNoted outcome → EndsWithAnswer life opening p event outcome q) → (outcome ≡ Err NoMemory → q ≡ p)
     → RaisedAreSettled p w → RaisedAreSettled q w
-settled_over opening p q w event outcome answers unnoted all = by (noted_or outcome)
+settled_over life opening p q w event outcome answers unnoted all = by (noted_or outcome)
   where
     by : IsNoted outcome ⊎ (outcome ≡ Err NoMemory) → RaisedAreSettled q w
     by (inl noted) = let ends = answers noted in still_settled p q w (ends.call ∷ []) ends.extends.gains.own all
     by (inr none) = subst (λ (x : PassView Made). RaisedAreSettled x w) (sym (unnoted none)) all
+
+-- and over a look at the history
+pub settled_looking : (p q : PassView Made) (w : Published) (seen : List Member) → q ≡ record p { seen = seen } → RaisedAreSettled p w → RaisedAreSettled q w
+settled_looking p q w seen is all = subst (λ (own : List Made). Each (IsSettledIn own) (raised_positions w)) (sym (ap (λ (x : PassView Made). x.own) is)) all

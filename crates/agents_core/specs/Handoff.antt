@@ -1,6 +1,6 @@
 -- Items that one thread hands to another: docs/ARCHITECTURE.md, "Agents". What was put is what was taken and then what
 -- waits.
-use Rattle.std.specs.Prelude.{◌≡◌, ℕ, Bool, true, false, List, [], ◌++◌}
+use Rattle.std.specs.Prelude.{◌≡◌, ℕ, Bool, true, false, List, [], ◌++◌, length}
 use mathlib.Core.Option.{some}
 use lib.ListN.{get_elem?}
 use Rattle.atomic_table.specs.Seated.{TableId}
@@ -31,6 +31,13 @@ module _ {T : Type 0} where
 
   abbrev pub taking : Passed T → Passed T
   taking v = passed false true [] v.taken
+
+  -- At a moment as many items waited as there is room for, the last of those that were put; so that many were put.
+  pub record WasFull (put : List T) : Type 0 where
+    pub taken : List T
+    pub waiting : List T
+    pub order : put ≡ taken ++ waiting
+    pub full : length waiting ≡ 16
 
   -- one end puts and has the list of what was put; one takes and has the list of what was taken
   pub record FitsEnds (putter taker : ℕ) (put taken : List T) (by : ℕ) (v : Passed T) : Type 0 where

@@ -45,7 +45,7 @@ raised_by [] writer = writer
 raised_by (call ∷ calls) writer = raised_by calls (raised_after call.asked call.outcome writer)
 
 -- What a recorder did with the blocks that it took, and what refused it, if something did: its pass gained the calls of a
--- turn with each of them, and its writer raised what these settled.
+-- turn with each of them, and its writer raised what these settled. Its pass keeps its number.
 pub record RecorderRan (taken : List Block) (old new : Recorder) (stop : Option Refusal) : Type 0 where
   pub calls : List Made
   pub own : new.seat.pass.own ≡ old.seat.pass.own ++ calls
@@ -54,6 +54,7 @@ pub record RecorderRan (taken : List Block) (old new : Recorder) (stop : Option 
   pub refused : new.refused ≡ option_or stop old.refused
   pub session : new.seat.session ≡ old.seat.session
   pub pass : new.seat.pass.table ≡ old.seat.pass.table
+  pub number : new.seat.pass.number ≡ old.seat.pass.number
   pub board : new.seat.writer.table ≡ old.seat.writer.table
 
 -- a recorder has ended: what its end of the handoff has taken, and whose end that is

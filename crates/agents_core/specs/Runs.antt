@@ -1,5 +1,5 @@
 -- What the agents of a run did: docs/ARCHITECTURE.md, "Agents".
-use Rattle.std.specs.Prelude.{◌≡◌, ◌+◌, ◌<◌, ℕ, Bool, List, [], ◌∷◌, length, Option, Result, IfErr, vec_capacity, vec_len}
+use Rattle.std.specs.Prelude.{◌≡◌, ◌+◌, ◌++◌, ◌<◌, ℕ, Bool, List, [], ◌∷◌, length, map, Option, Result, IfErr, vec_capacity, vec_len}
 use mathlib.Core.List.{IsPrefix}
 use Rattle.atomic_table.specs.Seated.{TableId}
 use Rattle.frame_core.specs.declared.block.Block.{Block}
@@ -32,6 +32,16 @@ module _ {K : Type 0} where
 -- there are as many receivers as recorders, and each replayer's slot is one of so many
 abbrev pub IsRunnable : {S K : Type 0} → ℕ → Agents S K → Type 0
 IsRunnable slots agents = (length agents.receivers.items ≡ length agents.recorders.items) × AreOnSlots slots agents.replayers.items
+
+-- agents that may run on a board: their passes are of this history, their writers and readers of this board, and they fit it
+pub record AreReady {S K : Type 0} (table board : TableId) (agents : Agents S K) : Type 0 where
+  pub recorders : AreSeated table board agents.recorders.items
+  pub replayers : AreReading table board agents.replayers.items
+  pub fit : IsRunnable board.words agents
+
+-- the numbers of the passes of recorders, and then those of replayers
+abbrev pub pass_numbers : {S K : Type 0} → Agents S K → List ℕ
+pass_numbers {S} {K} agents = map (λ (r : Recorder). r.seat.pass.number) agents.recorders.items ++ map (λ (r : Replayer K). r.pass.number) agents.replayers.items
 
 -- What a receiver and its recorder did: the receiver handed over what its source answered, and the recorder took a beginning
 -- of that, and wrote and settled the blocks that it took.

@@ -107,11 +107,12 @@ impl BoundedReplayer {
         ensures seen { IfOk result (λ turn. turn.seen ≡ seen_at self.old.slot self.new.reader) }
         // One poll by that position, whose answer the turn gives.
         ensures answers { (outcome : Result Reply Refusal) × IsTurnOf outcome result
-            × (IsNoted outcome → EndsWithAnswer A.opening self.old.pass
+            × (IsNoted outcome → EndsWithAnswer D.life A.opening self.old.pass
             (ReplayPollTo self.old.replay max (seen_at self.old.slot self.new.reader)) outcome
             self.new.pass) × (IsErrOf outcome NoMemory → self.new.pass ≡ self.old.pass) }
         ensures before { IfOk result (λ turn. Each (λ f. f.position <ℤ turn.seen) turn.frames) }
         ensures pass { self.new.pass.table ≡ self.old.pass.table }
+        ensures number { self.new.pass.number ≡ self.old.pass.number }
         ensures same { self.new
             ≡ record self.old { pass = self.new.pass; reader = self.new.reader } }
     {

@@ -1,5 +1,7 @@
 //! Where agents ask whether to go on. docs/ARCHITECTURE.md, "Agents".
 
+ghost use Rattle.std.specs.Prelude.{◌≡◌};
+
 use std::sync::atomic::{AtomicBool, Ordering};
 
 /// Says whether agents go on.
@@ -21,5 +23,15 @@ impl<'a, G: Gate> Signals<'a, G> {
     /// Whether the agent of a number makes a further turn.
     pub fn goes_on(&self, agent: u32) -> bool {
         !self.ends.load(Ordering::SeqCst) && self.gate.turn(agent)
+    }
+
+    /// Notes whether an agent was started: if not, each ends at its next turn. Hands on whether it was.
+    pub fn note(&self, is_started: bool) -> bool
+        ensures { result ≡ is_started }
+    {
+        if !is_started {
+            self.ends.store(true, Ordering::SeqCst);
+        }
+        is_started
     }
 }

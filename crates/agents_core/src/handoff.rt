@@ -2,6 +2,7 @@
 
 ghost use Rattle.std.specs.Prelude.{◌≡◌, ◌++◌, ◌∷◌, [], IfOk, MatchOption, MatchResult};
 ghost use mathlib.Core.List.{IsPrefix};
+ghost use Rattle.agents_core.specs.Handoff.{WasFull};
 
 use crossbeam_queue::protocol::{Join, Lesson, Outcome, Protocol, Split};
 use crossbeam_queue::{Pass, RuledArrayQueue};
@@ -62,9 +63,9 @@ impl<T> Outcome<T, Passed<T>> for Put {
 }
 
 impl<T> Lesson<T, Passed<T>> for Put {
-    ghost use Rattle.std.specs.Prelude.{⊤};
+    ghost use Rattle.std.specs.Prelude.{◌≡◌, ◌++◌, List};
 
-    ghost fact = { λ v items. ⊤ };
+    ghost fact = { λ v items. (taken : List T) × (v.put ≡ taken ++ items) };
 }
 
 /// An item is taken.
@@ -92,18 +93,22 @@ impl<T> Lesson<T, Passed<T>> for Total {
     ghost fact = { λ v items. v.put ≡ v.taken ++ items };
 }
 
-/// Room for a few items between two threads.
+/// Room for 16 items between two threads.
 #[derive(Drop)]
 pub struct Handoff<T> {
     queue: RuledArrayQueue<T, Passed<T>, InOrder>,
 }
 
 impl<T> Model for Handoff<T> {
+    ghost use Rattle.std.specs.Prelude.{◌≡◌};
     ghost use Rattle.atomic_table.specs.Seated.{TableId};
+    ghost use Rattle.crossbeam_queue.specs.Passes.{ruled_capacity};
 
     ghost Value = { TableId };
 
     ghost view = { λ h. h.queue.table.shared.table_id };
+
+    ghost invariant = { λ h. ruled_capacity h.queue ≡ 16 };
 }
 
 /// The end that puts.
@@ -154,12 +159,12 @@ impl<T> Handoff<T> {
         Ok((Handoff { queue }, Putter { pass }, Taker { pass: other }))
     }
 
-    /// Puts an item behind the others, or hands it back where 16 wait. May try again while another thread is at work.
+    /// Puts an item after the others, or hands it back if 16 wait. May try again while another thread is at work.
     pub fn put<R: Wait>(&self, rt: &R, putter: &mut Putter<T>, item: T) -> Result<(), T>
         requires { putter.old.handoff ≡ self.now }
         ensures { MatchResult result
             (λ _. putter.new ≡ record putter.old { put = putter.old.put ++ item ∷ [] })
-            (λ back. (back ≡ item) × (putter.new ≡ putter.old)) }
+            (λ back. (back ≡ item) × (putter.new ≡ putter.old) × WasFull putter.old.put) }
     {
         let queue = &self.queue;
         queue.push_as::<Put, R>(rt, &mut putter.pass, item)

@@ -1,8 +1,9 @@
 //! Laws of the definitions, each the contract of a function that does nothing.
 
-ghost use Rattle.std.specs.Prelude.{◌≡◌, ◌<ℤ◌, ℤ, Contains, List};
+ghost use Rattle.std.specs.Prelude.{◌≡◌, ◌<ℤ◌, ℕ, ℤ, Contains, List, map};
+ghost use Rattle.atomic_table.specs.Seated.{TableId};
 ghost use Rattle.engine_core.specs.Engine.{Content, EngineState, archive_of};
-ghost use Rattle.call_history.specs.Passes.{calls_by};
+ghost use Rattle.call_history.specs.Passes.{HasEach, calls_by, new_passes};
 ghost use Rattle.call_history.specs.Values.{PassView};
 ghost use Rattle.position_board.specs.Positions.{Published, position_at};
 ghost use Rattle.archive_lock.specs.declared.history.Made.{Made};
@@ -25,4 +26,14 @@ pub fn what_is_handed_out_is_durable()
         RaisedAreSettled pass writer → Contains writer.positions seen →
         position_at 0 writer.positions <ℤ seen →
         IsDurableTo (archive_of opening c) members now seen }
+{}
+
+/// Passes that keep their numbers are all that were made, if they were before, and those that an archive was made with are all. So
+/// `SharedArchive::close` is answered Ok once the passes of a run's agents are back (`run_agents`: `numbers`).
+pub fn passes_keep_their_numbers()
+    ensures kept { (count : ℕ) (olds news : List (PassView Made)) →
+        map (λ (p : PassView Made). p.number) news ≡ map (λ (p : PassView Made). p.number) olds →
+        HasEach count olds → HasEach count news }
+    ensures made { (table : TableId) (count : ℕ) (passes : List (PassView Made)) →
+        passes ≡ new_passes table count → HasEach count passes }
 {}

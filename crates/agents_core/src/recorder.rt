@@ -1,6 +1,6 @@
 //! A recorder: writes and settles the blocks that it is handed. docs/ARCHITECTURE.md, "Agents".
 
-ghost use Rattle.std.specs.Prelude.{◌≡◌, ◌∷◌, [], IsTrue, None, Option};
+ghost use Rattle.std.specs.Prelude.{◌≡◌, ◌↔◌, ◌∷◌, [], IsTrue, None, Option};
 ghost use Rattle.frame_core.specs.declared.refusal.Refusal.{Refusal};
 ghost use Rattle.agents_core.specs.Recorders.{RecorderEnded, RecorderRan};
 
@@ -27,7 +27,7 @@ pub struct Recorder {
 }
 
 impl Recorder {
-    /// One turn with a block: writes it and settles it. Whether it goes on: not where it was refused, which it keeps.
+    /// One turn with a block: writes it and settles it. Whether it goes on: exactly if nothing was refused. It keeps a refusal.
     pub fn turn<D: Disk, A: Naming, R: Wait>(
         &mut self,
         rt: &R,
@@ -39,7 +39,7 @@ impl Recorder {
         requires pass { self.old.seat.pass.table ≡ A.table }
         requires writer { self.old.seat.writer.table ≡ board.now }
         ensures { (stop : Option Refusal) × RecorderRan (block ∷ []) self.old self.new stop
-            × (IsTrue result → stop ≡ None) }
+            × (IsTrue result ↔ (stop ≡ None)) }
     {
         if let Err(refusal) = self.seat.write(rt, alloc, archive, block) {
             self.refused = Some(refusal);

@@ -1,6 +1,6 @@
 //! A replayer: looks at a slot, polls a replay, and hands on the frames. docs/ARCHITECTURE.md, "Agents".
 
-ghost use Rattle.std.specs.Prelude.{◌≡◌, ◌<◌, ℤ, IsTrue, List, None, Option, is_none};
+ghost use Rattle.std.specs.Prelude.{◌≡◌, ◌<◌, ℤ, List, Option, is_none};
 ghost use Rattle.frame_core.specs.declared.refusal.Refusal.{Refusal};
 ghost use Rattle.archive_model.specs.declared.reply.PolledFrame.{PolledFrame};
 ghost use Rattle.archive_model.specs.declared.reply.Reply.TheVariants.{Polled};
@@ -40,8 +40,8 @@ pub struct Replayer<K> {
 }
 
 impl<K: FrameSink> Replayer<K> {
-    /// One turn: a look, a poll, and its frames to the sink, also where there are none. Whether it goes on: not where the
-    /// replay is done, where the sink wants no more, and where it was refused, which it keeps.
+    /// One turn: a look, a poll, and its frames to the sink, even if there are none. Whether it goes on: not if the replay is
+    /// done, if the sink wants no more, or if it was refused, which it keeps.
     pub fn turn<D: Disk, A: Naming, R: Wait>(
         &mut self,
         rt: &R,
@@ -52,8 +52,7 @@ impl<K: FrameSink> Replayer<K> {
         requires pass { self.old.pass.table ≡ A.table }
         requires reader { self.old.reader.table ≡ board.now }
         requires slot { self.old.slot < board.now.words }
-        ensures { (stop : Option Refusal) × ReplayerRan K.takes self.old self.new stop
-            × (IsTrue result → stop ≡ None) }
+        ensures { (stop : Option Refusal) × ReplayerRan K.takes self.old self.new result stop }
     {
         if self.looked.reserve(1).is_err() {
             self.refused = Some(Refusal::NoMemory);

@@ -5,7 +5,7 @@ ghost use Rattle.std.specs.Thread.{IsSync};
 ghost use Rattle.frame_core.specs.declared.refusal.Refusal.TheVariants.{BadParameter, NoMemory};
 ghost use Rattle.agents_core.specs.Receivers.{ReceiverEnded};
 ghost use Rattle.agents_core.specs.Replayers.{ReplayerEnded};
-ghost use Rattle.agents_core.specs.Runs.{AgentsBack, AgentsRan, AreOnSlots, AreReading, AreSeated, IsRunnable, KeepsRoom, PairsRan, ReplayersRan};
+ghost use Rattle.agents_core.specs.Runs.{AgentsBack, AgentsRan, AreOnSlots, AreReading, AreReady, AreSeated, IsRunnable, KeepsRoom, PairRan, PairsRan, ReplayersRan, pass_numbers};
 
 use crate::agents::Agents;
 use crate::block_source::BlockSource;
@@ -23,7 +23,7 @@ use position_board::Board;
 use std::alloc::Global;
 use std::snapshot::Snapshot;
 use std::sync::Wait;
-use std::sync::atomic::{AtomicBool, Ordering};
+use std::sync::atomic::AtomicBool;
 use std::thread::{self, Promise, Threads};
 
 /// What a receiver's thread keeps.
@@ -98,6 +98,7 @@ pub fn run_agents<
         (result.0 ≡ agents) × (result.1 ≡ Err BadParameter) }
     ensures seated { AreSeated A.table board.now result.0.recorders.items }
     ensures reading { AreReading A.table board.now result.0.replayers.items }
+    ensures numbers { pass_numbers result.0 ≡ pass_numbers agents }
 {
     let are_pairs = agents.receivers.len() == agents.recorders.len();
     if !are_pairs || !are_on(agents.replayers.as_slice(), board.slots()) {
@@ -119,7 +120,7 @@ fn are_on<K>(replayers: &[Replayer<K>], slots: usize) -> bool
     }
 }
 
-/// Runs the last pair and, beside it, the others; then puts it back.
+/// Runs the last pair and, next to it, the others; then puts it back.
 #[cycle(pairs)]
 fn run_pairs<
     D: Disk + Drop + Send,
@@ -137,9 +138,7 @@ fn run_pairs<
     mut agents: Agents<S, K>,
     signals: &Signals<'_, G>,
 ) -> (Agents<S, K>, Result<(), Refusal>)
-    requires recorders { AreSeated A.table board.now agents.recorders.items }
-    requires replayers { AreReading A.table board.now agents.replayers.items }
-    requires fit { IsRunnable board.now.words agents }
+    requires { AreReady A.table board.now agents }
     ensures { AgentsBack S.gives K.takes agents result.0 result.1 }
 {
     let Some(recorder) = agents.recorders.pop() else {
@@ -163,22 +162,14 @@ fn run_pairs<
     let Some(receiver) = agents.receivers.pop() else {
         unreachable!()
     };
-    let Ok((handoff, putter, taker)) = Handoff::new(alloc) else {
-        signals.ends.store(true, Ordering::SeqCst);
-        agents.recorders.push_reserved(recorder);
-        agents.receivers.push_reserved(receiver);
-        return (agents, Err(Refusal::NoMemory));
-    };
-    let is_over = AtomicBool::new(false);
-    run_pair(
-        rt, alloc, archive, board, pairs, agents, signals, receiver, recorder, &handoff, putter,
-        taker, &is_over,
+    run_last_pair(
+        rt, alloc, archive, board, pairs, agents, signals, receiver, recorder,
     )
 }
 
-/// Runs a receiver and a recorder, and the others beside them.
+/// Runs a pair and, in another thread, the others; then puts the pair back.
 #[cycle(pairs)]
-fn run_pair<
+fn run_last_pair<
     D: Disk + Drop + Send,
     A: Naming + Send + Sync,
     S: BlockSource + Drop + Send,
@@ -195,18 +186,10 @@ fn run_pair<
     signals: &Signals<'_, G>,
     receiver: Receiver<S>,
     recorder: Recorder,
-    handoff: &Handoff<Item>,
-    putter: Putter<Item>,
-    taker: Taker<Item>,
-    is_over: &AtomicBool,
 ) -> (Agents<S, K>, Result<(), Refusal>)
-    requires recorders { AreSeated A.table board.now rest.recorders.items }
-    requires replayers { AreReading A.table board.now rest.replayers.items }
-    requires fit { IsRunnable board.now.words rest }
+    requires rest { AreReady A.table board.now rest }
     requires pass { recorder.seat.pass.table ≡ A.table }
     requires writer { recorder.seat.writer.table ≡ board.now }
-    requires putter { putter ≡ record { handoff = handoff.now; put = [] } }
-    requires taker { taker ≡ record { handoff = handoff.now; taken = [] } }
     requires receivers_room { vec_len rest.receivers < vec_capacity rest.receivers }
     requires recorders_room { vec_len rest.recorders < vec_capacity rest.recorders }
     ensures ran { AgentsRan S.gives K.takes (rest.receivers.items ++ receiver ∷ [])
@@ -214,25 +197,119 @@ fn run_pair<
     ensures room { KeepsRoom 1 rest result.0 }
 {
     let index = rest.recorders.len();
-    let handing = number_of(index);
-    let recording = number_of(pairs.saturating_add(index));
     thread::scope(
         thread::scope_env(),
         rt,
         |scope| -> (Agents<S, K>, Result<(), Refusal>)
             requires shared { IsSync R.row }
-            requires recorders { AreSeated A.table board.now rest.recorders.items }
-            requires replayers { AreReading A.table board.now rest.replayers.items }
-            requires fit { IsRunnable board.now.words rest }
+            requires rest { AreReady A.table board.now rest }
             requires pass { recorder.seat.pass.table ≡ A.table }
             requires writer { recorder.seat.writer.table ≡ board.now }
-            requires putter { putter ≡ record { handoff = handoff.now; put = [] } }
-            requires taker { taker ≡ record { handoff = handoff.now; taken = [] } }
             requires receivers_room { vec_len rest.receivers < vec_capacity rest.receivers }
             requires recorders_room { vec_len rest.recorders < vec_capacity rest.recorders }
             ensures ran { AgentsRan S.gives K.takes (rest.receivers.items ++ receiver ∷ [])
                 (rest.recorders.items ++ recorder ∷ []) rest.replayers.items result.0 result.1 }
             ensures room { KeepsRoom 1 rest result.0 }
+        {
+            let promise = RunsOthers {
+                agents: Snapshot::of(&rest),
+            };
+            let running = scope.spawn_with(
+                promise,
+                move || -> (Agents<S, K>, Result<(), Refusal>)
+                    requires shared { IsSync R.row }
+                    requires rest { AreReady A.table board.now rest }
+                    ensures { AgentsBack S.gives K.takes rest result.0 result.1 }
+                { run_pairs(rt, alloc, archive, board, pairs, rest, signals) },
+            );
+            let runs = signals.note(running.is_ok());
+            let (receiver, recorder, has_run) = run_pair(
+                rt, alloc, archive, board, pairs, index, receiver, recorder, signals,
+            );
+            let (mut agents, outcome) = match running {
+                Ok(thread) => thread.join(rt),
+                Err(refused) => (refused.value)(),
+            };
+            agents.receivers.push_reserved(receiver);
+            agents.recorders.push_reserved(recorder);
+            (agents, outcome_of(runs && has_run, outcome))
+        },
+    )
+}
+
+/// Runs the pair of an index, and hands it back. Whether it could be started.
+fn run_pair<
+    D: Disk,
+    A: Naming,
+    S: BlockSource + Drop + Send,
+    G: Gate + Sync,
+    R: Threads + Wait + Sync,
+>(
+    rt: &R,
+    alloc: Global,
+    archive: &SharedArchive<D, A>,
+    board: &Board,
+    pairs: usize,
+    index: usize,
+    receiver: Receiver<S>,
+    recorder: Recorder,
+    signals: &Signals<'_, G>,
+) -> (Receiver<S>, Recorder, bool)
+    requires pass { recorder.seat.pass.table ≡ A.table }
+    requires writer { recorder.seat.writer.table ≡ board.now }
+    ensures { PairRan S.gives receiver recorder result.0 result.1 }
+{
+    let Ok((handoff, putter, taker)) = Handoff::new(alloc) else {
+        let has_run = signals.note(false);
+        return (receiver, recorder, has_run);
+    };
+    let is_over = AtomicBool::new(false);
+    hand_over(
+        rt, alloc, archive, board, pairs, index, receiver, recorder, signals, &handoff, putter,
+        taker, &is_over,
+    )
+}
+
+/// Runs a receiver in a thread of its own and its recorder in this one, over a handoff. Whether a thread could be made.
+fn hand_over<
+    D: Disk,
+    A: Naming,
+    S: BlockSource + Drop + Send,
+    G: Gate + Sync,
+    R: Threads + Wait + Sync,
+>(
+    rt: &R,
+    alloc: Global,
+    archive: &SharedArchive<D, A>,
+    board: &Board,
+    pairs: usize,
+    index: usize,
+    receiver: Receiver<S>,
+    recorder: Recorder,
+    signals: &Signals<'_, G>,
+    handoff: &Handoff<Item>,
+    putter: Putter<Item>,
+    taker: Taker<Item>,
+    is_over: &AtomicBool,
+) -> (Receiver<S>, Recorder, bool)
+    requires pass { recorder.seat.pass.table ≡ A.table }
+    requires writer { recorder.seat.writer.table ≡ board.now }
+    requires putter { putter ≡ record { handoff = handoff.now; put = [] } }
+    requires taker { taker ≡ record { handoff = handoff.now; taken = [] } }
+    ensures { PairRan S.gives receiver recorder result.0 result.1 }
+{
+    let handing = number_of(index);
+    let recording = number_of(pairs.saturating_add(index));
+    thread::scope(
+        thread::scope_env(),
+        rt,
+        |scope| -> (Receiver<S>, Recorder, bool)
+            requires shared { IsSync R.row }
+            requires pass { recorder.seat.pass.table ≡ A.table }
+            requires writer { recorder.seat.writer.table ≡ board.now }
+            requires putter { putter ≡ record { handoff = handoff.now; put = [] } }
+            requires taker { taker ≡ record { handoff = handoff.now; taken = [] } }
+            ensures { PairRan S.gives receiver recorder result.0 result.1 }
         {
             let promise = Receives {
                 receiver: Snapshot::of(&receiver),
@@ -246,23 +323,7 @@ fn run_pair<
                     ensures { ReceiverEnded S.gives receiver handoff.entry.now result.0 result.1 }
                 { receive(rt, handing, receiver, handoff, putter, signals, is_over) },
             );
-            let promise = RunsOthers {
-                agents: Snapshot::of(&rest),
-            };
-            let running = scope.spawn_with(
-                promise,
-                move || -> (Agents<S, K>, Result<(), Refusal>)
-                    requires shared { IsSync R.row }
-                    requires recorders { AreSeated A.table board.now rest.recorders.items }
-                    requires replayers { AreReading A.table board.now rest.replayers.items }
-                    requires fit { IsRunnable board.now.words rest }
-                    ensures { AgentsBack S.gives K.takes rest result.0 result.1 }
-                { run_pairs(rt, alloc, archive, board, pairs, rest, signals) },
-            );
-            let all_run = receiving.is_ok() && running.is_ok();
-            if !all_run {
-                signals.ends.store(true, Ordering::SeqCst);
-            }
+            let runs = signals.note(receiving.is_ok());
             let (recorder, taker) = record(
                 rt, alloc, recording, recorder, archive, board, handoff, taker, signals, is_over,
             );
@@ -270,14 +331,8 @@ fn run_pair<
                 Ok(thread) => thread.join(rt),
                 Err(refused) => (refused.value)(),
             };
-            let (mut agents, outcome) = match running {
-                Ok(thread) => thread.join(rt),
-                Err(refused) => (refused.value)(),
-            };
             handoff.compare(putter, taker);
-            agents.receivers.push_reserved(receiver);
-            agents.recorders.push_reserved(recorder);
-            (agents, outcome_of(all_run, outcome))
+            (receiver, recorder, runs)
         },
     )
 }
@@ -385,10 +440,7 @@ fn run_replayer<
                     ensures { ReplayerEnded K.takes replayer result }
                 { replay(rt, alloc, agent, replayer, archive, board, signals) },
             );
-            let runs = replaying.is_ok();
-            if !runs {
-                signals.ends.store(true, Ordering::SeqCst);
-            }
+            let runs = signals.note(replaying.is_ok());
             let (mut replayers, outcome) = run_replayers(
                 rt, alloc, archive, board, pairs, rest, signals,
             );

@@ -1,13 +1,14 @@
 //! A recorder's seat: a session, and a pass and a writer that belong together. docs/ARCHITECTURE.md, "Followers".
 
-ghost use Rattle.std.specs.Prelude.{◌≡◌, [], ℤ, IfOk, IfErr, IsErrOf};
+ghost use Rattle.std.specs.Prelude.{◌≡◌, [], ℤ, Err, IfOk, IfErr, IsErrOf, MatchOption};
 ghost use Rattle.frame_core.specs.declared.refusal.Refusal.TheVariants.{NoMemory};
 ghost use Rattle.archive_model.specs.declared.reply.Reply.TheVariants.{Settled};
 ghost use Rattle.control_core.specs.declared.event.Event.TheVariants.{Settle, Write};
-ghost use Rattle.archive_lock.specs.History.{EndsWithAnswer, IsNoted};
+ghost use Rattle.archive_lock.specs.History.{EndsWithAnswer, IsNoted, LeadsToDesk, SeesDesk};
+ghost use Rattle.archive_lock.specs.Standing.{standing_of};
 ghost use Rattle.agents_core.specs.Seat.{RaisedAreSettled, raised_positions, raised_unless_below, settling_outcome};
 
-use archive_lock::{Made, Naming, SharedArchive};
+use archive_lock::{Made, Naming, SharedArchive, Standing};
 use archive_model::Reply;
 use call_history::Pass;
 use control_core::Event;
@@ -81,7 +82,7 @@ impl RecorderSeat {
         block: Block,
     ) -> Result<Reply, Refusal>
         requires { self.old.pass.table ≡ A.table }
-        ensures answers { IsNoted result → EndsWithAnswer A.opening self.old.pass
+        ensures answers { IsNoted result → EndsWithAnswer D.life A.opening self.old.pass
             (Write self.old.session block) result self.new.pass }
         ensures unnoted { IsErrOf result NoMemory → self.new.pass ≡ self.old.pass }
         ensures pass { self.new.pass.table ≡ self.old.pass.table }
@@ -103,13 +104,47 @@ impl RecorderSeat {
         event: &Event,
     ) -> Result<Reply, Refusal>
         requires { self.old.pass.table ≡ A.table }
-        ensures answers { IsNoted result → EndsWithAnswer A.opening self.old.pass event.now result self.new.pass }
+        ensures answers { IsNoted result → EndsWithAnswer D.life A.opening self.old.pass event.now result self.new.pass }
         ensures unnoted { IsErrOf result NoMemory → self.new.pass ≡ self.old.pass }
         ensures pass { self.new.pass.table ≡ self.old.pass.table }
         ensures number { self.new.pass.number ≡ self.old.pass.number }
         ensures same { self.new ≡ record self.old { pass = self.new.pass } }
     {
         archive.call(rt, alloc, &mut self.pass, event)
+    }
+
+    /// The same, and where the archive stands then: the lock is taken once. None where the answer is `NoMemory`.
+    pub fn call_with_standing<D: Disk, A: Naming, R: Wait>(
+        &mut self,
+        rt: &R,
+        alloc: Global,
+        archive: &SharedArchive<D, A>,
+        event: &Event,
+    ) -> (Result<Reply, Refusal>, Option<Standing>)
+        requires { self.old.pass.table ≡ A.table }
+        ensures answers { IsNoted result.0 → EndsWithAnswer D.life A.opening self.old.pass event.now result.0 self.new.pass }
+        ensures unnoted { IsErrOf result.0 NoMemory → self.new.pass ≡ self.old.pass }
+        ensures pass { self.new.pass.table ≡ self.old.pass.table }
+        ensures number { self.new.pass.number ≡ self.old.pass.number }
+        ensures same { self.new ≡ record self.old { pass = self.new.pass } }
+        // It stands so by all that the pass then has seen, the call included.
+        ensures standing { MatchOption result.1 (result.0 ≡ Err NoMemory) (λ standing.
+            IsNoted result.0 × LeadsToDesk A.opening self.new.pass.seen (λ d. standing ≡ standing_of d)) }
+    {
+        archive.call_with_standing(rt, alloc, &mut self.pass, event)
+    }
+
+    /// Where the archive stands, for which it takes the lock: the pass sees all calls so far, and makes none.
+    pub fn standing<D: Disk, A: Naming, R: Wait>(
+        &mut self,
+        rt: &R,
+        archive: &SharedArchive<D, A>,
+    ) -> Standing
+        requires { self.old.pass.table ≡ A.table }
+        ensures sees { SeesDesk A.opening self.old.pass (λ d. result ≡ standing_of d) self.new.pass }
+        ensures same { self.new ≡ record self.old { pass = self.new.pass } }
+    {
+        archive.standing(rt, &mut self.pass)
     }
 
     /// Settles the session: one call, whose answer it gives, the position up to which the recording is then recorded, in
@@ -125,7 +160,7 @@ impl RecorderSeat {
     ) -> Result<i64, Refusal>
         requires pass { self.old.pass.table ≡ A.table }
         requires writer { self.old.writer.table ≡ board.now }
-        ensures answers { IsNoted (settling_outcome result) → EndsWithAnswer A.opening self.old.pass
+        ensures answers { IsNoted (settling_outcome result) → EndsWithAnswer D.life A.opening self.old.pass
             (Settle self.old.session) (settling_outcome result) self.new.pass }
         ensures unnoted { IsErrOf result NoMemory → self.new.pass ≡ self.old.pass }
         ensures raised { IfOk result (λ position.
@@ -135,15 +170,48 @@ impl RecorderSeat {
         ensures number { self.new.pass.number ≡ self.old.pass.number }
         ensures session { self.new.session ≡ self.old.session }
     {
+        let (answer, _) = self.settle_with_standing(rt, alloc, archive, board);
+        answer
+    }
+
+    /// The same, and where the archive stands then: the lock is taken once. None where the answer is `NoMemory`.
+    pub fn settle_with_standing<D: Disk, A: Naming, R: Wait>(
+        &mut self,
+        rt: &R,
+        alloc: Global,
+        archive: &SharedArchive<D, A>,
+        board: &Board,
+    ) -> (Result<i64, Refusal>, Option<Standing>)
+        requires pass { self.old.pass.table ≡ A.table }
+        requires writer { self.old.writer.table ≡ board.now }
+        ensures answers { IsNoted (settling_outcome result.0) → EndsWithAnswer D.life A.opening self.old.pass
+            (Settle self.old.session) (settling_outcome result.0) self.new.pass }
+        ensures unnoted { IsErrOf result.0 NoMemory → self.new.pass ≡ self.old.pass }
+        ensures raised { IfOk result.0 (λ position.
+            self.new.writer ≡ raised_unless_below position self.old.writer) }
+        ensures refused { IfErr result.0 (λ _. self.new.writer ≡ self.old.writer) }
+        ensures pass { self.new.pass.table ≡ self.old.pass.table }
+        ensures number { self.new.pass.number ≡ self.old.pass.number }
+        ensures session { self.new.session ≡ self.old.session }
+        // It stands so by all that the pass then has seen, the settling included.
+        ensures standing { MatchOption result.1 (result.0 ≡ Err NoMemory) (λ standing.
+            IsNoted (settling_outcome result.0)
+            × LeadsToDesk A.opening self.new.pass.seen (λ d. standing ≡ standing_of d)) }
+    {
         let session = self.session;
-        let outcome = archive.call(rt, alloc, &mut self.pass, &Event::Settle { session });
+        let (outcome, standing) = archive.call_with_standing(
+            rt,
+            alloc,
+            &mut self.pass,
+            &Event::Settle { session },
+        );
         let answer = settled_position(outcome);
         if let Ok(position) = answer {
             if position >= self.writer.last() {
                 board.raise(&mut self.writer, position);
             }
         }
-        answer
+        (answer, standing)
     }
 }
 

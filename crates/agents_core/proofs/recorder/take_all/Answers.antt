@@ -13,7 +13,7 @@ returns-then-not-turn g c =
 pub loop-preserved-else-not-turn : goal.loop-preserved-else-not-turn
 loop-preserved-else-not-turn g c =
     let made = c.turn.ensures in
-    taking_on c.args.recorder c.loop.recorder c.args.handoff.now c.loop.taker c.take.new.taker c.loop.invariant c.turn.new.self c.in-Some-Block.block made.0 (made.2 (search rules)) (search rules) made.1
+    taking_on c.args.recorder c.loop.recorder c.args.handoff.now c.loop.taker c.take.new.taker c.loop.invariant c.turn.new.self c.in-Some-Block.block made.0 (made.2.0 (search rules)) (search rules) made.1
 
 pub returns-in-Some-End : goal.returns-in-Some-End
 returns-in-Some-End g c = taking_end c.args.recorder c.loop.recorder c.args.handoff.now c.loop.taker c.take.new.taker c.loop.invariant (search rules)
