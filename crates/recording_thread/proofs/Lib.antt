@@ -1,4 +1,3 @@
 mod SeatLemmas
 mod SettlingLemmas
-pub mod StoppingLemmas
 pub mod StreamLemmas

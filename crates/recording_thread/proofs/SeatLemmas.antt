@@ -9,10 +9,10 @@ use Rattle.atomic_table.specs.Seated.{TableId}
 use Rattle.position_board.specs.Positions.{Published, last_position, new_writers, with_position}
 use Rattle.agents_core.specs.Seat.{SeatView, raised_unless_below}
 use Rattle.frame_core.specs.declared.refusal.Refusal.{Refusal}
-use Rattle.frame_core.specs.declared.refusal.Refusal.TheVariants.{StaleSession}
 use Rattle.call_history.specs.Passes.{AllOfTable, HasEach, has_number, new_pass, new_passes}
 use Rattle.call_history.specs.Values.{PassView}
 use Rattle.archive_lock.specs.declared.history.Made.{Made}
+use Rattle.archive_lock.specs.History.{Member}
 use Rattle.recording_thread.specs.Seats.{AreNewWriters, AreNumbered, AreSeats, CallsAt, CallsAtSeat, HasFrom, IsNewWriter, IsSeat, SeatsView, reseated}
 
 -- ---- the last of a list
@@ -143,6 +143,15 @@ written_seat table board n old new was same of number = record {
   slot = ap (λ (s : SeatView). s.writer.slot) same ∙ was.slot;
 }
 
+-- so is one that has looked
+pub looked_seat : (table board : TableId) (n : ℕ) (old new : SeatView) (seen : List Member) → IsSeat table board n old → new ≡ record old { pass = record old.pass { seen = seen } } → IsSeat table board n new
+looked_seat table board n old new seen was is = record {
+  table = ap (λ (s : SeatView). s.pass.table) is ∙ was.table;
+  number = ap (λ (s : SeatView). s.pass.number) is ∙ was.number;
+  writer = ap (λ (s : SeatView). s.writer.table) is ∙ was.writer;
+  slot = ap (λ (s : SeatView). s.writer.slot) is ∙ was.slot;
+}
+
 -- so is one that has settled
 raised_table : (position : ℤ) (writer : Published) → (raised_unless_below position writer).table ≡ writer.table
 raised_table position writer = by (int_le (last_position writer.positions) position)
@@ -204,14 +213,14 @@ unseated_by session (Some seat) n seats none = absurd cc
 pub unseated : (session : ℤ) (n : ℕ) (seats : List SeatView) → length seats ≤ n → seats ≡ reseated session (slice_get seats n) n seats
 unseated session n seats past = unseated_by session (slice_get seats n) n seats (no_seat seats n past)
 
--- the seat of a session calls
-pub calls_at : {A : Type 0} (session : ℕ) (old : SeatsView) (seat after : SeatView) (result : Result A Refusal) (Calls : SeatView → Result A Refusal → SeatView → Type 0) → slice_get old.seats session ≡ Some seat → Calls seat result after
-    → CallsAt session old result (record old { seats = slice_set old.seats session after }) Calls
-calls_at session old seat after result Calls gets calls =
-    subst (λ o. CallsAtSeat o session old result (record old { seats = slice_set old.seats session after }) Calls) (sym gets) (after, calls, refl)
+-- the seat of a number calls
+pub calls_at : {A : Type 0} (n : ℕ) (without : A) (old : SeatsView) (seat after : SeatView) (result : A) (Calls : SeatView → A → SeatView → Type 0) → slice_get old.seats n ≡ Some seat → Calls seat result after
+    → CallsAt n without old result (record old { seats = slice_set old.seats n after }) Calls
+calls_at n without old seat after result Calls gets calls =
+    subst (λ o. CallsAtSeat o n without old result (record old { seats = slice_set old.seats n after }) Calls) (sym gets) (after, calls, refl)
 
-pub calls_none : {A : Type 0} (session : ℕ) (old : SeatsView) (result : Result A Refusal) (Calls : SeatView → Result A Refusal → SeatView → Type 0) → length old.seats ≤ session → result ≡ Err StaleSession → CallsAt session old result old Calls
-calls_none session old result Calls none is = subst (λ o. CallsAtSeat o session old result old Calls) (sym (no_seat old.seats session none)) (is, refl)
+pub calls_none : {A : Type 0} (n : ℕ) (without : A) (old : SeatsView) (result : A) (Calls : SeatView → A → SeatView → Type 0) → length old.seats ≤ n → result ≡ without → CallsAt n without old result old Calls
+calls_none n without old result Calls none is = subst (λ o. CallsAtSeat o n without old result old Calls) (sym (no_seat old.seats n none)) (is, refl)
 
 -- ---- passes of seats
 

@@ -36,7 +36,7 @@ after_block time session image term bytes s = record s { written = Some (written
 abbrev pub session_settled : ℕ → Settling → Settling
 session_settled n s =
     if is_some (session_at n s.sessions).written
-    then record s { has_settled = true; sessions = slice_set s.sessions n (record { written = None; settled_at = s.time }) }
+    then record s { sessions = slice_set s.sessions n (record { written = None; settled_at = s.time }) }
     else s
 
 -- ---- when a session is due

@@ -11,4 +11,4 @@ mod streams;
 pub use own_recordings::OwnRecordings;
 pub use recording::{Recording, record_all};
 pub use seats::{Benches, Seats, parted};
-pub use stopping::{note_if_broken, stop_if_stuck};
+pub use stopping::note_standing;

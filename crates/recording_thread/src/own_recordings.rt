@@ -1,10 +1,13 @@
 //! Recordings that the server starts by itself. docs/SERVING.md, "Recording without being asked".
 
-ghost use Rattle.std.specs.Prelude.{◌≡◌, None, replicate, slice_set};
+ghost use Rattle.std.specs.Prelude.{◌≡◌, Err, None, Option, replicate, slice_set};
+ghost use Rattle.frame_core.specs.declared.refusal.Refusal.TheVariants.{StaleSession};
+ghost use Rattle.archive_lock.specs.declared.standing.Standing.{Standing};
 ghost use Rattle.recording_thread.specs.Seats.{CallsAt, MakesCall};
 
 use crate::recording::Recording;
 use crate::seats::Seats;
+use crate::stopping::note_standing;
 use crate::streams::{extend_fields, last_continued, start_fields};
 use archive_lock::Naming;
 use archive_model::{Channel, Reply, SourceIdentity};
@@ -244,17 +247,22 @@ fn start_from<D: Disk, A: Naming, R: Wait + Clock, T: Teller>(
     }
 }
 
-/// Makes a call by the pass of the first seat, and notes its answer, before or after each other call that is noted.
+/// Makes a call by the pass of the first seat, and notes its answer and where the archive stands after it, before or after each
+/// other call that is noted.
 fn call<D: Disk, A: Naming, R: Wait, T: Teller>(
     with: &Recording<'_, D, A, R, T>,
     seats: &mut Seats<A>,
     event: &Event,
 ) -> Result<Reply, Refusal>
-    ensures { CallsAt 0 seats.old result seats.new (MakesCall A.opening event.now) }
+    ensures { (standing : Option Standing) × CallsAt 0 (Err StaleSession, None) seats.old (result, standing) seats.new
+        (MakesCall D.life A.opening event.now) }
 {
     let _turn = with.shared.turn.lock(with.rt);
-    let outcome = seats.call(with.rt, with.alloc, with.archive, 0, event);
+    let (outcome, standing) = seats.call(with.rt, with.alloc, with.archive, 0, event);
     with.shared.note(with.rt, event, &outcome);
+    if let Some(standing) = standing {
+        note_standing(with.shared, &standing);
+    }
     outcome
 }
 

@@ -5,8 +5,8 @@ ghost use Rattle.recording_thread.specs.Recording.{first_term};
 
 use crate::own_recordings::OwnRecordings;
 use crate::seats::Seats;
-use crate::settling::Settling;
-use crate::stopping::{note_if_broken, stop_if_stuck};
+use crate::settling::{Settling, Written};
+use crate::stopping::note_standing;
 use archive_lock::{Naming, SharedArchive};
 use archive_model::Reply;
 use disk_core::Disk;
@@ -34,8 +34,12 @@ pub struct Recording<'a, D: Disk, A: Naming, R, T> {
     pub socket: &'a UdpSocket,
 }
 
-/// Records the blocks that wait, batch after batch, until no more come, and the images that are recorded without being asked. A session settles once it is due: a block waits for
-/// `settle_every` milliseconds at most. All sessions settle at the end. Then nobody waits for a settling any more.
+/// Records the blocks that wait, batch after batch, until no more come, and the images that are recorded without being asked.
+/// A session settles once it is due: a block waits for `settle_every` milliseconds at most. All sessions settle at the end.
+/// Then nobody waits for a settling any more.
+///
+/// Where the archive stands is noted after each settling, and after each call for a recording that nobody asked for, by what
+/// came with the answer. After a write that the disk failed the lock is taken once more for it. Nothing else is noted.
 pub fn record_all<D: Disk, A: Naming, R: Wait + Clock, T: Teller>(
     with: &Recording<'_, D, A, R, T>,
     seats: &mut Seats<A>,
@@ -52,12 +56,6 @@ pub fn record_all<D: Disk, A: Naming, R: Wait + Clock, T: Teller>(
         settle_leaving(with, seats, &mut settling, &taken);
         own.follow(with, seats, &taken, watch.read(with.rt));
         with.shared.queue.answer(with.rt);
-        if settling.has_settled() {
-            let (counted, limit) = with.archive.counted(with.rt);
-            with.shared.note_history(counted, limit);
-        }
-        stop_if_stuck(with.rt, with.archive, with.shared);
-        note_if_broken(with.rt, with.archive, with.shared);
         if taken.is_over {
             break;
         }
@@ -158,12 +156,27 @@ fn write<D: Disk, A: Naming, R: Wait + Clock, T: Teller>(
         (Err(Refusal::NeedSettle), Some(block)) => {
             if settle(with, seats, settling, session.seat) {
                 if let Err(cause) = write_once(with, seats, settling, session, image.place, block) {
-                    with.shared.refused(with.rt, session.session, cause);
+                    refuse(with, seats, session, cause);
                 }
             }
         }
-        (Err(cause), _) => with.shared.refused(with.rt, session.session, cause),
+        (Err(cause), _) => refuse(with, seats, session, cause),
         (Ok(()), _) => {}
+    }
+}
+
+/// A write of a session was refused, which takes its image away. Where the archive stands is noted if the disk failed it.
+fn refuse<D: Disk, A: Naming, R: Wait + Clock, T: Teller>(
+    with: &Recording<'_, D, A, R, T>,
+    seats: &mut Seats<A>,
+    session: &FedSession,
+    cause: Refusal,
+) {
+    with.shared.refused(with.rt, session.session, cause);
+    if cause == Refusal::DeviceFault {
+        if let Some(standing) = seats.standing(with.rt, with.archive, session.seat) {
+            note_standing(with.shared, &standing);
+        }
     }
 }
 
@@ -190,7 +203,8 @@ fn write_once<D: Disk, A: Naming, R: Wait + Clock, T: Teller>(
     Ok(())
 }
 
-/// Settles the session at a seat, if it wrote something. False if that is refused, which takes its image away.
+/// Settles the session at a seat, if it wrote something, and notes where the archive stands after it. False if that is refused,
+/// which takes its image away.
 fn settle<D: Disk, A: Naming, R: Wait + Clock, T: Teller>(
     with: &Recording<'_, D, A, R, T>,
     seats: &mut Seats<A>,
@@ -202,19 +216,29 @@ fn settle<D: Disk, A: Naming, R: Wait + Clock, T: Teller>(
     };
     seats.set_session(seat, written.session);
     let watch = watch_if_measured(with);
-    match seats.settle(with.rt, with.alloc, with.archive, seat) {
+    let (answer, standing) = seats.settle(with.rt, with.alloc, with.archive, seat);
+    match answer {
         Ok(position) => {
             note_time(with, watch);
-            with.shared.settled(with.rt, written.session, position);
-            if let Some(counts) = with.shared.counts.of(written.image) {
-                counts.recorded.add(written.bytes);
-            }
-            true
+            note_settled(with, &written, position);
         }
-        Err(cause) => {
-            with.shared.refused(with.rt, written.session, cause);
-            false
-        }
+        Err(cause) => with.shared.refused(with.rt, written.session, cause),
+    }
+    if let Some(standing) = standing {
+        note_standing(with.shared, &standing);
+    }
+    answer.is_ok()
+}
+
+/// A session settled what it wrote, and is recorded up to a position.
+fn note_settled<D: Disk, A: Naming, R: Wait + Clock, T: Teller>(
+    with: &Recording<'_, D, A, R, T>,
+    written: &Written,
+    position: i64,
+) {
+    with.shared.settled(with.rt, written.session, position);
+    if let Some(counts) = with.shared.counts.of(written.image) {
+        counts.recorded.add(written.bytes);
     }
 }
 

@@ -1,13 +1,14 @@
 //! The seats of the recorder sessions that images feed. docs/ARCHITECTURE.md, "Followers".
 
-ghost use Rattle.std.specs.Prelude.{◌≡◌, ◌≤◌, ◌<◌, ◌+◌, [], pos, slice_get, vec_capacity, vec_len};
+ghost use Rattle.std.specs.Prelude.{◌≡◌, ◌≤◌, ◌<◌, ◌+◌, [], Err, None, pos, slice_get, vec_capacity, vec_len};
+ghost use Rattle.frame_core.specs.declared.refusal.Refusal.TheVariants.{StaleSession};
 ghost use Rattle.agents_core.specs.Seat.{raised_positions};
 ghost use Rattle.call_history.specs.Passes.{AllOfTable, new_passes};
 ghost use Rattle.position_board.specs.Positions.{new_writers};
-ghost use Rattle.recording_thread.specs.Seats.{AreAllPasses, AreClientPasses, AreNewWriters, AreNumbered, CallsAt, HasFrom, MakesCall, SettlesSession, WritesBlock, reseated};
+ghost use Rattle.recording_thread.specs.Seats.{AreAllPasses, AreClientPasses, AreNewWriters, AreNumbered, CallsAt, HasFrom, MakesCall, SeesStanding, SettlesSession, WritesBlock, reseated};
 
 use agents_core::RecorderSeat;
-use archive_lock::{Made, Naming, SharedArchive};
+use archive_lock::{Made, Naming, SharedArchive, Standing};
 use archive_model::Reply;
 use call_history::Pass;
 use control_core::Event;
@@ -151,7 +152,7 @@ impl<A: Naming> Seats<A> {
         session: usize,
         block: Block,
     ) -> Result<Reply, Refusal>
-        ensures { CallsAt session self.old result self.new (WritesBlock A.opening block) }
+        ensures { CallsAt session (Err StaleSession) self.old result self.new (WritesBlock D.life A.opening block) }
     {
         if session >= self.seats.len() {
             return Err(Refusal::StaleSession);
@@ -159,7 +160,8 @@ impl<A: Naming> Seats<A> {
         self.seats[session].write(rt, alloc, archive, block)
     }
 
-    /// Makes another call by the pass of a seat, as `RecorderSeat::call`. `StaleSession` if there is no such seat.
+    /// Makes another call by the pass of a seat, as `RecorderSeat::call_with_standing`: its answer, and where the archive stands
+    /// after it. `StaleSession` if there is no such seat.
     pub fn call<D: Disk, R: Wait>(
         &mut self,
         rt: &R,
@@ -167,29 +169,45 @@ impl<A: Naming> Seats<A> {
         archive: &SharedArchive<D, A>,
         seat: usize,
         event: &Event,
-    ) -> Result<Reply, Refusal>
-        ensures { CallsAt seat self.old result self.new (MakesCall A.opening event.now) }
+    ) -> (Result<Reply, Refusal>, Option<Standing>)
+        ensures { CallsAt seat (Err StaleSession, None) self.old result self.new (MakesCall D.life A.opening event.now) }
     {
         if seat >= self.seats.len() {
-            return Err(Refusal::StaleSession);
+            return (Err(Refusal::StaleSession), None);
         }
-        self.seats[seat].call(rt, alloc, archive, event)
+        self.seats[seat].call_with_standing(rt, alloc, archive, event)
     }
 
-    /// Settles the session of a seat, and raises its slot, as `RecorderSeat::settle`. `StaleSession` where it has no seat.
+    /// Where the archive stands, by the pass of a seat, which takes the lock for it. None if there is no such seat.
+    pub fn standing<D: Disk, R: Wait>(
+        &mut self,
+        rt: &R,
+        archive: &SharedArchive<D, A>,
+        seat: usize,
+    ) -> Option<Standing>
+        ensures { CallsAt seat None self.old result self.new (SeesStanding A.opening) }
+    {
+        if seat >= self.seats.len() {
+            return None;
+        }
+        Some(self.seats[seat].standing(rt, archive))
+    }
+
+    /// Settles the session of a seat, and raises its slot, as `RecorderSeat::settle_with_standing`: the position up to which it
+    /// is recorded, and where the archive stands after it. `StaleSession` where it has no seat.
     pub fn settle<D: Disk, R: Wait>(
         &mut self,
         rt: &R,
         alloc: Global,
         archive: &SharedArchive<D, A>,
         session: usize,
-    ) -> Result<i64, Refusal>
-        ensures { CallsAt session self.old result self.new (SettlesSession A.opening) }
+    ) -> (Result<i64, Refusal>, Option<Standing>)
+        ensures { CallsAt session (Err StaleSession, None) self.old result self.new (SettlesSession D.life A.opening) }
     {
         if session >= self.seats.len() {
-            return Err(Refusal::StaleSession);
+            return (Err(Refusal::StaleSession), None);
         }
-        self.seats[session].settle(rt, alloc, archive, &self.board)
+        self.seats[session].settle_with_standing(rt, alloc, archive, &self.board)
     }
 
     /// The passes of clients, and of all seats: all of the archive's. Does not allocate.

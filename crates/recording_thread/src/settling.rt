@@ -42,8 +42,6 @@ pub(crate) struct Settling {
     /// Milliseconds for which a block waits for its settling at most.
     every: u64,
     time: Option<u64>,
-    /// Whether a session settled since the time was set.
-    has_settled: bool,
     sessions: [SessionState; FED_SESSIONS],
 }
 
@@ -53,31 +51,21 @@ impl Settling {
         ensures { result ≡ record {
           every = every;
           time = None;
-          has_settled = false;
           sessions = replicate 64 nothing_written;
         } }
     {
         Settling {
             every,
             time: None,
-            has_settled: false,
             sessions: [NOTHING_WRITTEN; FED_SESSIONS],
         }
     }
 
-    /// Sets the time. No session has settled since.
+    /// Sets the time.
     pub fn set_time(&mut self, time: Option<u64>)
-        ensures { self.new ≡ record self.old { time = time; has_settled = false } }
+        ensures { self.new ≡ record self.old { time = time } }
     {
         self.time = time;
-        self.has_settled = false;
-    }
-
-    /// Whether a session settled since the time was set.
-    pub fn has_settled(&self) -> bool
-        ensures { result ≡ self.now.has_settled }
-    {
-        self.has_settled
     }
 
     /// What the session at a seat wrote and did not settle. None if it wrote nothing.
@@ -121,7 +109,6 @@ impl Settling {
         ensures settled { self.new ≡ session_settled seat self.old }
     {
         let written = self.written(seat)?;
-        self.has_settled = true;
         let settled_at = self.time;
         self.set_session(
             seat,

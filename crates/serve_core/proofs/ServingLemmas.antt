@@ -21,23 +21,19 @@ use Rattle.serve_core.specs.Serving.{EndsFrom, EndsHistory, EndsOrLacks, EndsUpT
 use Rattle.serve_core.specs.declared.served.Served.{Served}
 use Rattle.serve_core.specs.declared.served.Stop.{Stop}
 
--- a history whose calls are counted alone
-pub counted_alone : (old : Life) (opening : EngineState) (keeps strict : Bool) (new : Life) (stop : Option Stop) (end : Result (Unit {0}) EarlyEnd) → EndsOrLacks old opening keeps strict new stop end → keeps ≡ false → EndsOrLacks old opening false strict new stop end
-counted_alone old opening keeps strict new stop end ends is = subst (λ k. EndsOrLacks old opening k strict new stop end) is ends
-
 -- what closing gave
 pub ends_history : {D : Type 0} {dg : Disk.Ghosts D} (life : D → Life) (opening : EngineState) (keeps strict : Bool) (passes : List (PassView Made)) (engine : Engine D dg) (begun : DeskState) (history : Stored Call) (new : Life) (stop : Option Stop)
-    → ((calls : List Member) × ClosesWith opening keeps passes calls (engine_seen life (view_of engine calls)) begun history) → new ≡ life engine.archive.storage.disk → stop ≡ stop_of strict engine.archive.desk.state → EndsHistory opening keeps strict new stop
+    → ((calls : List Member) × ClosesWith opening keeps passes calls (engine_seen life (view_of engine calls)) begun history) → new ≡ life engine.archive.storage.disk → stop ≡ stop_of strict engine.archive.desk.state → EndsHistory opening strict new stop
 ends_history life opening keeps strict passes engine begun history new stop (calls, closes) is stops =
-    record { passes = passes; calls = calls; now = engine_seen life (view_of engine calls); begun = begun; history = history; closes = closes; left = is; stops = stops }
+    record { calls = calls; now = engine_seen life (view_of engine calls); legal = closes.legal; leads = closes.leads; settled = closes.settled; left = is; stops = stops }
 
 -- a history of a strict server is one of a server that is not
-lenient : (opening : EngineState) (keeps strict : Bool) (new : Life) (stop : Option Stop) → EndsHistory opening keeps strict new stop → EndsHistory opening keeps false new None
-lenient opening keeps strict new stop ends =
-    record { passes = ends.passes; calls = ends.calls; now = ends.now; begun = ends.begun; history = ends.history; closes = ends.closes; left = ends.left; stops = refl }
+lenient : (opening : EngineState) (strict : Bool) (new : Life) (stop : Option Stop) → EndsHistory opening strict new stop → EndsHistory opening false new None
+lenient opening strict new stop ends =
+    record { calls = ends.calls; now = ends.now; legal = ends.legal; leads = ends.leads; settled = ends.settled; left = ends.left; stops = refl }
 
 lenient_from : (strict : Bool) (beginning : Beginning) (first : SeenArchive) (new : Life) (stop : Option Stop) → EndsFrom strict beginning first new stop → EndsFrom false beginning first new None
-lenient_from strict beginning (Open engine) new stop ends = lenient engine false strict new stop ends
+lenient_from strict beginning (Open engine) new stop ends = lenient engine strict new stop ends
 lenient_from strict beginning (Closed life) new stop ends = (ends.0, refl)
 
 pub served_leniently : (strict : Bool) (old new : Life) (stop : Option Stop) → IsServedAs strict old new stop → IsServed old new

@@ -7,6 +7,7 @@ use Rattle.frame_core.specs.declared.refusal.Refusal.{Refusal}
 use Rattle.frame_core.specs.declared.refusal.Refusal.TheVariants.{BadLine, Broken, DeviceFault, NoMemory}
 use Rattle.archive_model.specs.declared.reply.Reply.{Reply}
 use Rattle.archive_model.specs.declared.reply.Reply.TheVariants.{ReplayOpened}
+use Rattle.disk_core.specs.Life.{Life}
 use Rattle.control_core.specs.declared.event.Event.{Event}
 use Rattle.control_core.specs.declared.event.Event.TheVariants.{Ask, ReplayClose, Settle}
 use Rattle.control_core.specs.declared.request.Request.{Request}
@@ -15,7 +16,7 @@ use Rattle.control_core.specs.Bytes.{terms_in}
 use Rattle.call_history.specs.Values.{PassView}
 use Rattle.engine_core.specs.Engine.{EngineState}
 use Rattle.archive_lock.specs.declared.history.Made.{Made}
-use Rattle.archive_lock.specs.History.{EndsWithAnswer, IsNoted, IsToldOfDesk}
+use Rattle.archive_lock.specs.History.{EndsWithAnswer, IsNoted, SeesDesk}
 use Rattle.tool_core.specs.Answering.{Ways}
 use Rattle.tool_core.specs.Merging.{Ends}
 
@@ -69,20 +70,21 @@ left_by (Some replay) replays = left_open replay replays
 abbrev pub NotesReplay : Event → Result Reply Refusal → List ℤ → List ℤ → Type 0
 NotesReplay event outcome old new = (mid : List ℤ) × NotesOpened (opened_replay outcome) old mid × (new ≡ left_by (closed_replay event outcome) mid)
 
-module _ (opening : EngineState) where
-  -- the terms of the desk that some legal history leads to
-  abbrev pub TermsAre : ClientView → ℤ → Result Geometry Refusal → Type 0
-  TermsAre client session terms = IsToldOfDesk opening (λ d. terms ≡ terms_in d session)
+-- What the pass has seen then is a legal history that begins with all that it had seen, with no call of its own more. The terms
+-- are those of the desk that it leads to.
+abbrev pub TermsAre : EngineState → ℤ → ClientView → Result Geometry Refusal → ClientView → Type 0
+TermsAre opening session old terms new = SeesDesk opening old.pass (λ d. terms ≡ terms_in d session) new.pass × (new ≡ record old { pass = new.pass })
 
+module _ {D : Type 0} (life : D → Life) (opening : EngineState) where
   -- What the pass has seen then is a legal history that ends with this call and its answer, and begins with all that it had
   -- seen. Want of memory is none. The replay that the call opened or closed is noted.
   pub record CallsShared (event : Event) (old : ClientView) (outcome : Result Reply Refusal) (new : ClientView) : Type 0 where
-    pub answers : IsNoted outcome → EndsWithAnswer opening old.pass event outcome new.pass
+    pub answers : IsNoted outcome → EndsWithAnswer life opening old.pass event outcome new.pass
     pub unnoted : IsErrOf outcome NoMemory → new.pass ≡ old.pass
     pub noted : NotesReplay event outcome old.replays new.replays
 
   abbrev pub shared_ways : Ways ClientView
-  shared_ways = record { terms = TermsAre; call = CallsShared; reopen = IsNoLine; compact = IsNoLine }
+  shared_ways = record { terms = TermsAre opening; call = CallsShared; reopen = IsNoLine; compact = IsNoLine }
 
   -- a call that closes a replay, however it is answered
   abbrev pub Closes : ℤ → ClientView → ClientView → Type 0
@@ -98,8 +100,8 @@ module _ (opening : EngineState) where
   EndsConnection closes old new = MatchBool closes (ClosesEach old.replays (none_noted old) new) (new ≡ none_noted old)
 
 -- no archive is open
-abbrev pub HasNoTerms : {A : Type 0} → A → ℤ → Result Geometry Refusal → Type 0
-HasNoTerms old session terms = terms ≡ Err Broken
+abbrev pub HasNoTerms : {A : Type 0} → ℤ → A → Result Geometry Refusal → A → Type 0
+HasNoTerms session old terms new = (terms ≡ Err Broken) × (new ≡ old)
 
 abbrev pub IsBroken : {A : Type 0} → Event → A → Ends A
 IsBroken event old outcome new = (outcome ≡ Err Broken) × (new ≡ old)

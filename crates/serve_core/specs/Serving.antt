@@ -1,15 +1,13 @@
 -- What becomes of a disk that is served: docs/SERVING.md.
-use Rattle.std.specs.Prelude.{◌≡◌, ◌⊎◌, Bool, false, true, if◌then◌else◌, List, Option, None, Some, Result, Err}
+use Rattle.std.specs.Prelude.{◌≡◌, ◌⊎◌, Bool, false, true, if◌then◌else◌, IsTrue, List, Option, None, Some, Result, Err}
 use Rattle.disk_core.specs.Life.{Life}
 use Rattle.control_core.specs.Desk.{DeskState, has_room}
-use Rattle.engine_core.specs.Engine.{EngineState}
+use Rattle.engine_core.specs.Consistent.{IsCrashConsistent}
+use Rattle.engine_core.specs.Engine.{Content, EngineState, archive_of}
 use Rattle.engine_core.specs.Opening.{ReadsAsBefore}
-use Rattle.call_history.specs.declared.stored.Stored.{Stored}
-use Rattle.call_history.specs.Values.{PassView}
-use Rattle.archive_lock.specs.declared.history.Call.{Call}
-use Rattle.archive_lock.specs.declared.history.Made.{Made}
-use Rattle.archive_lock.specs.Closing.{ClosesWith}
-use Rattle.archive_lock.specs.History.{Member}
+use Rattle.archive_lock.specs.Durable.{SettlingsStay}
+use Rattle.archive_lock.specs.History.{IsLegalHistory, Member}
+use Rattle.archive_lock.specs.Leading.{LeadsTo}
 use Rattle.tool_core.specs.declared.fault.EarlyEnd.{EarlyEnd}
 use Rattle.tool_core.specs.declared.fault.EarlyEnd.TheVariants as ends
 use Rattle.tool_core.specs.declared.observer.Beginning.{Beginning}
@@ -32,25 +30,25 @@ unopened_stop strict beginning = None
 
 -- ---- the disk
 
--- The disk is the one at the end of a legal history of calls from an opening, of each of these passes just its own, and of no
--- others: what the archive gave when it was closed with them. A strict server says whether anything can be recorded then.
-pub record EndsHistory (opening : EngineState) (keeps strict : Bool) (new : Life) (stop : Option Stop) : Type 0 where
-  pub passes : List (PassView Made)
+-- The disk is the one at the end of a legal history of calls from an opening, which leads to it. Where the archive was
+-- crash-consistent and its disk obeyed, what its settlings answered stays. A strict server says whether anything can be
+-- recorded then.
+pub record EndsHistory (opening : EngineState) (strict : Bool) (new : Life) (stop : Option Stop) : Type 0 where
   pub calls : List Member
   pub now : EngineState
-  pub begun : DeskState
-  pub history : Stored Call
-  pub closes : ClosesWith opening keeps passes calls now begun history
+  pub legal : IsLegalHistory opening calls
+  pub leads : LeadsTo opening calls now
+  pub settled : (c : Content) → IsCrashConsistent opening.life opening.log (archive_of opening c) → IsTrue now.life.obeys → SettlingsStay (archive_of opening c) calls now
   pub left : new ≡ now.life
   pub stops : stop ≡ stop_of strict now.desk
 
 -- it does; or no call was made for want of memory, and the disk is as the archive was opened with it
-abbrev pub EndsOrLacks : Life → EngineState → Bool → Bool → Life → Option Stop → Result (Unit {0}) EarlyEnd → Type 0
-EndsOrLacks old opening keeps strict new stop end = EndsHistory opening keeps strict new stop ⊎ ((end ≡ Err ends.Memory) × (new ≡ old))
+abbrev pub EndsOrLacks : Life → EngineState → Bool → Life → Option Stop → Result (Unit {0}) EarlyEnd → Type 0
+EndsOrLacks old opening strict new stop end = EndsHistory opening strict new stop ⊎ ((end ≡ Err ends.Memory) × (new ≡ old))
 
--- from an archive that is open the disk ends a history, which was counted alone; where none is open it stays
+-- from an archive that is open the disk ends a history; where none is open it stays
 abbrev pub EndsFrom : Bool → Beginning → SeenArchive → Life → Option Stop → Type 0
-EndsFrom strict beginning (Open engine) new stop = EndsHistory engine false strict new stop
+EndsFrom strict beginning (Open engine) new stop = EndsHistory engine strict new stop
 EndsFrom strict beginning (Closed life) new stop = (new ≡ life) × (stop ≡ unopened_stop strict beginning)
 
 -- an archive was made or opened, or none could be, and was served, by a strict server or by one that is not
@@ -77,5 +75,5 @@ IsServedUpTo old new end = IsServed old new ⊎ ((end ≡ ends.Memory) × IsUnse
 
 -- how an archive was served
 abbrev pub EndsUpTo : Bool → Beginning → SeenArchive → Life → Option Stop → Result (Unit {0}) EarlyEnd → Type 0
-EndsUpTo strict beginning (Open engine) new stop end = EndsOrLacks engine.life engine false strict new stop end
+EndsUpTo strict beginning (Open engine) new stop end = EndsOrLacks engine.life engine strict new stop end
 EndsUpTo strict beginning (Closed life) new stop end = (new ≡ life) × (stop ≡ unopened_stop strict beginning)

@@ -8,13 +8,13 @@ ghost use Rattle.serve_core.specs.Answering.{Closes, ClosesEach, EndsConnection,
 
 use crate::connections::{Connections, Server};
 use crate::place::Place;
-use archive_lock::{Made, Naming, SharedArchive};
+use archive_lock::{Made, Naming, SharedArchive, Standing};
 use archive_model::Reply;
 use call_history::Pass;
 use control_core::{Event, Request};
 use disk_core::Disk;
 use frame_core::{Geometry, Refusal};
-use recording_thread::{note_if_broken, stop_if_stuck};
+use recording_thread::note_standing;
 use server_state::{Happening, Teller};
 use std::alloc::Global;
 use std::marker::{Model, PhantomData};
@@ -35,7 +35,7 @@ impl<'a, D: Disk, A: Naming, R: Wait, T: Teller> NotedArchive<'a, D, A, R, T> {
     fn call(&self, alloc: Global, pass: &mut Pass<Made>, event: &Event) -> Result<Reply, Refusal>
         requires { pass.old.table ≡ A.table }
         ensures answers { IsNoted result →
-            EndsWithAnswer A.opening pass.old event.now result pass.new }
+            EndsWithAnswer D.life A.opening pass.old event.now result pass.new }
         ensures unnoted { IsErrOf result NoMemory → pass.new ≡ pass.old }
         ensures pass { (pass.new.table ≡ pass.old.table) × (pass.new.number ≡ pass.old.number) }
     {
@@ -56,7 +56,7 @@ impl<'a, D: Disk, A: Naming, R: Wait, T: Teller> NotedArchive<'a, D, A, R, T> {
     ) -> Result<Reply, Refusal>
         requires { pass.old.table ≡ A.table }
         ensures answers { IsNoted result →
-            EndsWithAnswer A.opening pass.old event.now result pass.new }
+            EndsWithAnswer D.life A.opening pass.old event.now result pass.new }
         ensures unnoted { IsErrOf result NoMemory → pass.new ≡ pass.old }
         ensures pass { (pass.new.table ≡ pass.old.table) × (pass.new.number ≡ pass.old.number) }
     {
@@ -72,12 +72,12 @@ impl<'a, D: Disk, A: Naming, R: Wait, T: Teller> NotedArchive<'a, D, A, R, T> {
     ) -> Result<Reply, Refusal>
         requires { pass.old.table ≡ A.table }
         ensures answers { IsNoted result →
-            EndsWithAnswer A.opening pass.old event.now result pass.new }
+            EndsWithAnswer D.life A.opening pass.old event.now result pass.new }
         ensures unnoted { IsErrOf result NoMemory → pass.new ≡ pass.old }
         ensures pass { (pass.new.table ≡ pass.old.table) × (pass.new.number ≡ pass.old.number) }
     {
-        let outcome = self.archive.call(self.rt, alloc, pass, event);
-        self.note(event, &outcome);
+        let (outcome, standing) = self.archive.call_with_standing(self.rt, alloc, pass, event);
+        self.note(event, &outcome, standing);
         outcome
     }
 
@@ -92,8 +92,8 @@ impl<'a, D: Disk, A: Naming, R: Wait, T: Teller> NotedArchive<'a, D, A, R, T> {
         }
     }
 
-    /// Notes what a call was answered, beside the history.
-    fn note(&self, event: &Event, outcome: &Result<Reply, Refusal>) {
+    /// Notes what a call was answered, beside the history, and where the archive then stands, if the call may be the last one.
+    fn note(&self, event: &Event, outcome: &Result<Reply, Refusal>, standing: Option<Standing>) {
         self.with.shared.meter.note_call(event, outcome);
         self.with.shared.tell_wrong_word(event, outcome);
         if self.with.shared.note(self.rt, event, outcome) {
@@ -102,13 +102,10 @@ impl<'a, D: Disk, A: Naming, R: Wait, T: Teller> NotedArchive<'a, D, A, R, T> {
         if let Some(recording) = settled_after(event, outcome) {
             self.with.shared.ask_writer(self.rt, recording);
         }
-        if outcome.is_ok() && makes_entry(event) {
-            let (counted, limit) = self.archive.counted(self.rt);
-            self.with.shared.note_history(counted, limit);
-        }
-        if may_be_last(event, outcome) {
-            stop_if_stuck(self.rt, self.archive, &self.with.shared);
-            note_if_broken(self.rt, self.archive, &self.with.shared);
+        if let Some(standing) = standing {
+            if may_be_last(event, outcome) {
+                note_standing(&self.with.shared, &standing);
+            }
         }
     }
 }
@@ -164,7 +161,7 @@ impl<'a, D: Disk, A: Naming, P: Place, R: Wait, T: Teller> Controller<'a, D, A, 
 
     /// Closes replays, each by a call.
     fn close_each(&mut self, alloc: Global, replays: &[i64])
-        ensures { ClosesEach A.opening replays.now self.old self.new }
+        ensures { ClosesEach D.life A.opening replays.now self.old self.new }
     {
         for (index, replay) in replays.iter().enumerate() {
             let _ = index;
@@ -174,7 +171,7 @@ impl<'a, D: Disk, A: Naming, P: Place, R: Wait, T: Teller> Controller<'a, D, A, 
 
     /// Closes a replay by a call.
     fn close(&mut self, alloc: Global, replay: &i64)
-        ensures { Closes A.opening replay.now self.old self.new }
+        ensures { Closes D.life A.opening replay.now self.old self.new }
     {
         let _ = self.call(alloc, &Event::ReplayClose { replay: *replay });
     }
@@ -326,10 +323,12 @@ fn settled_after(event: &Event, outcome: &Result<Reply, Refusal>) -> Option<i64>
 }
 
 impl<D: Disk, A: Naming, P: Place, R: Wait, T: Teller> Answerer for Controller<'_, D, A, P, R, T> {
-    ghost ways = { shared_ways A.opening };
+    ghost ways = { shared_ways D.life A.opening };
 
-    fn terms(&self, session: &i64) -> Result<Geometry, Refusal> {
-        self.noted.archive.terms(self.noted.rt, session)
+    fn terms(&mut self, session: &i64) -> Result<Geometry, Refusal> {
+        self.noted
+            .archive
+            .terms(self.noted.rt, &mut self.pass, session)
     }
 
     fn call(&mut self, alloc: Global, event: &Event) -> Result<Reply, Refusal> {
@@ -348,7 +347,7 @@ impl<D: Disk, A: Naming, P: Place, R: Wait, T: Teller> Answerer for Controller<'
 }
 
 impl<D: Disk, A: Naming, P: Place, R: Wait, T: Teller> Server for Controller<'_, D, A, P, R, T> {
-    ghost ended = { EndsConnection A.opening };
+    ghost ended = { EndsConnection D.life A.opening };
 
     fn end_connection(&mut self, alloc: Global, closes_replays: bool) {
         let replays = mem::replace(&mut self.replays, Vec::new(alloc));

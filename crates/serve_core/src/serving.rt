@@ -1,6 +1,6 @@
 //! The archive of a disk behind a control listener and a socket of datagrams. docs/SERVING.md.
 
-ghost use Rattle.std.specs.Prelude.{◌≡◌, ◌+◌, ◌≤◌, [], Err, false, if◌then◌else◌, IfErr, IfOk, IsOk, MatchResult, vec_capacity, vec_len};
+ghost use Rattle.std.specs.Prelude.{◌≡◌, ◌+◌, ◌≤◌, [], Err, if◌then◌else◌, IfErr, IfOk, IsOk, MatchResult, vec_capacity, vec_len};
 ghost use Rattle.archive_lock.specs.Held.{engine_seen, view_of};
 ghost use Rattle.engine_core.specs.Seen.{seen};
 ghost use Rattle.tool_core.specs.Archives.{archive_seen, disk_of, early_end_of};
@@ -21,7 +21,7 @@ use engine_core::Engine;
 use frame_core::limits::{LONGEST_DATAGRAM, MAX_WAITING_BLOCKS};
 use receiving_thread::{Images, Receiver, Reception, Senders, TENDING};
 use recording_thread::{
-    Benches, OwnRecordings, Recording, Seats, parted, record_all, stop_if_stuck,
+    Benches, OwnRecordings, Recording, Seats, note_standing, parted, record_all,
 };
 use server_state::{FedBlock, Happening, Shared, SharedOptions, Teller, Untold};
 use std::alloc::{AllocError, Global};
@@ -239,7 +239,6 @@ fn begin<R, T: Teller>(with: &Serving<'_, R, T>, beginning: Beginning) {
 }
 
 /// Serves an archive that is open: what comes back, and how that ended.
-#[tactic(auto, using(crate::proofs::ServingLemmas::counted_alone))]
 fn serve_open<
     R: Threads + Wait + Clock + Sync,
     D: Disk + Drop + Send,
@@ -250,7 +249,7 @@ fn serve_open<
     benches: Benches,
     engine: Engine<D>,
 ) -> (Served<D>, Result<(), EarlyEnd>)
-    ensures { EndsOrLacks (D.life engine.archive.storage.disk) (seen D.life engine) false with.now.is_strict
+    ensures { EndsOrLacks (D.life engine.archive.storage.disk) (seen D.life engine) with.now.is_strict
         (D.life result.0.disk) result.0.stop result.1 }
 {
     let Ok(opened) = Opened::new(with.alloc, false) else {
@@ -276,7 +275,7 @@ fn serve_named<
     requires counts { A.passes ≡ 64 + with.now.places.count }
     requires stores { opened.keeps ≡ A.keeps }
     requires opens { engine_seen D.life (view_of engine []) ≡ A.opening }
-    ensures { EndsOrLacks (D.life engine.archive.storage.disk) A.opening A.keeps with.now.is_strict
+    ensures { EndsOrLacks (D.life engine.archive.storage.disk) A.opening with.now.is_strict
         (D.life result.0.disk) result.0.stop result.1 }
 {
     let places = with.places;
@@ -289,12 +288,12 @@ fn serve_named<
         Ok(made) => made,
         Err(refused) => return lacking(refused.engine),
     };
-    let (counted, limit) = archive.counted(with.rt);
-    with.shared.note_history(counted, limit);
-    stop_if_stuck(with.rt, &archive, with.shared);
-    with.shared.meter.set_open();
     let (passes, clients) = parted::<A>(passes, room);
-    let seats = benches.seated::<A>(passes);
+    let mut seats = benches.seated::<A>(passes);
+    if let Some(standing) = seats.standing(with.rt, &archive, 0) {
+        note_standing(with.shared, &standing);
+    }
+    with.shared.meter.set_open();
     let (passes, end) = serve_shared(with, tools, &archive, clients, seats);
     (closed(archive, passes, with.is_strict), end)
 }
@@ -475,7 +474,7 @@ fn closed<D: Disk + Drop, A: Naming>(
     is_strict: bool,
 ) -> Served<D>
     requires { AreAllPasses A.table A.passes passes.items }
-    ensures { EndsHistory A.opening A.keeps is_strict (D.life result.disk) result.stop }
+    ensures { EndsHistory A.opening is_strict (D.life result.disk) result.stop }
 {
     match archive.close(passes) {
         Ok(Closed { engine, .. }) => {

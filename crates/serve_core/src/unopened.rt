@@ -16,7 +16,7 @@ pub(crate) struct Unopened;
 impl Answerer for Unopened {
     ghost ways = { unopened_ways };
 
-    fn terms(&self, session: &i64) -> Result<Geometry, Refusal> {
+    fn terms(&mut self, session: &i64) -> Result<Geometry, Refusal> {
         let _ = session;
         Err(Refusal::Broken)
     }

@@ -173,11 +173,6 @@ impl<T: Teller> Shared<T> {
         self.pairing.lock(rt).key_at(place)
     }
 
-    /// Whether a call was answered by a device fault.
-    pub fn has_faulted(&self) -> bool {
-        self.has_faulted.load(Ordering::SeqCst)
-    }
-
     /// Whether the server ends.
     pub fn has_ended(&self) -> bool {
         self.ends.load(Ordering::SeqCst)

@@ -1,11 +1,13 @@
 -- The seat is its own, before the call and after it.
 use Rattle.std.proofs.Common.{◌<◌, length, rules}
+use Rattle.std.specs.Prelude.{Err, None}
+use Rattle.frame_core.specs.declared.refusal.Refusal.TheVariants.{StaleSession}
 use Rattle.recording_thread.specs.Seats.{MakesCall}
 use Rattle.recording_thread.proofs.SeatLemmas.{calls_at, gets_at, seat_at, seats_set, written_seat}
 use Rattle.recording_thread.proofs.seats.Seats.call.Goals as goal
 
-pub call-requires : goal.call-requires
-call-requires g c =
+pub call_with_standing-requires : goal.call_with_standing-requires
+call_with_standing-requires g c =
     let items = c.self.inside.seats.items in
     let n = c.args.seat in
     let below : n < length items = search rules in
@@ -25,7 +27,7 @@ invariant_of-self g c =
     let board = c.self.inside.board in
     let was = seat_at table board items n c.index_mut.result.now c.self.invariant.0 gets in
     let inside = c.self.invariant in
-    (seats_set table board items n c.call.new.self inside.0 (written_seat table board n c.index_mut.result.now c.call.new.self was c.call.ensures.same c.call.ensures.pass c.call.ensures.number), inside.1)
+    (seats_set table board items n c.call_with_standing.new.self inside.0 (written_seat table board n c.index_mut.result.now c.call_with_standing.new.self was c.call_with_standing.ensures.same c.call_with_standing.ensures.pass c.call_with_standing.ensures.number), inside.1)
 
 pub returns : goal.returns
 returns g c =
@@ -33,4 +35,4 @@ returns g c =
     let n = c.args.seat in
     let below : n < length items = search rules in
     let gets = gets_at items n c.index_mut.result.now below c.index_mut.ensures.value in
-    rw (← c.self.view_is) (calls_at n (record { board = c.self.inside.board; seats = items }) c.index_mut.result.now c.call.new.self c.call.result (MakesCall g.A.Naming.opening c.args.event.now) gets (record { answers = c.call.ensures.answers; unnoted = c.call.ensures.unnoted; same = c.call.ensures.same }))
+    rw (← c.self.view_is) (calls_at n (Err StaleSession, None) (record { board = c.self.inside.board; seats = items }) c.index_mut.result.now c.call_with_standing.new.self c.call_with_standing.result (MakesCall g.D.Disk.life g.A.Naming.opening c.args.event.now) gets (record { answers = c.call_with_standing.ensures.answers; unnoted = c.call_with_standing.ensures.unnoted; standing = c.call_with_standing.ensures.standing; same = c.call_with_standing.ensures.same }))

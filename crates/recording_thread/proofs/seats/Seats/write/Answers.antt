@@ -1,5 +1,7 @@
 -- The seat of the session is its own, before the call and after it.
 use Rattle.std.proofs.Common.{◌<◌, length, rules}
+use Rattle.std.specs.Prelude.{Err}
+use Rattle.frame_core.specs.declared.refusal.Refusal.TheVariants.{StaleSession}
 use Rattle.recording_thread.specs.Seats.{WritesBlock}
 use Rattle.recording_thread.proofs.SeatLemmas.{calls_at, gets_at, seat_at, seats_set, written_seat}
 use Rattle.recording_thread.proofs.seats.Seats.write.Goals as goal
@@ -33,4 +35,4 @@ returns g c =
     let n = c.args.session in
     let below : n < length items = search rules in
     let gets = gets_at items n c.index_mut.result.now below c.index_mut.ensures.value in
-    rw (← c.self.view_is) (calls_at n (record { board = c.self.inside.board; seats = items }) c.index_mut.result.now c.write.new.self c.write.result (WritesBlock g.A.Naming.opening c.args.block) gets (record { answers = c.write.ensures.answers; unnoted = c.write.ensures.unnoted; same = c.write.ensures.same }))
+    rw (← c.self.view_is) (calls_at n (Err StaleSession) (record { board = c.self.inside.board; seats = items }) c.index_mut.result.now c.write.new.self c.write.result (WritesBlock g.D.Disk.life g.A.Naming.opening c.args.block) gets (record { answers = c.write.ensures.answers; unnoted = c.write.ensures.unnoted; same = c.write.ensures.same }))

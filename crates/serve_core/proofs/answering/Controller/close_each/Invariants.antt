@@ -4,4 +4,4 @@ use Rattle.serve_core.proofs.answering.Controller.close_each.Given as goal
 
 -- those before are closed
 abbrev pub invariant-loop-index : goal.invariant-loop-index
-invariant-loop-index g l = ClosesEach g.A.Naming.opening (take l.index l.replays) l.fn.self l.self
+invariant-loop-index g l = ClosesEach g.D.Disk.life g.A.Naming.opening (take l.index l.replays) l.fn.self l.self
