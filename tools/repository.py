@@ -1,7 +1,17 @@
-"""What the tools know of the repository: its crates, and which of them stand on which."""
+"""What the tools know of the repository: its crates, and which of them stand on which.
+
+Usage: tools/repository.py   asks what no clause can say of a crate's text: that followers take no lock. The crate position_board
+names no lock, and its board has nothing but the table of its positions. It prints what it finds, with status 1
+"""
+import re
+import sys
 from pathlib import Path
 
 ROOT = Path(__file__).resolve().parent.parent
+BOARD = "crates/position_board/src"
+LOCKS = re.compile(r"\b(?:Mutex|RwLock|Condvar|OnceLock|try_lock|lock)\b")
+FIELDS = ["pub(crate) table: Words"]
+WORDS = "pub(crate) type Words = Table<(), View, Vec<u64>, BoardRule, Global>;"
 
 
 def dependencies() -> dict[str, list[str]]:
@@ -9,3 +19,37 @@ def dependencies() -> dict[str, list[str]]:
     lines = [line.split("#")[0].strip() for line in (ROOT / "crates.txt").read_text().splitlines()]
     named = {line.split(":")[0].split()[0]: line.split(":")[1].split() for line in lines if line}
     return {name: [it for it in below if it in named] for name, below in named.items()}
+
+
+def code_of(text: str) -> str:
+    """A file without its comments, its lines as they were."""
+    return re.sub(r"//.*", "", text)
+
+
+def locks_in(folder: Path) -> list[str]:
+    """Where a lock is named."""
+    files = sorted(folder.glob("**/*.rt"))
+    lines = [(path, number, line) for path in files for number, line in enumerate(code_of(path.read_text()).splitlines(), 1)]
+    found = [f"{path.relative_to(ROOT)}:{number}: names a lock: {line.strip()}" for path, number, line in lines if LOCKS.search(line)]
+    return found if files else [f"{folder}: no file"]
+
+
+def fields_beside(text: str) -> list[str]:
+    """What the board has besides its table."""
+    board = re.search(r"^pub struct Board \{(.*?)^\}", text, re.MULTILINE | re.DOTALL)
+    if not board:
+        return [f"{BOARD}: no struct Board is found"]
+    fields = [line.strip().rstrip(",") for line in board[1].splitlines() if line.strip()]
+    found = [] if fields == FIELDS else [f"{BOARD}: Board has the fields {fields}, and not {FIELDS}"]
+    return found + ([] if WORDS in text else [f"{BOARD}: its table is another one than {WORDS}"])
+
+
+def main() -> int:
+    folder = ROOT / BOARD
+    found = locks_in(folder) + fields_beside(code_of((folder / "board.rt").read_text()))
+    print("\n".join(found) or "position_board names no lock, and its board is a table alone")
+    return 1 if found else 0
+
+
+if __name__ == "__main__":
+    sys.exit(main())

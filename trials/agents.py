@@ -1,39 +1,77 @@
 #!/usr/bin/env python3
-"""Agents in threads: the scenario of live_tests in which they wait for each other, and followed positions behind a kill.
+"""Agents in threads: two scenarios of live_tests, a run without threads, and followed positions after a kill.
 
 Usage: trials/agents.py [--seed S] [--runs N] [--kills N] [program]. First: cd crates/agent_trials && rt run -- look 1, and
 cd crates/live_tests && rt test
 
-Two recorders and two replayers, the first of each waiting for the other, run again and again: agents on one thread would end a
-wait by its limit. Then two recorders with their receivers record into a folder, and a follower writes each position down that
-it sees; the process is killed (SIGKILL) at a random moment. What was written down has to be there, by the program that was
-named: `list`, a replay of each recording from where the last look ended, and at the end of everything `verify`.
+Two recorders and two replayers, whose sources and sinks wait for each other, run again and again: agents on one thread would end
+a wait by its limit. So do six agents that their gate ends, each at a turn of its own. Then a receiver and a recorder run as a user
+who may make no thread, which root alone can try: that run has to be answered NoMemory, and one with enough threads has to end well.
+Then two recorders with their receivers record into a folder, and a follower writes each position down that it sees; the process is
+killed (SIGKILL) at a random moment. What was written down has to be there, by the program that was named: `list`, a replay of each
+recording from where the last look ended, and at the end of everything `verify`.
 """
+import os
 import random
+import resource
+import shutil
 import signal
 import subprocess
 import time
+from collections.abc import Callable
 from pathlib import Path
 
 from tool import ROOT, Fault, Stream, conclude, expect, file_system, go_round, needs, program, replayed, room, run, stop_positions, trial_words
 
 AGENTS = ROOT / "crates/agent_trials/out/agent_trials"
 TESTS = ROOT / "crates/live_tests/out/live_tests_tests"
-SCENARIO = "agents::two_recorders_and_two_replayers"
+SCENARIOS = ["agents::two_recorders_and_two_replayers", "agents::a_gate_ends_each_agent_at_its_turn"]
 STREAM = Stream(term_length=65_536, segment_length=65_536)
 HISTORY = 16_777_216
 FRAME = 64  # bytes of a recorded frame
 BLOCKS = 10**9  # more than a process comes to record
 FEW_BLOCKS = 50  # of a process that ends by itself
+NOBODY = 65_534  # a user who runs nothing else
+THREADS = 2  # that a run of a receiver and a recorder makes; the recorder's is the program's own
 
 
-def scenario(runs: int) -> None:
-    """Runs the scenario so often; each run has to end well."""
+def scenario(name: str, runs: int) -> None:
+    """Runs a scenario so often; each run has to end well."""
     for index in range(runs):
-        ended = subprocess.run([TESTS, SCENARIO], capture_output=True, text=True)
+        ended = subprocess.run([TESTS, name], capture_output=True, text=True)
         if ended.returncode:
-            raise Fault(f"run {index} of {SCENARIO}: status {ended.returncode}, {ended.stdout}{ended.stderr}")
-    print(f"{runs} runs of {SCENARIO}", flush=True)
+            raise Fault(f"run {index} of {name}: status {ended.returncode}, {ended.stdout}{ended.stderr}")
+    print(f"{runs} runs of {name}", flush=True)
+
+
+def as_nobody(threads: int) -> Callable[[], None]:
+    """What makes a process one of a user who may have no more than it and so many threads."""
+
+    def become() -> None:
+        os.setgroups([])
+        os.setgid(NOBODY)
+        os.setuid(NOBODY)
+        resource.setrlimit(resource.RLIMIT_NPROC, (1 + threads, 1 + threads))
+
+    return become
+
+
+def unthreaded() -> None:
+    """A run for which no thread can be made is refused; one for which all can be made is not."""
+    if os.geteuid() != 0:
+        print("runs without threads: skipped, this is not root", flush=True)
+        return
+    with room() as folder:
+        folder.chmod(0o755)
+        agents = shutil.copy(AGENTS, folder)
+        os.chmod(agents, 0o755)
+        for threads in (0, THREADS):
+            ended = subprocess.run([agents, "queue", str(FEW_BLOCKS)], capture_output=True, text=True, preexec_fn=as_nobody(threads))
+            is_run = ended.returncode == 0 and ended.stdout.strip().isdecimal() and ended.stderr == ""
+            is_refused = ended.returncode == 1 and ended.stdout == "" and ended.stderr.split()[-1:] == ["NoMemory"]
+            if not (is_run if threads else is_refused):
+                raise Fault(f"with {threads} threads: status {ended.returncode}, {ended.stdout}{ended.stderr}")
+    print("a run for which no thread can be made is refused: NoMemory", flush=True)
 
 
 class Followed:
@@ -135,7 +173,9 @@ def main() -> int:
     asked = words.parse_args()
     needs(AGENTS, TESTS)
     print(f"seed {asked.seed}", flush=True)
-    scenario(asked.runs)
+    for name in SCENARIOS:
+        scenario(name, asked.runs)
+    unthreaded()
     killed(program(asked.program), asked.seed, asked.kills)
     return 0
 

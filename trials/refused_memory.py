@@ -33,9 +33,11 @@ WANT = b"error 18 NoMemory\n"
 FAULT = b"error 17 DeviceFault\n"
 BROKEN = b"error 16 Broken\n"
 # How many requests a test may make: 100 polls that each ask for a list and the bytes of one frame, and what comes before;
-# and none, where 300 pads and 600 frames that their file has no room for are read.
+# those of a board, whose position is raised, looked at and met 1,000 times; and none, where 300 pads and 600 frames that their
+# file has no room for are read.
 MOST = {
     "archives::counted_memory_of_a_late_poll": 2 * 100 + 50,
+    "boards::counted_memory_of_a_board": 30,
     "sparse::counted_memory_of_a_long_pad": 0,
     "sparse::counted_memory_of_a_short_file": 0,
 }

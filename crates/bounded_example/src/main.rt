@@ -122,6 +122,7 @@ fn seats_of<L: Naming, A: Naming>(
     requires archive { passes.items ≡ new_passes A.table 2 }
     ensures slots { IfSome result (λ seats. 0 < seats.board.words) }
     ensures recorder { IfSome result (λ seats. (seats.recorder.pass.table ≡ L.table)
+        × (seats.recorder.pass.number ≡ 0)
         × (seats.recorder.writer.table ≡ seats.board) × (seats.recorder.writer.slot ≡ 0)) }
     ensures replayer { IfSome result (λ seats. (seats.replayer.pass.table ≡ A.table)
         × (seats.replayer.reader.table ≡ seats.board) × (seats.replayer.slot ≡ 0)) }
@@ -200,11 +201,12 @@ fn follow<D: Disk, L: Naming, A: Naming, R: Wait + Print>(
     mut replayer: BoundedReplayer,
 ) -> Option<Followed>
     requires slots { 0 < board.now.words }
-    requires recorder { (recorder.pass.table ≡ L.table) × (recorder.writer.table ≡ board.now)
-        × (recorder.writer.slot ≡ 0) }
+    requires recorder { (recorder.pass.table ≡ L.table) × (recorder.pass.number ≡ 0)
+        × (recorder.writer.table ≡ board.now) × (recorder.writer.slot ≡ 0) }
     requires replayer { (replayer.pass.table ≡ A.table) × (replayer.reader.table ≡ board.now)
         × (replayer.slot ≡ 0) }
     ensures recorder { IfSome result (λ f. (f.recorder.pass.table ≡ L.table)
+        × (f.recorder.pass.number ≡ 0)
         × (f.recorder.writer.table ≡ board.now) × (f.recorder.writer.slot ≡ 0)) }
     ensures reader { IfSome result (λ f. f.reader.table ≡ board.now) }
     ensures below { IfSome result (λ f. HandedOutBefore (seen_at 0 f.reader) f.turns.items) }
@@ -235,6 +237,7 @@ fn record<D: Disk, L: Naming, R: Wait>(
     requires pass { recorder.old.pass.table ≡ L.table }
     requires writer { recorder.old.writer.table ≡ board.now }
     ensures pass { recorder.new.pass.table ≡ L.table }
+    ensures number { recorder.new.pass.number ≡ recorder.old.pass.number }
     ensures writer { recorder.new.writer.table ≡ board.now }
     ensures slot { recorder.new.writer.slot ≡ recorder.old.writer.slot }
 {
@@ -291,14 +294,17 @@ fn print_turn<R: Print>(rt: &R, turn: &Turn) -> Option<()> {
     .ok()
 }
 
-/// Closes the log once its writer and the replayer's reader have met. What was handed out is durable in it.
+/// Closes the log once its writer and the replayer's reader have met, which is never refused. What was handed out is durable
+/// in it. None if there is no memory for the list of its one pass.
 fn close_log<D: Disk + Drop, L: Naming>(
     alloc: Global,
     log: SharedArchive<D, L>,
     board: &Board,
     followed: Followed,
 ) -> Option<Closed<D>>
+    requires passes { L.passes ≡ 1 }
     requires recorder { (followed.recorder.pass.table ≡ L.table)
+        × (followed.recorder.pass.number ≡ 0)
         × (followed.recorder.writer.table ≡ board.now) × (followed.recorder.writer.slot ≡ 0) }
     requires reader { followed.reader.table ≡ board.now }
     requires below { HandedOutBefore (seen_at 0 followed.reader) followed.turns.items }
@@ -320,7 +326,7 @@ fn close_log<D: Disk + Drop, L: Naming>(
     };
     match log.close(passes) {
         Ok(closed) => Some(closed),
-        Err(_) => None,
+        Err(_) => unreachable!(),
     }
 }
 

@@ -1,16 +1,22 @@
 //! Two recorders, each in a thread of its own; a follower, which prints how far both are as soon as it sees it, without the
-//! lock; and a late replayer. Recorders go on once that is printed, so the same is printed whatever the threads do.
+//! lock; and a late replayer. Recorders go on once that is printed, so the same is printed whatever the threads do. At the end
+//! the archive is closed with all passes, which is never refused.
 #![tactic(auto)]
 
-ghost use Rattle.std.specs.Prelude.{◌≡◌, ◌<◌, [], IfSome};
-ghost use Rattle.call_history.specs.Passes.{new_passes};
+ghost use Rattle.std.specs.Prelude.{◌≡◌, ◌<◌, [], IfSome, List, map};
+ghost use Rattle.call_history.specs.Passes.{AllOfTable, new_passes};
+ghost use Rattle.call_history.specs.Values.{PassView};
+ghost use Rattle.archive_lock.specs.declared.history.Made.{Made};
+ghost use Rattle.archive_lock.specs.Closing.{ClosesWith};
 ghost use Rattle.archive_lock.specs.Held.{engine_seen, view_of};
+ghost use Rattle.archive_lock.specs.History.{Member};
 
 use agents_core::RecorderSeat;
+use agents_core::laws::passes_keep_their_numbers;
 use anyhow::{Context, Result};
-use archive_lock::{Made, Naming, SharedArchive};
+use archive_lock::{Closed, Made, Naming, SharedArchive};
 use archive_model::Reply;
-use call_history::{Opened, Pass};
+use call_history::{Opened, Pass, Stored};
 use control_lines::{Line, parse_line};
 use disk_core::{Disk, MemoryDisk};
 use engine_core::Engine;
@@ -92,20 +98,26 @@ fn shared<D: Disk + Drop + Send, A: Naming + Send + Sync, R: Threads + Wait + Pr
         reader,
         late,
     } = seats_of::<A>(alloc, passes)?;
-    followed(rt, alloc, &archive, &board, first, second, reader);
-    replay(rt, alloc, &archive, late)
+    let (first, second) = followed(rt, alloc, &archive, &board, first, second, reader);
+    let late = replay(rt, alloc, &archive, late)?;
+    let passes = all_of::<A>(alloc, first, second, late)?;
+    let closed = close(archive, passes);
+    println!(rt; "the archive is closed, with {} calls", calls_in(&closed)).ok()
 }
 
 /// A board of two slots that start at 0, and its seats.
 fn seats_of<A: Naming>(alloc: Global, mut passes: Vec<Pass<Made>>) -> Option<Seats>
     requires { passes.items ≡ new_passes A.table 3 }
-    ensures first { IfSome result (λ seats. seats.first.pass.table ≡ A.table) }
+    ensures first { IfSome result (λ seats. (seats.first.pass.table ≡ A.table)
+        × (seats.first.pass.number ≡ 0)) }
     ensures writer { IfSome result (λ seats. seats.first.writer.table ≡ seats.board) }
-    ensures second { IfSome result (λ seats. seats.second.pass.table ≡ A.table) }
+    ensures second { IfSome result (λ seats. (seats.second.pass.table ≡ A.table)
+        × (seats.second.pass.number ≡ 1)) }
     ensures other { IfSome result (λ seats. seats.second.writer.table ≡ seats.board) }
     ensures reader { IfSome result (λ seats. (seats.reader.table ≡ seats.board)
         × (1 < seats.board.words)) }
-    ensures late { IfSome result (λ seats. seats.late.table ≡ A.table) }
+    ensures late { IfSome result (λ seats. (seats.late.table ≡ A.table)
+        × (seats.late.number ≡ 2)) }
 {
     let Ok((board, mut writers, mut readers)) = Board::new(alloc, &[0, 0], 1) else {
         return None;
@@ -126,7 +138,7 @@ fn seats_of<A: Naming>(alloc: Global, mut passes: Vec<Pass<Made>>) -> Option<Sea
     })
 }
 
-/// Two threads record while this one follows.
+/// Two threads record while this one follows. The seats come back.
 fn followed<D: Disk + Drop + Send, A: Naming + Send + Sync, R: Threads + Wait + Print + Sync>(
     rt: &R,
     alloc: Global,
@@ -135,19 +147,25 @@ fn followed<D: Disk + Drop + Send, A: Naming + Send + Sync, R: Threads + Wait + 
     first: RecorderSeat,
     second: RecorderSeat,
     reader: Reader,
-)
+) -> (RecorderSeat, RecorderSeat)
     requires first { (first.pass.table ≡ A.table) × (first.writer.table ≡ board.now) }
     requires second { (second.pass.table ≡ A.table) × (second.writer.table ≡ board.now) }
     requires reader { (reader.table ≡ board.now) × (1 < board.now.words) }
+    ensures first { (result.0.pass.table ≡ A.table)
+        × (result.0.pass.number ≡ first.pass.number) }
+    ensures second { (result.1.pass.table ≡ A.table)
+        × (result.1.pass.number ≡ second.pass.number) }
 {
     let printed = AtomicI64::new(0);
     let printed = &printed;
-    join(
+    let (first, (second, _)) = join(
         rt,
         move || record(rt, alloc, archive, board, printed, first),
-        move || -> (Option<()>, Option<()>)
+        move || -> (RecorderSeat, Option<()>)
             requires second { (second.pass.table ≡ A.table) × (second.writer.table ≡ board.now) }
             requires reader { (reader.table ≡ board.now) × (1 < board.now.words) }
+            ensures { (result.0.pass.table ≡ A.table)
+                × (result.0.pass.number ≡ second.pass.number) }
         {
             join(
                 rt,
@@ -156,6 +174,7 @@ fn followed<D: Disk + Drop + Send, A: Naming + Send + Sync, R: Threads + Wait + 
             )
         },
     );
+    (first, second)
 }
 
 /// Waits until so much was printed. Whether it was.
@@ -169,7 +188,7 @@ fn was_printed(printed: &AtomicI64, position: i64) -> bool {
     false
 }
 
-/// Writes and settles block after block, each once what was recorded before was printed.
+/// Writes and settles block after block, each once what was recorded before was printed. The seat comes back.
 fn record<D: Disk, A: Naming, R: Wait>(
     rt: &R,
     alloc: Global,
@@ -177,21 +196,41 @@ fn record<D: Disk, A: Naming, R: Wait>(
     board: &Board,
     printed: &AtomicI64,
     mut seat: RecorderSeat,
-) -> Option<()>
+) -> RecorderSeat
     requires pass { seat.pass.table ≡ A.table }
     requires writer { seat.writer.table ≡ board.now }
+    ensures pass { result.pass.table ≡ A.table }
+    ensures number { result.pass.number ≡ seat.pass.number }
 {
     for position in POSITIONS {
-        if was_printed(printed, position) {
-            let block = block_at(alloc, position).ok()?;
-            if seat.write(rt, alloc, archive, block).is_err()
-                || seat.settle(rt, alloc, archive, board).is_err()
-            {
-                return None;
-            }
+        let is_recorded = was_printed(printed, position)
+            && record_at(rt, alloc, archive, board, &mut seat, position);
+        if !is_recorded {
+            break;
         }
     }
-    Some(())
+    seat
+}
+
+/// Writes the block of a position, and settles it. Whether both were answered Ok.
+fn record_at<D: Disk, A: Naming, R: Wait>(
+    rt: &R,
+    alloc: Global,
+    archive: &SharedArchive<D, A>,
+    board: &Board,
+    seat: &mut RecorderSeat,
+    position: i64,
+) -> bool
+    requires pass { seat.old.pass.table ≡ A.table }
+    requires writer { seat.old.writer.table ≡ board.now }
+    ensures pass { seat.new.pass.table ≡ seat.old.pass.table }
+    ensures writer { seat.new.writer.table ≡ seat.old.writer.table }
+    ensures number { seat.new.pass.number ≡ seat.old.pass.number }
+{
+    let Ok(block) = block_at(alloc, position) else {
+        return false;
+    };
+    seat.write(rt, alloc, archive, block).is_ok() && seat.settle(rt, alloc, archive, board).is_ok()
 }
 
 /// The block of one frame at a position.
@@ -229,18 +268,21 @@ fn follow<R: Print>(rt: &R, board: &Board, printed: &AtomicI64, mut reader: Read
     Some(())
 }
 
-/// Replays the first recording from its beginning.
+/// Replays the first recording from its beginning. The pass comes back.
 fn replay<D: Disk, A: Naming, R: Wait + Print>(
     rt: &R,
     alloc: Global,
     archive: &SharedArchive<D, A>,
     mut pass: Pass<Made>,
-) -> Option<()>
+) -> Option<Pass<Made>>
     requires { pass.table ≡ A.table }
+    ensures table { IfSome result (λ back. back.table ≡ A.table) }
+    ensures number { IfSome result (λ back. back.number ≡ pass.number) }
 {
     call(rt, alloc, archive, &mut pass, "replay 0 0 -1")?;
     let polled = call(rt, alloc, archive, &mut pass, "poll 0 10")?;
-    println!(rt; "replayed {} frames", frames_in(&polled)).ok()
+    println!(rt; "replayed {} frames", frames_in(&polled)).ok()?;
+    Some(pass)
 }
 
 fn frames_in(reply: &Reply) -> usize {
@@ -259,10 +301,57 @@ fn call<D: Disk, A: Naming, R: Wait>(
     line: &str,
 ) -> Option<Reply>
     requires { pass.old.table ≡ A.table }
-    ensures { pass.new.table ≡ pass.old.table }
+    ensures table { pass.new.table ≡ pass.old.table }
+    ensures number { pass.new.number ≡ pass.old.number }
 {
     let Ok(Line::Event(event)) = parse_line(alloc, line.as_bytes()) else {
         return None;
     };
     archive.call(rt, alloc, pass, &event).ok()
+}
+
+/// All passes of the archive, once those that called by them are done.
+fn all_of<A: Naming>(
+    alloc: Global,
+    first: RecorderSeat,
+    second: RecorderSeat,
+    late: Pass<Made>,
+) -> Option<Vec<Pass<Made>>>
+    requires first { (first.pass.table ≡ A.table) × (first.pass.number ≡ 0) }
+    requires second { (second.pass.table ≡ A.table) × (second.pass.number ≡ 1) }
+    requires late { (late.table ≡ A.table) × (late.number ≡ 2) }
+    ensures table { IfSome result (λ passes. AllOfTable A.table passes.items) }
+    ensures numbers { IfSome result (λ passes. map (λ (p : PassView Made). p.number) passes.items
+        ≡ map (λ (p : PassView Made). p.number) (new_passes A.table 3)) }
+{
+    let (first, _) = first.into_parts();
+    let (second, _) = second.into_parts();
+    vec![in alloc; first, second, late].ok()
+}
+
+/// Closes the archive with all its passes, which is never refused. Each call of its history is then one of these passes.
+fn close<D: Disk + Drop, A: Naming>(
+    archive: SharedArchive<D, A>,
+    passes: Vec<Pass<Made>>,
+) -> Closed<D>
+    requires table { AllOfTable A.table passes.items }
+    requires counts { A.passes ≡ 3 }
+    requires numbers { map (λ (p : PassView Made). p.number) passes.items
+        ≡ map (λ (p : PassView Made). p.number) (new_passes A.table 3) }
+    ensures { (calls : List Member) × ClosesWith A.opening A.keeps passes.items calls
+        (engine_seen D.life (view_of result.engine calls)) result.opening.state result.history }
+{
+    passes_keep_their_numbers();
+    match archive.close(passes) {
+        Ok(closed) => closed,
+        Err(_) => unreachable!(),
+    }
+}
+
+/// How many calls a closed archive counted.
+fn calls_in<D: Disk + Drop>(closed: &Closed<D>) -> u64 {
+    match &closed.history {
+        Stored::Counted(calls) => *calls,
+        Stored::Kept(_) => 0,
+    }
 }

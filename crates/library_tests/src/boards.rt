@@ -1,4 +1,4 @@
-//! Boards of positions: what was raised is seen, in another thread too; requests for memory refused.
+//! Boards of positions: what was raised is seen, in another thread too; requests for memory, counted and refused.
 
 ghost use Rattle.std.specs.Prelude.{◌≡◌, ◌<◌};
 
@@ -65,6 +65,33 @@ fn a_position_is_seen_in_another_thread(rt: HostRuntime) -> Result<(), Fail> {
     );
     assert!(rt; is_seen && writer.last() == LAST);
     assert!(rt; board.meet(&mut writer, &mut reader) == LAST);
+    Ok(())
+}
+
+/// Whether each of many raised positions is looked at and met.
+fn is_followed(board: &Board, mut writer: Writer, mut reader: Reader) -> bool
+    requires writer { writer.table ≡ board.now }
+    requires reader { reader.table ≡ board.now }
+    requires slot { 0 < board.now.words }
+{
+    for _ in 0..1_000 {
+        let position = writer.last().saturating_add(64);
+        board.raise(&mut writer, position);
+        let is_seen = board.look(&mut reader, 0) == position;
+        if !is_seen || board.meet(&mut writer, &mut reader) != position {
+            return false;
+        }
+    }
+    true
+}
+
+/// A raise, a look and a meeting take no memory: trials/refused_memory.py counts the requests, which are those of the board.
+#[test]
+fn counted_memory_of_a_board(rt: HostRuntime) -> Result<(), Fail> {
+    let (board, mut writers, mut readers) = Board::new(rt.alloc(), &[0], 1)?;
+    let writer = writers.pop().ok_or("a writer")?;
+    let reader = readers.pop().ok_or("a reader")?;
+    assert!(rt; is_followed(&board, writer, reader));
     Ok(())
 }
 

@@ -1,4 +1,4 @@
-//! Agents, each in a thread of its own: "Two recorders and two replayers", docs/SCENARIOS.md.
+//! Agents, each in a thread of its own: "Two recorders and two replayers" and "A gate", docs/SCENARIOS.md.
 
 ghost use Rattle.std.specs.Prelude.{◌≡◌, IfOk, IfSome};
 ghost use Rattle.agents_core.specs.Runs.{AreReading, AreSeated};
@@ -17,26 +17,25 @@ use position_board::{Board, Reader};
 use std::alloc::{AllocError, Global};
 use std::process::Abort;
 use std::sync::Wait;
-use std::sync::atomic::{AtomicBool, AtomicU32, Ordering};
+use std::sync::atomic::{AtomicU32, Ordering};
 use std::test::Fail;
 use std::thread::{self, Threads};
 
 /// How often an agent may look while it waits, and how many turns it may make.
 const MOST: u32 = 1_000_000;
 
-/// A flag that is set, and one that is then waited for.
+/// Four agents arrive, and each then waits for the others.
 #[derive(Clone, Copy)]
 struct Meeting<'a> {
-    mine: &'a AtomicBool,
-    other: &'a AtomicBool,
+    arrived: &'a AtomicU32,
 }
 
 impl<'a> Meeting<'a> {
-    /// Whether the other flag was set in time.
+    /// Whether all arrived in time.
     fn is_met(&self) -> bool {
-        self.mine.store(true, Ordering::SeqCst);
+        self.arrived.fetch_add(1, Ordering::SeqCst);
         for _ in 0..MOST {
-            if self.other.load(Ordering::SeqCst) {
+            if self.arrived.load(Ordering::SeqCst) >= 4 {
                 return true;
             }
             thread::yield_now();
@@ -45,7 +44,7 @@ impl<'a> Meeting<'a> {
     }
 }
 
-/// Blocks, from the last to the first, perhaps behind a meeting.
+/// Blocks, from the last to the first, perhaps after a meeting.
 #[derive(Drop)]
 struct Listed<'a> {
     blocks: Vec<Block>,
@@ -67,11 +66,15 @@ impl<'a> BlockSource for Listed<'a> {
     }
 }
 
-/// Counts frames, perhaps behind a meeting, and wants so many.
+/// Counts frames, perhaps after a meeting, and wants so many. It knows how many one call brought at most, and how often it
+/// was called once it wanted no more.
 #[derive(Drop)]
 struct Counting<'a> {
     frames: usize,
     wanted: usize,
+    most: usize,
+    late: usize,
+    is_closed: bool,
     meeting: Option<Meeting<'a>>,
 }
 
@@ -81,27 +84,86 @@ impl<'a> FrameSink for Counting<'a> {
     ghost takes = { λ old frames more new. ⊤ };
 
     fn take(&mut self, frames: &[PolledFrame]) -> bool {
-        if let Some(meeting) = self.meeting.take() {
-            if !meeting.is_met() {
-                return false;
-            }
+        if self.is_closed {
+            self.late = self.late.saturating_add(1);
         }
+        let is_met = match self.meeting.take() {
+            Some(meeting) => meeting.is_met(),
+            None => true,
+        };
         thread::yield_now();
         self.frames = self.frames.saturating_add(frames.len());
-        self.frames < self.wanted
+        self.most = self.most.max(frames.len());
+        self.is_closed = !is_met || self.frames >= self.wanted;
+        !self.is_closed
     }
 }
 
 /// So many turns for each of six agents.
 #[derive(Drop)]
 struct Turns {
-    made: AtomicU32,
+    made: [AtomicU32; 6],
 }
 
 impl Gate for Turns {
     fn turn(&self, agent: u32) -> bool {
-        agent < 6 && self.made.fetch_add(1, Ordering::SeqCst) < 6 * MOST
+        match self.made.get(agent as usize) {
+            Some(made) => made.fetch_add(1, Ordering::SeqCst) < MOST,
+            None => false,
+        }
     }
+}
+
+/// How many turns each agent makes that is ended by its gate: receivers, recorders, replayers.
+const TURNS: [u32; 6] = [3, 4, 2, 1, 5, 6];
+
+/// Says no to each agent at a turn of its own. A recorder waits until that was said to its receiver.
+#[derive(Drop)]
+struct Ends {
+    asked: [AtomicU32; 6],
+}
+
+impl Ends {
+    /// How often an agent asked.
+    fn asked_by(&self, agent: usize) -> u32 {
+        match self.asked.get(agent) {
+            Some(asked) => asked.load(Ordering::SeqCst),
+            None => 0,
+        }
+    }
+
+    /// Waits, for a recorder, until its receiver was refused a turn.
+    fn wait_for_receiver(&self, agent: u32) {
+        if agent != 2 && agent != 3 {
+            return;
+        }
+        let (receiver, turns) = if agent == 2 { (0, 3) } else { (1, 4) };
+        for _ in 0..MOST {
+            if self.asked_by(receiver) > turns {
+                return;
+            }
+            thread::yield_now();
+        }
+    }
+}
+
+impl Gate for Ends {
+    fn turn(&self, agent: u32) -> bool {
+        self.wait_for_receiver(agent);
+        match (self.asked.get(agent as usize), TURNS.get(agent as usize)) {
+            (Some(asked), Some(turns)) => asked.fetch_add(1, Ordering::SeqCst) < *turns,
+            _ => false,
+        }
+    }
+}
+
+/// What agents are made with: where the blocks of each source begin, from the last on; how many frames the first sink wants;
+/// and where sources and sinks meet.
+#[derive(Clone, Copy)]
+struct Plan<'a> {
+    offsets: &'a [i32],
+    wanted: usize,
+    meeting: Option<Meeting<'a>>,
 }
 
 /// What the agents did, and how many calls were stored, if they were kept.
@@ -110,7 +172,10 @@ struct Told {
     has_run: bool,
     refused: usize,
     rising: usize,
-    frames: usize,
+    late: usize,
+    most: usize,
+    frames: Vec<usize>,
+    left: Vec<usize>,
     polls: u64,
     calls: Option<(u64, bool)>,
 }
@@ -118,6 +183,11 @@ struct Told {
 #[test]
 fn two_recorders_and_two_replayers(rt: HostRuntime) -> Result<(), Fail> {
     played(&rt, rt.alloc(), true, Scenario::Agents)
+}
+
+#[test]
+fn a_gate_ends_each_agent_at_its_turn(rt: HostRuntime) -> Result<(), Fail> {
+    played(&rt, rt.alloc(), true, Scenario::Gated)
 }
 
 /// Two recordings, and a replay of each.
@@ -128,40 +198,82 @@ replay 0 0 192: replay 0
 replay 1 0 192: replay 1
 ";
 
-/// Two receivers with their recorders, and two replayers. The first seat makes four calls before they run.
+/// Two receivers with their recorders, and two replayers. Both sources and both sinks meet. The first seat makes four calls
+/// before they run.
 pub(crate) fn two_pairs<
     D: Disk + Drop + Send,
     A: Naming + Send + Sync,
     R: Threads + Wait + Abort + Sync,
 >(rt: &R, alloc: Global, archive: SharedArchive<D, A>, mut seats: Seats<A>) -> Result<(), Fail> {
     seats.first.plays(rt, alloc, &archive, BEGUN)?;
-    let told = met(rt, alloc, archive, seats).ok_or("a run")?;
+    let arrived = AtomicU32::new(0);
+    let plan = Plan {
+        offsets: &[128, 64, 0],
+        wanted: 1,
+        meeting: Some(Meeting { arrived: &arrived }),
+    };
+    let gate = Turns { made: zeros() };
+    let told = ran(rt, alloc, archive, seats, plan, &gate)?;
+    assert!(rt; arrived.load(Ordering::SeqCst) == 4);
     assert!(rt; told.has_run && told.refused == 0 && told.rising == 2);
-    // One sink ends at the first frame, or the poll that has it; the other has all three.
-    assert!(rt; told.frames >= 4 && told.frames <= 6);
+    // One sink ends at the poll that has its first frame, and is not called again; the other has all three.
+    assert!(rt; told.frames.as_slice() == [told.most, 3] && told.most > 0 && told.late == 0);
+    assert!(rt; told.left.as_slice() == [0, 0]);
     assert!(rt; told.calls == Some((told.polls.saturating_add(16), true)));
+    for made in &gate.made {
+        assert!(rt; (1..=MOST).contains(&made.load(Ordering::SeqCst)));
+    }
     Ok(())
 }
 
-/// The same, where the first source and the first sink meet.
-fn met<D: Disk + Drop + Send, A: Naming + Send + Sync, R: Threads + Wait + Sync>(
+/// The same agents without a meeting, over longer lists of blocks, ended by their gate.
+pub(crate) fn gated_pairs<
+    D: Disk + Drop + Send,
+    A: Naming + Send + Sync,
+    R: Threads + Wait + Abort + Sync,
+>(rt: &R, alloc: Global, archive: SharedArchive<D, A>, mut seats: Seats<A>) -> Result<(), Fail> {
+    seats.first.plays(rt, alloc, &archive, BEGUN)?;
+    let plan = Plan {
+        offsets: &[448, 384, 320, 256, 192, 128, 64, 0],
+        wanted: 100,
+        meeting: None,
+    };
+    let gate = Ends { asked: zeros() };
+    let told = ran(rt, alloc, archive, seats, plan, &gate)?;
+    assert!(rt; told.has_run && told.refused == 0 && told.rising == 2);
+    // Each agent asked once more than it made turns, by a number of its own.
+    for (asked, turns) in gate.asked.iter().zip(TURNS) {
+        assert!(rt; asked.load(Ordering::SeqCst) == turns.saturating_add(1));
+    }
+    // A receiver's turn takes a block, a recorder's makes two calls, a replayer's one.
+    assert!(rt; told.left.as_slice() == [5, 4] && told.polls == 11);
+    assert!(rt; told.calls == Some((4 + 2 * 2 + 2 + 5 + 6, true)));
+    Ok(())
+}
+
+fn zeros() -> [AtomicU32; 6] {
+    [
+        AtomicU32::new(0),
+        AtomicU32::new(0),
+        AtomicU32::new(0),
+        AtomicU32::new(0),
+        AtomicU32::new(0),
+        AtomicU32::new(0),
+    ]
+}
+
+/// Makes agents by a plan, and runs them.
+fn ran<D: Disk + Drop + Send, A: Naming + Send + Sync, G: Gate + Sync, R: Threads + Wait + Sync>(
     rt: &R,
     alloc: Global,
     archive: SharedArchive<D, A>,
     seats: Seats<A>,
-) -> Option<Told> {
-    let begun = [AtomicBool::new(false), AtomicBool::new(false)];
-    let source = Meeting {
-        mine: &begun[0],
-        other: &begun[1],
-    };
-    let sink = Meeting {
-        mine: &begun[1],
-        other: &begun[0],
-    };
-    match seated(alloc, seats, source, sink) {
-        Some((board, agents)) => Some(run(rt, alloc, archive, &board, agents)),
-        None => None,
+    plan: Plan<'_>,
+    gate: &G,
+) -> Result<Told, Fail> {
+    match seated(alloc, seats, plan) {
+        Some((board, agents)) => Ok(run(rt, alloc, archive, &board, agents, gate)?),
+        None => Err(Fail::from("no agents")),
     }
 }
 
@@ -169,8 +281,7 @@ fn met<D: Disk + Drop + Send, A: Naming + Send + Sync, R: Threads + Wait + Sync>
 fn seated<'a, A: Naming>(
     alloc: Global,
     seats: Seats<A>,
-    source: Meeting<'a>,
-    sink: Meeting<'a>,
+    plan: Plan<'a>,
 ) -> Option<(Board, Agents<Listed<'a>, Counting<'a>>)>
     ensures seated { IfSome result (λ made. AreSeated A.table made.0 made.1.recorders.items) }
     ensures reading { IfSome result (λ made. AreReading A.table made.0 made.1.replayers.items) }
@@ -188,16 +299,16 @@ fn seated<'a, A: Naming>(
     };
     let first = RecorderSeat::new(0, seats.first.into_pass(), first);
     let second = RecorderSeat::new(1, seats.second.into_pass(), second);
-    let follower = replayer(alloc, seats.third.into_pass(), 0, early, Some(sink));
-    let late = replayer(alloc, seats.fourth.into_pass(), 1, late, None);
-    let agents = agents_of::<A>(alloc, &board, source, first, second, follower, late)?;
+    let follower = replayer(alloc, seats.third.into_pass(), 0, early, plan.wanted, plan);
+    let late = replayer(alloc, seats.fourth.into_pass(), 1, late, 100, plan);
+    let agents = agents_of::<A>(alloc, &board, plan, first, second, follower, late)?;
     Some((board, agents))
 }
 
 fn agents_of<'a, A: Naming>(
     alloc: Global,
     board: &Board,
-    meeting: Meeting<'a>,
+    plan: Plan<'a>,
     first: RecorderSeat,
     second: RecorderSeat,
     follower: Replayer<Counting<'a>>,
@@ -211,7 +322,7 @@ fn agents_of<'a, A: Naming>(
     ensures reading { IfSome result (λ agents. AreReading A.table board.now agents.replayers.items) }
 {
     let (Ok(receivers), Ok(recorders), Ok(replayers)) = (
-        receivers(alloc, meeting),
+        receivers(alloc, plan),
         recorders::<A>(alloc, board, first, second),
         replayers::<A>(alloc, board, follower, late),
     ) else {
@@ -225,26 +336,24 @@ fn agents_of<'a, A: Naming>(
 }
 
 /// Runs the agents, and closes the archive with their passes.
-fn run<D: Disk + Drop + Send, A: Naming + Send + Sync, R: Threads + Wait + Sync>(
+fn run<D: Disk + Drop + Send, A: Naming + Send + Sync, G: Gate + Sync, R: Threads + Wait + Sync>(
     rt: &R,
     alloc: Global,
     archive: SharedArchive<D, A>,
     board: &Board,
     agents: Agents<Listed<'_>, Counting<'_>>,
-) -> Told
+    gate: &G,
+) -> Result<Told, AllocError>
     requires recorders { AreSeated A.table board.now agents.recorders.items }
     requires replayers { AreReading A.table board.now agents.replayers.items }
 {
-    let gate = Turns {
-        made: AtomicU32::new(0),
-    };
-    let (agents, outcome) = run_agents(rt, alloc, &archive, board, agents, &gate);
-    let mut told = told_by(&agents);
+    let (agents, outcome) = run_agents(rt, alloc, &archive, board, agents, gate);
+    let mut told = told_by(alloc, &agents)?;
     told.has_run = outcome.is_ok();
     if let Some(seats) = seats_left::<A>(board, agents) {
         told.calls = closed(alloc, archive, seats);
     }
-    told
+    Ok(told)
 }
 
 /// The seats of all agents.
@@ -298,19 +407,31 @@ fn replayer_seat<A: Naming>(
     Some(Seat::new(replayer.pass))
 }
 
-fn told_by(agents: &Agents<Listed<'_>, Counting<'_>>) -> Told {
+fn told_by(alloc: Global, agents: &Agents<Listed<'_>, Counting<'_>>) -> Result<Told, AllocError> {
     let mut told = Told {
         has_run: false,
         refused: refused_of(agents.recorders.as_slice()),
         rising: 0,
-        frames: 0,
+        late: 0,
+        most: 0,
+        frames: Vec::new(alloc),
+        left: left_of(alloc, agents.receivers.as_slice())?,
         polls: 0,
         calls: None,
     };
     for replayer in agents.replayers.as_slice() {
-        note(&mut told, replayer);
+        note(&mut told, replayer)?;
     }
-    told
+    Ok(told)
+}
+
+/// How many blocks each source still has.
+fn left_of(alloc: Global, receivers: &[Receiver<Listed<'_>>]) -> Result<Vec<usize>, AllocError> {
+    let mut left = Vec::new(alloc);
+    for receiver in receivers {
+        left.push(receiver.source.blocks.len())?;
+    }
+    Ok(left)
 }
 
 /// How many recorders were refused.
@@ -324,43 +445,44 @@ fn refused_of(recorders: &[Recorder]) -> usize {
     refused
 }
 
-/// Adds what a replayer did.
-fn note(told: &mut Told, replayer: &Replayer<Counting<'_>>) {
+/// Adds what a replayer did. The first one's sink says how many frames a call of it brought at most.
+fn note(told: &mut Told, replayer: &Replayer<Counting<'_>>) -> Result<(), AllocError> {
     if replayer.refused.is_some() {
         told.refused = told.refused.saturating_add(1);
     }
     if replayer.looked.as_slice().is_sorted() {
         told.rising = told.rising.saturating_add(1);
     }
-    told.frames = told.frames.saturating_add(replayer.sink.frames);
+    if told.frames.is_empty() {
+        told.most = replayer.sink.most;
+    }
+    told.frames.push(replayer.sink.frames)?;
+    told.late = told.late.saturating_add(replayer.sink.late);
     told.polls = told.polls.saturating_add(replayer.looked.len() as u64);
+    Ok(())
 }
 
-/// Two receivers of three blocks each, the first one behind a meeting.
-fn receivers<'a>(
-    alloc: Global,
-    meeting: Meeting<'a>,
-) -> Result<Vec<Receiver<Listed<'a>>>, AllocError> {
-    let first = receiver(alloc, Some(meeting))?;
-    let second = receiver(alloc, None)?;
+/// Two receivers of the plan's blocks.
+fn receivers<'a>(alloc: Global, plan: Plan<'a>) -> Result<Vec<Receiver<Listed<'a>>>, AllocError> {
+    let first = receiver(alloc, plan)?;
+    let second = receiver(alloc, plan)?;
     Ok(vec![in alloc; first, second]?)
 }
 
-fn receiver<'a>(
-    alloc: Global,
-    meeting: Option<Meeting<'a>>,
-) -> Result<Receiver<Listed<'a>>, AllocError> {
-    let blocks = blocks(alloc)?;
+fn receiver<'a>(alloc: Global, plan: Plan<'a>) -> Result<Receiver<Listed<'a>>, AllocError> {
     Ok(Receiver {
-        source: Listed { blocks, meeting },
+        source: Listed {
+            blocks: blocks(alloc, plan.offsets)?,
+            meeting: plan.meeting,
+        },
     })
 }
 
-/// Three blocks of a frame each, from the last to the first.
-fn blocks(alloc: Global) -> Result<Vec<Block>, AllocError> {
+/// Blocks of a frame each, from the last to the first.
+fn blocks(alloc: Global, offsets: &[i32]) -> Result<Vec<Block>, AllocError> {
     let mut blocks = Vec::new(alloc);
-    for offset in [128, 64, 0] {
-        blocks.push(block_at(alloc, offset)?)?;
+    for offset in offsets {
+        blocks.push(block_at(alloc, *offset)?)?;
     }
     Ok(blocks)
 }
@@ -406,17 +528,17 @@ fn recorders<A: Naming>(
     Ok(vec![in alloc; first, second]?)
 }
 
-/// A replayer that follows the slot of its replay's number. Behind a meeting it wants one frame, else as many as there are.
+/// A replayer that follows the slot of its replay's number, and whose sink wants so many frames.
 fn replayer<'a>(
     alloc: Global,
     pass: Pass<Made>,
     number: u32,
     reader: Reader,
-    meeting: Option<Meeting<'a>>,
+    wanted: usize,
+    plan: Plan<'a>,
 ) -> Replayer<Counting<'a>>
     ensures { (result.pass ≡ pass) × (result.reader ≡ reader) }
 {
-    let wanted = if meeting.is_some() { 1 } else { 100 };
     Replayer {
         pass,
         replay: number as i64,
@@ -426,7 +548,10 @@ fn replayer<'a>(
         sink: Counting {
             frames: 0,
             wanted,
-            meeting,
+            most: 0,
+            late: 0,
+            is_closed: false,
+            meeting: plan.meeting,
         },
         looked: Vec::new(alloc),
         refused: None,

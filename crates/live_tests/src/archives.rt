@@ -4,8 +4,9 @@ ghost use Rattle.std.specs.Prelude.{◌≡◌, [], IfOk};
 ghost use Rattle.archive_lock.specs.Held.{engine_seen, view_of};
 ghost use Rattle.call_history.specs.Passes.{AllOfTable, new_passes};
 
-use crate::agents::two_pairs;
+use crate::agents::{gated_pairs, two_pairs};
 use crate::held_back::one_pair;
+use crate::refused_turns::{damaged_turns, reopened, turned_again};
 use crate::scenarios::{bounded_part, breaks, missing_pass};
 use crate::seat::Seat;
 use archive_lock::{Call, Made, Naming, SharedArchive};
@@ -27,7 +28,10 @@ pub(crate) enum Scenario {
     BoundedPart,
     Break,
     Agents,
+    Gated,
     HeldBack,
+    DamagedTurn,
+    TurnAgain,
 }
 
 /// All seats of an archive.
@@ -50,15 +54,22 @@ pub(crate) fn played<R: Threads + Wait + Abort + Sync>(
     opened(rt, alloc, keeps, engine, scenario)
 }
 
-/// A new archive in memory. The disk of the one that breaks fails at the first call of the second settling, that of the
-/// replayer that is held back at its second read.
+/// The archive in memory that a scenario is played on: a new one, or for a refused turn one that has a recording.
 fn made(alloc: Global, scenario: Scenario) -> Result<Engine<MemoryDisk>, Refusal> {
-    let mut disk = MemoryDisk::new(alloc);
     match scenario {
-        Scenario::Break => disk.fail_at(19),
-        Scenario::HeldBack => disk.fail_at(27),
-        _ => {}
+        Scenario::DamagedTurn => reopened(alloc, true),
+        Scenario::TurnAgain => reopened(alloc, false),
+        Scenario::Break => begun(alloc, 19),
+        Scenario::HeldBack => begun(alloc, 27),
+        _ => begun(alloc, 0),
     }
+}
+
+/// A new archive in memory, whose disk fails at a call, but for 0. The 19th is the first one of the second settling of the
+/// archive that breaks; the 27th the second read of the replayer that is held back.
+fn begun(alloc: Global, fails_at: u64) -> Result<Engine<MemoryDisk>, Refusal> {
+    let mut disk = MemoryDisk::new(alloc);
+    disk.fail_at(fails_at);
     match Engine::create(alloc, disk, 64) {
         Ok(engine) => Ok(engine),
         Err(refused) => Err(refused.refusal),
@@ -133,7 +144,10 @@ fn play<D: Disk + Drop + Send, A: Naming + Send + Sync, R: Threads + Wait + Abor
         Scenario::BoundedPart => bounded_part(rt, alloc, archive, seats, keeps),
         Scenario::Break => breaks(rt, alloc, archive, seats, keeps),
         Scenario::Agents => two_pairs(rt, alloc, archive, seats),
+        Scenario::Gated => gated_pairs(rt, alloc, archive, seats),
         Scenario::HeldBack => one_pair(rt, alloc, archive, seats),
+        Scenario::DamagedTurn => damaged_turns(rt, alloc, archive, seats),
+        Scenario::TurnAgain => turned_again(rt, alloc, archive, seats),
     }
 }
 
@@ -143,26 +157,17 @@ pub(crate) fn closed<D: Disk + Drop, A: Naming>(
     archive: SharedArchive<D, A>,
     seats: Seats<A>,
 ) -> Option<(u64, bool)> {
-    match passes_of(alloc, seats) {
-        Ok(passes) => stored_by(archive, passes),
-        Err(_) => None,
-    }
-}
-
-/// The same of one that is closed with these passes.
-pub(crate) fn stored_by<D: Disk + Drop, A: Naming>(
-    archive: SharedArchive<D, A>,
-    passes: Vec<Pass<Made>>,
-) -> Option<(u64, bool)>
-    requires { AllOfTable A.table passes.items }
-{
+    let Ok(passes) = passes_of(alloc, seats) else {
+        return None;
+    };
     match archive.close(passes) {
         Ok(closed) => Some(stored(&closed.history)),
         Err(_) => None,
     }
 }
 
-fn stored(history: &Stored<Call>) -> (u64, bool) {
+/// How many calls were stored, and whether their records were kept.
+pub(crate) fn stored(history: &Stored<Call>) -> (u64, bool) {
     match history {
         Stored::Kept(records) => (records.len() as u64, true),
         Stored::Counted(number) => (*number, false),

@@ -41,7 +41,7 @@ const TURNS: [(&str, i64, &str); 8] = [
 
 /// A recorder, a replayer that its slot holds back, and who makes lines.
 #[derive(Drop)]
-struct Pair<A: Naming> {
+pub(crate) struct Pair<A: Naming> {
     board: Board,
     recorder: RecorderSeat,
     replayer: BoundedReplayer,
@@ -89,20 +89,30 @@ impl<A: Naming> Pair<A> {
         }
     }
 
+    /// A turn.
+    pub(crate) fn take_turn<D: Disk, R: Wait>(
+        &mut self,
+        rt: &R,
+        alloc: Global,
+        archive: &SharedArchive<D, A>,
+        max: i64,
+    ) -> Result<Turn, Refusal> {
+        self.replayer.turn(rt, alloc, archive, &self.board, max)
+    }
+
     /// A turn, as text.
-    fn turn<D: Disk, R: Wait>(
+    pub(crate) fn turn<D: Disk, R: Wait>(
         &mut self,
         rt: &R,
         alloc: Global,
         archive: &SharedArchive<D, A>,
         max: i64,
     ) -> Result<String, Fail> {
-        let turn = self.replayer.turn(rt, alloc, archive, &self.board, max);
-        text_of(alloc, &turn)
+        text_of(alloc, &self.take_turn(rt, alloc, archive, max))
     }
 
     /// The seats again, with one that made no calls.
-    fn into_seats(self, fourth: Seat<A>) -> Seats<A> {
+    pub(crate) fn into_seats(self, fourth: Seat<A>) -> Seats<A> {
         let Pair {
             board: _,
             recorder,
@@ -142,7 +152,7 @@ pub(crate) fn one_pair<D: Disk + Drop, A: Naming, R: Wait + Abort>(
     mut seats: Seats<A>,
 ) -> Result<(), Fail> {
     seats.third.plays(rt, alloc, &archive, BEGUN)?;
-    let (mut pair, fourth) = seated(alloc, seats).ok_or("a board")?;
+    let (mut pair, fourth) = seated(alloc, seats, 0).ok_or("a board")?;
     pair.record(rt, alloc, &archive)?;
     for (step, max, gives) in TURNS {
         pair.prepare(rt, alloc, &archive, step)?;
@@ -155,14 +165,18 @@ pub(crate) fn one_pair<D: Disk + Drop, A: Naming, R: Wait + Abort>(
 }
 
 /// A board of one slot, and the seats at it.
-fn seated<A: Naming>(alloc: Global, seats: Seats<A>) -> Option<(Pair<A>, Seat<A>)> {
+pub(crate) fn seated<A: Naming>(
+    alloc: Global,
+    seats: Seats<A>,
+    start: i64,
+) -> Option<(Pair<A>, Seat<A>)> {
     let Seats {
         first,
         second,
         third,
         fourth,
     } = seats;
-    let Ok((board, mut writers, mut readers)) = Board::new(alloc, &[0], 1) else {
+    let Ok((board, mut writers, mut readers)) = Board::new(alloc, &[start], 1) else {
         return None;
     };
     let (Some(writer), Some(reader)) = (writers.pop(), readers.pop()) else {

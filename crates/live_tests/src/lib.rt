@@ -25,6 +25,8 @@ mod receivers;
 #[cfg(test)]
 mod recorded;
 #[cfg(test)]
+mod refused_turns;
+#[cfg(test)]
 mod scenarios;
 #[cfg(test)]
 mod seat;

@@ -1,6 +1,6 @@
 //! Scenarios of docs/SCENARIOS.md, by calls under a lock.
 
-use crate::archives::{Scenario, Seats, closed, played, stored_by};
+use crate::archives::{Scenario, Seats, closed, played, stored};
 use crate::seat::Seat;
 use archive_lock::{MissingPass, Naming, SharedArchive};
 use disk_core::Disk;
@@ -119,7 +119,10 @@ fn closed_twice<D: Disk + Drop, A: Naming>(
         missing,
     } = left;
     given.push(second.into_pass())?;
-    let (calls, keeps) = stored_by(archive, given).ok_or("both passes are given")?;
+    let Ok(closed) = archive.close(given) else {
+        return Err(Fail::from("both passes are given"));
+    };
+    let (calls, keeps) = stored(&closed.history);
     Ok((missing, calls, keeps))
 }
 

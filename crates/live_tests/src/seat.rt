@@ -80,7 +80,8 @@ impl<A: Naming> Seat<A> {
         session: i64,
         bytes: &[u8],
     ) -> Result<Reply, Refusal> {
-        let block = block_of(alloc, &archive.terms(rt, &session)?, bytes)?;
+        let terms = archive.terms(rt, &mut self.pass, &session)?;
+        let block = block_of(alloc, &terms, bytes)?;
         self.call(rt, alloc, archive, &Event::Write { session, block })
     }
 

@@ -16,6 +16,8 @@ use std::thread::{self, Threads};
 
 /// Calls that write, cut, remove or sync after which a disk fails: those of an opening, and the first of an entry.
 const FAILS_AFTER: u64 = 3;
+/// Those of an opening, and the four of an entry.
+const FAILS_AFTER_AN_ENTRY: u64 = 6;
 
 /// What is said to a server.
 #[derive(Clone, Copy)]
@@ -120,8 +122,13 @@ fn of_limit(alloc: Global, limit: u32) -> Option<MemoryDisk> {
 
 /// A new archive on a disk that fails once it was opened.
 pub(crate) fn failing(alloc: Global) -> Option<MemoryDisk> {
+    failing_after(alloc, FAILS_AFTER)
+}
+
+/// A new archive on a disk that fails after so many calls.
+fn failing_after(alloc: Global, calls: u64) -> Option<MemoryDisk> {
     let mut disk = of_limit(alloc, 64)?;
-    disk.stop_after(FAILS_AFTER);
+    disk.stop_after(calls);
     Some(disk)
 }
 
@@ -192,7 +199,7 @@ fn it_ends_by_a_full_history(rt: HostRuntime) -> Result<(), Fail> {
     Ok(())
 }
 
-/// Blocks that come fill a history of two, the last of which a settling takes.
+/// A block comes, and the connection ends: its settling makes the last entry of a history of two, or the disk fails its write.
 const SETTLED: &str = "\
 asks start 1001 7 42 65536 1408 65536 0 1000 c: started 0 0
 casts SETUP
@@ -205,5 +212,13 @@ fn it_ends_by_a_settling_too(rt: HostRuntime) -> Result<(), Fail> {
     let disk = of_limit(rt.alloc(), 2).ok_or("disk")?;
     let stop = stop_of(&rt, rt.alloc(), disk, true, Said::Conversation(SETTLED));
     assert!(rt; stop == Some(Stop::HistoryFull));
+    Ok(())
+}
+
+#[test]
+fn it_ends_by_a_block_that_the_disk_fails(rt: HostRuntime) -> Result<(), Fail> {
+    let disk = failing_after(rt.alloc(), FAILS_AFTER_AN_ENTRY).ok_or("disk")?;
+    let stop = stop_of(&rt, rt.alloc(), disk, true, Said::Conversation(SETTLED));
+    assert!(rt; stop == Some(Stop::Broken));
     Ok(())
 }

@@ -7,6 +7,6 @@ use Rattle.bounded_example.proofs.follow.Given as goal
 -- was seen
 abbrev pub invariant-loop-position : goal.invariant-loop-position
 invariant-loop-position g l =
-    ((l.recorder.pass.table ≡ g.L.Naming.table) × (l.recorder.writer.table ≡ l.board) × (l.recorder.writer.slot ≡ 0))
+    ((l.recorder.pass.table ≡ g.L.Naming.table) × (l.recorder.pass.number ≡ 0) × (l.recorder.writer.table ≡ l.board) × (l.recorder.writer.slot ≡ 0))
     × ((l.replayer.pass.table ≡ g.A.Naming.table) × (l.replayer.reader.table ≡ l.board) × (l.replayer.slot ≡ 0))
     × HandedOutBefore (seen_at 0 l.replayer.reader) l.turns.items
