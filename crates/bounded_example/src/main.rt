@@ -8,7 +8,7 @@ ghost use Rattle.position_board.specs.Positions.{seen_at};
 ghost use Rattle.archive_lock.specs.Held.{engine_seen, view_of};
 ghost use Rattle.bounded_example.specs.Followed.{HandedOutBefore, IsDurablyFollowed};
 
-use agents_core::laws::what_is_handed_out_is_durable;
+use agents_core::laws::{passes_keep_their_numbers, what_is_handed_out_is_durable};
 use agents_core::{BoundedReplayer, RecorderSeat, Turn};
 use anyhow::{Context, Result};
 use archive_lock::{Closed, Made, Naming, SharedArchive};
@@ -313,6 +313,7 @@ fn close_log<D: Disk + Drop, L: Naming>(
         (seen_at 0 followed.reader) followed.turns.items) }
 {
     what_is_handed_out_is_durable();
+    passes_keep_their_numbers();
     let Followed {
         recorder,
         mut reader,
