@@ -17,7 +17,7 @@ use Rattle.archive_lock.specs.declared.history.Made.{Made}
 use Rattle.archive_lock.specs.Closing.{ClosesWith}
 use Rattle.archive_lock.specs.Held.{engine_seen, view_of}
 use Rattle.archive_lock.specs.History.{Member}
-use Rattle.serve_core.specs.Serving.{EndsFrom, EndsHistory, EndsOrLacks, EndsUpTo, IsServed, IsServedAs, IsServedUpTo, stop_of}
+use Rattle.serve_core.specs.Serving.{EndsFrom, EndsHistory, EndsUpTo, IsServed, IsServedAs, IsServedUpTo, stop_of}
 use Rattle.serve_core.specs.declared.served.Served.{Served}
 use Rattle.serve_core.specs.declared.served.Stop.{Stop}
 
