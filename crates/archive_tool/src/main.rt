@@ -36,7 +36,7 @@ fn commanded<
     W: Write,
 >(net: &R, rt: HostRuntime, input: I, writer: &mut W) -> Ended {
     match words_of(&rt) {
-        Ok(words) => answered(net, rt, words.as_slice(), input, writer),
+        Ok(words) => answered(net, rt, words.as_slice(), input, writer).ended,
         Err(error) if error.kind() == io::ErrorKind::InvalidData => {
             no_command(rt, &unreadable_words(rt.alloc()))
         }

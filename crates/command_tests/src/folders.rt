@@ -45,7 +45,7 @@ pub(crate) fn ended<
     I: Read + Drop,
     W: Write,
 >(net: &R, rt: HostRuntime, command: ToolCommand<'_>, input: I, writer: &mut W) -> Ended {
-    obeyed(net, rt, &command, input, writer)
+    obeyed(net, rt, &command, input, writer).ended
 }
 
 /// The status with which it ends.

@@ -1,8 +1,11 @@
 -- How a command over a folder ends, by what it was answered of the watched disk.
-use Rattle.std.proofs.Common.{◌≡◌, ℕ, List, Option, ap, subst, sym, inl, ◌∙◌}
+use Rattle.std.proofs.Common.{◌≡◌, ℕ, List, Option, Some, ap, subst, sym, ◌∙◌}
 use Rattle.std.specs.Prelude.{codes}
 use Rattle.std.specs.Io.KnownBytes.{Appends}
 use Rattle.disk_core.specs.Life.{IsQuiet, Life}
+use Rattle.host_disk.specs.declared.folder_disk.FolderDisk.{FolderDisk}
+use Rattle.host_disk.specs.declared.host_folder.HostFolder.{HostFolder}
+use Rattle.host_disk.specs.contracts.host_folder.HostFolderFolder.TheImpl as folders
 use Rattle.host_disk.specs.Events.{Given}
 use Rattle.host_disk.specs.HostDisk.{host_life}
 use Rattle.host_disk.specs.Replay.{life_from}
@@ -13,9 +16,14 @@ use Rattle.tool_core.specs.declared.reports.Verdict.TheVariants as verdicts
 use Rattle.tool_core.specs.declared.watched.Watched.{Watched}
 use Rattle.tool_core.specs.Archives.{HasCompacted}
 use Rattle.tool_core.specs.Commands.{FailsToCompact, FailsToCreate, FailsToList, FailsToVerify, HasListed, HasVerified, IsCreated}
-use Rattle.folder_commands.specs.declared.status.Ending.TheVariants.{Done}
-use Rattle.folder_commands.specs.Folders.{CompactsFolder, FolderAsDisk, ListsFolder, MakesArchive, VerifiesFolder, ending_by}
+use Rattle.folder_commands.specs.declared.status.Ending.{Ending}
+use Rattle.folder_commands.specs.declared.status.Ending.TheVariants.{Done, Cut, Refused}
+use Rattle.folder_commands.specs.Folders.{CompactsFolder, EndsAs, ListsFolder, MakesArchive, VerifiesFolder, ending_by}
 use Rattle.folder_commands.specs.Status.{ending_of}
+
+-- the disk of a folder
+abbrev pub FolderAsDisk : Type 0
+FolderAsDisk = FolderDisk HostFolder folders.ghosts
 
 -- a watched disk of a folder begins with its files
 pub begins_watched : {V : Type 0} (given : Given) (disk : FolderAsDisk) (watched : Watched FolderAsDisk V) → host_life disk ≡ life_from given → watched.disk ≡ disk → host_life watched.disk ≡ life_from given
@@ -26,34 +34,80 @@ pub begins_quiet : {V : Type 0} (given : Given) (disk mid : FolderAsDisk) (watch
 begins_quiet given disk mid watched begins quiet is =
     subst (λ l. IsQuiet l (host_life watched.disk)) begins (subst (λ d. IsQuiet (host_life disk) (host_life d)) (sym is) quiet)
 
-module _ (given : Given) (contents written : Option (List ℕ)) (old : Life) where
-  pub list_done : (new : Life) → old ≡ life_from given → HasListed old new contents written → ListsFolder given contents written Done
-  list_done new begins h = (new, subst (λ l. HasListed l new contents written) begins h)
+-- ---- what it leaves
 
-  pub list_stopped : (disk : FolderAsDisk) (why : Stopped) → old ≡ life_from given → FailsToList old (host_life disk) why contents written → ListsFolder given contents written (ending_of why)
-  list_stopped disk (stops.Refused refusal) begins h = (disk, subst (λ l. FailsToList l (host_life disk) (stops.Refused refusal) contents written) begins h)
-  list_stopped disk (stops.Cut end) begins h = (disk, subst (λ l. FailsToList l (host_life disk) (stops.Cut end) contents written) begins h)
+module _ (IsDone HasFound : Life → Type 0) (IsStopped : Life → Stopped → Type 0) (contents written : Option (List ℕ)) (left : Option Life) (new : Life) (is : left ≡ Some new) where
+  pub ends_done : IsDone new → EndsAs IsDone HasFound IsStopped contents written left Done
+  ends_done h = subst (λ l. EndsAs IsDone HasFound IsStopped contents written l Done) (sym is) h
 
-  pub verify_done : (new : Life) (verdict : Verdict) → IsQuiet (life_from given) old → HasVerified old new contents written verdict → VerifiesFolder given contents written (ending_by verdict)
-  verify_done new verdicts.Whole quiet h = (old, new, quiet, h)
-  verify_done new verdicts.Refused quiet h = (old, new, quiet, h)
+  stopped_so : (why : Stopped) → IsStopped new why → EndsAs IsDone HasFound IsStopped contents written (Some new) (ending_of why)
+  stopped_so (stops.Refused refusal) h = h
+  stopped_so (stops.Cut end) h = h
 
-  pub verify_stopped : (disk : FolderAsDisk) (why : Stopped) → IsQuiet (life_from given) old → FailsToVerify old (host_life disk) why contents written → VerifiesFolder given contents written (ending_of why)
-  verify_stopped disk (stops.Refused refusal) quiet h = (old, disk, quiet, h)
-  verify_stopped disk (stops.Cut end) quiet h = (old, disk, quiet, h)
+  pub ends_stopped : (why : Stopped) (ending : Ending) → ending ≡ ending_of why → IsStopped new why → EndsAs IsDone HasFound IsStopped contents written left ending
+  ends_stopped why ending so h =
+      subst (λ l. EndsAs IsDone HasFound IsStopped contents written l ending) (sym is) (subst (EndsAs IsDone HasFound IsStopped contents written (Some new)) (sym so) (stopped_so why h))
 
-  pub compact_done : (new : Life) → old ≡ life_from given → HasCompacted old new → Appends contents written (codes "compacted\n") → CompactsFolder given contents written Done
-  compact_done new begins h told = (new, subst (λ l. HasCompacted l new) begins h, told)
+-- by what was found
+module _ (IsFound : Life → Verdict → Type 0) (IsStopped : Life → Stopped → Type 0) (contents written : Option (List ℕ)) (left : Option Life) (new : Life) (is : left ≡ Some new) where
+  judged_so : (verdict : Verdict) → IsFound new verdict → EndsAs (λ n. IsFound n verdicts.Whole) (λ n. IsFound n verdicts.Refused) IsStopped contents written (Some new) (ending_by verdict)
+  judged_so verdicts.Whole h = h
+  judged_so verdicts.Refused h = h
 
-  pub compact_stopped : (disk : FolderAsDisk) (why : Stopped) → old ≡ life_from given → FailsToCompact old (host_life disk) why contents written → CompactsFolder given contents written (ending_of why)
-  compact_stopped disk (stops.Refused refusal) begins h = (disk, subst (λ l. FailsToCompact l (host_life disk) (stops.Refused refusal) contents written) begins h)
-  compact_stopped disk (stops.Cut end) begins h = (disk, subst (λ l. FailsToCompact l (host_life disk) (stops.Cut end) contents written) begins h)
+  pub ends_judged : (verdict : Verdict) (ending : Ending) → ending ≡ ending_by verdict → IsFound new verdict → EndsAs (λ n. IsFound n verdicts.Whole) (λ n. IsFound n verdicts.Refused) IsStopped contents written left ending
+  ends_judged verdict ending so h =
+      subst (λ l. EndsAs (λ n. IsFound n verdicts.Whole) (λ n. IsFound n verdicts.Refused) IsStopped contents written l ending) (sym is)
+      (subst (EndsAs (λ n. IsFound n verdicts.Whole) (λ n. IsFound n verdicts.Refused) IsStopped contents written (Some new)) (sym so) (judged_so verdict h))
 
-pub create_done : (given : Given) (limit : ℕ) (contents written : Option (List ℕ)) (old new : Life) → old ≡ life_from given → IsCreated limit old new → Appends contents written (codes "created\n") → MakesArchive given limit contents written Done
-create_done given limit contents written old new begins h told = (new, subst (λ l. IsCreated limit l new) begins h, told)
+-- ---- the commands
 
-pub create_stopped : (given : Given) (limit : ℕ) (contents written : Option (List ℕ)) (old : Life) (disk : FolderAsDisk) (why : Stopped) → old ≡ life_from given → FailsToCreate limit old (host_life disk) why contents written → MakesArchive given limit contents written (ending_of why)
-create_stopped given limit contents written old disk (stops.Refused refusal) begins h =
-    inl (disk, subst (λ l. FailsToCreate limit l (host_life disk) (stops.Refused refusal) contents written) begins h)
-create_stopped given limit contents written old disk (stops.Cut end) begins h =
-    inl (disk, subst (λ l. FailsToCreate limit l (host_life disk) (stops.Cut end) contents written) begins h)
+module _ (given : Given) (contents written : Option (List ℕ)) (left : Option Life) (new : Life) (is : left ≡ Some new) (old : Life) where
+  module _ (begins : old ≡ life_from given) where
+    pub list_done : HasListed old new contents written → ListsFolder given contents written left Done
+    list_done h =
+        ends_done (λ n. HasListed (life_from given) n contents written) (λ n. ⊥) (λ n why. FailsToList (life_from given) n why contents written) contents written left new is
+        (subst (λ l. HasListed l new contents written) begins h)
+
+    pub list_stopped : (why : Stopped) (ending : Ending) → ending ≡ ending_of why → FailsToList old new why contents written → ListsFolder given contents written left ending
+    list_stopped why ending so h =
+        ends_stopped (λ n. HasListed (life_from given) n contents written) (λ n. ⊥) (λ n why. FailsToList (life_from given) n why contents written) contents written left new is
+        why ending so (subst (λ l. FailsToList l new why contents written) begins h)
+
+    pub compact_done : HasCompacted old new → Appends contents written (codes "compacted\n") → CompactsFolder given contents written left Done
+    compact_done h told =
+        ends_done (λ n. HasCompacted (life_from given) n × Appends contents written (codes "compacted\n")) (λ n. ⊥) (λ n why. FailsToCompact (life_from given) n why contents written) contents written left new is
+        (subst (λ l. HasCompacted l new) begins h, told)
+
+    pub compact_stopped : (why : Stopped) (ending : Ending) → ending ≡ ending_of why → FailsToCompact old new why contents written → CompactsFolder given contents written left ending
+    compact_stopped why ending so h =
+        ends_stopped (λ n. HasCompacted (life_from given) n × Appends contents written (codes "compacted\n")) (λ n. ⊥) (λ n why. FailsToCompact (life_from given) n why contents written) contents written left new is
+        why ending so (subst (λ l. FailsToCompact l new why contents written) begins h)
+
+    -- with a disk there is no other ending of `create`
+    made_so : (limit : ℕ) (ending : Ending) → EndsAs (λ n. IsCreated limit (life_from given) n × Appends contents written (codes "created\n")) (λ n. ⊥) (λ n why. FailsToCreate limit (life_from given) n why contents written) contents written left ending → MakesArchive given limit contents written left ending
+    made_so limit ending h =
+        subst (λ l. MakesArchive given limit contents written l ending) (sym is)
+        (subst (λ l. EndsAs (λ n. IsCreated limit (life_from given) n × Appends contents written (codes "created\n")) (λ n. ⊥) (λ n why. FailsToCreate limit (life_from given) n why contents written) contents written l ending) is h)
+
+    pub create_done : (limit : ℕ) → IsCreated limit old new → Appends contents written (codes "created\n") → MakesArchive given limit contents written left Done
+    create_done limit h told =
+        made_so limit Done
+        (ends_done (λ n. IsCreated limit (life_from given) n × Appends contents written (codes "created\n")) (λ n. ⊥) (λ n why. FailsToCreate limit (life_from given) n why contents written) contents written left new is
+        (subst (λ l. IsCreated limit l new) begins h, told))
+
+    pub create_stopped : (limit : ℕ) (why : Stopped) (ending : Ending) → ending ≡ ending_of why → FailsToCreate limit old new why contents written → MakesArchive given limit contents written left ending
+    create_stopped limit why ending so h =
+        made_so limit ending
+        (ends_stopped (λ n. IsCreated limit (life_from given) n × Appends contents written (codes "created\n")) (λ n. ⊥) (λ n why. FailsToCreate limit (life_from given) n why contents written) contents written left new is
+        why ending so (subst (λ l. FailsToCreate limit l new why contents written) begins h))
+
+  module _ (quiet : IsQuiet (life_from given) old) where
+    pub verify_done : (verdict : Verdict) (ending : Ending) → ending ≡ ending_by verdict → HasVerified old new contents written verdict → VerifiesFolder given contents written left ending
+    verify_done verdict ending so h =
+        ends_judged (λ n v. (o : Life) × IsQuiet (life_from given) o × HasVerified o n contents written v) (λ n why. (o : Life) × IsQuiet (life_from given) o × FailsToVerify o n why contents written) contents written left new is
+        verdict ending so (old, quiet, h)
+
+    pub verify_stopped : (why : Stopped) (ending : Ending) → ending ≡ ending_of why → FailsToVerify old new why contents written → VerifiesFolder given contents written left ending
+    verify_stopped why ending so h =
+        ends_stopped (λ n. (o : Life) × IsQuiet (life_from given) o × HasVerified o n contents written verdicts.Whole) (λ n. (o : Life) × IsQuiet (life_from given) o × HasVerified o n contents written verdicts.Refused) (λ n why. (o : Life) × IsQuiet (life_from given) o × FailsToVerify o n why contents written) contents written left new is
+        why ending so (old, quiet, h)

@@ -1,4 +1,3 @@
-mod WatchedLemmas
 mod FolderLemmas
 mod RunLemmas
 mod ViewLemmas

@@ -1,24 +1,27 @@
--- How a command that only looks at a folder ends, by what it was answered of the watched disk.
-use Rattle.std.proofs.Common.{◌≡◌, ℕ, List, Option, ap, subst, sym, ◌∙◌}
+-- How a command that only looks at a folder ends, by what it was answered of the watched folder.
+use Rattle.std.proofs.Common.{◌≡◌, ℕ, List, Option, Some, ap, subst, sym, ◌∙◌}
 use Rattle.disk_core.specs.Life.{IsQuiet, Life}
 use Rattle.host_disk.specs.Events.{Given}
 use Rattle.host_disk.specs.declared.read_folder.ReadFolder.{ReadFolder}
 use Rattle.host_disk.specs.ReadFolder.{folder_life}
 use Rattle.host_disk.specs.Replay.{life_from}
 use Rattle.tool_core.specs.declared.commands.Stopped.{Stopped}
-use Rattle.tool_core.specs.declared.commands.Stopped.TheVariants as stops
 use Rattle.tool_core.specs.declared.reports.Verdict.{Verdict}
 use Rattle.tool_core.specs.declared.reports.Verdict.TheVariants as verdicts
 use Rattle.tool_core.specs.declared.watched.Watched.{Watched}
 use Rattle.archive_report.specs.ReadOnly.{IsOnlyRead}
 use Rattle.archive_report.specs.Verifying.{FailsToVerify, HasVerified}
 use Rattle.archive_report.specs.Viewing.{FailsToList, HasListed}
+use Rattle.folder_commands.specs.declared.status.Ending.{Ending}
 use Rattle.folder_commands.specs.declared.status.Ending.TheVariants.{Done}
 use Rattle.folder_commands.specs.Folders.{ending_by}
-use Rattle.folder_commands.specs.Looking.{DescribesFolder, ListsAsItStands, VerifiesAsItStands}
+use Rattle.folder_commands.specs.Looking.{DescribesFolder, ListsAsItStands, VerifiesAsItStands, itself}
 use Rattle.folder_commands.specs.Status.{ending_of}
-use Rattle.folder_commands.proofs.WatchedLemmas.{inside}
-use Rattle.folder_commands.proofs.ViewLemmas.{view_unlisted, view_unverified, view_verified}
+use Rattle.folder_commands.proofs.FolderLemmas.{ends_done, ends_judged, ends_stopped}
+
+-- what a watched folder is to a contract
+abbrev pub inside : {V : Type 0} → Watched ReadFolder V → Life
+inside watched = folder_life watched.disk
 
 -- a watched folder begins with its files
 pub looks_watched : {V : Type 0} (given : Given) (disk : ReadFolder) (watched : Watched ReadFolder V) → folder_life disk ≡ life_from given → watched.disk ≡ disk → folder_life watched.disk ≡ life_from given
@@ -29,27 +32,32 @@ pub looks_quiet : {V : Type 0} (given : Given) (disk mid : ReadFolder) (watched 
 looks_quiet given disk mid watched begins quiet is =
     subst (λ l. IsQuiet l (folder_life watched.disk)) begins (subst (λ d. IsQuiet (folder_life disk) (folder_life d)) (sym is) quiet)
 
-pub look_listed : (given : Given) (contents written : Option (List ℕ)) (old new : Life) → old ≡ life_from given → HasListed old new contents written → ListsAsItStands given contents written Done
-look_listed given contents written old new begins h = (new, subst (λ l. HasListed l new contents written) begins h)
+module _ (given : Given) (contents written : Option (List ℕ)) (left : Option Life) (new : Life) (is : left ≡ Some new) (old : Life) where
+  module _ (begins : old ≡ life_from given) where
+    pub look_listed : HasListed old new contents written → ListsAsItStands given contents written left Done
+    look_listed h =
+        ends_done (λ n. HasListed (life_from given) n contents written) (λ n. ⊥) (λ n why. FailsToList itself (life_from given) n why contents written) contents written left new is
+        (subst (λ l. HasListed l new contents written) begins h)
 
-module _ (V : Type 0) (given : Given) (contents written : Option (List ℕ)) (old : Life) where
-  pub look_unlisted : (disk : Watched ReadFolder V) (why : Stopped) → old ≡ life_from given → FailsToList (inside ReadFolder V folder_life) old disk why contents written → ListsAsItStands given contents written (ending_of why)
-  look_unlisted disk (stops.Refused refusal) begins h =
-      (disk.disk, subst (λ l. FailsToList folder_life l disk.disk (stops.Refused refusal) contents written) begins (view_unlisted ReadFolder V folder_life old contents written disk (stops.Refused refusal) h))
-  look_unlisted disk (stops.Cut end) begins h =
-      (disk.disk, subst (λ l. FailsToList folder_life l disk.disk (stops.Cut end) contents written) begins (view_unlisted ReadFolder V folder_life old contents written disk (stops.Cut end) h))
+    pub look_unlisted : (why : Stopped) (ending : Ending) → ending ≡ ending_of why → FailsToList itself old new why contents written → ListsAsItStands given contents written left ending
+    look_unlisted why ending so h =
+        ends_stopped (λ n. HasListed (life_from given) n contents written) (λ n. ⊥) (λ n why. FailsToList itself (life_from given) n why contents written) contents written left new is
+        why ending so (subst (λ l. FailsToList itself l new why contents written) begins h)
 
-  pub look_verified : (new : Life) (verdict : Verdict) → IsQuiet (life_from given) old → HasVerified (inside ReadFolder V folder_life) old new contents written verdict → VerifiesAsItStands given contents written (ending_by verdict)
-  look_verified new verdicts.Whole quiet h = (old, new, quiet, view_verified ReadFolder V folder_life h)
-  look_verified new verdicts.Refused quiet h = (old, new, quiet, view_verified ReadFolder V folder_life h)
+    pub describe_done : IsOnlyRead old new → DescribesFolder given contents written left Done
+    describe_done h = ends_done (IsOnlyRead (life_from given)) (λ n. ⊥) (λ n why. IsOnlyRead (life_from given) n) contents written left new is (subst (λ l. IsOnlyRead l new) begins h)
 
-  pub look_unverified : (disk : Watched ReadFolder V) (why : Stopped) → IsQuiet (life_from given) old → FailsToVerify (inside ReadFolder V folder_life) old disk why contents written → VerifiesAsItStands given contents written (ending_of why)
-  look_unverified disk (stops.Refused refusal) quiet h = (old, disk.disk, quiet, view_unverified ReadFolder V folder_life old contents written disk (stops.Refused refusal) h)
-  look_unverified disk (stops.Cut end) quiet h = (old, disk.disk, quiet, view_unverified ReadFolder V folder_life old contents written disk (stops.Cut end) h)
+    pub describe_stopped : (why : Stopped) (ending : Ending) → ending ≡ ending_of why → IsOnlyRead old new → DescribesFolder given contents written left ending
+    describe_stopped why ending so h =
+        ends_stopped (IsOnlyRead (life_from given)) (λ n. ⊥) (λ n why. IsOnlyRead (life_from given) n) contents written left new is why ending so (subst (λ l. IsOnlyRead l new) begins h)
 
-pub describe_done : (given : Given) (contents written : Option (List ℕ)) (old new : Life) → old ≡ life_from given → IsOnlyRead old new → DescribesFolder given contents written Done
-describe_done given contents written old new begins h = (new, subst (λ l. IsOnlyRead l new) begins h)
+  module _ (quiet : IsQuiet (life_from given) old) where
+    pub look_verified : (verdict : Verdict) (ending : Ending) → ending ≡ ending_by verdict → HasVerified itself old new contents written verdict → VerifiesAsItStands given contents written left ending
+    look_verified verdict ending so h =
+        ends_judged (λ n v. (o : Life) × IsQuiet (life_from given) o × HasVerified itself o n contents written v) (λ n why. (o : Life) × IsQuiet (life_from given) o × FailsToVerify itself o n why contents written) contents written left new is
+        verdict ending so (old, quiet, h)
 
-pub describe_stopped : (given : Given) (contents written : Option (List ℕ)) (old new : Life) (why : Stopped) → old ≡ life_from given → IsOnlyRead old new → DescribesFolder given contents written (ending_of why)
-describe_stopped given contents written old new (stops.Refused refusal) begins h = (new, subst (λ l. IsOnlyRead l new) begins h)
-describe_stopped given contents written old new (stops.Cut end) begins h = (new, subst (λ l. IsOnlyRead l new) begins h)
+    pub look_unverified : (why : Stopped) (ending : Ending) → ending ≡ ending_of why → FailsToVerify itself old new why contents written → VerifiesAsItStands given contents written left ending
+    look_unverified why ending so h =
+        ends_stopped (λ n. (o : Life) × IsQuiet (life_from given) o × HasVerified itself o n contents written verdicts.Whole) (λ n. (o : Life) × IsQuiet (life_from given) o × HasVerified itself o n contents written verdicts.Refused) (λ n why. (o : Life) × IsQuiet (life_from given) o × FailsToVerify itself o n why contents written) contents written left new is
+        why ending so (old, quiet, h)

@@ -1,5 +1,5 @@
 -- How `serve` ends if its words are right, by its folder and its server.
-use Rattle.std.proofs.Common.{◌≡◌, inl, inr, ℤ, Bool, IsTrue, sym, subst}
+use Rattle.std.proofs.Common.{◌≡◌, inl, inr, ℤ, Bool, IsTrue, Option, None, Some, sym, subst}
 use Rattle.command_line.specs.declared.serving.ServeWords.{ServeWords}
 use Rattle.disk_core.specs.Life.{Life}
 use Rattle.host_disk.specs.Events.{Given}
@@ -18,31 +18,24 @@ module _ (given : Given) (words : ServeWords) (receiver : ℤ) (options : ServeO
   are_right (inr (inr (inl bad))) = bad asked.may_record
   are_right (inr (inr (inr bad))) = bad options.segment_length asked.segments
 
-  pub not_opened : (ending : Ending) → IsUnopenedFolder ending → ServesFolder given words ending
-  not_opened ending (fault, is) = subst (ServesFolder given words) (sym is) are_right
+  pub not_opened : (ending : Ending) → IsUnopenedFolder ending → ServesFolder given words None ending
+  not_opened ending (fault, is) = subst (ServesFolder given words None) (sym is) are_right
 
   -- a strict server does not open it
-  pub not_looked : IsTrue words.is_strict → MayHideEntries given → ServesFolder given words Hidden
-  not_looked strict hides = (are_right, strict, hides)
+  pub not_looked : (new : Life) → new ≡ life_from given → IsTrue words.is_strict → MayHideEntries given → ServesFolder given words (Some new) Hidden
+  not_looked new is strict hides = (are_right, strict, hides, is)
 
-  over_folder : (ending : Ending) → ServesOver words.is_strict (life_from given) ending → ServesFolder given words ending
-  over_folder Done h = (are_right, h)
-  over_folder (Cut end) h = (are_right, h)
-  over_folder (Unopened fault) h = absurd h
-  over_folder (NoCommand kind) h = absurd h
-  over_folder (Failed fault) h = absurd h
-  over_folder (Refused refusal) h = absurd h
-  over_folder FoundDamage h = absurd h
-  over_folder LineRefused h = absurd h
-  over_folder (Stuck stop) h = (are_right, h)
-  over_folder Hidden h = absurd h
+  over_folder : (new : Life) (ending : Ending) → ServesOver words.is_strict (life_from given) new ending → ServesFolder given words (Some new) ending
+  over_folder new Hidden h = absurd h
+  over_folder new ending h = (are_right, h)
 
-  pub served : (old : Life) (ending : Ending) → old ≡ life_from given → ServesOver options.is_strict old ending → ServesFolder given words ending
-  served old ending begins h =
-      over_folder ending (subst (λ (l : Life). ServesOver words.is_strict l ending) begins (subst (λ (strict : Bool). ServesOver strict old ending) asked.strict h))
+  pub served : (left : Option Life) (old new : Life) (last ending : Ending) → old ≡ life_from given → left ≡ Some new → ending ≡ last → ServesOver options.is_strict old new last → ServesFolder given words left ending
+  served left old new last ending begins is so h =
+      subst (λ (l : Option Life). ServesFolder given words l ending) (sym is) (subst (ServesFolder given words (Some new)) (sym so)
+      (over_folder new last (subst (λ (l : Life). ServesOver words.is_strict l new last) begins (subst (λ (strict : Bool). ServesOver strict old new last) asked.strict h))))
 
 -- no port is bound
-pub not_bound : (given : Given) (words : ServeWords) (receiver : ℤ) (options : ServeOptions) → AreOptions words receiver options → (ending : Ending) → IsUnbound words ending → ServesFolder given words ending
+pub not_bound : (given : Given) (words : ServeWords) (receiver : ℤ) (options : ServeOptions) → AreOptions words receiver options → (ending : Ending) → IsUnbound words ending → ServesFolder given words None ending
 not_bound given words receiver options asked (NoCommand kind) h = (h.0, inl h.1)
 not_bound given words receiver options asked (Failed fault) h = are_right given words receiver options asked h
 not_bound given words receiver options asked Done h = absurd h

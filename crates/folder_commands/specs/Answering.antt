@@ -1,8 +1,9 @@
 -- What the words of a command line lead to, and how the program ends: docs/CONTROL.md, "The program".
-use Rattle.std.specs.Prelude.{◌≡◌, ◌⊎◌, ℕ, List, Option}
+use Rattle.std.specs.Prelude.{◌≡◌, ◌⊎◌, ℕ, List, Option, None}
 use Rattle.clap.specs.declared.error.ErrorKind.{ErrorKind}
 use Rattle.clap.specs.declared.error.ErrorKind.TheVariants.{OutOfMemory}
 use Rattle.clap.specs.Words.{Text, fault_of}
+use Rattle.disk_core.specs.Life.{Life}
 use Rattle.host_disk.specs.Events.{Given}
 use Rattle.command_line.specs.declared.command.ToolCommand.{ToolCommand}
 use Rattle.command_line.specs.CommandLine.{IsHeld, IsWordsFault, tool_app}
@@ -18,14 +19,14 @@ TellsKind kind ending = ⊥
 
 module _ (given : Given) (words : List Text) (input contents written : Option (List ℕ)) where
   -- the words hold a command, which was obeyed
-  abbrev pub HoldsObeyed : Ending → Type 0
-  HoldsObeyed ending = (command : ToolCommand) × IsHeld words command × HasObeyed given input contents written command ending
+  abbrev pub HoldsObeyed : Option Life → Ending → Type 0
+  HoldsObeyed left ending = (command : ToolCommand) × IsHeld words command × HasObeyed given input contents written command left ending
 
   -- they hold none, and what clap says of them was told; want of memory is told of any words
-  abbrev pub HoldsNone : Ending → Type 0
-  HoldsNone ending = (kind : ErrorKind) × IsWordsFault (fault_of tool_app words) kind
+  abbrev pub HoldsNone : Option Life → Ending → Type 0
+  HoldsNone left ending = (kind : ErrorKind) × IsWordsFault (fault_of tool_app words) kind
       × ((command : ToolCommand) → IsHeld words command → kind ≡ OutOfMemory)
-      × TellsKind kind ending × (written ≡ contents)
+      × TellsKind kind ending × (left ≡ None) × (written ≡ contents)
 
-  abbrev pub AnswersWords : Ending → Type 0
-  AnswersWords ending = HoldsObeyed ending ⊎ HoldsNone ending
+  abbrev pub AnswersWords : Option Life → Ending → Type 0
+  AnswersWords left ending = HoldsObeyed left ending ⊎ HoldsNone left ending

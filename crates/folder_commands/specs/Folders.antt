@@ -1,16 +1,12 @@
 -- What a command does over a folder, whatever files that holds, and a writer, and how it ends: docs/CONTROL.md, "The program".
-use Rattle.std.specs.Prelude.{◌≡◌, ◌⊎◌, ℕ, [], List, Option, None, Result, Ok, Err, IsTrue, codes}
+use Rattle.std.specs.Prelude.{◌≡◌, ◌⊎◌, ℕ, [], List, Option, None, Some, Result, Ok, Err, IsTrue, codes}
 use Rattle.std.specs.Io.KnownBytes.{Appends}
 use Rattle.frame_core.specs.declared.refusal.Refusal.TheVariants.{DeviceFault}
 use Rattle.disk_core.specs.DiskImage.{begun}
 use Rattle.disk_core.specs.Life.{IsQuiet, Life}
 use Rattle.catalogue_log.specs.LogState.{Banks}
-use Rattle.host_disk.specs.declared.folder_disk.FolderDisk.{FolderDisk}
-use Rattle.host_disk.specs.declared.host_folder.HostFolder.{HostFolder}
-use Rattle.host_disk.specs.contracts.host_folder.HostFolderFolder.TheImpl as folders
 use Rattle.host_disk.specs.declared.open_fault.OpenFault.{OpenFault}
 use Rattle.host_disk.specs.Events.{Given}
-use Rattle.host_disk.specs.HostDisk.{host_life}
 use Rattle.host_disk.specs.Replay.{life_from}
 use Rattle.tool_core.specs.declared.commands.Stopped.{Stopped}
 use Rattle.tool_core.specs.declared.commands.Stopped.TheVariants as stops
@@ -29,10 +25,6 @@ use Rattle.folder_commands.specs.declared.outcome.Ended.{Ended}
 use Rattle.folder_commands.specs.declared.status.Ending.{Ending}
 use Rattle.folder_commands.specs.declared.status.Ending.TheVariants.{Done, Cut, Refused, Unopened, FoundDamage}
 
--- the disk of a folder
-abbrev pub FolderAsDisk : Type 0
-FolderAsDisk = FolderDisk HostFolder folders.ghosts
-
 -- ---- endings
 
 -- how a command ended that answers so
@@ -49,52 +41,53 @@ ending_by verdicts.Refused = FoundDamage
 abbrev pub IsUnopenedFolder : Ending → Type 0
 IsUnopenedFolder ending = (fault : OpenFault) × (ending ≡ Unopened fault)
 
--- How a command over a folder ends: done; by damage that it found and told; stopped; or by a folder that was not opened, and
--- then nothing is written.
-module _ (IsDone HasFound : Type 0) (IsStopped : Stopped → Type 0) (contents written : Option (List ℕ)) where
-  abbrev pub EndsAs : Ending → Type 0
-  EndsAs Done = IsDone
-  EndsAs FoundDamage = HasFound
-  EndsAs (Refused refusal) = IsStopped (stops.Refused refusal)
-  EndsAs (Cut end) = IsStopped (stops.Cut end)
-  EndsAs (Unopened fault) = written ≡ contents
-  EndsAs ending = ⊥
+-- How a command over a folder ends: done; by damage that it found and told; or stopped. Each is said of the life of its folder up
+-- to its closing. Or the folder was not opened, and then nothing is left and nothing is written.
+module _ (IsDone HasFound : Life → Type 0) (IsStopped : Life → Stopped → Type 0) (contents written : Option (List ℕ)) where
+  abbrev pub EndsAs : Option Life → Ending → Type 0
+  EndsAs (Some new) Done = IsDone new
+  EndsAs (Some new) FoundDamage = HasFound new
+  EndsAs (Some new) (Refused refusal) = IsStopped new (stops.Refused refusal)
+  EndsAs (Some new) (Cut end) = IsStopped new (stops.Cut end)
+  EndsAs None (Unopened fault) = written ≡ contents
+  EndsAs left ending = ⊥
 
 module _ (given : Given) where
   -- ---- an archive in a folder
 
   -- `list`: the archive of these files was opened, and its recordings are written
-  abbrev pub ListsFolder : Option (List ℕ) → Option (List ℕ) → Ending → Type 0
+  abbrev pub ListsFolder : Option (List ℕ) → Option (List ℕ) → Option Life → Ending → Type 0
   ListsFolder contents written = EndsAs
-      ((new : Life) × HasListed (life_from given) new contents written)
-      ⊥
-      (λ why. (disk : FolderAsDisk) × FailsToList (life_from given) (host_life disk) why contents written)
+      (λ new. HasListed (life_from given) new contents written)
+      (λ new. ⊥)
+      (λ new why. FailsToList (life_from given) new why contents written)
       contents written
 
   -- `verify`: behind at most a listing of its files each of its recordings was verified, and the answers are written; damage is
   -- found where one is no reply
-  abbrev pub VerifiesFolder : Option (List ℕ) → Option (List ℕ) → Ending → Type 0
+  abbrev pub VerifiesFolder : Option (List ℕ) → Option (List ℕ) → Option Life → Ending → Type 0
   VerifiesFolder contents written = EndsAs
-      ((old : Life) × (new : Life) × IsQuiet (life_from given) old × HasVerified old new contents written verdicts.Whole)
-      ((old : Life) × (new : Life) × IsQuiet (life_from given) old × HasVerified old new contents written verdicts.Refused)
-      (λ why. (old : Life) × (disk : FolderAsDisk) × IsQuiet (life_from given) old × FailsToVerify old (host_life disk) why contents written)
+      (λ new. (old : Life) × IsQuiet (life_from given) old × HasVerified old new contents written verdicts.Whole)
+      (λ new. (old : Life) × IsQuiet (life_from given) old × HasVerified old new contents written verdicts.Refused)
+      (λ new why. (old : Life) × IsQuiet (life_from given) old × FailsToVerify old new why contents written)
       contents written
 
-  -- `create`: an archive without recordings was made, with this limit of its history; or the folder itself was not
-  abbrev pub MakesArchive : ℕ → Option (List ℕ) → Option (List ℕ) → Ending → Type 0
-  MakesArchive limit contents written = EndsAs
-      ((new : Life) × IsCreated limit (life_from given) new × Appends contents written (codes "created\n"))
-      ⊥
-      (λ why. ((disk : FolderAsDisk) × FailsToCreate limit (life_from given) (host_life disk) why contents written)
-      ⊎ ((why ≡ stops.Refused DeviceFault) × (written ≡ contents)))
-      contents written
+  -- `create`: an archive without recordings was made, with this limit of its history, or was not; or the folder itself was not,
+  -- and then nothing is left and nothing is written
+  abbrev pub MakesArchive : ℕ → Option (List ℕ) → Option (List ℕ) → Option Life → Ending → Type 0
+  MakesArchive limit contents written None (Refused DeviceFault) = written ≡ contents
+  MakesArchive limit contents written left ending = EndsAs
+      (λ new. IsCreated limit (life_from given) new × Appends contents written (codes "created\n"))
+      (λ new. ⊥)
+      (λ new why. FailsToCreate limit (life_from given) new why contents written)
+      contents written left ending
 
   -- `compact`: the archive was opened, closed, and its catalogue written anew
-  abbrev pub CompactsFolder : Option (List ℕ) → Option (List ℕ) → Ending → Type 0
+  abbrev pub CompactsFolder : Option (List ℕ) → Option (List ℕ) → Option Life → Ending → Type 0
   CompactsFolder contents written = EndsAs
-      ((new : Life) × HasCompacted (life_from given) new × Appends contents written (codes "compacted\n"))
-      ⊥
-      (λ why. (disk : FolderAsDisk) × FailsToCompact (life_from given) (host_life disk) why contents written)
+      (λ new. HasCompacted (life_from given) new × Appends contents written (codes "compacted\n"))
+      (λ new. ⊥)
+      (λ new why. FailsToCompact (life_from given) new why contents written)
       contents written
 
 -- ---- scripts
@@ -112,20 +105,21 @@ module _ (old : Life) (input contents written : Option (List ℕ)) where
         EndsEarly end (IsTranscriptOfFirst first banks old new) input contents written ⊎ IsUnopened old new contents written end
 
   -- how a script over a disk ends: with the input's lines, or early
-  abbrev pub RunsOver : Ending → Type 0
-  RunsOver Done = (new : Life) × HasRun new
-  RunsOver (Cut end) = (new : Life) × HasRunFirst new end
-  RunsOver ending = ⊥
+  abbrev pub RunsOver : Life → Ending → Type 0
+  RunsOver new Done = HasRun new
+  RunsOver new (Cut end) = HasRunFirst new end
+  RunsOver new ending = ⊥
 
--- `run` over the archive of a folder with these files
-abbrev pub RunsFolder : Given → Option (List ℕ) → Option (List ℕ) → Option (List ℕ) → Ending → Type 0
-RunsFolder given input contents written (Unopened fault) = written ≡ contents
-RunsFolder given input contents written ending = RunsOver (life_from given) input contents written ending
+-- `run` over the archive of a folder with these files; or that was not opened, and then nothing is left and nothing is written
+abbrev pub RunsFolder : Given → Option (List ℕ) → Option (List ℕ) → Option (List ℕ) → Option Life → Ending → Type 0
+RunsFolder given input contents written (Some new) ending = RunsOver (life_from given) input contents written new ending
+RunsFolder given input contents written None (Unopened fault) = written ≡ contents
+RunsFolder given input contents written None ending = ⊥
 
 -- `run` over an archive in memory, where no file was
 abbrev pub RunsInMemory : Option (List ℕ) → Option (List ℕ) → Option (List ℕ) → Ending → Type 0
 RunsInMemory input contents written ending =
-    (old : Life) × (old.now ≡ begun (λ file. None)) × (old.past ≡ []) × RunsOver old input contents written ending
+    (old : Life) × (old.now ≡ begun (λ file. None)) × (old.past ≡ []) × (new : Life) × RunsOver old input contents written new ending
 
 -- ---- files
 

@@ -2,6 +2,7 @@
 -- do over a folder.
 pub mod Telling
 pub mod Status
+pub mod Left
 pub mod Folders
 pub mod Looking
 pub mod Hidden

@@ -1,11 +1,9 @@
 -- What a command does that only looks at a folder, whatever files that holds, and how it ends: docs/CONTROL.md, "Looking without a change".
-use Rattle.std.specs.Prelude.{◌≡◌, ◌⊎◌, ℕ, ℤ, List, Option, None, codes}
+use Rattle.std.specs.Prelude.{◌≡◌, ◌⊎◌, ℕ, ℤ, List, Option, None, Some, codes}
 use Rattle.std.specs.Io.KnownBytes.{Appends}
 use Rattle.frame_core.specs.declared.refusal.Refusal.TheVariants.{BadParameter, DeviceFault}
 use Rattle.disk_core.specs.Life.{IsQuiet, Life}
 use Rattle.host_disk.specs.Events.{Given}
-use Rattle.host_disk.specs.declared.read_folder.ReadFolder.{ReadFolder}
-use Rattle.host_disk.specs.ReadFolder.{folder_life}
 use Rattle.host_disk.specs.Replay.{life_from}
 use Rattle.tool_core.specs.declared.commands.Stopped.{Stopped}
 use Rattle.tool_core.specs.declared.commands.Stopped.TheVariants as stops
@@ -21,29 +19,33 @@ use Rattle.folder_commands.specs.declared.status.Ending.TheVariants.{Done, Cut, 
 use Rattle.folder_commands.specs.Folders.{EndsAs}
 use Rattle.folder_commands.specs.Status.{ending_of}
 
+-- A disk of which its life alone is seen.
+abbrev pub itself : Life → Life
+itself life = life
+
 module _ (given : Given) where
   -- `list --read-only`: the archive of these files was seen, and its recordings are written
-  abbrev pub ListsAsItStands : Option (List ℕ) → Option (List ℕ) → Ending → Type 0
+  abbrev pub ListsAsItStands : Option (List ℕ) → Option (List ℕ) → Option Life → Ending → Type 0
   ListsAsItStands contents written = EndsAs
-      ((new : Life) × HasListed (life_from given) new contents written)
-      ⊥
-      (λ why. (disk : ReadFolder) × FailsToList folder_life (life_from given) disk why contents written)
+      (λ new. HasListed (life_from given) new contents written)
+      (λ new. ⊥)
+      (λ new why. FailsToList itself (life_from given) new why contents written)
       contents written
 
   -- `verify --read-only`: behind at most a listing of its files each of its recordings was verified, and the answers are written
-  abbrev pub VerifiesAsItStands : Option (List ℕ) → Option (List ℕ) → Ending → Type 0
+  abbrev pub VerifiesAsItStands : Option (List ℕ) → Option (List ℕ) → Option Life → Ending → Type 0
   VerifiesAsItStands contents written = EndsAs
-      ((old : Life) × (new : Life) × IsQuiet (life_from given) old × HasVerified folder_life old new contents written verdicts.Whole)
-      ((old : Life) × (new : Life) × IsQuiet (life_from given) old × HasVerified folder_life old new contents written verdicts.Refused)
-      (λ why. (old : Life) × (disk : ReadFolder) × IsQuiet (life_from given) old × FailsToVerify folder_life old disk why contents written)
+      (λ new. (old : Life) × IsQuiet (life_from given) old × HasVerified itself old new contents written verdicts.Whole)
+      (λ new. (old : Life) × IsQuiet (life_from given) old × HasVerified itself old new contents written verdicts.Refused)
+      (λ new why. (old : Life) × IsQuiet (life_from given) old × FailsToVerify itself old new why contents written)
       contents written
 
   -- `describe`: the folder was only read
-  abbrev pub DescribesFolder : Option (List ℕ) → Option (List ℕ) → Ending → Type 0
+  abbrev pub DescribesFolder : Option (List ℕ) → Option (List ℕ) → Option Life → Ending → Type 0
   DescribesFolder contents written = EndsAs
-      ((new : Life) × IsOnlyRead (life_from given) new)
-      ⊥
-      (λ why. (new : Life) × IsOnlyRead (life_from given) new)
+      (λ new. IsOnlyRead (life_from given) new)
+      (λ new. ⊥)
+      (λ new why. IsOnlyRead (life_from given) new)
       contents written
 
 -- a capture file is not written: its place is in the archive's folder, a call of the system failed, or there is no memory
@@ -58,22 +60,24 @@ abbrev pub uncaptured_ending : Stopped → Ending
 uncaptured_ending (stops.Cut ends.Write) = Refused DeviceFault
 uncaptured_ending why = ending_of why
 
-module _ (old : Life) (recording : ℤ) (span : Span) where
+module _ (old new : Life) (recording : ℤ) (span : Span) where
   -- the frames of a span of a recording were written into a file, whose bytes nobody knows
   abbrev pub HasCaptured : Type 0
-  HasCaptured = (new : Life) × HasExportedFrom folder_life old new recording span None None
+  HasCaptured = HasExportedFrom itself old new recording span None None
 
-  -- the archive refuses that, or the file is not written
+  -- the archive refuses that; or the file is not written, and the folder was only read
   abbrev pub FailsToCapture : Ending → Type 0
   FailsToCapture (Refused refusal) =
-      ((disk : ReadFolder) × FailsToExportFrom folder_life old disk recording span (stops.Refused refusal) None None)
-      ⊎ IsUncaptured (Refused refusal)
-  FailsToCapture ending = IsUncaptured ending
+      FailsToExportFrom itself old new recording span (stops.Refused refusal) None None
+      ⊎ (IsUncaptured (Refused refusal) × IsOnlyRead old new)
+  FailsToCapture ending = IsUncaptured ending × IsOnlyRead old new
 
--- `export`: the frames were written into a file, and that is said, or could not be; or they were not, and nothing is said
+-- `export`: the frames were written into a file, and that is said, or could not be; or they were not, and nothing is said; or the
+-- folder was not opened, and then nothing is left either
 module _ (given : Given) (recording : ℤ) (span : Span) (contents written : Option (List ℕ)) where
-  abbrev pub ExportsFolder : Ending → Type 0
-  ExportsFolder Done = HasCaptured (life_from given) recording span × Appends contents written (codes "exported\n")
-  ExportsFolder (Cut ends.Write) = HasCaptured (life_from given) recording span
-  ExportsFolder (Unopened fault) = written ≡ contents
-  ExportsFolder ending = FailsToCapture (life_from given) recording span ending × (written ≡ contents)
+  abbrev pub ExportsFolder : Option Life → Ending → Type 0
+  ExportsFolder (Some new) Done = HasCaptured (life_from given) new recording span × Appends contents written (codes "exported\n")
+  ExportsFolder (Some new) (Cut ends.Write) = HasCaptured (life_from given) new recording span
+  ExportsFolder (Some new) ending = FailsToCapture (life_from given) new recording span ending × (written ≡ contents)
+  ExportsFolder None (Unopened fault) = written ≡ contents
+  ExportsFolder None ending = ⊥

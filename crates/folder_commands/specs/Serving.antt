@@ -130,19 +130,22 @@ segment_reason (stream ∷ streams) = SegmentLength
 
 -- ---- the server
 
--- How a server over a disk ends, a strict one or one that is not: by a line that quits, or early. A strict one ends so exactly if
--- its archive could record something then; else it ends by what that is.
-abbrev pub ServesOver : Bool → Life → Ending → Type 0
-ServesOver strict old Done = (new : Life) × IsServedAs strict old new None
-ServesOver strict old (Stuck stop) = (new : Life) × IsServedAs strict old new (Some stop)
-ServesOver strict old (Cut end) = (new : Life) × IsServedUpTo old new end
-ServesOver strict old ending = ⊥
+-- How a server over a disk ends, a strict one or one that is not, and what it leaves: by a line that quits, or early. A strict one
+-- ends so exactly if its archive could record something then; else it ends by what that is.
+abbrev pub ServesOver : Bool → Life → Life → Ending → Type 0
+ServesOver strict old new Done = IsServedAs strict old new None
+ServesOver strict old new (Stuck stop) = IsServedAs strict old new (Some stop)
+ServesOver strict old new (Cut end) = IsServedUpTo old new end
+ServesOver strict old new ending = ⊥
 
 -- `serve` over the archive of a folder with these files. If its words are wrong, it ends by that, and then alone; else a port
--- is not bound, the folder is not opened, or it is served. A strict server opens no archive whose catalogue may hide entries.
-abbrev pub ServesFolder : Given → ServeWords → Ending → Type 0
-ServesFolder given words (NoCommand kind) = (kind ≡ ValueValidation) × AreWrong words
-ServesFolder given words (Failed fault) = AreWrong words → ⊥
-ServesFolder given words (Unopened fault) = AreWrong words → ⊥
-ServesFolder given words Hidden = (AreWrong words → ⊥) × IsTrue words.is_strict × MayHideEntries given
-ServesFolder given words ending = (AreWrong words → ⊥) × ServesOver words.is_strict (life_from given) ending
+-- is not bound, or the folder is not opened, and nothing is left; or it is served. A strict server opens no archive whose
+-- catalogue may hide entries, and leaves the folder as it was.
+abbrev pub ServesFolder : Given → ServeWords → Option Life → Ending → Type 0
+ServesFolder given words None (NoCommand kind) = (kind ≡ ValueValidation) × AreWrong words
+ServesFolder given words None (Failed fault) = AreWrong words → ⊥
+ServesFolder given words None (Unopened fault) = AreWrong words → ⊥
+ServesFolder given words None ending = ⊥
+ServesFolder given words (Some new) Hidden =
+    (AreWrong words → ⊥) × IsTrue words.is_strict × MayHideEntries given × (new ≡ life_from given)
+ServesFolder given words (Some new) ending = (AreWrong words → ⊥) × ServesOver words.is_strict (life_from given) new ending

@@ -4,9 +4,10 @@ ghost use Rattle.std.specs.Prelude.{◌≡◌, map, string_bytes};
 ghost use Rattle.clap.specs.Words.{kind_of};
 ghost use Rattle.host_disk.specs.Events.{Given};
 ghost use Rattle.folder_commands.specs.Answering.{AnswersWords, TellsKind};
+ghost use Rattle.folder_commands.specs.Left.{left_life};
 
 use crate::commands::obeyed;
-use crate::outcome::Ended;
+use crate::outcome::{Ended, Outcome};
 use crate::status::Ending;
 use crate::telling::told;
 use clap::Error;
@@ -18,20 +19,21 @@ use std::rt::Clock;
 use std::sync::Wait;
 use std::thread::Threads;
 
-/// Does what the words of a command line ask for, the program's name first, and answers how that ended; of words that ask for no
-/// command it tells on standard error what is wrong with them, or on standard output the help that they ask for. What a command
+/// Does what the words of a command line ask for, the program's name first, and answers how that ended, and what it left; of words
+/// that ask for no command it tells on standard error what is wrong with them, or on standard output the help that they ask for. What a command
 /// writes goes to a writer, and is handed on; the control lines of `run` come from an input.
 pub fn answered<
     R: Threads + Wait + Clock + Eprint + Net<Listener = TcpListener, Stream = TcpStream> + Sync,
     I: Read + Drop,
     W: Write,
->(net: &R, rt: HostRuntime, words: &[String], input: I, writer: &mut W) -> Ended
+>(net: &R, rt: HostRuntime, words: &[String], input: I, writer: &mut W) -> Outcome
     ghost given: { Given }
-    ensures { AnswersWords given (map string_bytes words.now) (I.remaining input) (W.contents writer.old) (W.contents writer.new) result.ending }
+    ensures { AnswersWords given (map string_bytes words.now) (I.remaining input) (W.contents writer.old) (W.contents writer.new)
+        (left_life result.left) result.ended.ending }
 {
     match command_of(rt.alloc(), words) {
         Ok(command) => obeyed(net, rt, &command, input, writer),
-        Err(error) => no_command(rt, &error),
+        Err(error) => Outcome::from(no_command(rt, &error)),
     }
 }
 

@@ -1,18 +1,20 @@
 //! A capture file of frames of a recording: written beside its place, synced, and then named. docs/CONTROL.md, "Exporting
 //! frames".
 
-ghost use Rattle.std.specs.Prelude.{◌≡◌, IfErr, IfOk};
+ghost use Rattle.std.specs.Prelude.{◌≡◌, IfErr, IfOk, IsSomeAnd, MatchResult, Some, codes};
+ghost use Rattle.std.specs.Io.KnownBytes.{Appends};
 ghost use Rattle.frame_core.specs.declared.refusal.Refusal.TheVariants.{DeviceFault};
 ghost use Rattle.host_disk.specs.Events.{Given};
 ghost use Rattle.host_disk.specs.ReadFolder.{folder_life};
 ghost use Rattle.tool_core.specs.declared.fault.EarlyEnd.TheVariants.{Memory};
 ghost use Rattle.folder_commands.specs.declared.status.Ending.TheVariants.{Cut, Refused};
-ghost use Rattle.folder_commands.specs.Folders.{ending_in};
+ghost use Rattle.folder_commands.specs.Left.{ends_with, leaves, left_life};
 ghost use Rattle.folder_commands.specs.Looking.{ExportsFolder, FailsToCapture, HasCaptured, IsUncaptured, uncaptured_ending};
 
 use crate::commands::{opening_of, sync_name};
-use crate::looking::{folder_of, stopped};
-use crate::outcome::Ended;
+use crate::looking::folder_of;
+use crate::open_folder::{closed, stopped};
+use crate::outcome::{Ended, Left, Outcome};
 use crate::outlet::Outlet;
 use crate::reason::Reason;
 use crate::status::Ending;
@@ -47,26 +49,47 @@ pub(crate) fn export<W: Write>(
     span: &Span,
     pcap: Path<'_>,
     writer: &mut W,
-) -> Result<(), Ended>
+) -> Result<Left, Outcome>
     ghost given: { Given }
-    ensures { ExportsFolder given recording.now span.now (W.contents writer.old) (W.contents writer.new) (ending_in result) }
+    ensures { ExportsFolder given recording.now span.now (W.contents writer.old) (W.contents writer.new) (leaves result) (ends_with result) }
 {
     let screen = Screen::new(&rt);
     let extent = Extent::unknown();
     let disk = folder_of(rt, folder)?;
-    keep_apart(rt, folder, pcap)?;
-    let disk = Watched::new(
-        disk,
-        (opening_of(&rt, &screen), progress_of(&rt, &screen, &extent)),
-    );
+    let part = match part_outside(rt, folder, pcap) {
+        Ok(part) => part,
+        Err(ended) => return Err(Outcome {
+            ended,
+            left: Some(disk.close()),
+        }),
+    };
+    let viewer = (opening_of(&rt, &screen), progress_of(&rt, &screen, &extent));
+    let disk = Watched::new(disk, viewer);
     let mut teller = ExportTeller::new(&screen, span, &extent);
-    let captured = captured(rt, disk, recording, span, pcap.as_str(), &mut teller);
+    let captured = captured(rt, disk, recording, span, &part, pcap.as_str(), &mut teller);
     screen.clear();
-    captured?;
+    let left = captured?;
+    Outcome::leaving(exported(writer), left)
+}
+
+/// Says that frames were exported.
+fn exported<W: Write>(writer: &mut W) -> Result<(), Ended>
+    ensures { MatchResult result
+        (λ _. Appends (W.contents writer.old) (W.contents writer.new) (codes "exported\n"))
+        (λ ended. ended.ending ≡ Cut EarlyEnd.Write) }
+{
     match writer.write_all(b"exported\n") {
         Ok(()) => Ok(()),
         Err(_) => Err(Ended::from(EarlyEnd::Write)),
     }
+}
+
+/// A file next to a place that is not in a folder. Refused if it is in there.
+fn part_outside(rt: HostRuntime, folder: Path<'_>, pcap: Path<'_>) -> Result<Part, Ended>
+    ensures { IfErr result (λ ended. IsUncaptured ended.ending) }
+{
+    keep_apart(rt, folder, pcap)?;
+    made(rt, pcap.as_str())
 }
 
 /// Refuses a place for a file in an archive's folder, where it could take the name of one of the archive's own.
@@ -93,30 +116,52 @@ fn is_in(rt: HostRuntime, folder: Path<'_>, file: Path<'_>) -> io::Result<bool> 
     Ok(fs::canonicalize(&rt, above)? == fs::canonicalize(&rt, folder)?)
 }
 
-/// Makes a file, writes the frames into it, syncs and names it. What was made of it goes where that fails.
+/// Writes the frames into a file that was made, and names it. It is removed where that fails.
 fn captured<V: Viewer<ReadFolder> + Drop>(
     rt: HostRuntime,
     disk: Watched<ReadFolder, V>,
     recording: &i64,
     span: &Span,
+    part: &Part,
     pcap: &str,
     teller: &mut ExportTeller<'_, HostRuntime>,
-) -> Result<(), Ended>
-    ensures done { IfOk result (λ done. HasCaptured (folder_life disk.disk) recording.now span.now) }
-    ensures failed { IfErr result (λ ended. FailsToCapture (folder_life disk.disk) recording.now span.now ended.ending) }
+) -> Result<Left, Outcome>
+    ensures done { IfOk result (λ left. IsSomeAnd (left_life left) (λ new.
+        HasCaptured (folder_life disk.disk) new recording.now span.now)) }
+    ensures failed { IfErr result (λ outcome. IsSomeAnd (left_life outcome.left) (λ new.
+        FailsToCapture (folder_life disk.disk) new recording.now span.now outcome.ended.ending)) }
 {
-    let Part { name, file } = made(rt, pcap)?;
-    let written = match written(rt, disk, recording, span, &file, teller) {
-        Ok(()) => named(rt, &file, name.as_str(), pcap),
-        Err(ended) => Err(ended),
-    };
-    if let Err(ended) = written {
-        let _ = fs::remove_file(&rt, name.as_str());
-        return Err(ended);
+    match placed(rt, disk, recording, span, part, pcap, teller) {
+        Ok(left) => match synced(rt, pcap) {
+            Ok(()) => Ok(left),
+            Err(ended) => Err(Outcome { ended, left }),
+        },
+        Err(outcome) => {
+            let _ = fs::remove_file(&rt, part.name.as_str());
+            Err(outcome)
+        }
     }
-    match sync_name(rt, pcap) {
-        Ok(()) => Ok(()),
-        Err(error) => Err(unwritten(Some(error))),
+}
+
+/// Writes the frames into a file, syncs it and gives it its name.
+fn placed<V: Viewer<ReadFolder> + Drop>(
+    rt: HostRuntime,
+    disk: Watched<ReadFolder, V>,
+    recording: &i64,
+    span: &Span,
+    part: &Part,
+    pcap: &str,
+    teller: &mut ExportTeller<'_, HostRuntime>,
+) -> Result<Left, Outcome>
+    ensures done { IfOk result (λ left. IsSomeAnd (left_life left) (λ new.
+        HasCaptured (folder_life disk.disk) new recording.now span.now)) }
+    ensures failed { IfErr result (λ outcome. IsSomeAnd (left_life outcome.left) (λ new.
+        FailsToCapture (folder_life disk.disk) new recording.now span.now outcome.ended.ending)) }
+{
+    let left = written(rt, disk, recording, span, &part.file, teller)?;
+    match named(rt, part, pcap) {
+        Ok(()) => Ok(left),
+        Err(ended) => Err(Outcome { ended, left }),
     }
 }
 
@@ -159,19 +204,28 @@ fn written<V: Viewer<ReadFolder> + Drop>(
     span: &Span,
     file: &File,
     teller: &mut ExportTeller<'_, HostRuntime>,
-) -> Result<(), Ended>
-    ensures done { IfOk result (λ done. HasCaptured (folder_life disk.disk) recording.now span.now) }
-    ensures failed { IfErr result (λ ended. FailsToCapture (folder_life disk.disk) recording.now span.now ended.ending) }
+) -> Result<Left, Outcome>
+    ensures done { IfOk result (λ left. IsSomeAnd (left_life left) (λ new.
+        HasCaptured (folder_life disk.disk) new recording.now span.now)) }
+    ensures failed { IfErr result (λ outcome. IsSomeAnd (left_life outcome.left) (λ new.
+        FailsToCapture (folder_life disk.disk) new recording.now span.now outcome.ended.ending)) }
 {
     let Ok(mut out) = BufWriter::with_capacity(rt.alloc(), BUFFER, Outlet::new(file)) else {
-        return Err(Ended::from(EarlyEnd::Memory));
+        return Err(Outcome {
+            ended: Ended::from(EarlyEnd::Memory),
+            left: closed(disk),
+        });
     };
-    if let Err(fault) = export_view(rt.alloc(), disk, recording, span, &mut out, teller) {
-        return Err(uncaptured(fault, out.get_ref().fault()));
-    }
+    let left = match export_view(rt.alloc(), disk, recording, span, &mut out, teller) {
+        Ok(disk) => closed(disk),
+        Err(fault) => return Err(uncaptured(fault, out.get_ref().fault())),
+    };
     match out.flush() {
-        Ok(()) => Ok(()),
-        Err(_) => Err(unwritten(out.get_ref().fault())),
+        Ok(()) => Ok(left),
+        Err(_) => Err(Outcome {
+            ended: unwritten(out.get_ref().fault()),
+            left,
+        }),
     }
 }
 
@@ -179,23 +233,37 @@ fn written<V: Viewer<ReadFolder> + Drop>(
 fn uncaptured<V: Drop>(
     fault: CommandFault<Watched<ReadFolder, V>>,
     told: Option<io::Error>,
-) -> Ended
-    ensures { result.ending ≡ uncaptured_ending fault.why }
+) -> Outcome
+    ensures ending { result.ended.ending ≡ uncaptured_ending fault.why }
+    ensures left { left_life result.left ≡ Some (folder_life fault.disk.disk) }
 {
     match fault.why {
-        Stopped::Cut(EarlyEnd::Write) => unwritten(told),
+        Stopped::Cut(EarlyEnd::Write) => Outcome {
+            ended: unwritten(told),
+            left: closed(fault.disk),
+        },
         _ => stopped(fault),
     }
 }
 
 /// Syncs a file and gives it its name.
-fn named(rt: HostRuntime, file: &File, part: &str, pcap: &str) -> Result<(), Ended>
+fn named(rt: HostRuntime, part: &Part, pcap: &str) -> Result<(), Ended>
     ensures { IfErr result (λ ended. ended.ending ≡ Refused DeviceFault) }
 {
-    if let Err(error) = file.sync_all() {
+    if let Err(error) = part.file.sync_all() {
         return Err(unwritten(Some(error)));
     }
-    match fs::rename(&rt, part, pcap) {
+    match fs::rename(&rt, part.name.as_str(), pcap) {
+        Ok(()) => Ok(()),
+        Err(error) => Err(unwritten(Some(error))),
+    }
+}
+
+/// Syncs the name of a file.
+fn synced(rt: HostRuntime, pcap: &str) -> Result<(), Ended>
+    ensures { IfErr result (λ ended. ended.ending ≡ Refused DeviceFault) }
+{
+    match sync_name(rt, pcap) {
         Ok(()) => Ok(()),
         Err(error) => Err(unwritten(Some(error))),
     }

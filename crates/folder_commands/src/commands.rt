@@ -1,28 +1,32 @@
 //! What the program's commands do. docs/CONTROL.md, "The program".
 
-ghost use Rattle.std.specs.Prelude.{◌≡◌, IfErr, IfOk};
+ghost use Rattle.std.specs.Prelude.{◌≡◌, IfErr, IfOk, Some, true, false};
 ghost use Rattle.disk_core.specs.Life.{IsQuiet};
 ghost use Rattle.host_disk.specs.Events.{Given};
 ghost use Rattle.host_disk.specs.HostDisk.{host_life};
 ghost use Rattle.host_disk.specs.Replay.{life_from};
 ghost use Rattle.folder_commands.specs.Folders.{CompactsFolder, IsUnopenedFolder, ListsFile, ListsFolder, ListsFrames, MakesArchive, RunsFolder, RunsInMemory, RunsOver, VerifiesFolder, ending_by, ending_in};
+ghost use Rattle.folder_commands.specs.Left.{ends_with, leaves, left_life};
+ghost use Rattle.folder_commands.specs.Looking.{ListsAsItStands, VerifiesAsItStands};
 ghost use Rattle.folder_commands.specs.Obeying.{HasObeyed, Obeys};
 ghost use Rattle.folder_commands.specs.Status.{ending_of};
 
 use crate::asking::ask;
+use crate::capture::export;
 use crate::hidden::warns_of_hidden;
-use crate::outcome::Ended;
+use crate::looking::{describe, list_read_only, verify_read_only};
+use crate::open_folder::{closed, stopped};
+use crate::outcome::{Ended, Left, Outcome};
 use crate::reason::Reason;
 use crate::serving::serve;
 use crate::status::Ending;
 use crate::teller::{FaultTeller, OpeningTeller, ScriptTeller, StartTeller, VerifyTeller};
-use crate::{capture, looking};
 use archive_export::Span;
 use command_line::ToolCommand;
 use disk_core::{Disk, MemoryDisk};
 use frame_core::Refusal;
 use frame_core::limits::MAX_HISTORY;
-use host_disk::HostDisk;
+use host_disk::{HostDisk, LastFault};
 use std::alloc::Global;
 use std::fs::{self, File};
 use std::io::{self, Eprint, IsTerminal, Read, Write};
@@ -37,18 +41,23 @@ use tool_core::{
     run_script, verify_archive,
 };
 
-/// Does what a command asks for, hands on what it writes, and answers how that ended. The control lines of `run` come from an
-/// input. Threads and sockets of `serve` are made by the handle, folders and files opened by the runtime.
+/// Does what a command asks for, hands on what it writes, and answers how that ended, and what it left of its folder. The control
+/// lines of `run` come from an input. Threads and sockets of `serve` are made by the handle, folders and files opened by the
+/// runtime.
 pub fn obeyed<
     R: Threads + Wait + Clock + Eprint + Net<Listener = TcpListener, Stream = TcpStream> + Sync,
     I: Read + Drop,
     W: Write,
->(net: &R, rt: HostRuntime, command: &ToolCommand<'_>, input: I, writer: &mut W) -> Ended
+>(net: &R, rt: HostRuntime, command: &ToolCommand<'_>, input: I, writer: &mut W) -> Outcome
     ghost given: { Given }
-    ensures { HasObeyed given (I.remaining input) (W.contents writer.old) (W.contents writer.new) command.now result.ending }
+    ensures { HasObeyed given (I.remaining input) (W.contents writer.old) (W.contents writer.new) command.now
+        (left_life result.left) result.ended.ending }
 {
-    let ended = Ended::of(obey(net, rt, command, input, writer));
-    ended.handed_on(writer.flush().is_ok())
+    let Outcome { ended, left } = Outcome::of(obey(net, rt, command, input, writer));
+    Outcome {
+        ended: ended.handed_on(writer.flush().is_ok()),
+        left,
+    }
 }
 
 /// Does what a command asks for. The control lines of `run` come from an input.
@@ -62,40 +71,25 @@ fn obey<
     command: &ToolCommand<'_>,
     input: I,
     writer: &mut W,
-) -> Result<(), Ended>
+) -> Result<Left, Outcome>
     ghost given: { Given }
-    ensures { Obeys given (I.remaining input) (W.contents writer.old) (W.contents writer.new) command.now (ending_in result) }
+    ensures { Obeys given (I.remaining input) (W.contents writer.old) (W.contents writer.new) command.now (leaves result) (ends_with result) }
 {
     match command {
         ToolCommand::Serve(words) => serve(net, rt, words),
         ToolCommand::Create { folder, history } => create(rt, Path::new(folder), *history, writer),
         ToolCommand::Compact { folder } => compact(rt, Path::new(folder), writer),
-        ToolCommand::Run { folder: None } => run_in_memory(rt, input, writer),
+        ToolCommand::Run { folder: None } => {
+            Outcome::leaving(run_in_memory(rt, input, writer), None)
+        }
         ToolCommand::Run {
             folder: Some(folder),
         } => run(rt, Path::new(folder), input, writer),
-        ToolCommand::List {
-            folder,
-            read_only: false,
-        } => list(rt, Path::new(folder), writer),
-        ToolCommand::List {
-            folder,
-            read_only: true,
-        } => looking::list_read_only(rt, Path::new(folder), writer),
-        ToolCommand::Verify {
-            folder,
-            read_only: false,
-        } => verify(rt, Path::new(folder), writer),
-        ToolCommand::Verify {
-            folder,
-            read_only: true,
-        } => looking::verify_read_only(rt, Path::new(folder), writer),
-        ToolCommand::Describe { folder, json } => looking::describe(
-            rt,
-            Path::new(folder),
-            *json,
-            writer,
-        ),
+        ToolCommand::List { folder, read_only } => list(rt, Path::new(folder), *read_only, writer),
+        ToolCommand::Verify { folder, read_only } => {
+            verify(rt, Path::new(folder), *read_only, writer)
+        }
+        ToolCommand::Describe { folder, json } => describe(rt, Path::new(folder), *json, writer),
         ToolCommand::Export {
             folder,
             recording,
@@ -103,21 +97,12 @@ fn obey<
             to,
             pcap,
         } => {
-            let span = Span {
-                from: *from,
-                to: *to,
-            };
-            capture::export(
-                rt,
-                Path::new(folder),
-                recording,
-                &span,
-                Path::new(pcap),
-                writer,
-            )
+            let (folder, pcap) = (Path::new(folder), Path::new(pcap));
+            let (from, to) = (*from, *to);
+            export(rt, folder, recording, &Span { from, to }, pcap, writer)
         }
-        ToolCommand::Frames { file } => frames(rt, file, writer),
-        ToolCommand::Ask(words) => ask(net, rt, words, writer),
+        ToolCommand::Frames { file } => Outcome::leaving(frames(rt, file, writer), None),
+        ToolCommand::Ask(words) => Outcome::leaving(ask(net, rt, words, writer), None),
     }
 }
 
@@ -127,28 +112,31 @@ fn create<W: Write>(
     folder: Path<'_>,
     history: u32,
     writer: &mut W,
-) -> Result<(), Ended>
+) -> Result<Left, Outcome>
     ghost given: { Given }
-    ensures { MakesArchive given history (W.contents writer.old) (W.contents writer.new) (ending_in result) }
+    ensures { MakesArchive given history (W.contents writer.old) (W.contents writer.new) (leaves result) (ends_with result) }
 {
     if let Err(error) = make_folder(rt, folder.as_str()) {
-        return Err(Ended {
+        return Err(Outcome::from(Ended {
             ending: Ending::Refused(Refusal::DeviceFault),
             reason: Reason::NewFolder(error),
-        });
+        }));
     }
     match create_archive(rt.alloc(), disk_of(rt, folder)?, history, writer) {
-        Ok(_) => Ok(()),
-        Err(fault) => Err(unmade(&fault, history)),
+        Ok(disk) => Ok(Some(disk.close())),
+        Err(CommandFault { why, disk }) => Err(Outcome {
+            ended: unmade(why, disk.last_fault(), history),
+            left: Some(disk.close()),
+        }),
     }
 }
 
-/// Why no archive was made on a disk, with this limit of its history, or was not told to be.
-fn unmade(fault: &CommandFault<HostDisk>, history: u32) -> Ended
-    ensures { result.ending ≡ ending_of fault.now.why }
+/// Why no archive was made on a disk whose last fault was this one, with this limit of its history, or was not told to be.
+fn unmade(why: Stopped, fault: Option<LastFault>, history: u32) -> Ended
+    ensures { result.ending ≡ ending_of why }
 {
-    if fault.why != Stopped::Refused(Refusal::BadParameter) {
-        return Ended::stopped(fault.why, fault.disk.last_fault());
+    if why != Stopped::Refused(Refusal::BadParameter) {
+        return Ended::stopped(why, fault);
     }
     Ended {
         ending: Ending::Refused(Refusal::BadParameter),
@@ -192,13 +180,14 @@ fn run_in_memory<I: Read + Drop, W: Write>(
     ensures { RunsInMemory (I.remaining input) (W.contents writer.old) (W.contents writer.new) (ending_in result) }
 {
     let screen = Screen::new(&rt);
-    run_over(
+    let (_, done) = run_over(
         rt.alloc(),
         input,
         writer,
         MemoryDisk::new(rt.alloc()),
         &mut StartTeller::new(rt.alloc(), &screen),
-    )
+    );
+    done
 }
 
 /// Answers the control lines of an input, over the archive of a folder. Before that is opened it is told on standard error if
@@ -208,87 +197,140 @@ fn run<I: Read + Drop, W: Write>(
     folder: Path<'_>,
     input: I,
     writer: &mut W,
-) -> Result<(), Ended>
+) -> Result<Left, Outcome>
     ghost given: { Given }
-    ensures { RunsFolder given (I.remaining input) (W.contents writer.old) (W.contents writer.new) (ending_in result) }
+    ensures { RunsFolder given (I.remaining input) (W.contents writer.old) (W.contents writer.new) (leaves result) (ends_with result) }
 {
     let screen = Screen::new(&rt);
     let faults = FaultTeller::new(rt.alloc(), &screen, Stage::Opening);
     let viewer = (faults, opening_of(&rt, &screen));
     let disk = Watched::new(disk_of(rt, folder)?, viewer);
     let _ = warns_of_hidden(rt, folder, &screen);
-    run_over(
+    let (disk, done) = run_over(
         rt.alloc(),
         input,
         writer,
         disk,
         &mut ScriptTeller::new(rt.alloc(), &screen),
-    )
+    );
+    Outcome::leaving(done, closed(disk))
 }
 
-/// Answers the control lines of an input, over the archive of a disk.
-fn run_over<I: Read + Drop, W: Write, D: Disk + Drop, O: Observer>(
+/// Answers the control lines of an input, over the archive of a disk, which comes back.
+fn run_over<I: Read + Drop, W: Write, D: Disk, O: Observer>(
     alloc: Global,
     input: I,
     writer: &mut W,
     disk: D,
     observer: &mut O,
-) -> Result<(), Ended>
-    ensures { RunsOver (D.life disk) (I.remaining input) (W.contents writer.old) (W.contents writer.new) (ending_in result) }
+) -> (D, Result<(), Ended>)
+    ensures { RunsOver (D.life disk) (I.remaining input) (W.contents writer.old) (W.contents writer.new) (D.life result.0) (ending_in result.1) }
 {
     match run_script(alloc, input, writer, disk, observer) {
-        Ok(_) => Ok(()),
-        Err(fault) => Err(Ended::cut(fault.end(), Reason::Input)),
+        Ok(disk) => (disk, Ok(())),
+        Err(fault) => {
+            let (disk, ended) = Ended::cut_off(fault, Reason::Input);
+            (disk, Err(ended))
+        }
     }
 }
 
 /// Writes the catalogue of the archive in a folder anew.
-fn compact<W: Write>(rt: HostRuntime, folder: Path<'_>, writer: &mut W) -> Result<(), Ended>
+fn compact<W: Write>(rt: HostRuntime, folder: Path<'_>, writer: &mut W) -> Result<Left, Outcome>
     ghost given: { Given }
-    ensures { CompactsFolder given (W.contents writer.old) (W.contents writer.new) (ending_in result) }
+    ensures { CompactsFolder given (W.contents writer.old) (W.contents writer.new) (leaves result) (ends_with result) }
 {
     let screen = Screen::new(&rt);
     let disk = Watched::new(disk_of(rt, folder)?, opening_of(&rt, &screen));
     let _ = warns_of_hidden(rt, folder, &screen);
     match compact_archive(rt.alloc(), disk, writer, &mut OpeningTeller::new(&screen)) {
-        Ok(_) => Ok(()),
+        Ok(compacted) => Ok(closed(compacted)),
         Err(fault) => Err(uncompacted(fault)),
     }
 }
 
-/// Why the archive of a watched disk was not compacted, or was not told to be.
-fn uncompacted<V: Drop>(fault: CommandFault<Watched<HostDisk, V>>) -> Ended
-    ensures { result.ending ≡ ending_of fault.why }
+/// Why the archive of a watched disk was not compacted, or was not told to be. The disk is closed.
+fn uncompacted<V: Drop>(fault: CommandFault<Watched<HostDisk, V>>) -> Outcome
+    ensures ending { result.ended.ending ≡ ending_of fault.why }
+    ensures left { left_life result.left ≡ Some (host_life fault.disk.disk) }
 {
     if fault.why != Stopped::Refused(Refusal::NotCatalogue) {
         return stopped(fault);
     }
-    Ended {
-        ending: Ending::Refused(Refusal::NotCatalogue),
-        reason: Reason::NoSpare,
+    Outcome {
+        ended: Ended {
+            ending: Ending::Refused(Refusal::NotCatalogue),
+            reason: Reason::NoSpare,
+        },
+        left: closed(fault.disk),
+    }
+}
+
+/// Writes the recordings of the archive in a folder, which is opened, or only looked at.
+fn list<W: Write>(
+    rt: HostRuntime,
+    folder: Path<'_>,
+    read_only: bool,
+    writer: &mut W,
+) -> Result<Left, Outcome>
+    ghost given: { Given }
+    ensures opened { read_only ≡ false →
+        ListsFolder given (W.contents writer.old) (W.contents writer.new) (leaves result) (ends_with result) }
+    ensures seen { read_only ≡ true →
+        ListsAsItStands given (W.contents writer.old) (W.contents writer.new) (leaves result) (ends_with result) }
+{
+    if read_only {
+        list_read_only(rt, folder, writer)
+    } else {
+        list_opened(rt, folder, writer)
     }
 }
 
 /// Writes the recordings of the archive in a folder.
-fn list<W: Write>(rt: HostRuntime, folder: Path<'_>, writer: &mut W) -> Result<(), Ended>
+fn list_opened<W: Write>(rt: HostRuntime, folder: Path<'_>, writer: &mut W) -> Result<Left, Outcome>
     ghost given: { Given }
-    ensures { ListsFolder given (W.contents writer.old) (W.contents writer.new) (ending_in result) }
+    ensures { ListsFolder given (W.contents writer.old) (W.contents writer.new) (leaves result) (ends_with result) }
 {
     let screen = Screen::new(&rt);
     let disk = Watched::new(disk_of(rt, folder)?, opening_of(&rt, &screen));
     let _ = warns_of_hidden(rt, folder, &screen);
     match list_archive(rt.alloc(), disk, writer, &mut OpeningTeller::new(&screen)) {
-        Ok(_) => Ok(()),
+        Ok(disk) => Ok(closed(disk)),
         Err(fault) => Err(stopped(fault)),
+    }
+}
+
+/// Reads each recorded frame of the archive in a folder, which is opened, or only looked at, and writes what was found of each
+/// recording.
+fn verify<W: Write>(
+    rt: HostRuntime,
+    folder: Path<'_>,
+    read_only: bool,
+    writer: &mut W,
+) -> Result<Left, Outcome>
+    ghost given: { Given }
+    ensures opened { read_only ≡ false →
+        VerifiesFolder given (W.contents writer.old) (W.contents writer.new) (leaves result) (ends_with result) }
+    ensures seen { read_only ≡ true →
+        VerifiesAsItStands given (W.contents writer.old) (W.contents writer.new) (leaves result) (ends_with result) }
+{
+    if read_only {
+        verify_read_only(rt, folder, writer)
+    } else {
+        verify_opened(rt, folder, writer)
     }
 }
 
 /// Reads each recorded frame of the archive in a folder, and writes what was found of each recording. How far it has come
 /// is shown on standard error, where that is a terminal, and what it found in all is told there; before the archive is opened,
 /// also if its catalogue may hide entries.
-fn verify<W: Write>(rt: HostRuntime, folder: Path<'_>, writer: &mut W) -> Result<(), Ended>
+fn verify_opened<W: Write>(
+    rt: HostRuntime,
+    folder: Path<'_>,
+    writer: &mut W,
+) -> Result<Left, Outcome>
     ghost given: { Given }
-    ensures { VerifiesFolder given (W.contents writer.old) (W.contents writer.new) (ending_in result) }
+    ensures { VerifiesFolder given (W.contents writer.old) (W.contents writer.new) (leaves result) (ends_with result) }
 {
     let screen = Screen::new(&rt);
     let mut disk = disk_of(rt, folder)?;
@@ -298,9 +340,9 @@ fn verify<W: Write>(rt: HostRuntime, folder: Path<'_>, writer: &mut W) -> Result
     let disk = Watched::new(disk, (faults, (opening_of(&rt, &screen), progress)));
     let mut teller = VerifyTeller::new(&screen);
     match verify_archive(rt.alloc(), disk, writer, &mut teller) {
-        Ok(found) => {
+        Ok((disk, verdict)) => {
             teller.finish();
-            judged(found.1)
+            Outcome::leaving(judged(verdict), closed(disk))
         }
         Err(fault) => {
             screen.clear();
@@ -382,13 +424,4 @@ pub(crate) fn progress_of<'a, D: Disk>(
     } else {
         None
     }
-}
-
-/// Why a command over a watched disk ended before it was done.
-fn stopped<V: Drop>(fault: CommandFault<Watched<HostDisk, V>>) -> Ended
-    ensures { result.ending ≡ ending_of fault.why }
-{
-    let CommandFault { why, disk } = fault;
-    let (disk, _) = disk.into_parts();
-    Ended::stopped(why, disk.last_fault())
 }

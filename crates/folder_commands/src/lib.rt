@@ -7,6 +7,7 @@ mod capture;
 mod commands;
 mod hidden;
 mod looking;
+mod open_folder;
 mod outcome;
 mod outlet;
 mod reason;
@@ -19,7 +20,7 @@ mod told_words;
 
 pub use answering::{answered, no_command};
 pub use commands::obeyed;
-pub use outcome::Ended;
+pub use outcome::{Ended, Left, Outcome};
 pub use outlet::Outlet;
 pub use reason::Reason;
 pub use status::Ending;

@@ -5,12 +5,13 @@ ghost use Rattle.host_disk.specs.Events.{Given};
 ghost use Rattle.host_disk.specs.ReadFolder.{folder_life};
 ghost use Rattle.host_disk.specs.Replay.{life_from};
 ghost use Rattle.folder_commands.specs.Folders.{IsUnopenedFolder, ending_by, ending_in};
+ghost use Rattle.folder_commands.specs.Left.{ends_with, leaves};
 ghost use Rattle.folder_commands.specs.Looking.{DescribesFolder, ListsAsItStands, VerifiesAsItStands};
-ghost use Rattle.folder_commands.specs.Status.{ending_of};
 
 use crate::commands::{opening_of, progress_of};
 use crate::hidden::{hidden_place, still_hidden_place};
-use crate::outcome::Ended;
+use crate::open_folder::{closed, stopped};
+use crate::outcome::{Ended, Left, Outcome};
 use crate::reason::Reason;
 use crate::status::Ending;
 use crate::teller::{FaultTeller, OpeningTeller, VerifyTeller};
@@ -18,21 +19,21 @@ use archive_report::{Finding, Form, describe_archive, list_view, verify_view};
 use host_disk::ReadFolder;
 use std::io::Write;
 use std::path::Path;
-use tool_core::{CommandFault, Screen, Stage, Verdict, Watched};
+use tool_core::{Screen, Stage, Verdict, Watched};
 
 /// Writes the recordings of the archive in a folder as it stands.
 pub(crate) fn list_read_only<W: Write>(
     rt: HostRuntime,
     folder: Path<'_>,
     writer: &mut W,
-) -> Result<(), Ended>
+) -> Result<Left, Outcome>
     ghost given: { Given }
-    ensures { ListsAsItStands given (W.contents writer.old) (W.contents writer.new) (ending_in result) }
+    ensures { ListsAsItStands given (W.contents writer.old) (W.contents writer.new) (leaves result) (ends_with result) }
 {
     let screen = Screen::new(&rt);
     let disk = Watched::new(folder_of(rt, folder)?, opening_of(&rt, &screen));
     match list_view(rt.alloc(), disk, writer, &mut OpeningTeller::new(&screen)) {
-        Ok(_) => Ok(()),
+        Ok(folder) => Ok(closed(folder)),
         Err(fault) => Err(stopped(fault)),
     }
 }
@@ -44,9 +45,9 @@ pub(crate) fn verify_read_only<W: Write>(
     rt: HostRuntime,
     folder: Path<'_>,
     writer: &mut W,
-) -> Result<(), Ended>
+) -> Result<Left, Outcome>
     ghost given: { Given }
-    ensures { VerifiesAsItStands given (W.contents writer.old) (W.contents writer.new) (ending_in result) }
+    ensures { VerifiesAsItStands given (W.contents writer.old) (W.contents writer.new) (leaves result) (ends_with result) }
 {
     let screen = Screen::new(&rt);
     let mut disk = folder_of(rt, folder)?;
@@ -55,9 +56,9 @@ pub(crate) fn verify_read_only<W: Write>(
     let disk = Watched::new(disk, (faults, (opening_of(&rt, &screen), progress)));
     let mut teller = VerifyTeller::new(&screen);
     match verify_view(rt.alloc(), disk, writer, &mut teller) {
-        Ok(found) => {
+        Ok((folder, finding)) => {
             teller.finish();
-            judged(found.1)
+            Outcome::leaving(judged(finding), closed(folder))
         }
         Err(fault) => {
             screen.clear();
@@ -90,9 +91,9 @@ pub(crate) fn describe<W: Write>(
     folder: Path<'_>,
     json: bool,
     writer: &mut W,
-) -> Result<(), Ended>
+) -> Result<Left, Outcome>
     ghost given: { Given }
-    ensures { DescribesFolder given (W.contents writer.old) (W.contents writer.new) (ending_in result) }
+    ensures { DescribesFolder given (W.contents writer.old) (W.contents writer.new) (leaves result) (ends_with result) }
 {
     let form = if json { Form::Json } else { Form::Page };
     let screen = Screen::new(&rt);
@@ -100,11 +101,11 @@ pub(crate) fn describe<W: Write>(
     let hidden = hidden_place(rt, folder);
     let mut teller = OpeningTeller::new(&screen);
     match describe_archive(rt.alloc(), disk, form, writer, &mut teller) {
-        Ok(_) => {
+        Ok(disk) => {
             if let Some(place) = still_hidden_place(rt, folder, hidden) {
                 screen.tell(place);
             }
-            Ok(())
+            Ok(closed(disk))
         }
         Err(fault) => Err(stopped(fault)),
     }
@@ -117,13 +118,4 @@ pub(crate) fn folder_of(rt: HostRuntime, folder: Path<'_>) -> Result<ReadFolder,
     ensures unopened { IfErr result (λ ended. IsUnopenedFolder ended.ending) }
 {
     Ok(ReadFolder::open(rt, rt.alloc(), folder)?)
-}
-
-/// Why a command over a watched folder that is only read ended before it was done.
-pub(crate) fn stopped<V: Drop>(fault: CommandFault<Watched<ReadFolder, V>>) -> Ended
-    ensures { result.ending ≡ ending_of fault.why }
-{
-    let CommandFault { why, disk } = fault;
-    let (disk, _) = disk.into_parts();
-    Ended::stopped(why, disk.last_fault())
 }

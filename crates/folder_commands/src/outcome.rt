@@ -1,16 +1,19 @@
 //! How a command ended, and why.
 
-ghost use Rattle.std.specs.Prelude.{◌≡◌};
+ghost use Rattle.std.specs.Prelude.{◌≡◌, None};
+ghost use Rattle.tool_core.specs.Archives.{disk_of, early_end_of};
 ghost use Rattle.folder_commands.specs.declared.status.Ending.TheVariants.{Cut, Unopened};
-ghost use Rattle.folder_commands.specs.Folders.{ending_in};
 ghost use Rattle.folder_commands.specs.Status.{ending_of, handed_on};
 
 use crate::reason::Reason;
 use crate::status::Ending;
 use frame_core::Refusal;
-use host_disk::{LastFault, OpenFault};
+use host_disk::{ClosedDisk, LastFault, OpenFault};
 use std::io;
-use tool_core::{EarlyEnd, Stopped};
+use tool_core::{EarlyEnd, ScriptFault, Stopped};
+
+/// What a command left of the folder that it opened: its life up to its closing, for clauses to tell of. None if it opened none.
+pub type Left = Option<ClosedDisk>;
 
 /// How a command ended, and why it did not do what it was asked for.
 #[derive(Clone, Copy)]
@@ -30,16 +33,6 @@ impl Ended {
         }
     }
 
-    /// It was done, or ended so.
-    pub(crate) fn of(outcome: Result<(), Ended>) -> Ended
-        ensures { result.ending ≡ ending_in outcome }
-    {
-        match outcome {
-            Ok(()) => Ended::told(Ending::Done),
-            Err(ended) => ended,
-        }
-    }
-
     /// Its file, or standard input or output, failed, or it found no memory.
     pub(crate) fn cut(end: EarlyEnd, read: Reason) -> Ended
         ensures { result.ending ≡ Cut end }
@@ -52,6 +45,19 @@ impl Ended {
                 EarlyEnd::Memory => Reason::Told,
             },
         }
+    }
+
+    /// A script, or a server, ended early by this fault; and the disk of its archive.
+    pub(crate) fn cut_off<D>(fault: ScriptFault<D>, read: Reason) -> (D, Ended)
+        ensures disk { result.0 ≡ disk_of fault }
+        ensures ending { result.1.ending ≡ Cut (early_end_of fault) }
+    {
+        let (end, disk) = match fault {
+            ScriptFault::Read(disk) => (EarlyEnd::Read, disk),
+            ScriptFault::Write(disk) => (EarlyEnd::Write, disk),
+            ScriptFault::Memory(disk) => (EarlyEnd::Memory, disk),
+        };
+        (disk, Ended::cut(end, read))
     }
 
     /// It was stopped so, over a disk whose last fault was this one.
@@ -115,5 +121,51 @@ impl From<OpenFault> for Ended {
             ending: Ending::Unopened(fault),
             reason: Reason::Folder(fault),
         }
+    }
+}
+
+/// How a command ended, and what it left of its folder.
+#[derive(Drop)]
+pub struct Outcome {
+    pub ended: Ended,
+    pub left: Left,
+}
+
+impl Outcome {
+    ghost use Rattle.folder_commands.specs.Folders.{ending_in};
+    ghost use Rattle.folder_commands.specs.Left.{ends_with, leaves, left_life};
+
+    /// How a command ended that answers so, and what it left.
+    pub(crate) fn of(answer: Result<Left, Outcome>) -> Outcome
+        ensures ending { result.ended.ending ≡ ends_with answer }
+        ensures left { left_life result.left ≡ leaves answer }
+    {
+        match answer {
+            Ok(left) => Outcome {
+                ended: Ended::told(Ending::Done),
+                left,
+            },
+            Err(outcome) => outcome,
+        }
+    }
+
+    /// What a command answers that was done, or ended so, and left this.
+    pub(crate) fn leaving(done: Result<(), Ended>, left: Left) -> Result<Left, Outcome>
+        ensures ending { ends_with result ≡ ending_in done }
+        ensures left { leaves result ≡ left_life left }
+    {
+        match done {
+            Ok(()) => Ok(left),
+            Err(ended) => Err(Outcome { ended, left }),
+        }
+    }
+}
+
+impl From<Ended> for Outcome {
+    ghost from_gives = { λ ended outcome. outcome ≡ record { ended = ended; left = None } };
+
+    /// It ended so without a folder.
+    fn from(ended: Ended) -> Self {
+        Outcome { ended, left: None }
     }
 }

@@ -7,11 +7,13 @@ ghost use Rattle.host_disk.specs.Events.{Given};
 ghost use Rattle.host_disk.specs.HostDisk.{host_life};
 ghost use Rattle.folder_commands.specs.declared.status.Ending.TheVariants.{NoCommand, Failed, Hidden, Stuck};
 ghost use Rattle.folder_commands.specs.Folders.{ending_in};
+ghost use Rattle.folder_commands.specs.Left.{ends_with, leaves};
 ghost use Rattle.folder_commands.specs.Serving.{AreOptions, HasBadOptions, HasBadSegments, HasBadStreams, HasBadWindow, HasNoEnds, HasSegments, HasWindow, IsAddressReason, IsNoAddress, IsReceiverWindow, IsSegmentLength, IsUnbound, RecordsStreams, ServesFolder, ServesOver, segment_reason, streams_reason, window_reason};
 
 use crate::commands::disk_of;
 use crate::hidden::warns_of_hidden;
-use crate::outcome::Ended;
+use crate::open_folder::closed;
+use crate::outcome::{Ended, Left, Outcome};
 use crate::reason::Reason;
 use crate::reporting::{MetricsFile, ServeFaults, ServeTeller};
 use crate::status::Ending;
@@ -46,21 +48,25 @@ struct Ports {
 /// strict server does not open it then.
 pub(crate) fn serve<
     R: Threads + Wait + Clock + Eprint + Net<Listener = TcpListener, Stream = TcpStream> + Sync,
->(net: &R, rt: HostRuntime, words: &ServeWords<'_>) -> Result<(), Ended>
+>(net: &R, rt: HostRuntime, words: &ServeWords<'_>) -> Result<Left, Outcome>
     ghost given: { Given }
-    ensures { ServesFolder given words.now (ending_in result) }
+    ensures { ServesFolder given words.now (leaves result) (ends_with result) }
 {
     let options = options_of(words, receiver_id(&rt))?;
     let ports = bound(net, words)?;
     let folder = Path::new(words.folder);
     let disk = disk_of(rt, folder)?;
     if warns_of_hidden(rt, folder, &Screen::new(net)) && words.is_strict {
-        return Err(hidden());
+        return Err(Outcome {
+            ended: hidden(),
+            left: Some(disk.close()),
+        });
     }
     let disk = Watched::new(disk, ServeFaults::new(rt.alloc(), net));
     let metrics = metrics_of(rt, words);
     let teller = ServeTeller::new(net, words.is_quiet, metrics);
-    serve_disk(net, rt.alloc(), ports, disk, &options, teller)
+    let (disk, done) = serve_disk(net, rt.alloc(), ports, disk, &options, teller);
+    Outcome::leaving(done, closed(disk))
 }
 
 /// A random number for a receiver, so that no other one is likely to have it. 0 if the system gives none.
@@ -231,7 +237,8 @@ fn metrics_of<'a>(rt: HostRuntime, words: &ServeWords<'a>) -> Option<MetricsFile
     words.metrics.map(|name| MetricsFile::new(rt, name))
 }
 
-/// Serves the archive of a disk with these options until a line quits, or a strict server can record nothing.
+/// Serves the archive of a disk with these options until a line quits, or a strict server can record nothing. The disk comes
+/// back.
 fn serve_disk<
     R: Threads + Wait + Clock + Sync,
     D: Disk + Drop + Send,
@@ -243,24 +250,19 @@ fn serve_disk<
     disk: D,
     options: &ServeOptions<'_>,
     teller: T,
-) -> Result<(), Ended>
-    ensures { ServesOver options.now.is_strict (D.life disk) (ending_in result) }
+) -> (D, Result<(), Ended>)
+    ensures { ServesOver options.now.is_strict (D.life disk) (D.life result.0) (ending_in result.1) }
 {
     let Ports { listener, socket } = ports;
     match serve_with(net, alloc, listener, socket, disk, options, teller) {
-        Ok(
-            Served {
-                disk: _,
-                stop: None,
-            },
-        ) => Ok(()),
-        Ok(
-            Served {
-                disk: _,
-                stop: Some(stop),
-            },
-        ) => Err(stuck(stop)),
-        Err(fault) => Err(Ended::cut(fault.end(), Reason::Ends)),
+        Ok(Served { disk, stop }) => match stop {
+            None => (disk, Ok(())),
+            Some(stop) => (disk, Err(stuck(stop))),
+        },
+        Err(fault) => {
+            let (disk, ended) = Ended::cut_off(fault, Reason::Ends);
+            (disk, Err(ended))
+        }
     }
 }
 

@@ -1,12 +1,13 @@
 //! What is told on standard error while a command runs. docs/CONTROL.md, "Standard error".
 
+use crate::open_folder::OpenFolder;
 use crate::reason::{FaultLine, file_of, word_of};
 use archive_model::{Registration, Reply};
 use control_core::{Event, Request};
 use control_lines::{Line, parse_line};
 use disk_core::FileId;
 use frame_core::{Refusal, segment_base};
-use host_disk::{HostDisk, LastFault, ReadFolder};
+use host_disk::LastFault;
 use start_faults::{StartWord, wrong_word};
 use std::alloc::Global;
 use std::io::Eprint;
@@ -49,15 +50,9 @@ impl<R: Eprint> FaultTeller<'_, R> {
     }
 }
 
-impl<R: Eprint> Viewer<HostDisk> for FaultTeller<'_, R> {
-    fn failed(&mut self, disk: &HostDisk) {
-        self.tell(disk.last_fault());
-    }
-}
-
-impl<R: Eprint> Viewer<ReadFolder> for FaultTeller<'_, R> {
-    fn failed(&mut self, disk: &ReadFolder) {
-        self.tell(disk.last_fault());
+impl<F: OpenFolder, R: Eprint> Viewer<F> for FaultTeller<'_, R> {
+    fn failed(&mut self, folder: &F) {
+        self.tell(folder.fault());
     }
 }
 

@@ -15,14 +15,8 @@ ghost-run g a = g.given
 abbrev pub ghost-list : goal.ghost-list
 ghost-list g a = g.given
 
-abbrev pub ghost-list_read_only : goal.ghost-list_read_only
-ghost-list_read_only g a = g.given
-
 abbrev pub ghost-verify : goal.ghost-verify
 ghost-verify g a = g.given
-
-abbrev pub ghost-verify_read_only : goal.ghost-verify_read_only
-ghost-verify_read_only g a = g.given
 
 abbrev pub ghost-describe : goal.ghost-describe
 ghost-describe g a = g.given

@@ -1,14 +1,22 @@
--- How the command ended, and whether its output was handed on.
-use Rattle.std.proofs.Common.{subst, sym}
+-- How the command ended, what it left, and whether its output was handed on.
+use Rattle.std.proofs.Common.{Option, subst, sym}
+use Rattle.disk_core.specs.Life.{Life}
+use Rattle.folder_commands.specs.Left.{leaves}
 use Rattle.folder_commands.specs.Obeying.{Obeys}
 use Rattle.folder_commands.proofs.commands.obeyed.Goals as goal
 
 pub returns : goal.returns
-returns g c = record {
-  ended = c.of-ended.result.ending;
-  gained = g.W.Write.contents c.obey.new.writer;
-  obeyed = subst (Obeys g.given (g.I.Read.remaining c.args.input) (g.W.Write.contents c.args.writer.now) (g.W.Write.contents c.obey.new.writer) c.args.command.now) (sym c.of-ended.ensures) c.obey.ensures;
-  kept = c.flush.ensures.bytes;
-  is_flushed = c.is_ok.result;
-  handed = c.handed_on.ensures;
-}
+returns g c =
+    let input = g.I.Read.remaining c.args.input in
+    let contents = g.W.Write.contents c.args.writer.now in
+    let gained = g.W.Write.contents c.obey.new.writer in
+    let outcome = c.of-left.result in
+    record {
+      ended = outcome.ended.ending;
+      gained = gained;
+      obeyed = subst (λ (l : Option Life). Obeys g.given input contents gained c.args.command.now l outcome.ended.ending) (sym c.of-left.ensures.left)
+          (subst (Obeys g.given input contents gained c.args.command.now (leaves c.obey.result)) (sym c.of-left.ensures.ending) c.obey.ensures);
+      kept = c.flush.ensures.bytes;
+      is_flushed = c.is_ok.result;
+      handed = c.handed_on.ensures;
+    }

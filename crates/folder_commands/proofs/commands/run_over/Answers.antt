@@ -1,17 +1,19 @@
 -- What was answered of the disk.
 use Rattle.std.proofs.Common.{ap, subst, sym, ◌∙◌}
 use Rattle.tool_core.specs.Archives.{disk_of}
+use Rattle.folder_commands.specs.declared.status.Ending.{Ending}
 use Rattle.folder_commands.specs.declared.status.Ending.TheVariants.{Cut}
 use Rattle.folder_commands.specs.Folders.{RunsOver}
 use Rattle.folder_commands.proofs.commands.run_over.Goals as goal
 
 pub returns-in-Ok : goal.returns-in-Ok
-returns-in-Ok g c = (g.D.Disk.life c.in-Ok.field-0, record { whole = c.in-Ok.ensures.whole; kept = c.in-Ok.ensures.kept })
+returns-in-Ok g c = record { whole = c.in-Ok.ensures.whole; kept = c.in-Ok.ensures.kept }
 
-pub returns : goal.returns
-returns g c =
+pub returns-in-Err : goal.returns-in-Err
+returns-in-Err g c =
     let life = g.D.Disk.life in
     let contents = g.W.Write.contents c.args.writer.now in
     let written = g.W.Write.contents c.run_script.new.writer in
-    subst (RunsOver (life c.args.disk) (g.I.Read.remaining c.args.input) contents written) (sym (c.cut.ensures ∙ ap Cut c.end.ensures))
-    (life (disk_of c.in-Err.fault), record { early = c.in-Err.ensures.early; kept = c.in-Err.ensures.kept_early })
+    subst (λ d. RunsOver (life c.args.disk) (g.I.Read.remaining c.args.input) contents written (life d) c.cut_off-disk.result.1.ending) (sym c.cut_off-disk.ensures.disk)
+    (subst (λ (e : Ending). RunsOver (life c.args.disk) (g.I.Read.remaining c.args.input) contents written (life (disk_of c.in-Err.fault)) e) (sym c.cut_off-disk.ensures.ending)
+    (record { early = c.in-Err.ensures.early; kept = c.in-Err.ensures.kept_early }))

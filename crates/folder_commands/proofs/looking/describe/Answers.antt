@@ -1,18 +1,16 @@
 -- What was done to the watched folder.
-use Rattle.std.proofs.Common.{subst, sym}
-use Rattle.host_disk.specs.ReadFolder.{folder_life}
-use Rattle.folder_commands.specs.Looking.{DescribesFolder}
+use Rattle.folder_commands.specs.Left.{left_life}
 use Rattle.folder_commands.proofs.LookingLemmas.{describe_done, describe_stopped, looks_watched}
 use Rattle.folder_commands.proofs.looking.describe.Goals as goal
 
-pub returns-in-Ok : goal.returns-in-Ok
-returns-in-Ok g c =
+pub returns-after-still_hidden_place : goal.returns-after-still_hidden_place
+returns-after-still_hidden_place g c =
     let begins = looks_watched g.given c.in_ok-folder_of.field-0 c.new-disk.result c.in_ok-folder_of.ensures.begun c.new-disk.ensures in
-    describe_done g.given (g.W.Write.contents c.args.writer.now) (g.W.Write.contents c.describe_archive.new.writer) _ _ begins c.in-Ok.ensures.read
+    describe_done g.given (g.W.Write.contents c.args.writer.now) (g.W.Write.contents c.describe_archive.new.writer) (left_life c.closed.result) _ c.closed.ensures _ begins c.in-Ok.ensures.read
 
-pub returns : goal.returns
-returns g c =
+pub returns-in-Err : goal.returns-in-Err
+returns-in-Err g c =
     let begins = looks_watched g.given c.in_ok-folder_of.field-0 c.new-disk.result c.in_ok-folder_of.ensures.begun c.new-disk.ensures in
     let contents = g.W.Write.contents c.args.writer.now in
     let written = g.W.Write.contents c.describe_archive.new.writer in
-    subst (DescribesFolder g.given contents written) (sym c.stopped.ensures) (describe_stopped g.given contents written _ (folder_life c.in-Err.fault.disk.disk) c.in-Err.fault.why begins c.in-Err.ensures.fault)
+    describe_stopped g.given contents written (left_life c.stopped.result.left) _ c.stopped.ensures.left _ begins c.in-Err.fault.why c.stopped.result.ended.ending c.stopped.ensures.ending c.in-Err.ensures.fault
