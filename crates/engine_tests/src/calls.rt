@@ -29,6 +29,13 @@ fn fields(alloc: Global, start_position: i64) -> Result<StartFields, AllocError>
     })
 }
 
+/// The same of a recording whose source is `a:1`.
+fn fields_with_source(alloc: Global, start_position: i64) -> Result<StartFields, AllocError> {
+    let mut fields = fields(alloc, start_position)?;
+    fields.source_identity = SourceIdentity::new(String::from_str(alloc, "a:1")?);
+    Ok(fields)
+}
+
 /// How a recording goes on.
 fn extension(recording: i64, join_position: i64) -> ExtendFields {
     ExtendFields {
@@ -87,7 +94,7 @@ fn message_block(alloc: Global, position: i64, payload: &[u8; 5]) -> Result<Bloc
 }
 
 /// The call of a word with its numbers: those of docs/CONTROL.md, "Lines", in their order. `start` has the position alone,
-/// `extend` the recording and the position. A session writes `hello` (`write`), `world` or a pad to its term's end at a position.
+/// `start-from` too, whose source is `a:1`, and `extend` the recording and the position. A session writes `hello` (`write`), `world` or a pad to its term's end at a position.
 pub fn event_of(
     alloc: Global,
     word: &str,
@@ -97,6 +104,7 @@ pub fn event_of(
 ) -> Result<Event, Refusal> {
     match word {
         "start" => Ok(Event::Ask(Request::Start(fields(alloc, of)?))),
+        "start-from" => Ok(Event::Ask(Request::Start(fields_with_source(alloc, of)?))),
         "write" => Ok(Event::Write {
             session: of,
             block: message_block(alloc, at, b"hello")?,
@@ -155,6 +163,7 @@ fn request_of(word: &str, of: i64, at: i64) -> Request {
         },
         "purge" => Request::PurgeRecording { recording: of },
         "positions" => Request::Positions { recording: of },
+        "source" => Request::Source { recording: of },
         _ => Request::List {
             from: of,
             count: at,
@@ -170,7 +179,7 @@ fn number(word: Option<&str>) -> i64 {
 }
 
 /// The call of a line.
-fn event_in(alloc: Global, line: &str) -> Result<Event, Refusal> {
+pub fn event_in(alloc: Global, line: &str) -> Result<Event, Refusal> {
     let mut words = line.split(' ');
     let word = words.next().unwrap_or("");
     let of = number(words.next());

@@ -10,9 +10,11 @@ use std::test::Fail;
 
 /// Where frames begin that carry `hello`, so many at most: then there is no memory.
 #[derive(Drop)]
-struct Starts {
-    found: Vec<i64>,
-    most: usize,
+pub struct Starts {
+    /// Where they begin.
+    pub found: Vec<i64>,
+    /// How many there may be.
+    pub most: usize,
 }
 
 impl FrameTaker for Starts {

@@ -4,6 +4,8 @@
 #[cfg(test)]
 mod calls;
 #[cfg(test)]
+mod compacting;
+#[cfg(test)]
 mod crashes;
 #[cfg(test)]
 mod damage;
@@ -12,12 +14,20 @@ mod handing;
 #[cfg(test)]
 mod merging;
 #[cfg(test)]
+mod openings;
+#[cfg(test)]
 mod pages;
 #[cfg(test)]
 mod random;
 #[cfg(test)]
 mod reference;
 #[cfg(test)]
+mod refused;
+#[cfg(test)]
+mod runs;
+#[cfg(test)]
 mod scenarios;
+#[cfg(test)]
+mod script;
 #[cfg(test)]
 mod syncs;

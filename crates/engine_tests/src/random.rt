@@ -3,12 +3,11 @@
 //! calls, each stopped after each of its changes: what is opened is what the book makes of the calls before. And replays
 //! between 500 such calls: they give the frames of the book.
 
-use crate::calls::{TERM, answer, event_of, made, opened, told};
-use crate::reference::{LIMIT, Story, polled, replayed, text_after, text_of, text_of_book};
-use archive_model::{Command, Reply};
-use control_core::Event;
+use crate::calls::{TERM, event_of, opened};
+use crate::reference::{Story, polled, replayed, text_of_book};
+use crate::runs::{Run, compacts, leaves, survives};
 use disk_core::MemoryDisk;
-use engine_core::{Engine, compact};
+use engine_core::Engine;
 use frame_core::Refusal;
 use std::alloc::Global;
 use std::process::Abort;
@@ -82,62 +81,6 @@ fn call_of_recording(dice: &mut Dice, throw: i64, recording: i64, end: i64) -> C
     }
 }
 
-// A run: the book of what was accepted, what that was answered, the command that was in flight as the disk stopped, and
-// the archive.
-#[derive(Drop)]
-struct Run {
-    story: Story,
-    answers: Vec<u8>,
-    doubt: Option<Command>,
-    has_stopped: bool,
-    engine: Engine<MemoryDisk>,
-}
-
-impl Run {
-    fn new(alloc: Global, changes: u64) -> Result<Run, Refusal> {
-        let mut disk = MemoryDisk::new(alloc);
-        disk.stop_after(changes.wrapping_add(6));
-        let engine = made(alloc, disk, LIMIT)?;
-        Ok(Run::of(alloc, Story::new(alloc), engine))
-    }
-
-    /// A run that goes on from such a book and archive.
-    fn of(alloc: Global, story: Story, engine: Engine<MemoryDisk>) -> Run {
-        Run {
-            story,
-            answers: Vec::new(alloc),
-            doubt: None,
-            has_stopped: false,
-            engine,
-        }
-    }
-
-    /// Makes a call.
-    fn make(&mut self, alloc: Global, event: Event) -> Result<(), Refusal> {
-        match answer(alloc, &mut self.engine, &event) {
-            Ok(reply) => self.accept(alloc, event, reply),
-            Err(Refusal::DeviceFault) => self.stop(alloc, event),
-            Err(_) => Ok(()),
-        }
-    }
-
-    fn accept(&mut self, alloc: Global, event: Event, reply: Reply) -> Result<(), Refusal> {
-        let end = match reply {
-            Reply::Written { position } => position,
-            _ => 0,
-        };
-        let mut lines = told(alloc, &Ok(reply))?;
-        self.answers.append(&mut lines)?;
-        self.story.note(alloc, event, end)
-    }
-
-    fn stop(&mut self, alloc: Global, event: Event) -> Result<(), Refusal> {
-        self.doubt = self.story.command(alloc, event)?;
-        self.has_stopped = true;
-        Ok(())
-    }
-}
-
 /// Makes a call by chance.
 fn make_call(alloc: Global, run: &mut Run, dice: &mut Dice) -> Result<(), Refusal> {
     let (word, of, at) = call_by_chance(dice, &run.story);
@@ -161,12 +104,6 @@ fn played(alloc: Global, changes: u64) -> Result<Run, Refusal> {
     play(alloc, &mut run).and(Ok(run))
 }
 
-/// What a crash leaves, as text.
-fn text_left(alloc: Global, disk: &MemoryDisk, choice: u8) -> Result<Vec<u8>, Refusal> {
-    let mut engine = opened(alloc, disk.crash(&[choice])?)?;
-    text_of(alloc, &mut engine)
-}
-
 /// The disk of an archive that is closed and opened again.
 fn reopened(alloc: Global, disk: MemoryDisk) -> Result<MemoryDisk, Refusal> {
     Ok(opened(alloc, disk)?.into_disk())
@@ -184,11 +121,6 @@ fn closed(alloc: Global, run: Run) -> Result<(MemoryDisk, Story), Refusal> {
         Ok(disk) => Ok((disk, story)),
         Err(refusal) => Err(refusal),
     }
-}
-
-/// Compacts the archive of a disk.
-fn compacts(alloc: Global, disk: &mut MemoryDisk) -> Result<(), Refusal> {
-    compact(alloc, disk)
 }
 
 /// Whether a compaction that stops after so many changes, and a crash then, leave this text.
@@ -276,51 +208,9 @@ fn compactions_survived(alloc: Global) -> Result<bool, Refusal> {
     Ok(true)
 }
 
-/// Whether each of three crashes leaves one of two texts.
-fn leaves(alloc: Global, disk: &MemoryDisk, before: &[u8], after: &[u8]) -> Result<bool, Refusal> {
-    for choice in [0, 1, 255] {
-        let text = text_left(alloc, disk, choice)?;
-        if text.as_slice() != before && text.as_slice() != after {
-            return Ok(false);
-        }
-    }
-    Ok(true)
-}
-
-/// The text of the book before the command that was in flight, and the one after it and a restart.
-fn texts(
-    alloc: Global,
-    story: Story,
-    doubt: Option<Command>,
-) -> Result<(Vec<u8>, Vec<u8>), Refusal> {
-    let mut book = story.book;
-    let before = text_of_book(alloc, &book)?;
-    let after = text_after(alloc, &mut book, doubt.as_ref())?;
-    Ok((before, after))
-}
-
-/// Whether a crash leaves the book before the command that was in flight, or after it.
-fn is_left(
-    alloc: Global,
-    disk: &MemoryDisk,
-    story: Story,
-    doubt: Option<Command>,
-) -> Result<bool, Refusal> {
-    let (before, after) = texts(alloc, story, doubt)?;
-    leaves(alloc, disk, before.as_slice(), after.as_slice())
-}
-
 /// Whether a run whose disk stops after so many changes leaves what it may, and whether it stopped.
 fn survived(alloc: Global, changes: u64) -> Result<(bool, bool), Refusal> {
-    let Run {
-        story,
-        doubt,
-        has_stopped,
-        engine,
-        ..
-    } = played(alloc, changes)?;
-    let survives = is_left(alloc, &engine.into_disk(), story, doubt)?;
-    Ok((survives, has_stopped))
+    survives(alloc, played(alloc, changes)?)
 }
 
 // The lines that commands are answered by, and of a sweep that removes a file.
