@@ -1,4 +1,4 @@
-//! Two compactions behind a script, each stopped at each of its changes: what a crash leaves has the archive's state, and which
+//! Two compactions after a script, each stopped at each of its changes: what a crash leaves has the archive's state, and which
 //! bank it is in. docs/STORAGE.md, "Compaction".
 
 use crate::reference::text_of_book;
@@ -81,7 +81,7 @@ fn all_leave(alloc: Global, disk: &MemoryDisk, epoch: u64, text: &[u8]) -> Resul
     Ok(true)
 }
 
-/// Whether a stop leaves it, and each stop of another compaction behind it.
+/// Whether a stop leaves it, and each stop of another compaction after it.
 fn both_leave(alloc: Global, disk: &MemoryDisk, stop: Stop, text: &[u8]) -> Result<bool, Refusal> {
     if !leaves(alloc, disk, stop, text)? {
         return Ok(false);
@@ -90,7 +90,7 @@ fn both_leave(alloc: Global, disk: &MemoryDisk, stop: Stop, text: &[u8]) -> Resu
     all_leave(alloc, &left, stop.left(), text)
 }
 
-/// The disk of an archive behind the script, and the text of the plain book.
+/// The disk of an archive after the script, and the text of the plain book.
 fn behind(alloc: Global) -> Result<(MemoryDisk, Vec<u8>), Refusal> {
     let Run { story, engine, .. } = played(alloc, MemoryDisk::new(alloc))?;
     let text = text_of_book(alloc, &story.book)?;

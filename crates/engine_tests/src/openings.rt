@@ -45,7 +45,7 @@ fn expected(alloc: Global, fails_at: u64) -> Result<String, AllocError> {
     put_readings(&mut text, fails_at).and(Ok(text))
 }
 
-/// Each reading over an archive behind the script is answered so, and by no change of the disk.
+/// Each reading over the script's archive is answered so, and by no change of the disk.
 fn are_answered(rt: &impl Abort, alloc: Global, fails_at: u64) -> Result<(), Fail> {
     let script = expected(alloc, fails_at)?;
     let mut disk = disk_after(alloc, 14)?;
@@ -89,7 +89,7 @@ fn found_again(alloc: Global, rows: usize, call: u64) -> Result<Option<Vec<u8>>,
     }
 }
 
-/// Whether each of so many calls fails an opening behind so many rows of the script, and no further one; and whether another
+/// Whether each of so many calls fails an opening after so many rows of the script, and no further one; and whether another
 /// opening finds what the first would have found.
 fn are_found(alloc: Global, rows: usize, calls: u64) -> Result<bool, Refusal> {
     let text = text_found(alloc, disk_after(alloc, rows)?)?;

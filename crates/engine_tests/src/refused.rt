@@ -84,7 +84,7 @@ fn rows_answered(
     Ok(rows)
 }
 
-/// What the archive knows once it is opened again behind so many rows.
+/// What the archive knows once it is opened again after so many rows.
 fn place_after(rows: usize) -> Option<Place> {
     let (_, _, _, place) = SCRIPT.get(rows.wrapping_sub(1))?;
     let (timestamp, start, recorded, _, frames) = *place;
@@ -102,14 +102,14 @@ fn has(
     Ok(found.as_slice().strip_suffix(b"\n") == Some(line.as_bytes()))
 }
 
-/// A disk has the archive behind so many rows, or behind one more; behind all of them it has seen no call but theirs.
+/// A disk has the archive after so many rows, or after one more; after all of them it has seen no change but theirs.
 fn check_left(
     rt: &impl Abort,
     alloc: Global,
     disk: MemoryDisk,
     rows: usize,
 ) -> Result<(), Refusal> {
-    assert!(rt; rows < 14 || disk.changes() == 52 && disk.calls() == 55);
+    assert!(rt; rows < 14 || disk.changes() == 52);
     let next = rows.wrapping_add(1).min(14);
     let mut engine = opened(alloc, disk)?;
     let is_before = has(alloc, &mut engine, place_after(rows))?;
@@ -244,7 +244,7 @@ fn refused_memory_of_frames_that_are_handed_on(rt: HostRuntime) -> Result<(), Fa
     Ok(())
 }
 
-/// The disk behind so many rows, which made so many changes; NoMemory if one of them was refused.
+/// The disk after so many rows, which made so many changes; NoMemory if one of them was refused.
 fn whole(alloc: Global, rows: usize, changes: u64) -> Result<MemoryDisk, Refusal> {
     let disk = disk_after(alloc, rows)?;
     if disk.changes() == changes {
@@ -314,7 +314,7 @@ fn compacted_again(
     }
 }
 
-/// Compacts the archive behind the script.
+/// Compacts the archive after the script.
 fn compacts_script(rt: &impl Abort, alloc: Global) -> Result<(), Refusal> {
     let disk = compacted_again(rt, alloc, whole(alloc, 14, 52)?)?;
     let mut engine = opened(alloc, disk)?;

@@ -82,7 +82,7 @@ fn run_first(alloc: Global, engine: &mut Engine<MemoryDisk>, rows: usize) -> Res
     Ok(())
 }
 
-/// The disk of a new archive behind the first calls of the script.
+/// The disk of a new archive after the first calls of the script.
 pub fn disk_after(alloc: Global, rows: usize) -> Result<MemoryDisk, Refusal> {
     let mut engine = new_archive(alloc, MemoryDisk::new(alloc))?;
     run_first(alloc, &mut engine, rows).and(Ok(engine.into_disk()))
@@ -193,7 +193,7 @@ purge 0: error 16 Broken
 sweep: error 16 Broken
 ";
 
-/// Adds what is asked behind the script.
+/// Adds what is asked after the script.
 fn put_rest(alloc: Global, text: &mut String, course: Course) -> Result<(), AllocError> {
     if course.fails_at == Some(0) {
         text.push_str(BROKEN)?;
@@ -202,7 +202,7 @@ fn put_rest(alloc: Global, text: &mut String, course: Course) -> Result<(), Allo
     text.push_str(seen.as_str())
 }
 
-/// Adds the script, and what is asked behind it.
+/// Adds the script, and what is asked after it.
 fn put_all(alloc: Global, text: &mut String, fails_at: Option<u64>) -> Result<(), AllocError> {
     let mut course = Course {
         fails_at,
@@ -233,7 +233,7 @@ fn each_call_is_answered(rt: HostRuntime) -> Result<(), Fail> {
     Ok(())
 }
 
-/// A new archive, whose disk fails at the call of this number behind its creation, answers so.
+/// A new archive answers so, whose disk fails at the call of this number after those that make it.
 fn is_answered(rt: &impl Abort, alloc: Global, call: u64) -> Result<(), Fail> {
     let script = expected(alloc, Some(call))?;
     let mut disk = MemoryDisk::new(alloc);
