@@ -1,7 +1,7 @@
 //! Requests for memory that are refused, in calls, openings and compactions: `trials/refused_memory.py tests` runs each test once for
 //! each of its requests, which it refuses. docs/SCENARIOS.md, "Faults of the disk".
 
-use crate::calls::{answer, answered, event_in, opened, told, transcript};
+use crate::calls::{answer, event_in, opened, told, transcript};
 use crate::handing::Starts;
 use crate::runs::compacts;
 use crate::script::{Place, SCRIPT, disk_after, line_of, new_archive};
@@ -98,7 +98,9 @@ fn has(
     place: Option<Place>,
 ) -> Result<bool, Refusal> {
     let line = line_of(alloc, place)?;
-    let found = answered(alloc, engine, "list 0 9")?;
+    let event = event_in(alloc, "list 0 9")?;
+    let reply = answer(alloc, engine, &event)?;
+    let found = told(alloc, &Ok(reply))?;
     Ok(found.as_slice().strip_suffix(b"\n") == Some(line.as_bytes()))
 }
 
