@@ -1,7 +1,8 @@
-"""Random control lines of the rows of docs/CONTROL.md, "Lines", most of them malformed, and a check of their replies."""
+"""Control lines of the rows of docs/CONTROL.md, "Lines", most of them malformed, and a check of their replies."""
+from collections.abc import Iterator
 from random import Random
 
-from readers.lines import BEFORE, BYTES, LINE_LIMIT, LINES, REST, SHORT, form_of, is_reply
+from readers.lines import BEFORE, BYTES, LINE_LIMIT, LINES, REST, SHORT, Kind, form_of, is_reply
 from tool import Fault, Stream, expect
 
 STREAM = Stream(term_length=65_536, segment_length=65_536)
@@ -19,12 +20,12 @@ TEXTS = (
 )  # fmt: skip
 NO_TEXTS = b"", b"\xff", b"\xc0\x80", b"\xed\xa0\x80", b"\xf4\x90\x80\x80", b"a\xe2\x82", b"\xf8\x88\x80\x80\x80"
 GARBAGE = (
-    b"", b" ", b"\t", b"\x00", b"\r", b"error 22 BadLine", b"\xff", b"LIST 0 1", b"lists 0 1", b"lis 0 1", b"list\t0\t1",
+    b"", b" ", b"\t", b"\x00", b"\r", b"error 22 BadLine", b"\xff", b"LIST 0 1", b"lists 0 1", b"lis 0 1", b"list\t0\t1", b"images",
     b"\xef\xbb\xbflist 0 1",
 )  # fmt: skip
 
 
-def word(kind: object, chance: Random) -> bytes:
+def word(kind: Kind, chance: Random) -> bytes:
     """A random word of a kind."""
     if kind is BYTES:
         text = STREAM.message(chance.choice((0, 64, 128)), chance.randbytes(chance.choice((0, 5, 32))))
@@ -36,18 +37,54 @@ def word(kind: object, chance: Random) -> bytes:
     return str(chance.choice(numbers) if chance.random() < 0.8 else chance.randint(-(2**31), 2**31 - 1)).encode()
 
 
+def no_words(kind: Kind) -> tuple[bytes, ...]:
+    """Words that are mostly not of a kind."""
+    if kind is BYTES:
+        return NO_HEX
+    if kind is REST:
+        return NO_TEXTS
+    return NO_NUMBERS + NOT_SHORT if kind is SHORT else NO_NUMBERS
+
+
+def edges(kind: Kind) -> tuple[bytes, ...]:
+    """Words of a kind, at the edges of it."""
+    if kind is BYTES:
+        return b"00", b"fF", b"0" * 64
+    return TEXTS if kind is REST else tuple(str(number).encode() for number in (SHORTS if kind is SHORT else LONGS))
+
+
+def row(first: bytes) -> list[bytes]:
+    """A line of a row, by its words."""
+    return [first, *(edges(kind)[0] for kind in LINES[first][0])]
+
+
+def bends(first: bytes) -> Iterator[list[bytes]]:
+    """A row with each word bent, at an edge, missing, doubled, or with another blank before it; and with one word more."""
+    words = row(first)
+    for at, kind in enumerate(LINES[first][0], 1):
+        for bent in no_words(kind) + edges(kind):
+            yield [*words[:at], bent, *words[at + 1 :]]
+    for at, each in enumerate(words):
+        yield [*words[:at], *words[at + 1 :]]
+        yield [*words[:at], each, *words[at:]]
+        yield [*words[:at], b"", *words[at:]]
+    yield from ([*words, more] for more in (b"", b"0", b"c"))
+    yield from ([bent, *words[1:]] for bent in bent_firsts(first))
+
+
+def bent_firsts(first: bytes) -> tuple[bytes, ...]:
+    """First words that are near one."""
+    return first.upper(), first[:-1], first + b"s", first.replace(b"-", b"_"), b" " + first, first + b"\x00"
+
+
 def start(chance: Random) -> list[bytes]:
     """The words of a line that starts a recording, sometimes no words."""
     return STREAM.start("c").encode().split(b" ") if chance.random() < 0.3 else []
 
 
-def bent_word(kind: object, chance: Random) -> bytes:
+def bent_word(kind: Kind, chance: Random) -> bytes:
     """A word that is mostly not of a kind."""
-    if kind is BYTES:
-        return chance.choice(NO_HEX)
-    if kind is REST:
-        return chance.choice(NO_TEXTS)
-    return chance.choice(NOT_SHORT if kind is SHORT and chance.random() < 0.3 else NO_NUMBERS)
+    return chance.choice(NOT_SHORT if kind is SHORT and chance.random() < 0.3 else NO_NUMBERS if kind is SHORT else no_words(kind))
 
 
 def turned(line: bytes, chance: Random) -> bytes:
@@ -74,7 +111,7 @@ def line(chance: Random) -> bytes:
     if how == 4:
         words.insert(chance.randint(0, len(words)), chance.choice((b"", b"0", b"c", first)))
     if how == 5:
-        words[0] = chance.choice((first.upper(), first[:-1], first + b"s", first.replace(b"-", b"_"), b" " + first, first + b"\x00"))
+        words[0] = chance.choice(bent_firsts(first))
     text = b" ".join(words)
     if how == 6:
         text = chance.choice((text + b" ", text + b"\r", b" " + text, text.replace(b" ", b"  ", 1), text.replace(b" ", b"\t", 1)))
@@ -88,10 +125,15 @@ def long_line(chance: Random) -> bytes:
     return front + b"a" * (length - len(front))
 
 
-def lines(chance: Random, count: int) -> list[bytes]:
-    """Lines without their ends. Only the line before the last is `quit`, so the last is not read."""
+EACH = [b" ".join(words) for first in sorted(LINES) for words in bends(first)]
+
+
+def lines(chance: Random, begin: int, end: int) -> list[bytes]:
+    """The lines of these numbers, without their ends: first each word of each row bent alone, and then random ones. Only the line before
+    the last is `quit`, so the last is not read."""
     found = [STREAM.start("c").encode(), b"merge 42 65536 0"]
-    while len(found) < count - 2:
+    found += [line for line in EACH[begin:end] if form_of(line) != b"quit"]
+    while len(found) < end - begin - 2:
         text = (long_line(chance) if chance.random() < 0.004 else line(chance)).replace(b"\n", b"\r")
         if form_of(text) != b"quit":
             found.append(text)

@@ -10,17 +10,19 @@ from dataclasses import dataclass, field
 from pathlib import Path
 from random import Random
 
-from readers.archive import Archive, files_of, looked_at
+from readers.archive import Archive, files_of, looked_at, opened
 from readers.blocks import BAD_POSITION
-from readers.catalogue import Recording, Refused, asks, damaged, read_banks
+from readers.catalogue import Recording, Refused, asks, asks_to_compact, damaged, read_banks
 from readers.closed_gate import shows_hidden
 from readers.segments import PAD, aligned
 from tool import Fault, expect, hides, is_calm
 
 MOST_POLLS = 6  # of a replay
 HANGS = 300  # seconds after which a command counts as hung
+OF_COMMAND = 64  # megabytes of address space that a command has, where there is a limit at all
 LONGEST_MESSAGE = 65_504  # bytes of a message in a datagram
 RESTART = b"\x01\x08\x00\x00\x00"  # its open gate, kind and length, and the next gate
+NO_SPARE = "there is no catalogue, or no other bank that a compaction may write\n"  # docs/CONTROL.md, "Standard error"
 
 Files = dict[str, bytes]
 
@@ -70,13 +72,20 @@ class Script:
 
 def ended(tool: Path, *words: str | Path, given: bytes = b"") -> subprocess.CompletedProcess[bytes]:
     """Runs a command. Raises Fault if it crashes or hangs."""
-    try:
-        done = subprocess.run([tool, *words], input=given, capture_output=True, timeout=HANGS)
-    except subprocess.TimeoutExpired as hung:
-        raise Fault(f"{' '.join(map(str, words))} didn't end") from hung
-    if done.returncode not in (0, 1, 3):
-        raise Fault(f"{' '.join(map(str, words))} ended with status {done.returncode}: {done.stderr[-1_000:].decode(errors='replace')}")
-    return done
+    pipe = subprocess.PIPE
+    with subprocess.Popen([tool, *words], stdin=pipe, stdout=pipe, stderr=pipe) as process:
+        try:
+            if resource.getrlimit(resource.RLIMIT_AS)[0] != resource.RLIM_INFINITY:
+                resource.prlimit(process.pid, resource.RLIMIT_AS, (OF_COMMAND << 20, OF_COMMAND << 20))
+            out, error = process.communicate(given, timeout=HANGS)
+        except ProcessLookupError:
+            out, error = process.communicate()
+        except subprocess.TimeoutExpired as hung:
+            process.kill()
+            raise Fault(f"{' '.join(map(str, words))} didn't end") from hung
+    if process.returncode not in (0, 1, 3):
+        raise Fault(f"{' '.join(map(str, words))} ended with status {process.returncode}: {error[-1_000:].decode(errors='replace')}")
+    return subprocess.CompletedProcess([tool, *words], process.returncode, out, error)
 
 
 def told_by(tool: Path, folder: Path, lines: Iterable[str]) -> list[str]:
@@ -115,6 +124,56 @@ def verification(archive: Archive, warned: str = "") -> tuple[int, str, str]:
     return (3 if damaged else 0), out, error
 
 
+def refusal(refused: Refused, warned: str = "") -> tuple[int, str, str]:
+    """Exit status, standard output and standard error of a command that a folder's archive refuses."""
+    return (3 if " 15 " in str(refused) else 1), "", f"{warned}{refused}\n"
+
+
+def answer_of(word: str, files: Files) -> tuple[int, str, str]:
+    """Exit status, standard output and standard error of a command that opens an archive. `run` is asked `list 0 1024`."""
+    warned = warning(files)
+    try:
+        archive = opened(files)
+        if word == "compact":
+            asks_to_compact(read_banks(files.get), files.get)
+    except Refused as refused:
+        status, out, error = refusal(refused, warned)
+        return status, out, error + NO_SPARE * (word == "compact" and "NotCatalogue" in error)
+    if word == "verify":
+        return verification(archive, warned)
+    listed = "".join(f"{line}\n" for line in archive.answer("list 0 1024"))
+    return 0, "compacted\n" if word == "compact" else listed, warned
+
+
+def try_opening(tool: Path, folder: Path, files: Files, word: str) -> bool:
+    """Compares a command that opens an archive, over a copy, and the files after it. Returns whether it ends with status 0."""
+    write(folder, files)
+    done = ended(tool, word, folder, given=b"list 0 1024\n" if word == "run" else b"")
+    right = answer_of(word, files)
+    expect(word, (done.returncode, done.stdout.decode(), done.stderr.decode()), right)
+    if word == "compact" and right[0] == 0:
+        archive = opened(files)
+        archive.compact()
+        same_state(folder, archive)
+    else:
+        expect(f"the files after {word}", files_of(folder), after_an_opening(files))
+    return right[0] == 0
+
+
+def same_state(folder: Path, archive: Archive) -> None:
+    """Compares the files of a folder with those of an archive."""
+    found = looked_at(files_of(folder))
+    expect("the segment files after the commands", sorted(found.files), sorted(archive.files))
+    for name, text in archive.files.items():
+        expect(f"{name} after the commands", found.files[name].hex(), text.hex())
+    expect("the state that the entries make after the commands", state(found), state(archive))
+
+
+def state(archive: Archive) -> tuple[dict[int, Recording], int, int]:
+    """The recordings, the next id and the count of the history."""
+    return archive.register.recordings, archive.register.next_id, archive.register.counted
+
+
 def look_only(tool: Path, folder: Path, files: Files, what: str) -> None:
     """Compares `list --read-only` and `verify --read-only` of a folder."""
     told = [ended(tool, word, folder, "--read-only") for word in ("list", "verify")]
@@ -123,7 +182,7 @@ def look_only(tool: Path, folder: Path, files: Files, what: str) -> None:
         archive = looked_at(files)
         right = [(0, "".join(f"{line}\n" for line in archive.answer("list 0 1024")), ""), verification(archive)]
     except Refused as refused:
-        right = [(3 if " 15 " in str(refused) else 1, "", f"{refused}\n")] * 2
+        right = [refusal(refused)] * 2
     expect(f"{what}: list --read-only", told[0], right[0])
     expect(f"{what}: verify --read-only", told[1], right[1])
 
@@ -139,7 +198,7 @@ def try_export(tool: Path, folder: Path, archive: Archive, known: Recording, beg
     try:
         right = sent(archive, known, known.start if begin is None else begin, known.recorded if end is None else end)
     except Refused as refused:
-        expect(what, told, (3 if " 15 " in str(refused) else 1, "", f"{refused}\n", False))
+        expect(what, told, (*refusal(refused), False))
         return False
     expect(what, told, (0, "exported\n", "", True))
     expect(f"{what}: its packets", packets(capture.read_bytes()), right)

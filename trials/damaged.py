@@ -18,25 +18,22 @@ Usage: trials/damaged.py [--seed S] [--folders N] [--jobs J] [--memory MB] [prog
 """
 import os
 import shutil
-import struct
 from collections import Counter
 from collections.abc import Callable
 from pathlib import Path
 from random import Random
 
 import random_lines
-from comparison import Files, Script, ended, in_parts, look_only, try_export, verification, write
+from comparison import Script, ended, in_parts, look_only, same_state, try_export, verification, write
+from mutations import damage
 from readers.archive import Archive, files_of, looked_at, opened
 from readers.catalogue import BANKS, NEWEST, Recording, Register
-from readers.segments import HEADER, PAD, segment_of
 from tool import Fault, conclude, expect, file_system, program, room, trial_words
 
 Trial = Callable[[Path, Path, int, bool], Counter[str]]  # of one folder, by its seed and whether a recording is active at the end
 
 STEPS, COMMANDS = 30, 20
 PART = 10  # folders that one worker tries in turn
-NUMBERS = 0, 1, 2, 31, 32, 33, 64, 65_536, 2**31 - 1, -1, -(2**31)  # values for a field of a header
-FIELDS = *[(0, "<i")] * 4, (4, "<b"), (6, "<h"), (8, "<i"), (12, "<i"), (16, "<i"), (20, "<i")  # docs/PROTOCOL.md, "Data and pad header"
 
 
 def made(tool: Path, folder: Path, chance: Random, is_active: bool) -> Archive:
@@ -54,98 +51,6 @@ def made(tool: Path, folder: Path, chance: Random, is_active: bool) -> Archive:
             script.ask(line)
     script.try_on(tool, folder, "a whole archive")
     return archive
-
-
-def turn_bytes(files: Files, name: str, chance: Random) -> None:
-    """Changes one to three bytes of a file."""
-    text = bytearray(files[name])
-    for _ in range(chance.randint(1, 3) if text else 0):
-        at = chance.randrange(len(text))
-        text[at] = chance.choice((text[at] ^ (1 << chance.randrange(8)), chance.randrange(256), 0))
-    files[name] = bytes(text)
-
-
-def headers(text: bytes) -> list[int]:
-    """The multiples of 32 in a file at which a header may be."""
-    return [at for at in range(0, len(text) - HEADER.size + 1, 32) if any(text[at : at + 4])]
-
-
-def rest_of_term(text: bytes, at: int) -> int:
-    """How many bytes there are from a header's term offset to the end of the term."""
-    return 65_536 - struct.unpack_from("<i", text, at + 8)[0] % 65_536
-
-
-def set_field(files: Files, name: str, chance: Random) -> None:
-    """Changes a field of a header in a file, mostly the length."""
-    text = bytearray(files[name])
-    for at in chance.sample(headers(text), min(1, len(headers(text)))):
-        offset, form = chance.choice(FIELDS)
-        known = struct.unpack_from(form, text, at + offset)[0]
-        values = chance.choice(NUMBERS), known + chance.choice((1, -1, 32, -32)), rest_of_term(text, at) + chance.choice((0, 32))
-        bits = 8 * struct.calcsize(form)
-        struct.pack_into(form, text, at + offset, (chance.choice(values) + 2 ** (bits - 1)) % 2**bits - 2 ** (bits - 1))
-    files[name] = bytes(text)
-
-
-def make_pad(files: Files, name: str, chance: Random) -> None:
-    """Changes a frame into a pad, which may go past the recorded position or past its term."""
-    text = bytearray(files[name])
-    for at in chance.sample(headers(text), min(1, len(headers(text)))):
-        rest = rest_of_term(text, at)
-        struct.pack_into("<i", text, at, chance.choice((32, 64, 96, rest, rest, rest - 32, rest + 32, rest + 65_536)))
-        struct.pack_into("<H", text, at + 6, PAD)
-    files[name] = bytes(text)
-
-
-def cut(files: Files, name: str, chance: Random) -> None:
-    """Cuts a file."""
-    files[name] = files[name][: chance.randint(0, len(files[name]))]
-
-
-def grow(files: Files, name: str, chance: Random) -> None:
-    """Appends bytes to a file."""
-    count = chance.choice((1, 31, 32, 64, 200))
-    files[name] += chance.choice((bytes(count), chance.randbytes(count), files[name][:count]))
-
-
-def swap(files: Files, name: str, chance: Random) -> None:
-    """Swaps the bytes of two files."""
-    other = chance.choice(sorted(files))
-    files[name], files[other] = files[other], files[name]
-
-
-def move_bytes(files: Files, name: str, chance: Random) -> None:
-    """Copies some bytes of a file over others."""
-    text = files[name]
-    length = min(len(text), 32 * chance.randint(1, 4))
-    begin, end = (chance.randint(0, len(text) - length) // 32 * 32 for _ in range(2))
-    files[name] = text[:begin] + text[end : end + length] + text[begin + length :]
-
-
-def copy_ahead(files: Files, name: str, chance: Random) -> None:
-    """Copies a segment file to a later base, if it has a base and no file is there."""
-    if match := segment_of(name):
-        files.setdefault(f"{match[1]}-{int(match[2]) + 65_536 * chance.randint(1, 3)}.rec", files[name])
-
-
-def lose(files: Files, name: str, chance: Random) -> None:
-    """Removes a file."""
-    del files[name]
-
-
-DAMAGES: list[Callable[[Files, str, Random], None]] = [
-    turn_bytes, turn_bytes, set_field, set_field, make_pad, make_pad, cut, grow, swap, move_bytes, copy_ahead, lose
-]  # fmt: skip
-
-
-def damage(files: Files, names: list[str], chance: Random) -> None:
-    """Damages files of these names, one to three times."""
-    for _ in range(chance.randint(1, 3)):
-        there = [name for name in names if name in files]
-        if there:
-            segments = {name: files.pop(name) for name in there}
-            chance.choice(DAMAGES)(segments, chance.choice(there), chance)
-            files.update(segments)
 
 
 def asked_positions(whole: Archive, known: Recording, chance: Random) -> list[int]:
@@ -225,20 +130,6 @@ def commands(script: Script, whole: Archive, chance: Random) -> None:
         steps = truncation(script, whole, chance) if chance.random() < 0.15 else []
         for line in steps or random_lines.line(script.archive, chance):
             script.ask(line)
-
-
-def same_state(folder: Path, archive: Archive) -> None:
-    """Compares the files of a folder with those of an archive."""
-    found = looked_at(files_of(folder))
-    expect("the segment files after the commands", sorted(found.files), sorted(archive.files))
-    for name, text in archive.files.items():
-        expect(f"{name} after the commands", found.files[name].hex(), text.hex())
-    expect("the state that the entries make after the commands", state(found), state(archive))
-
-
-def state(archive: Archive) -> tuple[dict[int, Recording], int, int]:
-    """The recordings, the next id and the count of the history."""
-    return archive.register.recordings, archive.register.next_id, archive.register.counted
 
 
 def tried(tool: Path, folder: Path, seed: int, is_active: bool) -> Counter[str]:

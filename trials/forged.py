@@ -4,8 +4,13 @@
 Each honest sender sends its setup frame first. Forged datagrams then come from other sockets and other addresses of this machine. They
 are such as an image drops or refuses (docs/PROTOCOL.md, "Datagrams" and "Images"): frames of the honest publications with another
 version, type, length, alignment or term; past the MTU, past the window or before the rebuild position; a frame that would join in front
-of a bad one; setup, NAK and unknown frames; heartbeats far ahead; and frames of other publications. Every recording has to hold the
-frames that were sent, byte for byte. The server has to stay below its memory limit and to answer the next client.
+of a bad one; setup, NAK and unknown frames; heartbeats far ahead; and frames of other publications. Some of those publications set up,
+and send the shortest frames, 1,500 in a datagram, but never their first one: the server has to keep what it has room for.
+
+Each recording has to hold the frames that were sent, byte for byte. The bytes that come back to a forger's socket, but for status
+messages, are no more than it sent, and none of these answers is longer than a NAK. Standard error has only lines that docs/SERVING.md
+names. The server has to stay below its memory limit and to answer the next client. This is asked of a server without options and of
+one with `--aeron`, each for half of the datagrams.
 
 Usage: trials/forged.py [--seed S] [--datagrams N] [program].
 """
@@ -16,14 +21,18 @@ import time
 from collections.abc import Callable
 from pathlib import Path
 
-from serving import IN_FLIGHT, MOST_MEMORY, STREAM, Sender, Server, compare, recorded_position, served, start_line
-from tool import INITIAL_TERM, STREAM_ID, Fault, conclude, expect, file_system, program, trial_words
+from server_lines import expect_calm
+from serving import IN_FLIGHT, MOST_MEMORY, STATUS, STREAM, Sender, Server, compare, kind_of, recorded_position, served, start_line
+from tool import INITIAL_TERM, STREAM_ID, Fault, conclude, expect, program, trial_words
 
 SESSIONS = 7, 8
-ADDRESSES = "127.0.0.1", "127.0.0.2", "127.0.0.3", "127.0.0.1"
+ADDRESSES = [f"127.0.0.{1 + number % 7}" for number in range(8)]
 WINDOW = STREAM.term_length // 2
 HEADER = "<iBBHiiiiq"
 EDGES = 0, 1, 31, 32, 33, 1_408, 1_409, 65_536, 2**31 - 1, -1, -(2**31)
+LONGEST_ANSWER = 28  # bytes of a NAK frame
+HOARDERS, HOARDED, OFTEN = 70, 1_500, 100  # publications, their frames in a datagram, and after how many datagrams one comes
+HOARD = 1_048_576  # bytes of a stream that an image keeps
 
 
 class Target:
@@ -126,40 +135,110 @@ FORGERIES: list[Callable[[Target, random.Random], bytes]] = [
 ]  # fmt: skip
 
 
-def forgers() -> list[socket.socket]:
-    """Sockets of several addresses of this machine."""
-    found = []
-    for address in ADDRESSES:
-        one = socket.socket(socket.AF_INET, socket.SOCK_DGRAM)
-        one.bind((address, 0))
-        found.append(one)
-    return found
+class Hoards:
+    """Publications whose first frame never comes, so that the server keeps the frames after it."""
+
+    def __init__(self, chance: random.Random) -> None:
+        self.chance = chance
+        self.begins = {100 + number: 32 for number in range(HOARDERS)}
+
+    def datagram(self) -> bytes:
+        """A setup frame of one of them, or its next frames."""
+        session = self.chance.choice(list(self.begins))
+        begin = self.begins[session]
+        if begin == 32 or self.chance.random() < 0.05:
+            self.begins[session] = max(begin, 64)
+            return struct.pack("<iBBHiii5i", 40, 0, 0, 5, 0, session, STREAM_ID, INITIAL_TERM, INITIAL_TERM, 2**30, STREAM.mtu, 0)
+        frames = range(begin, min(begin + 32 * HOARDED, HOARD), 32)
+        self.begins[session] = frames.stop if frames.stop < HOARD else 64
+        return b"".join(struct.pack(HEADER, 32, 0, 0xC0, 1, at, session, STREAM_ID, INITIAL_TERM, 0) for at in frames)
 
 
-def try_forgeries(tool: Path, server: Server, chance: random.Random, datagrams: int) -> list[Sender]:
-    """Sends both streams, and the forged datagrams between their frames."""
-    client = server.client()
-    for number, session in enumerate(SESSIONS):
-        expect("start", list(client.ask(start_line(session))), [f"started {number} {number}"])
-    senders = [Sender(server, session, chance) for session in SESSIONS]
-    for sender in senders:
-        sender.send(sender.publication.setup())
-    targets, sockets = [Target(sender) for sender in senders], forgers()
-    while not all("feeds" in server.errors() and f"feeds session {number}" in server.errors() for number in range(len(SESSIONS))):
-        time.sleep(0.01)
+class Forger:
+    """A socket of a forger, and the bytes that it sent and was answered."""
+
+    def __init__(self, address: str) -> None:
+        self.socket = socket.socket(socket.AF_INET, socket.SOCK_DGRAM)
+        self.socket.bind((address, 0))
+        self.socket.setblocking(False)
+        self.sent = self.answered = self.answers = 0
+
+    def send(self, text: bytes, server: tuple[str, int]) -> None:
+        """Sends a datagram, once there is room for it."""
+        self.sent += len(text)
+        while True:
+            try:
+                self.socket.sendto(text, server)
+                return
+            except BlockingIOError:
+                time.sleep(0.001)
+
+    def take_answers(self) -> None:
+        """Counts what came back, but for status messages."""
+        while True:
+            try:
+                answer = self.socket.recv(65_536)
+            except BlockingIOError:
+                return
+            if kind_of(answer) != STATUS:
+                self.answered += len(answer)
+                self.answers += 1
+                expect("whether an answer is as short as a NAK", len(answer) <= LONGEST_ANSWER, True)
+            if self.answered > self.sent:
+                raise Fault(f"{self.answered} bytes came back to a forger that sent {self.sent}")
+
+
+def forge(server: Server, senders: list[Sender], forgers: list[Forger], chance: random.Random, datagrams: int) -> None:
+    """Sends forged datagrams between the frames of honest senders."""
+    targets, hoards, client = [Target(sender) for sender in senders], Hoards(chance), server.client()
     for count in range(datagrams):
         target = chance.choice(targets)
-        chance.choice(sockets).sendto(chance.choice(FORGERIES)(target, chance), server.address())
+        text = chance.choice(FORGERIES)(target, chance) if count % OFTEN else hoards.datagram()
+        chance.choice(forgers).send(text, server.address())
         if count % 4 == 0:
             chance.choice(senders).message(chance.choice((32, 33, 64, 500, 1_408)))
         if count % 100 == 0:
             for number, sender in enumerate(senders):
                 targets[number].recorded = sender.until(client, number, IN_FLIGHT // 4)
+            for forger in forgers:
+                forger.take_answers()
     for number, sender in enumerate(senders):
         sender.until(client, number, 0)
         expect("the end of a recording", recorded_position(client, number), sender.publication.position)
     client.close()
+
+
+def begin(server: Server, chance: random.Random) -> list[Sender]:
+    """Starts the recordings, and sends the setup frames of the honest senders."""
+    client = server.client()
+    for number, session in enumerate(SESSIONS):
+        expect("start", list(client.ask(start_line(session))), [f"started {number} {number}"])
+    client.close()
+    senders = [Sender(server, session, chance) for session in SESSIONS]
+    for sender in senders:
+        sender.send(sender.publication.setup())
+    while not all(f"feeds session {number}" in server.errors() for number in range(len(SESSIONS))):
+        time.sleep(0.01)
     return senders
+
+
+def try_forgeries(tool: Path, chance: random.Random, datagrams: int, *options: str) -> None:
+    """Sends forged datagrams to a server with some options."""
+    with served(tool, *options) as (server, archive):
+        begun = time.monotonic()
+        senders, forgers = begin(server, chance), [Forger(address) for address in ADDRESSES]
+        forge(server, senders, forgers, chance, datagrams)
+        took, memory = time.monotonic() - begun, server.memory()
+        expect("the next client", server.ask("list 0 0"), ["end 0"])
+        server.quit()
+        expect_calm(server.errors())
+        frames = sum(compare(tool, archive, number, sender.publication) for number, sender in enumerate(senders))
+        if memory > MOST_MEMORY:
+            raise Fault(f"{memory} MB")
+        images, answers = server.counts()["images"], sum(forger.answers for forger in forgers)
+        share = max(forger.answered / forger.sent for forger in forgers)
+    print(f"{' '.join(('serve', *options))}: {datagrams} forged datagrams beside {frames} frames, {images} images, {answers} answers, "
+          f"at most {100 * share:.1f} % of the bytes that a forger sent, {memory} MB, {took:.0f} s: recorded as they were sent", flush=True)
 
 
 def main() -> int:
@@ -167,17 +246,9 @@ def main() -> int:
     words.add_argument("--datagrams", type=int, default=100_000)
     asked = words.parse_args()
     tool, chance = program(asked.program), random.Random(asked.seed)
-    with served(tool) as (server, archive):
-        print(f"seed {asked.seed}, on {file_system(archive)}", flush=True)
-        senders = try_forgeries(tool, server, chance, asked.datagrams)
-        memory = server.memory()
-        expect("the next client", server.ask("list 0 0"), ["end 0"])
-        server.quit()
-        frames = [compare(tool, archive, number, sender.publication) for number, sender in enumerate(senders)]
-        naks = sum(len(sender.naks) for sender in senders)
-        if memory > MOST_MEMORY:
-            raise Fault(f"{memory} MB")
-    print(f"{asked.datagrams} forged datagrams beside {sum(frames)} frames, {naks} NAKs, {memory} MB: recorded as they were sent")
+    print(f"seed {asked.seed}", flush=True)
+    for options in ((), ("--aeron",)):
+        try_forgeries(tool, chance, asked.datagrams // 2, *options)
     return 0
 
 

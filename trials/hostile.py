@@ -2,60 +2,48 @@
 """Gives the program hostile banks, folders, lines and datagrams, and compares each answer with that of a reader of the documents.
 
 1. Banks: the bank that docs/STORAGE.md shows byte for byte, cut to each length, with each bit turned, and each byte set to some values.
-2. Folders: the files of an archive that random lines made, mutated: bits, header fields, cuts, growth, bytes copied inside a file, files
-   swapped, removed, added and taken from another archive.
-3. Lines: rows of the table of docs/CONTROL.md, mostly malformed. The reply has to be BadLine exactly if `readers/lines.py` finds no form.
-   Any other reply has to have the form of its row.
+2. Folders: the files of an archive that random lines made, mutated: bits, header fields, cuts, growth by zeros and by random bytes, blocks
+   copied and swapped inside a file, entries swapped, doubled, removed and changed, files swapped, removed, added and taken from another
+   archive.
+3. Lines: rows of the table of docs/CONTROL.md, mostly malformed, and first each word of each row bent alone. The reply has to be BadLine
+   exactly if `readers/lines.py` finds no form. Any other reply has to have the form of its row.
 4. Datagrams: blocks of a recording, mostly mutated, by `write`, `block`, `merge-live` and `merge-replay`.
 
-Each bank and folder is listed, verified, described, exported and replayed, and `frames` prints each segment file that changed. A look
-and a refused opening have to leave every byte as it was. An opening that stops a recording adds one Restart to the bank in use.
+Each bank and folder is listed, verified, described, exported and replayed, and `frames` prints each segment file that changed. Then `list`,
+`verify` or `compact` opens a copy, and one in fifty is served. A look and a refused opening have to leave every byte as it was. An opening
+that stops a recording adds one Restart to the bank in use.
 `readers/` knows docs/STORAGE.md, docs/PROTOCOL.md and docs/CONTROL.md and nothing of the program. No command may crash, or take more
 than five minutes.
 
-Usage: trials/hostile.py [--seed S] [--folders N] [--lines N] [--datagrams N] [--jobs J] [--memory MB] [program]. --memory limits each
-address space; 0 sets no limit.
+Usage: trials/hostile.py [--seed S] [--only PART] [--folders N] [--lines N] [--datagrams N] [--jobs J] [--memory MB] [program]. PART is
+banks, folders, lines or datagrams. --memory limits each address space; 0 sets no limit.
 """
 import json
 import os
 import shutil
-import struct
 from collections import Counter
 from pathlib import Path
 from random import Random
 
 import bent_lines
-import random_lines
-from comparison import Files, Script, after_an_opening, ended, in_parts, look_only, try_export, warning, write
-from damaged import cut, damage, grow, looks, made, make_pad, move_bytes, same_state, set_field, turn_bytes
+from bent_datagrams import messages
+from bent_datagrams import mutated as mutated_datagram
+from comparison import (
+    Files, Script, after_an_opening, ended, in_parts, look_only, refusal, same_state, try_export, try_opening, warning, write,
+)
+from damaged import looks, made
+from mutations import MUTATIONS, OF_BANKS, damage
 from readers.archive import Archive, files_of, looked_at, opened
 from readers.catalogue import BANKS, NEWEST, Catalogue, Recording, Refused, Register, read_banks
 from readers.lines import form_of
-from readers.segments import DATA, aligned, frames_of_file, segment_of, stale_files
-from tool import Fault, Stream, conclude, expect, file_system, program, room, trial_words
+from readers.segments import frames_of_file, segment_of, stale_files
+from serving import Server
+from tool import Fault, conclude, expect, file_system, program, room, trial_words
+from worked_banks import FORMS, WORKED_FILES, worked_bank
 
-# docs/STORAGE.md, "Banks, byte for byte", of both versions, and the frame that they settled.
-WORKED_BANKS = [
-    bytes.fromhex(
-        "01 01 0000 03000000 0100000000000000 00000000000000000000000000000000"
-        "01 01 3300 0000000000000000e8030000000000000000000000000000 2a000000000002000000010080050000 07000000e9030000 0100 63"
-        "01 02 1000 00000000000000004000000000000000 00"
-    ),
-    bytes.fromhex(
-        "01 02 0000 03000000 0100000000000000 00000000000000000000000000000000"
-        "01 01 3500 0000000000000000e8030000000000000000000000000000 2a000000000002000000010080050000 07000000e9030000 0100 63 0000"
-        "01 02 1000 00000000000000004000000000000000 00"
-    ),
-]
-WORKED_FILES = {
-    BANKS[0]: WORKED_BANKS[1],
-    BANKS[1]: b"\x00",
-    "0-0.rec": Stream(term_length=65_536, segment_length=131_072).message(0, b"hello").ljust(64, b"\x00"),
-}
-VALUES = 0, 2, 10, 127, 255  # that each byte of a worked bank is set to
-FORMS = 1 + 8 + len(VALUES)  # of a worked bank, for each of its bytes
 TERM = 2**31 - 2  # the initial term id of recordings and merges that get hostile datagrams: it soon wraps
 PART = 20  # folders that one worker tries in turn
+SERVED = 0.02  # of banks and folders
 LINES_OF_PART = 1_000
 NEW_NAMES = "0-5.rec", "77-0.rec", "0-00.rec", "note", "1-9223372036854775807.rec", "2-9223372036854775808.rec"
 NOT_OPEN = "the archive is not open: lines that need it are Broken until reopen opens it"
@@ -84,7 +72,7 @@ def try_description(tool: Path, folder: Path, files: Files) -> None:
     try:
         known = read_banks(files.get)
     except Refused as refused:
-        expect("describe", (done.returncode, done.stdout, done.stderr.decode()), (3 if " 15 " in str(refused) else 1, b"", f"{refused}\n"))
+        expect("describe", (done.returncode, done.stdout.decode(), done.stderr.decode()), refusal(refused))
         return
     told = json.loads(done.stdout)
     for each in told["recordings"]:
@@ -159,28 +147,25 @@ def try_folder(tool: Path, folder: Path, files: Files, whole: Archive, chance: R
     expect("the files after looks", files_of(folder), files)
     refused = try_run(tool, folder, files, whole, chance)
     expect("the files after an opening", files_of(folder), after_an_opening(files))
+    try_opening(tool, folder, files, chance.choice(("list", "verify", "compact")))
+    if chance.random() < SERVED:
+        try_served(tool, folder, files)
     return refused
 
 
-def worked_bank(number: int) -> bytes:
-    """A form of a worked bank: first those of version 1, then those of version 2."""
-    before = FORMS * len(WORKED_BANKS[0])
-    return form(WORKED_BANKS[0], number) if number < before else form(WORKED_BANKS[1], number - before)
-
-
-def form(bank: bytes, number: int) -> bytes:
-    """A form of a bank. The first ones are its cuts, the next ones have one bit turned, the last ones one byte set."""
-    text = bytearray(bank)
-    size = len(text)
-    if number < size:
-        return bytes(text[:number])
-    if number < 9 * size:
-        at, bit = divmod(number - size, 8)
-        text[at] ^= 1 << bit
-    else:
-        value, at = divmod(number - 9 * size, size)
-        text[at] = VALUES[value]
-    return bytes(text)
+def try_served(tool: Path, folder: Path, files: Files) -> None:
+    """Compares what a server over a copy answers and prints."""
+    write(folder, files)
+    try:
+        right, why = opened(files).answer("list 0 1024"), warning(files)
+    except Refused as refused:
+        right, why = ["error 16 Broken"], f"the archive is not open: {refused}; lines that need it are Broken, and nothing is recorded\n"
+    server = Server(tool, folder, "--quiet")
+    told = server.ask("list 0 1024")
+    server.quit()
+    *errors, last = server.errors().splitlines()
+    expect("serve", (told, errors, last[:7]), (right, why.splitlines(), "ended: "))
+    expect("the files after serve", files_of(folder), after_an_opening(files))
 
 
 def try_banks(tool: Path, work: Path, seed: int, begin: int, end: int) -> Counter[str]:
@@ -205,15 +190,17 @@ def has_archive(files: Files) -> bool:
 
 def mutated(files: Files, others: Files, chance: Random) -> Files:
     """The files of an archive, some of them mutated or taken from another archive."""
-    before, files = files, dict(files)
+    before, files, in_use = files, dict(files), read_banks(files.get).bank
     while files == before or not has_archive(files):
         if chance.random() < 0.2:
             name = chance.choice(sorted(files | others))
             files[name] = chance.choice((others.get(name, b""), files.get(name, b""), others[chance.choice(sorted(others))]))
         if chance.random() < 0.1:
             files[chance.choice(NEW_NAMES)] = b"x" * 40
-        names = sorted(files)
-        damage(files, chance.choice((names, names, list(BANKS))), chance)
+        if chance.random() < 0.6:
+            damage(files, sorted(files), chance, MUTATIONS)
+        else:
+            damage(files, [in_use], chance, OF_BANKS)
     return files
 
 
@@ -245,7 +232,7 @@ def try_folders(tool: Path, work: Path, seed: int, begin: int, end: int) -> Coun
 def try_lines(tool: Path, work: Path, seed: int, begin: int, end: int) -> Counter[str]:
     """Tries some of the lines in one process, over memory or over a folder."""
     chance = Random(f"{seed} {begin}")
-    lines = bent_lines.lines(chance, end - begin)
+    lines = bent_lines.lines(chance, begin, end)
     folder = work / f"lines-{begin}"
     folder.mkdir()
     over = [folder] if chance.random() < 0.5 else []
@@ -259,29 +246,11 @@ def try_lines(tool: Path, work: Path, seed: int, begin: int, end: int) -> Counte
     return Counter({"lines": end - begin, "lines with a form": sum(form_of(line) is not None for line in lines)})
 
 
-def messages(known: Recording, position: int, length: int, count: int) -> bytes:
-    """Messages of a length, one after another."""
-    size = aligned(length)
-    each = (random_lines.frame(known, position + size * number, DATA, length, bytes(length - 32)) for number in range(count))
-    return b"".join(text.ljust(size, b"\x00") for text in each)
-
-
 def datagram(archive: Archive, chance: Random) -> bytes:
     """A datagram of the first recording, at its next position or near the cursor of the merge, mostly mutated."""
-    known = archive.known(0)
     next_one, cursor = archive.sessions[0].end, archive.merge.cursor
-    at = max(0, chance.choice((next_one, next_one, cursor, cursor, cursor + 32 * chance.randint(-2, 8), chance.randint(0, 99) * 32)))
-    text = random_lines.block(known, at, chance)
-    if chance.random() < 0.05:
-        text = messages(known, at, known.mtu + chance.choice((0, 1, 32, 4_000)), chance.randint(1, 3))
-    if chance.random() < 0.1:
-        text = random_lines.frame(known, at, DATA, 0) + text[: chance.choice((0, 0, 40))]
-    if chance.random() < 0.1:
-        text += random_lines.block(known, at + aligned(len(text)), chance)
-    files = {"": text}
-    for _ in range(chance.randint(0, 2)):
-        chance.choice((turn_bytes, set_field, set_field, make_pad, cut, grow, move_bytes))(files, "", chance)
-    return files[""] or b"\x00"
+    at = chance.choice((next_one, next_one, cursor, cursor, cursor + 32 * chance.randint(-2, 8), chance.randint(0, 99) * 32))
+    return mutated_datagram(archive.known(0), max(0, at), chance)
 
 
 def try_datagrams(tool: Path, work: Path, seed: int, begin: int, end: int) -> Counter[str]:
@@ -325,19 +294,21 @@ def main() -> int:
     words.add_argument("--datagrams", type=int, default=10_000)
     words.add_argument("--jobs", type=int, default=os.cpu_count())
     words.add_argument("--memory", type=int, default=512)
+    words.add_argument("--only", help="one part alone, by its name")
     asked = words.parse_args()
     tool = program(asked.program)
-    works = (
-        (try_banks, ranges(FORMS * sum(map(len, WORKED_BANKS)), 100)),
-        (try_folders, ranges(asked.folders, PART)),
-        (try_lines, ranges(asked.lines, LINES_OF_PART)),
-        (try_datagrams, ranges(asked.datagrams, LINES_OF_PART)),
-    )
+    works = {
+        "banks": (try_banks, ranges(FORMS, 100)),
+        "folders": (try_folders, ranges(asked.folders, PART)),
+        "lines": (try_lines, ranges(asked.lines, LINES_OF_PART)),
+        "datagrams": (try_datagrams, ranges(asked.datagrams, LINES_OF_PART)),
+    }
     with room("/dev/shm") as work:
         print(f"seed {asked.seed}, on {file_system(work)}", flush=True)
-        for each, parts in works:
-            counted = in_parts(each, [(tool, work, asked.seed, *part) for part in parts], asked.jobs, asked.memory)
-            print(", ".join(f"{count} {what}" for what, count in counted.items()), flush=True)
+        for name, (each, parts) in works.items():
+            if asked.only in (None, name):
+                counted = in_parts(each, [(tool, work, asked.seed, *part) for part in parts], asked.jobs, asked.memory)
+                print(", ".join(f"{count} {what}" for what, count in counted.items()), flush=True)
     print("each answer is the reader's")
     return 0
 

@@ -26,13 +26,12 @@ from concurrent.futures import ProcessPoolExecutor
 from dataclasses import dataclass, field
 from pathlib import Path
 
-from tool import MTU, Fault, Stream, aligned, bank, is_calm, program, room
+from tool import MTU, Fault, Stream, aligned, create, is_calm, program, room
 
 STREAM = Stream(term_length=65_536, segment_length=131_072)
 TRACED = "openat,pwrite64,ftruncate,fdatasync,fsync,unlink,write,close,flock"
 CALL = re.compile(r"^(\w+)\((.*)\)\s+= (-?\d+)")
 MOST = 4_096  # frames of a poll, more than a recording of a script has
-LIMIT = 1_048_576  # of a history, if none is asked for
 
 
 @dataclass
@@ -264,12 +263,7 @@ def library(work: Path) -> Path:
 def traced(tool: Path, lines: list[str], work: Path, skip: int, version: int) -> list[Moment]:
     """The moments of an archive that answers these lines; each line is sent once the one before it was answered."""
     folder, log = work / "archive", work / "log"
-    folder.mkdir()
-    made = subprocess.run([tool, "create", folder], capture_output=True, text=True)
-    if made.stdout != "created\n":
-        raise Fault(f"create: {made.stderr}")
-    if version == 1:
-        (folder / "catalogue-a.bank").write_bytes(bank(LIMIT, [], 1))
+    create(tool, folder, version=version)
     trace = Trace(folder)
     for path in folder.iterdir():
         text = path.read_bytes()

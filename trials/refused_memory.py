@@ -1,13 +1,19 @@
 #!/usr/bin/env python3
 """Refuses each request for memory in turn, one a run, by a library before the C library's allocator (refused_memory.c).
 
-Usage: trials/refused_memory.py [program]   of a script that reaches every line, answered by the program
+Usage: trials/refused_memory.py [program]   of scripts that the program answers
        trials/refused_memory.py tests      of the tests `refused_memory_*` of each library's built tests
+
+The first script reaches every line, over a disk in memory. The second one takes a recording through each change (`each_change.py`), over
+folders with an empty catalogue of version 1, and of version 2.
 
 Each run of the program has to answer `error 18 NoMemory` on one line and go on, or `error 17 DeviceFault` where the disk in
 memory found none; to answer by an archive that is not open, where that was at the first opening; to write what it writes with
 all memory, where the request was made again; or to end with NoMemory on standard error and status 1, what it wrote being a
 beginning of the right output.
+
+Over a folder, the lines after one that was answered by NoMemory are answered as without it, or of a block as after its write. The
+next process finds what was answered, and nothing else. If the program ended early, it may also find what the next line does.
 
 In each run of a test a call that finds no memory has to say so and change nothing, and a second try has to succeed; the test
 says so and passes. Then the requests of the tests `counted_memory_*` are counted, which may be no more than MOST says. `rt ci`
@@ -20,7 +26,10 @@ from collections import Counter
 from collections.abc import Sequence
 from pathlib import Path
 
-from tool import ROOT, Fault, program, room
+from each_change import HISTORY, REPLIES
+from each_change import LINES as CHANGES
+from power_cuts import shown
+from tool import ROOT, Fault, create, expect, program, room, run
 
 HELLO = "2500000000c00100%s00000007000000e90300002a000000000000000000000068656c6c6f"
 LINES = ["start 1001 7 42 65536 1408 131072 0 1000 c", "block 0 " + HELLO % "00", "write 0 " + HELLO % "40", "settle 0",
@@ -30,6 +39,7 @@ LINES = ["start 1001 7 42 65536 1408 131072 0 1000 c", "block 0 " + HELLO % "00"
          "purge-segments 0 131072", "purge 0", "sweep", "quit"]
 SCRIPT = "\n".join(LINES).encode()
 WANT = b"error 18 NoMemory\n"
+NO_FOLDER = b"no memory for the folder\n"
 FAULT = b"error 17 DeviceFault\n"
 BROKEN = b"error 16 Broken\n"
 # How many requests a test may make: 100 polls that each ask for a list and the bytes of one frame, and what comes before;
@@ -93,6 +103,63 @@ def try_program(memory: Memory, tool: Path) -> None:
         raise Fault(f"told wrongly: requests {wrong}")
 
 
+class Folder:
+    """The script of each change, over a folder whose catalogue has a version."""
+
+    def __init__(self, memory: Memory, tool: Path, folder: Path, version: int) -> None:
+        self.memory, self.tool, self.folder, self.version = memory, tool, folder, version
+        self.whole = self.run(None)
+        expect("the answers to each change", self.whole.stdout.decode().splitlines(), REPLIES)
+
+    def run(self, refused: int | None) -> subprocess.CompletedProcess:
+        """Answers the script over a new archive, with a request refused."""
+        create(self.tool, self.folder, HISTORY, self.version)
+        return self.memory.run([self.tool, "run", self.folder], "".join(f"{line}\n" for line in CHANGES).encode(), refused)
+
+    def state(self, lines: Sequence[str]) -> list[str]:
+        """What is there after some lines."""
+        return shown(self.tool, None, list(lines), 1)
+
+    def others(self, at: int) -> list[list[str]]:
+        """The lines that were done if one found no memory: all others, and of a block perhaps its write."""
+        written = [CHANGES[at].replace("block", "write", 1)] if CHANGES[at].startswith("block") else []
+        return [[*CHANGES[:at], *more, *CHANGES[at + 1 :]] for more in ([], written)]
+
+    def way(self, ran: subprocess.CompletedProcess) -> tuple[str, list[list[str]]]:
+        """How a run reports the request that was refused, and the lines that may have been done."""
+        told, error = ran.stdout.decode().splitlines(), ran.stderr.decode()
+        if ran.returncode == 1 and ran.stderr in (WANT, WANT + NO_FOLDER) and told == REPLIES[: len(told)]:
+            return "at the end", [CHANGES[: len(told)], CHANGES[: len(told) + 1]]
+        if ran.returncode == 0 and told == ["error 16 Broken"] * len(CHANGES) and error.startswith(WANT.decode()):
+            return "by no archive", [[]]
+        if ran.returncode != 0 or error != "":
+            return "wrongly", []
+        if told == REPLIES:
+            return "nowhere", [CHANGES]
+        at = next(number for number, one in enumerate(told) if one != REPLIES[number])
+        if told[at] == "error 18 NoMemory":
+            for done in self.others(at):
+                answered = run([self.tool, "run"], done)
+                if told[at + 1 :] == answered[len(answered) - len(told) + at + 1 :]:
+                    return "on one line", [done]
+        return "wrongly", []
+
+
+def try_changes(memory: Memory, tool: Path, work: Path, version: int) -> None:
+    """Refuses each request of the script of each change, over a folder, and looks at what is there."""
+    folder = Folder(memory, tool, work / "archive", version)
+    ways: Counter[str] = Counter()
+    for number in range(1, count(folder.whole) + 1):
+        ran = folder.run(number)
+        way, done = folder.way(ran)
+        ways[way] += 1
+        found = shown(tool, folder.folder, [], 1)
+        if way == "wrongly" or found not in [folder.state(lines) for lines in done]:
+            raise Fault(f"request {number}, told {way}: {ran.stdout.decode()}{ran.stderr.decode()}, and there is {found}")
+    counts = ", ".join(f"{way}: {number}" for way, number in sorted(ways.items()))
+    print(f"each change, version {version}: {count(folder.whole)} requests refused in turn, told {counts}", flush=True)
+
+
 # Tests
 
 
@@ -139,7 +206,10 @@ def main() -> int:
         if sys.argv[1:] == ["tests"]:
             try_tests(memory)
         else:
-            try_program(memory, program(sys.argv[1] if len(sys.argv) > 1 else None))
+            tool = program(sys.argv[1] if len(sys.argv) > 1 else None)
+            try_program(memory, tool)
+            for version in (1, 2):
+                try_changes(memory, tool, work, version)
     return 0
 
 

@@ -32,7 +32,7 @@ from tool import (
 
 sys.path.insert(0, str(ROOT / "examples"))
 from client import Client  # noqa: E402
-from sender import HEADER_LENGTH, MESSAGE, PAD, Publication, kind_of  # noqa: E402
+from sender import HEADER_LENGTH, MESSAGE, PAD, STATUS, Publication, kind_of  # noqa: E402
 
 STREAM = Stream(term_length=1_048_576, segment_length=1_048_576)
 IN_FLIGHT = 262_144  # bytes that a sender lets stand past the recorded position

@@ -17,6 +17,7 @@ from typing import NoReturn, Protocol
 
 ROOT = Path(__file__).resolve().parent.parent
 MOST_AT_ONCE = 4_096  # frames of a poll
+HISTORY_LIMIT = 1_048_576  # entries, if none is asked for
 STREAM_ID, SESSION_ID, INITIAL_TERM, MTU, TIMESTAMP = 1_001, 7, 42, 1_408, 1_000
 
 # What a command tells on standard error where nothing has failed: docs/CONTROL.md, "Standard error".
@@ -198,6 +199,14 @@ def run(words: Sequence[str | Path], lines: Iterable[str] = (), failed: Sequence
     if ended.returncode != 0 or not is_told:
         raise Fault(f"{' '.join(map(str, words[1:]))} ended with status {ended.returncode}: {ended.stderr.strip()}")
     return ended.stdout.splitlines()
+
+
+def create(tool: Path, folder: Path, history: int = HISTORY_LIMIT, version: int = 2) -> None:
+    """Makes an archive without recordings, whose catalogue has a version, instead of what is there."""
+    shutil.rmtree(folder, ignore_errors=True)
+    run([tool, "create", folder, "--history", str(history)])
+    if version == 1:
+        (folder / "catalogue-a.bank").write_bytes(bank(history, [], 1))
 
 
 def stop_positions(tool: Path, folder: Path, is_stopped: bool = False) -> list[int]:
