@@ -9,8 +9,8 @@ use std::alloc::{AllocError, Global};
 use std::process::Abort;
 use std::test::Fail;
 
-// The bank of version 1 of docs/STORAGE.md, "Entries".
-const BANK: [u8; 108] = [
+/// The bank of version 1 of docs/STORAGE.md, "Entries".
+pub(crate) const BANK: [u8; 108] = [
     0x01, 0x01, 0x00, 0x00, 0x03, 0x00, 0x00, 0x00, 0x01, 0x00, 0x00, 0x00, 0x00, 0x00, 0x00, 0x00,
     0x00, 0x00, 0x00, 0x00, 0x00, 0x00, 0x00, 0x00, 0x00, 0x00, 0x00, 0x00, 0x00, 0x00, 0x00, 0x00,
     0x01, 0x01, 0x33, 0x00, 0x00, 0x00, 0x00, 0x00, 0x00, 0x00, 0x00, 0x00, 0xe8, 0x03, 0x00, 0x00,
@@ -207,7 +207,7 @@ fn a_start_is_committed_byte_for_byte(rt: HostRuntime) -> Result<(), Fail> {
 }
 
 /// The register of what is opened.
-fn register_in(alloc: Global, disk: &mut MemoryDisk) -> Result<Register, Refusal> {
+pub(crate) fn register_in(alloc: Global, disk: &mut MemoryDisk) -> Result<Register, Refusal> {
     let (_, entries) = open(alloc, disk)?;
     register_from(alloc, entries.as_slice())
 }

@@ -50,7 +50,7 @@ fn stands(image: &Image, rebuilt: i64, high: i64, gap: Option<[u8; 28]>) -> bool
 }
 
 /// An image of the vectors' stream.
-fn image(alloc: Global) -> Result<Image, Fail> {
+pub(crate) fn image(alloc: Global) -> Result<Image, Fail> {
     Ok(Image::from_setup(alloc, &Setup::decode(&SETUP)?)?)
 }
 

@@ -54,6 +54,29 @@ fn damaged_frame(rt: HostRuntime) -> Result<(), Fail> {
     Ok(())
 }
 
+/// The disk of a stopped recording of a frame, whose file ends inside its header.
+fn cut_short_file(alloc: Global) -> Result<MemoryDisk, Fail> {
+    let disk = recorded(alloc, MemoryDisk::new(alloc))?;
+    let mut disk = check_on(alloc, disk, "stop 0 2000", "error 3 NotActive")?;
+    let file = FileId::Segment {
+        recording: 0,
+        base: 0,
+    };
+    disk.cut(file, 20)?;
+    disk.sync(file)?;
+    Ok(disk)
+}
+
+/// The script's opening syncs two banks and the file, and nothing else is changed.
+#[test]
+fn a_file_that_ends_inside_its_header(rt: HostRuntime) -> Result<(), Fail> {
+    let disk = cut_short_file(rt.alloc())?;
+    let changes = disk.changes();
+    let disk = check_on(rt.alloc(), disk, "verify 0", "error 15 Damaged 0 0")?;
+    assert!(rt; disk.changes() == changes.wrapping_add(3));
+    Ok(())
+}
+
 /// A disk with a new archive, whose history may have three entries.
 pub fn with_short_history(alloc: Global) -> Result<MemoryDisk, Fail> {
     match Engine::create(alloc, MemoryDisk::new(alloc), 3) {

@@ -252,6 +252,23 @@ fn listings(rt: HostRuntime) -> Result<(), Fail> {
     Ok(())
 }
 
+/// The first bytes of `hello`, listed.
+fn check_cut(alloc: Global, length: usize, told: &str) -> Result<(), Fail> {
+    let mut file = Vec::new(alloc);
+    add_first(&mut file, length)?;
+    check(alloc, file.as_slice(), 7, told)
+}
+
+/// A file that ends inside its first frame is bad there.
+#[test]
+fn a_file_is_cut_at_each_length(rt: HostRuntime) -> Result<(), Fail> {
+    check_cut(rt.alloc(), 0, "end 0; ")?;
+    for length in 1..37usize {
+        check_cut(rt.alloc(), length, "error 21 BadFrame 0; ")?;
+    }
+    check_cut(rt.alloc(), 37, "frame 42 0 1 37 c0; end 1; ")
+}
+
 /// So many times `hello`.
 fn hellos(alloc: Global, count: usize) -> Result<Vec<u8>, Fail> {
     let mut file = Vec::new(alloc);

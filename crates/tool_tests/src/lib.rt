@@ -22,6 +22,8 @@ mod pages;
 #[cfg(test)]
 mod progress;
 #[cfg(test)]
+mod refused;
+#[cfg(test)]
 mod reports;
 #[cfg(test)]
 mod scenarios;

@@ -1,5 +1,7 @@
 //! What no clause says: that lines are read while there is memory, and what a failing input leads to.
 
+use super::scenarios::{expect, replies};
+use disk_core::MemoryDisk;
 use std::alloc::Global;
 use std::io::{BufRead, BufReader, Error, ErrorKind, Read};
 use std::test::*;
@@ -106,6 +108,22 @@ fn long_lines(rt: HostRuntime) -> Result<(), Fail> {
         assert!(rt; found == (262_144 + 1 + 2 + 5, true));
     }
     Ok(())
+}
+
+/// A line of 262,145 bytes, and a short one.
+fn too_long(alloc: Global) -> Result<Vec<u8>, Fail> {
+    let mut input = Vec::new(alloc);
+    add_long(&mut input, 262_145)?;
+    input.extend_from_slice(b"list 0 0")?;
+    Ok(input)
+}
+
+#[test]
+fn a_line_that_is_too_long_is_bad(rt: HostRuntime) -> Result<(), Fail> {
+    let input = too_long(rt.alloc())?;
+    let script = std::str::from_utf8(input.as_slice())?;
+    let (out, _) = replies(rt.alloc(), MemoryDisk::new(rt.alloc()), script)?;
+    expect(out.as_slice(), "error 22 BadLine\nend 0\n")
 }
 
 // Gives its text a byte at a time, each behind a read that a signal interrupts, and fails in slot of one byte.
