@@ -35,11 +35,11 @@ class Client:
     def __init__(self, address: tuple[str, int], seconds: float = 30) -> None:
         self.socket = connected(address, seconds)
         self.socket.setsockopt(socket.IPPROTO_TCP, socket.TCP_NODELAY, 1)
-        self.replies = self.socket.makefile("r", encoding="ascii", newline="\n")
+        self.replies = self.socket.makefile("r", encoding="utf-8", newline="\n")
 
     def ask(self, line: str) -> Iterator[str]:
         """The lines of a line's reply; none more where the connection was closed."""
-        self.socket.sendall(line.encode("ascii") + b"\n")
+        self.socket.sendall(line.encode("utf-8") + b"\n")
         beginning = LONG_REPLIES.get(line.split(" ", 1)[0])
         for reply in self.replies:
             yield reply.rstrip("\n")
