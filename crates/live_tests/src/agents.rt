@@ -217,8 +217,10 @@ pub(crate) fn two_pairs<
     assert!(rt; arrived.load(Ordering::SeqCst) == 4);
     assert!(rt; told.has_run && told.refused == 0 && told.rising == 2);
     // One sink ends at the poll that has its first frame, and is not called again; the other has all three.
-    assert!(rt; told.frames.as_slice() == [told.most, 3] && told.most > 0 && told.late == 0);
-    assert!(rt; told.left.as_slice() == [0, 0]);
+    assert!(rt;
+        told.frames.as_slice() == [told.most, 3].as_slice() && told.most > 0 && told.late == 0
+    );
+    assert!(rt; told.left.as_slice() == [0, 0].as_slice());
     assert!(rt; told.calls == Some((told.polls.saturating_add(16), true)));
     for made in &gate.made {
         assert!(rt; (1..=MOST).contains(&made.load(Ordering::SeqCst)));
@@ -246,7 +248,7 @@ pub(crate) fn gated_pairs<
         assert!(rt; asked.load(Ordering::SeqCst) == turns.saturating_add(1));
     }
     // A receiver's turn takes a block, a recorder's makes two calls, a replayer's one.
-    assert!(rt; told.left.as_slice() == [5, 4] && told.polls == 11);
+    assert!(rt; told.left.as_slice() == [5, 4].as_slice() && told.polls == 11);
     assert!(rt; told.calls == Some((4 + 2 * 2 + 2 + 5 + 6, true)));
     Ok(())
 }

@@ -11,7 +11,7 @@ use disk_core::{Disk, FileId, MemoryDisk};
 use engine_core::Engine;
 use frame_core::Refusal;
 use std::alloc::Global;
-use std::process::Abort;
+use std::process::{Abort, Termination};
 use std::sync::Wait;
 use std::test::Fail;
 
@@ -27,7 +27,10 @@ fn refused_memory_leaves_a_turn(rt: HostRuntime) -> Result<(), Fail> {
     match played(&rt, rt.alloc(), true, Scenario::TurnAgain) {
         Ok(()) => Ok(()),
         // It was refused before the turn or after it. Nothing is refused a second time.
-        Err(_) => played(&rt, rt.alloc(), true, Scenario::TurnAgain),
+        first => {
+            first.report(&rt);
+            played(&rt, rt.alloc(), true, Scenario::TurnAgain)
+        }
     }
 }
 
