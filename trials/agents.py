@@ -12,16 +12,14 @@ killed (SIGKILL) at a random moment. What was written down has to be there, by t
 recording from where the last look ended, and at the end of everything `verify`.
 """
 import os
-import random
 import resource
 import shutil
 import signal
 import subprocess
-import time
 from collections.abc import Callable
 from pathlib import Path
 
-from tool import ROOT, Fault, Stream, conclude, expect, file_system, go_round, needs, program, replayed, room, run, stop_positions, trial_words
+from tool import ROOT, Fault, KilledRounds, Stream, conclude, expect, file_system, go_round, needs, noted, program, replayed, room, run, stop_positions, trial_words
 
 AGENTS = ROOT / "crates/agent_trials/out/agent_trials"
 TESTS = ROOT / "crates/live_tests/out/live_tests_tests"
@@ -29,7 +27,6 @@ SCENARIOS = ["agents::two_recorders_and_two_replayers", "agents::a_gate_ends_eac
 STREAM = Stream(term_length=65_536, segment_length=65_536)
 HISTORY = 16_777_216
 FRAME = 64  # bytes of a recorded frame
-BLOCKS = 10**9  # more than a process comes to record
 FEW_BLOCKS = 50  # of a process that ends by itself
 NOBODY = 65_534  # a user who runs nothing else
 THREADS = 2  # that a run of a receiver and a recorder makes; the recorder's is the program's own
@@ -74,15 +71,15 @@ def unthreaded() -> None:
     print("a run for which no thread can be made is refused: NoMemory", flush=True)
 
 
-class Followed:
+class Followed(KilledRounds):
     """An archive that two recorders write, and the positions that their follower wrote down."""
 
     def __init__(self, tool: Path, folder: Path, seed: int, most_kills: int) -> None:
-        self.tool, self.folder, self.most_kills = tool, folder, most_kills
-        self.chance = random.Random(seed)
+        super().__init__(seed, most_kills, (20, 2_000))
+        self.tool, self.folder = tool, folder
         self.seen = [0, 0]
         self.looked = [0, 0]  # up to where frames were looked at
-        self.lines = self.kills = self.more = 0
+        self.lines = self.more = 0
 
     def note(self, line: str) -> None:
         """Takes a position that was seen."""
@@ -97,18 +94,7 @@ class Followed:
     def follow(self, blocks: int, most: int | None) -> None:
         """A process of so many blocks, which is killed behind so many lines, if a number is given."""
         follower = subprocess.Popen([AGENTS, "folder", self.folder, str(blocks)], stdout=subprocess.PIPE, text=True)
-        told, last = 0, ""
-        for line in follower.stdout:
-            if not line.endswith("\n"):
-                break
-            if line == "ended\n":
-                last = line
-                continue
-            self.note(line)
-            told += 1
-            if told == most:
-                time.sleep(self.chance.uniform(0, 0.005))
-                follower.kill()
+        _, last = noted(follower, most, self.chance, "ended\n".__eq__, self.note)
         status = follower.wait()
         right = ("", -signal.SIGKILL) if most else ("ended\n", 0)
         expect("how a process ended", (last, status), right)
@@ -133,17 +119,8 @@ class Followed:
         if replayed(self.tool, self.folder, number, begin, frames) != right:
             raise Fault(f"recording {number}: not the {frames} frames from {begin} on that were recorded")
 
-    def is_done(self) -> bool:
-        return self.kills >= self.most_kills
-
     def so_far(self) -> str:
         return f"{self.lines} positions and {self.kills} kills"
-
-    def round(self) -> None:
-        """A process that is killed, and what it left."""
-        self.follow(BLOCKS, self.chance.randint(20, 2_000))
-        self.kills += 1
-        self.look()
 
     def end(self) -> None:
         """A process that ends by itself: its last look saw all that it recorded."""

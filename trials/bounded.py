@@ -9,35 +9,32 @@ and again. The next one goes on with both recordings and with the replay. After 
 a position at or past the end of each frame that was handed out. Frames come in order, without gaps, and are those that a replay
 of the data gives. The last process ends by itself: it hands out all up to the log's end, and no more.
 """
-import random
 import signal
 import subprocess
 import threading
-import time
 from pathlib import Path
 
-from tool import ROOT, Fault, Stream, conclude, expect, file_system, go_round, needs, program, replayed, room, run, stop_positions, trial_words
+from tool import ROOT, Fault, KilledRounds, Stream, conclude, expect, file_system, go_round, needs, noted, program, replayed, room, run, stop_positions, trial_words
 
 AGENTS = ROOT / "crates/agent_trials/out/agent_trials"
 STREAM = Stream(term_length=65_536, segment_length=65_536)
 HISTORY = 16_777_216
 FRAME = 64  # bytes of a recorded frame
 FRAMES_AHEAD = 8  # frames of a block of the data; a block of the log has one
-BLOCKS = 10**9  # more than a process comes to record
 FEW_BLOCKS = 50  # of a process that ends by itself
 LONGEST = 300  # seconds of a process
 
 
-class Held:
+class Held(KilledRounds):
     """A log, data that its position holds back, and what was handed out."""
 
     def __init__(self, tool: Path, log: Path, data: Path, seed: int, most_kills: int) -> None:
-        self.tool, self.log, self.data, self.most_kills = tool, log, data, most_kills
-        self.chance = random.Random(seed)
+        super().__init__(seed, most_kills, (1, 300))
+        self.tool, self.log, self.data = tool, log, data
         self.handed = 0  # the end of the last frame that was handed out
         self.seen = 0  # what the replayer saw of the log
         self.compared = 0  # up to where frames were compared with a replay
-        self.kills = self.ahead = self.more = 0
+        self.ahead = self.more = 0
 
     def note(self, line: str) -> None:
         """Takes a frame that was handed out."""
@@ -58,31 +55,15 @@ class Held:
         limit = threading.Timer(LONGEST, process.kill)
         limit.start()
         try:
-            told, last = self.read(process, most)
+            count, last = noted(process, most, self.chance, "ended\n".__eq__, self.note)
+            if not most:
+                process.wait()
         finally:
             limit.cancel()
             process.kill()
             status = process.wait()
         right = ("", -signal.SIGKILL, True) if most else ("ended\n", 0, True)
-        expect("how a process ended", (last, status, told >= (most or 0)), right)
-
-    def read(self, process: subprocess.Popen, most: int | None) -> tuple[int, str]:
-        """Reads all lines of a process. Returns how many frames it handed out, and its last word."""
-        told, last = 0, ""
-        for line in process.stdout:
-            if not line.endswith("\n"):
-                break
-            if line == "ended\n":
-                last = line
-                continue
-            self.note(line)
-            told += 1
-            if told == most:
-                time.sleep(self.chance.uniform(0, 0.005))
-                process.kill()
-        if not most:
-            process.wait()
-        return told, last
+        expect("how a process ended", (last, status, count >= (most or 0)), right)
 
     def stop(self, folder: Path) -> int:
         """Up to where a folder's recording is recorded."""
@@ -109,17 +90,8 @@ class Held:
             raise Fault(f"a replay of the data does not give the {frames} frames from {self.compared} on that were handed out")
         self.compared = self.handed
 
-    def is_done(self) -> bool:
-        return self.kills >= self.most_kills
-
     def so_far(self) -> str:
         return f"{self.handed // FRAME} frames and {self.kills} kills"
-
-    def round(self) -> None:
-        """A process that is killed, and what it left."""
-        self.follow(BLOCKS, self.chance.randint(1, 300))
-        self.kills += 1
-        self.look()
 
     def end(self) -> None:
         """A process that ends by itself: what it handed out ends with the log, and the data goes on."""

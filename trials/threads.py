@@ -14,10 +14,9 @@ and kills, and ends with status 1 where anything is wrong.
 import random
 import signal
 import subprocess
-import time
 from pathlib import Path
 
-from tool import ROOT, Fault, Stream, conclude, expect, file_system, go_round, needs, program, replayed, room, run, stop_positions, trial_words
+from tool import ROOT, Fault, Stream, conclude, expect, file_system, go_round, needs, noted, program, replayed, room, run, stop_positions, trial_words
 
 THREADS = ROOT / "crates/lock_trials/out/lock_trials"
 STREAM = Stream(term_length=65_536, segment_length=65_536)
@@ -77,17 +76,9 @@ class Storm:
         """A process that is killed behind so many answers, if a number is given; else what it tells at its end."""
         words = [THREADS, "folder", self.folder, str(self.chance.randrange(10**6)), str(turns)]
         writer = subprocess.Popen(words, stdout=subprocess.PIPE, text=True)
-        told = 0
-        for line in writer.stdout:
-            if not line.endswith("\n"):
-                break
-            if line.startswith("closed "):
-                return [line.strip(), str(writer.wait())]
-            self.note(line)
-            told += 1
-            if told == most:
-                time.sleep(self.chance.uniform(0, 0.005))
-                writer.kill()
+        _, last = noted(writer, most, self.chance, lambda line: line.startswith("closed "), self.note)
+        if last:
+            return [last.strip(), str(writer.wait())]
         if most is None or writer.wait() != -signal.SIGKILL:
             raise Fault(f"a process ended by itself, with status {writer.wait()}")
         self.kills += 1

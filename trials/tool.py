@@ -9,6 +9,7 @@ import struct
 import subprocess
 import sys
 import tempfile
+import time
 from collections.abc import Callable, Iterable, Iterator, Sequence
 from contextlib import contextmanager
 from dataclasses import dataclass
@@ -247,6 +248,29 @@ class Session:
         return self.process.wait()
 
 
+ENDLESS = 10**9  # blocks: more than a process comes to record
+
+
+def noted(
+    process: subprocess.Popen, most: int | None, chance: random.Random, is_last: Callable[[str], bool], note: Callable[[str], None]
+) -> tuple[int, str]:
+    """Notes each line of a process but its last one. Kills the process a little after so many, if a number is given. Returns how
+    many were noted, and the last line, if it came."""
+    count, last = 0, ""
+    for line in process.stdout:
+        if not line.endswith("\n"):
+            break
+        if is_last(line):
+            last = line
+            continue
+        note(line)
+        count += 1
+        if count == most:
+            time.sleep(chance.uniform(0, 0.005))
+            process.kill()
+    return count, last
+
+
 class Rounds(Protocol):
     """Work over an archive that goes on round by round, and then ends."""
 
@@ -259,6 +283,29 @@ class Rounds(Protocol):
 
     def so_far(self) -> str:
         """How far it came."""
+
+
+class KilledRounds(Rounds):
+    """Rounds in each of which a process is killed after some lines, and what it left is looked at."""
+
+    def __init__(self, seed: int, most_kills: int, lines: tuple[int, int]) -> None:
+        self.most_kills, self.lines_of_round = most_kills, lines
+        self.chance = random.Random(seed)
+        self.kills = 0
+
+    def follow(self, blocks: int, most: int | None) -> None:
+        """A process of so many blocks, which is killed after so many lines, if a number is given."""
+
+    def look(self) -> object:
+        """Looks at what a process left."""
+
+    def is_done(self) -> bool:
+        return self.kills >= self.most_kills
+
+    def round(self) -> None:
+        self.follow(ENDLESS, self.chance.randint(*self.lines_of_round))
+        self.kills += 1
+        self.look()
 
 
 def go_round(tool: Path, folder: Path, history: int, work: Rounds) -> None:
