@@ -1,11 +1,10 @@
 -- What holds of both polls, with a limit and without.
-use Rattle.std.proofs.Common.{◌≡◌, ◌<ℤ◌, ◌≤ℤ◌, ℤ, Bool, true, false, cond, Option, Some, None, refl, int_lt, arith}
+use Rattle.std.proofs.Common.{◌≡◌, ◌<ℤ◌, ℤ, Bool, true, false, cond, Option, Some, None, refl, int_lt, arith}
 use Rattle.std.proofs.lemmas.Int.{ints}
 use Rattle.archive_model.specs.Checks.{checks, passes}
 use Rattle.control_core.specs.declared.asked.Asked.TheVariants as calls
 use Rattle.control_core.specs.Desk.{DeskState}
-use Rattle.control_core.specs.Exact.{Archive, ArchiveEnds, PollingEnds, asked_of, from_position, is_poll, plain_poll, poll_event, reads_files, told_of, writes_files}
-use Rattle.control_core.specs.Consistent.{command_asked}
+use Rattle.control_core.specs.Exact.{Archive, ArchiveEnds, PollingEnds, asked_of, from_position, plain_poll, poll_event, reads_files, told_of}
 use Rattle.control_core.proofs.PollLemmas.{lt_false}
 use Rattle.control_core.specs.Turns.{held_to, open_replay_in, poll_decision, poll_tests}
 
@@ -24,18 +23,6 @@ told_of_poll d number most (Some limit) = refl
 pub poll_reads : (d : DeskState) (number most : ℤ) (limit : Option ℤ) → reads_files d (poll_event number most limit) ≡ passes (poll_tests d number most limit) checks
 poll_reads d number most None = refl
 poll_reads d number most (Some limit) = refl
-
-pub poll_writes_nothing : (d : DeskState) (number most : ℤ) (limit : Option ℤ) → writes_files d (poll_event number most limit) ≡ false
-poll_writes_nothing d number most None = refl
-poll_writes_nothing d number most (Some limit) = refl
-
-pub is_poll_event : (number most : ℤ) (limit : Option ℤ) → is_poll (poll_event number most limit) ≡ true
-is_poll_event number most None = refl
-is_poll_event number most (Some limit) = refl
-
-pub poll_asks_no_command : (a : Archive) (number most : ℤ) (limit : Option ℤ) → command_asked a (poll_event number most limit) ≡ None
-poll_asks_no_command a number most None = refl
-poll_asks_no_command a number most (Some limit) = refl
 
 -- what begins before the lesser of limit and bound begins before the limit
 pub before_limit : (limit bound position : ℤ) → position <ℤ held_to (Some limit) bound → position <ℤ limit

@@ -22,7 +22,7 @@ impl Replay {
     /// stream; the replay then goes on behind them. They are those on the disk where the store's pages agree with it.
     /// Damaged where they break off; DeviceFault where the disk fails; NoMemory: the replay then stays where it is. The
     /// disk stays as it is, and pages below the recorded position are kept, also where it is refused. Costs what
-    /// `Store::read_frame` costs, for each frame that is given, and nothing for those before its position. Polls of 64 to
+    /// `Store::hand_frame` costs, for each frame that is given, and nothing for those before its position. Polls of 64 to
     /// 256 frames cost less a frame than those of thousands, whose memory the system takes back each time.
     pub fn poll<D: Disk>(
         &mut self,

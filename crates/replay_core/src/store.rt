@@ -1,21 +1,18 @@
 //! What replays of a recording read from: a disk through pages. docs/STORAGE.md, "Pages" and "Damaged frames".
 
-ghost use Rattle.std.specs.Prelude.{◌≡◌, ◌⊎◌, ◌<◌, ◌≤ℤ◌, ◌+◌, ◌^◌, pos, ℕ, true, length, IfOk, IfErr, IfSome, IsErrOf, IsTrue, OnErr, unsigned_abs};
+ghost use Rattle.std.specs.Prelude.{◌≡◌, ◌⊎◌, ◌<◌, ◌^◌, IfOk, IfErr, IsErrOf, IsTrue, OnErr};
 ghost use Rattle.disk_core.specs.DiskImage.{reads};
 ghost use Rattle.disk_core.specs.Life.{HasFailed, IsQuiet};
-ghost use Rattle.frame_core.specs.FrameEncoding.{aligned_length, encoded};
-ghost use Rattle.frame_core.specs.Front.{IsFront};
 ghost use Rattle.frame_core.specs.declared.refusal.Refusal.TheVariants.{DeviceFault};
-ghost use Rattle.segment_store.specs.DamagedFrame.{RefusesFrame, ShowsFrame, belongs_at};
 ghost use Rattle.segment_store.specs.Layout.{IsFromStart, IsGeometryOf, IsLayout};
-ghost use Rattle.replay_core.specs.Pages.{AgreeOver, KeepsRead, kept};
+ghost use Rattle.replay_core.specs.Pages.{KeepsRead, kept};
 ghost use Rattle.replay_core.specs.Taking.{HandsOne, RefusesHanding};
 
 use crate::cache::PageCache;
 use crate::gathering::{Source, gather_frame};
 use crate::taking::FrameTaker;
 use disk_core::Disk;
-use frame_core::{Frame, Geometry, Refusal};
+use frame_core::{Geometry, Refusal};
 use segment_store::{Layout, read_frame, shown_frame};
 use std::alloc::Global;
 
@@ -35,66 +32,20 @@ pub struct Store<'a, D> {
 }
 
 impl<D> Store<'_, D> {
-    /// The frame at a position, through pages: as `segment_store::read_frame` reads it, where the pages that are kept of
-    /// the recording's generation agree with the disk on the frame's bytes. Damaged only where the disk has none there,
-    /// whatever pages have; DeviceFault where the disk fails, also in what is read ahead; NoMemory where there is none for
-    /// the payload of a frame that stands there. The disk stays as it is.
+    /// Hands the frame at a position on, through pages: as `segment_store::read_frame` reads it, where the pages that are kept
+    /// of the recording's generation agree with the disk on the frame's bytes. It is lent from what was gathered of pages, or
+    /// from what the disk was read into. How many bytes of the stream it covers.
+    ///
+    /// Damaged only where the disk has none there, whatever pages have; DeviceFault where the disk fails, also in what is read
+    /// ahead; NoMemory where there is none for the payload of a frame that stands there, or the taker has none for it: then the
+    /// taker is what its own refusal left. The disk stays as it is.
     ///
     /// Only pages that lie whole below the limit are kept, none in the last generation, and none for which there is no
-    /// memory: the frame is answered all the same. Costs no call of the disk where pages have the frame; else one for up
+    /// memory: the frame is handed on all the same. Costs no call of the disk where pages have the frame; else one for up
     /// to 16 pages of 4,096 bytes, and what `segment_store::read_frame` costs where they don't have it then, as behind the
-    /// last whole page. Copies a frame's bytes twice, and those that are read once more. Takes memory for the payload;
-    /// for pages, what they are read into and the frame's bytes only while there were fewer, or none as long.
-    pub fn read_frame(&mut self, alloc: Global, position: i64, limit: i64) -> Result<Frame, Refusal>
-    where
-        D: Disk,
-        requires layout { IsLayout self.old.layout }
-        requires geometry { IsGeometryOf self.old.layout self.old.geometry }
-        requires recorded { IsFromStart self.old.layout position }
-        ensures frame { IfOk result (λ frame. IsTrue (D.life self.new.disk.now).obeys →
-            AgreeOver (reads (D.life self.old.disk.now).now) self.old.layout self.old.generation (kept self.old.pages.now)
-            (unsigned_abs position) (length (encoded frame)) →
-            ShowsFrame (reads (D.life self.old.disk.now).now) self.old.layout self.old.geometry limit (unsigned_abs position) frame) }
-        // Also where the disk does not obey, or pages do not agree with it.
-        ensures ends { IfOk result (λ frame. pos (unsigned_abs position + aligned_length frame) ≤ℤ limit) }
-        ensures covers { IfOk result (λ frame. 0 < aligned_length frame) }
-        // Whatever pages have.
-        ensures refused { IfErr result (RefusesFrame (D.life self.new.disk.now).obeys
-            (reads (D.life self.old.disk.now).now) self.old.layout self.old.geometry limit position) }
-        ensures pages { KeepsRead (IsTrue (D.life self.new.disk.now).obeys) (reads (D.life self.old.disk.now).now)
-            self.old.layout self.old.generation limit (kept self.old.pages.now) (kept self.new.pages.now) }
-        ensures quiet { IsQuiet (D.life self.old.disk.now) (D.life self.new.disk.now) }
-        ensures cause { IsErrOf result DeviceFault → HasFailed (D.life self.old.disk.now) (D.life self.new.disk.now) }
-        ensures store { (self.new.layout ≡ self.old.layout) × (self.new.geometry ≡ self.old.geometry)
-            × (self.new.generation ≡ self.old.generation) × (self.new.disk.ghost_name ≡ self.old.disk.ghost_name)
-            × (self.new.pages.ghost_name ≡ self.old.pages.ghost_name) }
-    {
-        let source = Source {
-            layout: self.layout,
-            generation: self.generation,
-            limit,
-        };
-        let at = position.unsigned_abs();
-        let most = self.geometry.mtu.unsigned_abs() as usize;
-        gather_frame(alloc, self.disk, self.pages, &source, at, most)?;
-        let bytes = self.pages.gathered.as_slice();
-        match frame_of(alloc, &self.layout, &self.geometry, at, &limit, bytes) {
-            Some(frame) => Ok(frame),
-            None => read_frame(
-                alloc,
-                self.disk,
-                &self.layout,
-                &self.geometry,
-                position,
-                limit,
-            ),
-        }
-    }
-
-    /// Hands the frame at a position on, as `read_frame` reads it: it is lent from what was gathered of pages, or from what
-    /// the disk was read into. How many bytes of the stream it covers. Refused as `read_frame`, and NoMemory where the taker
-    /// has none for it: then the taker is what its own refusal left. Takes memory for a payload only where pages don't have
-    /// the frame.
+    /// last whole page. Copies a frame's bytes once, and those that are read once more. Takes memory for a payload only where
+    /// pages don't have the frame; for pages, what they are read into and the frame's bytes only while there were fewer, or
+    /// none as long.
     pub fn hand_frame<T: FrameTaker>(
         &mut self,
         alloc: Global,
@@ -147,22 +98,4 @@ impl<D> Store<'_, D> {
         taker.take(position, &frame.as_ref())?;
         Ok(frame.aligned_length())
     }
-}
-
-/// The frame in front of what was gathered at a position, where it belongs there. None also where there is no memory for
-/// its payload: of that the disk decides.
-fn frame_of(
-    alloc: Global,
-    layout: &Layout,
-    geometry: &Geometry,
-    position: u64,
-    limit: &i64,
-    bytes: &[u8],
-) -> Option<Frame>
-    requires high { position < 2 ^ 63 }
-    ensures { IfSome result (λ frame. (used : ℕ) × IsFront bytes.now frame used
-        × (belongs_at layout.now geometry.now position limit.now frame ≡ true)) }
-{
-    let shown = shown_frame(layout, geometry, position, limit, bytes)?;
-    shown.to_frame(alloc).ok()
 }
