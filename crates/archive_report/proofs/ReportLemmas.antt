@@ -12,8 +12,8 @@ use Rattle.archive_model.specs.Register.{registration_in}
 use Rattle.control_core.specs.Desk.{DeskState}
 use Rattle.recording_reads.specs.Reading.{RefusesCount}
 use Rattle.tool_core.specs.declared.commands.CommandFault.{CommandFault}
-use Rattle.tool_core.specs.declared.commands.Stopped.{Stopped}
-use Rattle.tool_core.specs.declared.commands.Stopped.TheVariants as stops
+use Rattle.tool_core.specs.declared.commands.Stop.{Stop}
+use Rattle.tool_core.specs.declared.commands.Stop.TheVariants as stops
 use Rattle.tool_core.specs.declared.fault.EarlyEnd.{EarlyEnd}
 use Rattle.tool_core.specs.declared.reports.Verdict.{Verdict}
 use Rattle.tool_core.specs.Reports.{HasReported, HasReportedFirst, InTurn, InTurnAndOne}
@@ -124,14 +124,14 @@ module _ {D X : Type 0} (life : D → Life) (old : Life) (contents : Option (Lis
   pub unlisted : IsUnviewedBy life old fault.disk fault.why → IfErr result (λ f. FailsToList life old f.disk f.why contents contents)
   unlisted none = subst (λ (r : Result X (CommandFault D)). IfErr r (λ f. FailsToList life old f.disk f.why contents contents)) (sym is) (by fault.why none)
     where
-      by : (why : Stopped) → IsUnviewedBy life old fault.disk why → FailsToList life old fault.disk why contents contents
+      by : (why : Stop) → IsUnviewedBy life old fault.disk why → FailsToList life old fault.disk why contents contents
       by (stops.Refused refusal) none = (none, refl)
       by (stops.Cut end) none = absurd none
 
   pub unverified : IsUnviewedBy life old fault.disk fault.why → IfErr result (λ f. FailsToVerify life old f.disk f.why contents contents)
   unverified none = subst (λ (r : Result X (CommandFault D)). IfErr r (λ f. FailsToVerify life old f.disk f.why contents contents)) (sym is) (by fault.why none)
     where
-      by : (why : Stopped) → IsUnviewedBy life old fault.disk why → FailsToVerify life old fault.disk why contents contents
+      by : (why : Stop) → IsUnviewedBy life old fault.disk why → FailsToVerify life old fault.disk why contents contents
       by (stops.Refused refusal) none = (none, refl)
       by (stops.Cut end) none = absurd none
 

@@ -2,8 +2,8 @@
 use Rattle.std.specs.Prelude.{◌≡◌, ◌⊎◌, ℕ, ℤ, List, Option}
 use Rattle.frame_core.specs.declared.refusal.Refusal.{Refusal}
 use Rattle.disk_core.specs.Life.{Life}
-use Rattle.tool_core.specs.declared.commands.Stopped.{Stopped}
-use Rattle.tool_core.specs.declared.commands.Stopped.TheVariants.{Refused, Cut}
+use Rattle.tool_core.specs.declared.commands.Stop.{Stop}
+use Rattle.tool_core.specs.declared.commands.Stop.TheVariants.{Refused, Cut}
 use Rattle.tool_core.specs.declared.fault.EarlyEnd.TheVariants as ends
 use Rattle.archive_view.specs.declared.view.ArchiveView.{ArchiveView}
 use Rattle.archive_view.specs.Viewed.{desk_of}
@@ -14,7 +14,7 @@ use Rattle.archive_export.specs.Exporting.{HasExported, IsLookedOn, RefusesExpor
 use Rattle.archive_report.specs.Viewing.{IsUnviewedBy, ShowsDesk, inner}
 
 -- why the command ends
-abbrev pub stop_of : ExportFault → Stopped
+abbrev pub stop_of : ExportFault → Stop
 stop_of (faults.Refused refusal) = Refused refusal
 stop_of faults.Write = Cut ends.Write
 
@@ -44,7 +44,7 @@ module _ {D : Type 0} (life : D → Life) where
     pub left : new ≡ inner life last
 
   -- it was not seen, and nothing is written; or it was
-  abbrev pub FailsToExportFrom : Life → D → ℤ → Span → Stopped → Option (List ℕ) → Option (List ℕ) → Type 0
+  abbrev pub FailsToExportFrom : Life → D → ℤ → Span → Stop → Option (List ℕ) → Option (List ℕ) → Type 0
   FailsToExportFrom old disk recording span (Refused refusal) contents written =
       (IsUnviewedBy life old disk (Refused refusal) × (written ≡ contents)) ⊎ HasRefusedFrom old (life disk) recording span refusal
   FailsToExportFrom old disk recording span (Cut ends.Write) contents written = HasLookedFrom old (life disk)

@@ -11,8 +11,8 @@ use Rattle.archive_model.specs.declared.reply.Reply.TheVariants.{Verified}
 use Rattle.archive_model.specs.Register.{RegisterState, registration_in}
 use Rattle.control_core.specs.Desk.{DeskState}
 use Rattle.recording_reads.specs.Reading.{HasFrames, RefusesCount}
-use Rattle.tool_core.specs.declared.commands.Stopped.{Stopped}
-use Rattle.tool_core.specs.declared.commands.Stopped.TheVariants.{Refused, Cut}
+use Rattle.tool_core.specs.declared.commands.Stop.{Stop}
+use Rattle.tool_core.specs.declared.commands.Stop.TheVariants.{Refused, Cut}
 use Rattle.tool_core.specs.declared.fault.EarlyEnd.{EarlyEnd}
 use Rattle.tool_core.specs.declared.reports.Verdict.{Verdict}
 use Rattle.tool_core.specs.Reports.{HasReported, HasReportedFirst, Verification, ids_in}
@@ -67,6 +67,6 @@ module _ {D : Type 0} (life : D → Life) where
     pub left : IsOnlyRead (inner life last) new
 
   -- it was not seen, and nothing is written; or it was
-  abbrev pub FailsToVerify : Life → D → Stopped → Option (List ℕ) → Option (List ℕ) → Type 0
+  abbrev pub FailsToVerify : Life → D → Stop → Option (List ℕ) → Option (List ℕ) → Type 0
   FailsToVerify old disk (Refused refusal) contents written = IsUnviewedBy life old disk (Refused refusal) × (written ≡ contents)
   FailsToVerify old disk (Cut end) contents written = HasVerifiedFirst old (life disk) contents written end

@@ -9,8 +9,8 @@ use Rattle.catalogue_log.specs.LogState.{LogState}
 use Rattle.control_core.specs.Decisions.{listed}
 use Rattle.control_core.specs.Desk.{DeskState}
 use Rattle.control_lines.specs.ReplyText.{reply_text}
-use Rattle.tool_core.specs.declared.commands.Stopped.{Stopped}
-use Rattle.tool_core.specs.declared.commands.Stopped.TheVariants.{Refused, Cut}
+use Rattle.tool_core.specs.declared.commands.Stop.{Stop}
+use Rattle.tool_core.specs.declared.commands.Stop.TheVariants.{Refused, Cut}
 use Rattle.tool_core.specs.declared.fault.EarlyEnd.{EarlyEnd}
 use Rattle.tool_core.specs.Answering.{FailsToAnswer}
 use Rattle.archive_view.specs.declared.view.ArchiveView.{ArchiveView}
@@ -49,11 +49,11 @@ module _ {D : Type 0} (life : D → Life) where
   abbrev pub IsViewedBy : Life → ArchiveView D → Type 0
   IsViewedBy old view = ShowsDesk old (inner view) (desk_of view)
 
-  abbrev pub IsUnviewedBy : Life → D → Stopped → Type 0
+  abbrev pub IsUnviewedBy : Life → D → Stop → Type 0
   IsUnviewedBy old disk (Refused refusal) = RefusesDesk old (life disk) (RefusesCatalogue (reads old.now) refusal)
   IsUnviewedBy old disk (Cut end) = ⊥
 
   -- it was not seen, and nothing is written; or it was
-  abbrev pub FailsToList : Life → D → Stopped → Option (List ℕ) → Option (List ℕ) → Type 0
+  abbrev pub FailsToList : Life → D → Stop → Option (List ℕ) → Option (List ℕ) → Type 0
   FailsToList old disk (Refused refusal) contents written = IsUnviewedBy old disk (Refused refusal) × (written ≡ contents)
   FailsToList old disk (Cut end) contents written = HasNotListed old (life disk) contents written end

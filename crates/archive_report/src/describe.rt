@@ -13,7 +13,7 @@ use control_core::Desk;
 use disk_core::Disk;
 use std::alloc::Global;
 use std::io::Write;
-use tool_core::{CommandFault, EarlyEnd, Observer, Stopped};
+use tool_core::{CommandFault, EarlyEnd, Observer, Stop};
 
 /// In which form an archive is described.
 #[derive(Clone, Copy, Debug, PartialEq, Eq)]
@@ -56,24 +56,24 @@ fn described<W: Write, D: Disk>(
     view: &mut ArchiveView<D>,
     form: Form,
     writer: &mut W,
-) -> Result<(), Stopped>
+) -> Result<(), Stop>
     ensures { IsLookedOn D.life view.old view.new }
 {
     let summary = match Summary::of(alloc, view) {
         Ok(summary) => summary,
-        Err(refusal) => return Err(Stopped::Refused(refusal)),
+        Err(refusal) => return Err(Stop::Refused(refusal)),
     };
     match text_of(alloc, view.desk(), &summary, form) {
         Some(text) => written(text.as_str(), writer),
-        None => Err(Stopped::Cut(EarlyEnd::Memory)),
+        None => Err(Stop::Cut(EarlyEnd::Memory)),
     }
 }
 
 /// Writes a text. `Write` where the writer fails.
-fn written<W: Write>(text: &str, writer: &mut W) -> Result<(), Stopped> {
+fn written<W: Write>(text: &str, writer: &mut W) -> Result<(), Stop> {
     match writer.write_all(text.as_bytes()) {
         Ok(()) => Ok(()),
-        Err(_) => Err(Stopped::Cut(EarlyEnd::Write)),
+        Err(_) => Err(Stop::Cut(EarlyEnd::Write)),
     }
 }
 

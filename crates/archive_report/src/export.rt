@@ -9,7 +9,7 @@ use archive_export::{ExportFault, Span, export};
 use disk_core::Disk;
 use std::alloc::Global;
 use std::io::Write;
-use tool_core::{CommandFault, EarlyEnd, Stopped};
+use tool_core::{CommandFault, EarlyEnd, Stop};
 
 /// Writes the frames of a part of a recording as a capture file, of the archive of a disk as it stands. The disk is only
 /// read, and comes back. An observer is told whether the archive is there, and of the recording before anything is written.
@@ -45,11 +45,11 @@ pub fn export_view<W: Write, D: Disk, O: ExportObserver>(
 }
 
 /// Why a command ended before it was done, by the fault of its export.
-fn why_of(fault: ExportFault) -> Stopped
+fn why_of(fault: ExportFault) -> Stop
     ensures { result ≡ stop_of fault }
 {
     match fault {
-        ExportFault::Refused(refusal) => Stopped::Refused(refusal),
-        ExportFault::Write => Stopped::Cut(EarlyEnd::Write),
+        ExportFault::Refused(refusal) => Stop::Refused(refusal),
+        ExportFault::Write => Stop::Cut(EarlyEnd::Write),
     }
 }

@@ -7,7 +7,7 @@ use crate::viewing::viewed;
 use disk_core::Disk;
 use std::alloc::Global;
 use std::io::Write;
-use tool_core::{CommandFault, Observer, Stopped, list_recordings};
+use tool_core::{CommandFault, Observer, Stop, list_recordings};
 
 /// Writes the recordings of the archive of a disk as it stands, as `list_recordings`: an active one as active. The disk is
 /// only read, and comes back. An observer is told whether the archive is there.
@@ -31,7 +31,7 @@ pub fn list_view<W: Write, D: Disk, O: Observer>(
     match outcome {
         Ok(()) => Ok(disk),
         Err(end) => Err(CommandFault {
-            why: Stopped::Cut(end),
+            why: Stop::Cut(end),
             disk,
         }),
     }

@@ -13,9 +13,7 @@ use disk_core::Disk;
 use frame_core::Refusal;
 use std::alloc::Global;
 use std::io::Write;
-use tool_core::{
-    CommandFault, EarlyEnd, Observer, Stopped, Verdict, Verifiable, verify_recordings,
-};
+use tool_core::{CommandFault, EarlyEnd, Observer, Stop, Verdict, Verifiable, verify_recordings};
 
 /// What the verifying of an archive found.
 #[derive(Clone, Copy, Debug, PartialEq, Eq)]
@@ -76,7 +74,7 @@ pub fn verify_view<W: Write, D: Disk, O: Observer>(
     match outcome {
         Ok(verdict) => Ok((disk, Finding { verdict, is_moving })),
         Err(end) => Err(CommandFault {
-            why: Stopped::Cut(end),
+            why: Stop::Cut(end),
             disk,
         }),
     }

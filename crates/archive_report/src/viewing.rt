@@ -3,10 +3,11 @@
 ghost use Rattle.std.specs.Prelude.{IfErr, IfOk};
 ghost use Rattle.archive_report.specs.Viewing.{IsUnviewedBy, IsViewedBy};
 
-use archive_view::{ArchiveView, ReadOnly, ViewRefusal};
+use archive_view::{ArchiveView, ReadOnly};
 use disk_core::Disk;
+use engine_core::OpenRefusal;
 use std::alloc::Global;
-use tool_core::{Beginning, CommandFault, Observer, Stopped};
+use tool_core::{Beginning, CommandFault, Observer, Stop};
 
 /// The archive of a disk as it stands, of which an observer is told; else why it cannot be looked at, and the disk. The disk
 /// is only read.
@@ -23,10 +24,10 @@ pub(crate) fn viewed<D: Disk, O: Observer>(
             observer.began(&Beginning::Opened);
             Ok(view)
         }
-        Err(ViewRefusal { refusal, disk }) => {
+        Err(OpenRefusal { refusal, disk }) => {
             observer.began(&Beginning::Refused(refusal));
             Err(CommandFault {
-                why: Stopped::Refused(refusal),
+                why: Stop::Refused(refusal),
                 disk: disk.into_disk(),
             })
         }

@@ -2,7 +2,7 @@
 #![tactic(auto)]
 
 use command_line::unreadable_words;
-use folder_commands::{Ended, Ending, Outlet, answered, concluded, no_command};
+use folder_commands::{Ending, Exit, Outlet, answered, concluded, no_command};
 use std::env;
 use std::io::{self, BufWriter, Eprint, Read, Write};
 use std::net::{Net, TcpListener, TcpStream};
@@ -19,14 +19,14 @@ const WRITTEN_AT_ONCE: usize = 65_536;
 /// the handle, folders opened by the runtime.
 fn main(rt: HostRuntime) -> ExitCode {
     let outlet = Outlet::new(rt.stdout());
-    let ended = match BufWriter::with_capacity(rt.alloc(), WRITTEN_AT_ONCE, outlet) {
+    let exit = match BufWriter::with_capacity(rt.alloc(), WRITTEN_AT_ONCE, outlet) {
         Ok(mut writer) => {
-            let ended = commanded(&rt, rt, rt.reader(), &mut writer);
-            ended.with_output_fault(writer.get_ref().fault())
+            let exit = commanded(&rt, rt, rt.reader(), &mut writer);
+            exit.with_output_fault(writer.get_ref().fault())
         }
-        Err(_) => Ended::told(Ending::Cut(EarlyEnd::Memory)),
+        Err(_) => Exit::told(Ending::Cut(EarlyEnd::Memory)),
     };
-    ExitCode::from(concluded(&rt, ended))
+    ExitCode::from(concluded(&rt, exit))
 }
 
 /// Does what the command line asks for. A word that is no UTF-8 is a wrong one.
@@ -34,13 +34,13 @@ fn commanded<
     R: Threads + Wait + Clock + Eprint + Net<Listener = TcpListener, Stream = TcpStream> + Sync,
     I: Read + Drop,
     W: Write,
->(net: &R, rt: HostRuntime, input: I, writer: &mut W) -> Ended {
+>(net: &R, rt: HostRuntime, input: I, writer: &mut W) -> Exit {
     match words_of(&rt) {
-        Ok(words) => answered(net, rt, words.as_slice(), input, writer).ended,
+        Ok(words) => answered(net, rt, words.as_slice(), input, writer).exit,
         Err(error) if error.kind() == io::ErrorKind::InvalidData => {
             no_command(rt, &unreadable_words(rt.alloc()))
         }
-        Err(error) => Ended::told(Ending::Failed(error.kind())),
+        Err(error) => Exit::told(Ending::Failed(error.kind())),
     }
 }
 

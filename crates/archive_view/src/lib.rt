@@ -9,4 +9,4 @@ mod read_only;
 mod view;
 
 pub use read_only::ReadOnly;
-pub use view::{ArchiveView, ViewRefusal};
+pub use view::ArchiveView;

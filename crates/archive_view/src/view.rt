@@ -10,6 +10,7 @@ use crate::ReadOnly;
 use catalogue_log::{Log, open_register};
 use control_core::Desk;
 use disk_core::Disk;
+use engine_core::OpenRefusal;
 use engine_core::laws::admitted_entries_make_laid_recordings;
 use frame_core::Refusal;
 use std::alloc::Global;
@@ -21,15 +22,6 @@ pub struct ArchiveView<D> {
     pub(crate) desk: Desk,
     // Where the entries of its catalogue ended.
     pub(crate) log: Log,
-}
-
-/// Why a disk gives no view of an archive, and the disk.
-#[derive(Drop)]
-pub struct ViewRefusal<D> {
-    /// Why.
-    pub refusal: Refusal,
-    /// The disk that was given.
-    pub disk: ReadOnly<D>,
 }
 
 // What a catalogue gives.
@@ -48,7 +40,10 @@ impl<D: Disk> ArchiveView<D> {
     /// `NotCatalogue`, `NewerVersion` and `Damaged` as `catalogue_log::open`; `DeviceFault`; `NoMemory`. The disk is only
     /// read, and comes back. docs/STORAGE.md, "Looking at an archive". Costs a call of the disk for each 64 KiB of the
     /// catalogue, and the memory of the recordings: none for the entries.
-    pub fn open(alloc: Global, disk: ReadOnly<D>) -> Result<ArchiveView<D>, ViewRefusal<D>>
+    pub fn open(
+        alloc: Global,
+        disk: ReadOnly<D>,
+    ) -> Result<ArchiveView<D>, OpenRefusal<ReadOnly<D>>>
         ensures { MatchResult result
             (λ view. Looks D.life (λ image. IsAsCatalogued image (desk_of view) (log_of view)) disk (read_of view))
             (λ refused. Refuses D.life (λ image. RefusesCatalogue image refused.refusal) disk refused.disk refused.refusal) }
@@ -56,7 +51,7 @@ impl<D: Disk> ArchiveView<D> {
         let mut disk = disk;
         match catalogue_of(alloc, &mut disk) {
             Ok(Catalogued { desk, log }) => Ok(ArchiveView { disk, desk, log }),
-            Err(refusal) => Err(ViewRefusal { refusal, disk }),
+            Err(refusal) => Err(OpenRefusal { refusal, disk }),
         }
     }
 

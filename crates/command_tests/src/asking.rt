@@ -271,7 +271,7 @@ fn fails_to_print<
         return false;
     };
     let ended = ended(net, rt, ToolCommand::Ask(words), NO_LINES, &mut Full);
-    ended.ending.status() == 3
+    ended.status() == 3
 }
 
 #[test]
@@ -375,7 +375,7 @@ fn serves<
     words.is_quiet = true;
     let mut out = Vec::new(rt.alloc());
     let ended = ended(net, rt, ToolCommand::Serve(words), NO_LINES, &mut out);
-    ended.ending.status()
+    ended.status()
 }
 
 /// Whether a server begins to answer on a port within about 10 seconds.

@@ -3,7 +3,7 @@
 
 use command_line::ToolCommand;
 use disk_core::{Disk, FileId};
-use folder_commands::{Ended, obeyed};
+use folder_commands::{Exit, obeyed};
 use host_disk::HostDisk;
 use std::io::{self, Eprint, Read, Write};
 use std::net::{Net, TcpListener, TcpStream};
@@ -44,8 +44,8 @@ pub(crate) fn ended<
     R: Threads + Wait + Clock + Eprint + Net<Listener = TcpListener, Stream = TcpStream> + Sync,
     I: Read + Drop,
     W: Write,
->(net: &R, rt: HostRuntime, command: ToolCommand<'_>, input: I, writer: &mut W) -> Ended {
-    obeyed(net, rt, &command, input, writer).ended
+>(net: &R, rt: HostRuntime, command: ToolCommand<'_>, input: I, writer: &mut W) -> Exit {
+    obeyed(net, rt, &command, input, writer).exit
 }
 
 /// The status with which it ends.
@@ -54,7 +54,7 @@ fn status_of<
     I: Read + Drop,
     W: Write,
 >(net: &R, rt: HostRuntime, command: ToolCommand<'_>, input: I, writer: &mut W) -> u8 {
-    ended(net, rt, command, input, writer).ending.status()
+    ended(net, rt, command, input, writer).status()
 }
 
 /// What a command writes has to be this, and its status that.

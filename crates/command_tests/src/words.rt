@@ -4,7 +4,7 @@
 use clap::Error;
 use clap::error::ErrorKind;
 use command_line::{ToolCommand, command_of, unreadable_words};
-use folder_commands::{Ended, Ending, concluded, told};
+use folder_commands::{Ending, Exit, concluded, told};
 use std::alloc::Global;
 use std::cell::Cell;
 use std::fmt::Display;
@@ -105,7 +105,7 @@ fn check_told(
     };
     assert!(rt; used.as_slice() == whole.as_bytes() && other.is_empty());
     let full = told(kind, whole.as_str(), &mut Full, &mut Full);
-    assert!(rt; ended.ending.status() == status && full.ending.status() == 3);
+    assert!(rt; ended.status() == status && full.status() == 3);
     Ok(())
 }
 
@@ -421,7 +421,7 @@ fn a_fault_is_told_by_its_line(rt: HostRuntime) {
     ] {
         let streams = Streams::new(rt.alloc(), line);
         assert!(rt;
-            concluded(&streams, Ended::told(ending)) == status,
+            concluded(&streams, Exit::told(ending)) == status,
             "{line} {status}"
         );
         assert!(rt;

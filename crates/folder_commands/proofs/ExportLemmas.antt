@@ -9,15 +9,15 @@ use Rattle.disk_core.specs.Life.{Life}
 use Rattle.disk_core.proofs.CallerLemmas.{goes_on_part, now_leaves, started}
 use Rattle.host_disk.specs.Events.{Given}
 use Rattle.host_disk.specs.Replay.{life_from}
-use Rattle.tool_core.specs.declared.commands.Stopped.{Stopped}
-use Rattle.tool_core.specs.declared.commands.Stopped.TheVariants as stops
+use Rattle.tool_core.specs.declared.commands.Stop.{Stop}
+use Rattle.tool_core.specs.declared.commands.Stop.TheVariants as stops
 use Rattle.tool_core.specs.declared.fault.EarlyEnd.TheVariants as ends
 use Rattle.archive_report.specs.ArchiveView.{ArchiveView}
 use Rattle.archive_report.specs.ReadOnly.{IsOnlyRead}
 use Rattle.archive_export.specs.declared.span.Span.{Span}
 use Rattle.archive_export.specs.Exporting.{IsLookedOn}
 use Rattle.archive_report.specs.Exported.{FailsToExportFrom, HasExportedFrom, HasLookedFrom, HasRefusedFrom}
-use Rattle.folder_commands.specs.declared.outcome.Ended.{Ended}
+use Rattle.folder_commands.specs.declared.exit.Exit.{Exit}
 use Rattle.folder_commands.specs.declared.status.Ending.{Ending}
 use Rattle.folder_commands.specs.declared.status.Ending.TheVariants.{Done, Cut, Refused, Unopened, FoundDamage, LineRefused, Stuck, Hidden, NoCommand, Failed}
 use Rattle.folder_commands.specs.Folders.{ending_in}
@@ -79,7 +79,7 @@ module _ {D : Type 0} (life : D → Life) where
   looked_on old new h = subst (IsOnlyRead old) (sym h.left) (read_on old _ _ h.shown.inside h.looked.inside)
 
   -- why the frames were not written into a file
-  pub fails_to_capture : (old : Life) (recording : ℤ) (span : Span) (disk : D) (why : Stopped) → FailsToExportFrom life old disk recording span why None None → FailsToCapture old (life disk) recording span (uncaptured_ending why)
+  pub fails_to_capture : (old : Life) (recording : ℤ) (span : Span) (disk : D) (why : Stop) → FailsToExportFrom life old disk recording span why None None → FailsToCapture old (life disk) recording span (uncaptured_ending why)
   fails_to_capture old recording span disk (stops.Refused refusal) h = inl (unexported old disk recording span refusal None None h)
   fails_to_capture old recording span disk (stops.Cut ends.Write) h = inr (tt, looked_on old (life disk) h)
   fails_to_capture old recording span disk (stops.Cut ends.Read) h = absurd h
@@ -134,12 +134,12 @@ module _ (given : Given) (recording : ℤ) (span : Span) (contents : Option (Lis
   export_unmade new ending begins h = uncaptured_so new ending (subst (λ l. FailsToCapture l new recording span ending) begins (unmade new ending h))
 
   -- they were, and that is told, or could not be
-  pub export_ends : (written : Option (List ℕ)) (old : Life) (kept left : Option Life) (done : Result (Unit {0}) Ended) (ending : Ending) → old ≡ life_from given → IsSomeAnd kept (λ n. HasCaptured old n recording span)
-      → MatchResult done (λ _. Appends contents written (codes "exported\n")) (λ ended. ended.ending ≡ Cut ends.Write) → left ≡ kept → ending ≡ ending_in done → ExportsFolder given recording span contents written left ending
+  pub export_ends : (written : Option (List ℕ)) (old : Life) (kept left : Option Life) (done : Result (Unit {0}) Exit) (ending : Ending) → old ≡ life_from given → IsSomeAnd kept (λ n. HasCaptured old n recording span)
+      → MatchResult done (λ _. Appends contents written (codes "exported\n")) (λ exit. exit.ending ≡ Cut ends.Write) → left ≡ kept → ending ≡ ending_in done → ExportsFolder given recording span contents written left ending
   export_ends written old None left done ending begins h told is so = absurd h
   export_ends written old (Some new) left (Ok done) ending begins h told is so =
       subst (λ l. ExportsFolder given recording span contents written l ending) (sym is)
       (subst (ExportsFolder given recording span contents written (Some new)) (sym so) (subst (λ l. HasCaptured l new recording span) begins h, told))
-  export_ends written old (Some new) left (Err ended) ending begins h told is so =
+  export_ends written old (Some new) left (Err exit) ending begins h told is so =
       subst (λ l. ExportsFolder given recording span contents written l ending) (sym is)
       (subst (ExportsFolder given recording span contents written (Some new)) (sym (so ∙ told)) (subst (λ l. HasCaptured l new recording span) begins h))

@@ -9,15 +9,15 @@ use Rattle.host_disk.specs.contracts.host_folder.HostFolderFolder.TheImpl as fol
 use Rattle.host_disk.specs.Events.{Given}
 use Rattle.host_disk.specs.HostDisk.{host_life}
 use Rattle.host_disk.specs.Replay.{life_from}
-use Rattle.tool_core.specs.declared.commands.Stopped.{Stopped}
-use Rattle.tool_core.specs.declared.commands.Stopped.TheVariants as stops
+use Rattle.tool_core.specs.declared.commands.Stop.{Stop}
+use Rattle.tool_core.specs.declared.commands.Stop.TheVariants as stops
 use Rattle.tool_core.specs.declared.reports.Verdict.{Verdict}
 use Rattle.tool_core.specs.declared.reports.Verdict.TheVariants as verdicts
 use Rattle.tool_core.specs.declared.watched.Watched.{Watched}
 use Rattle.tool_core.specs.Archives.{HasCompacted}
 use Rattle.tool_core.specs.Commands.{FailsToCompact, FailsToCreate, FailsToList, FailsToVerify, HasListed, HasVerified, IsCreated}
 use Rattle.folder_commands.specs.declared.status.Ending.{Ending}
-use Rattle.folder_commands.specs.declared.status.Ending.TheVariants.{Done, Cut, Refused}
+use Rattle.folder_commands.specs.declared.status.Ending.TheVariants.{Done}
 use Rattle.folder_commands.specs.Folders.{CompactsFolder, EndsAs, ListsFolder, MakesArchive, VerifiesFolder, ending_by}
 use Rattle.folder_commands.specs.Status.{ending_of}
 
@@ -29,27 +29,22 @@ FolderAsDisk = FolderDisk HostFolder folders.ghosts
 pub begins_watched : {V : Type 0} (given : Given) (disk : FolderAsDisk) (watched : Watched FolderAsDisk V) → host_life disk ≡ life_from given → watched.disk ≡ disk → host_life watched.disk ≡ life_from given
 begins_watched given disk watched begins is = ap host_life is ∙ begins
 
--- behind a listing of its files it has no others
-pub begins_quiet : {V : Type 0} (given : Given) (disk mid : FolderAsDisk) (watched : Watched FolderAsDisk V) → host_life disk ≡ life_from given → IsQuiet (host_life disk) (host_life mid) → watched.disk ≡ mid → IsQuiet (life_from given) (host_life watched.disk)
-begins_quiet given disk mid watched begins quiet is =
-    subst (λ l. IsQuiet l (host_life watched.disk)) begins (subst (λ d. IsQuiet (host_life disk) (host_life d)) (sym is) quiet)
-
 -- ---- what it leaves
 
-module _ (IsDone HasFound : Life → Type 0) (IsStopped : Life → Stopped → Type 0) (contents written : Option (List ℕ)) (left : Option Life) (new : Life) (is : left ≡ Some new) where
+module _ (IsDone HasFound : Life → Type 0) (IsStopped : Life → Stop → Type 0) (contents written : Option (List ℕ)) (left : Option Life) (new : Life) (is : left ≡ Some new) where
   pub ends_done : IsDone new → EndsAs IsDone HasFound IsStopped contents written left Done
   ends_done h = subst (λ l. EndsAs IsDone HasFound IsStopped contents written l Done) (sym is) h
 
-  stopped_so : (why : Stopped) → IsStopped new why → EndsAs IsDone HasFound IsStopped contents written (Some new) (ending_of why)
+  stopped_so : (why : Stop) → IsStopped new why → EndsAs IsDone HasFound IsStopped contents written (Some new) (ending_of why)
   stopped_so (stops.Refused refusal) h = h
   stopped_so (stops.Cut end) h = h
 
-  pub ends_stopped : (why : Stopped) (ending : Ending) → ending ≡ ending_of why → IsStopped new why → EndsAs IsDone HasFound IsStopped contents written left ending
+  pub ends_stopped : (why : Stop) (ending : Ending) → ending ≡ ending_of why → IsStopped new why → EndsAs IsDone HasFound IsStopped contents written left ending
   ends_stopped why ending so h =
       subst (λ l. EndsAs IsDone HasFound IsStopped contents written l ending) (sym is) (subst (EndsAs IsDone HasFound IsStopped contents written (Some new)) (sym so) (stopped_so why h))
 
 -- by what was found
-module _ (IsFound : Life → Verdict → Type 0) (IsStopped : Life → Stopped → Type 0) (contents written : Option (List ℕ)) (left : Option Life) (new : Life) (is : left ≡ Some new) where
+module _ (IsFound : Life → Verdict → Type 0) (IsStopped : Life → Stop → Type 0) (contents written : Option (List ℕ)) (left : Option Life) (new : Life) (is : left ≡ Some new) where
   judged_so : (verdict : Verdict) → IsFound new verdict → EndsAs (λ n. IsFound n verdicts.Whole) (λ n. IsFound n verdicts.Refused) IsStopped contents written (Some new) (ending_by verdict)
   judged_so verdicts.Whole h = h
   judged_so verdicts.Refused h = h
@@ -68,7 +63,7 @@ module _ (given : Given) (contents written : Option (List ℕ)) (left : Option L
         ends_done (λ n. HasListed (life_from given) n contents written) (λ n. ⊥) (λ n why. FailsToList (life_from given) n why contents written) contents written left new is
         (subst (λ l. HasListed l new contents written) begins h)
 
-    pub list_stopped : (why : Stopped) (ending : Ending) → ending ≡ ending_of why → FailsToList old new why contents written → ListsFolder given contents written left ending
+    pub list_stopped : (why : Stop) (ending : Ending) → ending ≡ ending_of why → FailsToList old new why contents written → ListsFolder given contents written left ending
     list_stopped why ending so h =
         ends_stopped (λ n. HasListed (life_from given) n contents written) (λ n. ⊥) (λ n why. FailsToList (life_from given) n why contents written) contents written left new is
         why ending so (subst (λ l. FailsToList l new why contents written) begins h)
@@ -78,7 +73,7 @@ module _ (given : Given) (contents written : Option (List ℕ)) (left : Option L
         ends_done (λ n. HasCompacted (life_from given) n × Appends contents written (codes "compacted\n")) (λ n. ⊥) (λ n why. FailsToCompact (life_from given) n why contents written) contents written left new is
         (subst (λ l. HasCompacted l new) begins h, told)
 
-    pub compact_stopped : (why : Stopped) (ending : Ending) → ending ≡ ending_of why → FailsToCompact old new why contents written → CompactsFolder given contents written left ending
+    pub compact_stopped : (why : Stop) (ending : Ending) → ending ≡ ending_of why → FailsToCompact old new why contents written → CompactsFolder given contents written left ending
     compact_stopped why ending so h =
         ends_stopped (λ n. HasCompacted (life_from given) n × Appends contents written (codes "compacted\n")) (λ n. ⊥) (λ n why. FailsToCompact (life_from given) n why contents written) contents written left new is
         why ending so (subst (λ l. FailsToCompact l new why contents written) begins h)
@@ -95,7 +90,7 @@ module _ (given : Given) (contents written : Option (List ℕ)) (left : Option L
         (ends_done (λ n. IsCreated limit (life_from given) n × Appends contents written (codes "created\n")) (λ n. ⊥) (λ n why. FailsToCreate limit (life_from given) n why contents written) contents written left new is
         (subst (λ l. IsCreated limit l new) begins h, told))
 
-    pub create_stopped : (limit : ℕ) (why : Stopped) (ending : Ending) → ending ≡ ending_of why → FailsToCreate limit old new why contents written → MakesArchive given limit contents written left ending
+    pub create_stopped : (limit : ℕ) (why : Stop) (ending : Ending) → ending ≡ ending_of why → FailsToCreate limit old new why contents written → MakesArchive given limit contents written left ending
     create_stopped limit why ending so h =
         made_so limit ending
         (ends_stopped (λ n. IsCreated limit (life_from given) n × Appends contents written (codes "created\n")) (λ n. ⊥) (λ n why. FailsToCreate limit (life_from given) n why contents written) contents written left new is
@@ -107,7 +102,7 @@ module _ (given : Given) (contents written : Option (List ℕ)) (left : Option L
         ends_judged (λ n v. (o : Life) × IsQuiet (life_from given) o × HasVerified o n contents written v) (λ n why. (o : Life) × IsQuiet (life_from given) o × FailsToVerify o n why contents written) contents written left new is
         verdict ending so (old, quiet, h)
 
-    pub verify_stopped : (why : Stopped) (ending : Ending) → ending ≡ ending_of why → FailsToVerify old new why contents written → VerifiesFolder given contents written left ending
+    pub verify_stopped : (why : Stop) (ending : Ending) → ending ≡ ending_of why → FailsToVerify old new why contents written → VerifiesFolder given contents written left ending
     verify_stopped why ending so h =
         ends_stopped (λ n. (o : Life) × IsQuiet (life_from given) o × HasVerified o n contents written verdicts.Whole) (λ n. (o : Life) × IsQuiet (life_from given) o × HasVerified o n contents written verdicts.Refused) (λ n why. (o : Life) × IsQuiet (life_from given) o × FailsToVerify o n why contents written) contents written left new is
         why ending so (old, quiet, h)

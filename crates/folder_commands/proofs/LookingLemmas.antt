@@ -1,11 +1,11 @@
 -- How a command that only looks at a folder ends, by what it was answered of the watched folder.
-use Rattle.std.proofs.Common.{◌≡◌, ℕ, List, Option, Some, ap, subst, sym, ◌∙◌}
+use Rattle.std.proofs.Common.{◌≡◌, ℕ, List, Option, Some, ap, subst, ◌∙◌}
 use Rattle.disk_core.specs.Life.{IsQuiet, Life}
 use Rattle.host_disk.specs.Events.{Given}
 use Rattle.host_disk.specs.declared.read_folder.ReadFolder.{ReadFolder}
 use Rattle.host_disk.specs.ReadFolder.{folder_life}
 use Rattle.host_disk.specs.Replay.{life_from}
-use Rattle.tool_core.specs.declared.commands.Stopped.{Stopped}
+use Rattle.tool_core.specs.declared.commands.Stop.{Stop}
 use Rattle.tool_core.specs.declared.reports.Verdict.{Verdict}
 use Rattle.tool_core.specs.declared.reports.Verdict.TheVariants as verdicts
 use Rattle.tool_core.specs.declared.watched.Watched.{Watched}
@@ -27,11 +27,6 @@ inside watched = folder_life watched.disk
 pub looks_watched : {V : Type 0} (given : Given) (disk : ReadFolder) (watched : Watched ReadFolder V) → folder_life disk ≡ life_from given → watched.disk ≡ disk → folder_life watched.disk ≡ life_from given
 looks_watched given disk watched begins is = ap folder_life is ∙ begins
 
--- behind a listing of its files it has no others
-pub looks_quiet : {V : Type 0} (given : Given) (disk mid : ReadFolder) (watched : Watched ReadFolder V) → folder_life disk ≡ life_from given → IsQuiet (folder_life disk) (folder_life mid) → watched.disk ≡ mid → IsQuiet (life_from given) (folder_life watched.disk)
-looks_quiet given disk mid watched begins quiet is =
-    subst (λ l. IsQuiet l (folder_life watched.disk)) begins (subst (λ d. IsQuiet (folder_life disk) (folder_life d)) (sym is) quiet)
-
 module _ (given : Given) (contents written : Option (List ℕ)) (left : Option Life) (new : Life) (is : left ≡ Some new) (old : Life) where
   module _ (begins : old ≡ life_from given) where
     pub look_listed : HasListed old new contents written → ListsAsItStands given contents written left Done
@@ -39,7 +34,7 @@ module _ (given : Given) (contents written : Option (List ℕ)) (left : Option L
         ends_done (λ n. HasListed (life_from given) n contents written) (λ n. ⊥) (λ n why. FailsToList itself (life_from given) n why contents written) contents written left new is
         (subst (λ l. HasListed l new contents written) begins h)
 
-    pub look_unlisted : (why : Stopped) (ending : Ending) → ending ≡ ending_of why → FailsToList itself old new why contents written → ListsAsItStands given contents written left ending
+    pub look_unlisted : (why : Stop) (ending : Ending) → ending ≡ ending_of why → FailsToList itself old new why contents written → ListsAsItStands given contents written left ending
     look_unlisted why ending so h =
         ends_stopped (λ n. HasListed (life_from given) n contents written) (λ n. ⊥) (λ n why. FailsToList itself (life_from given) n why contents written) contents written left new is
         why ending so (subst (λ l. FailsToList itself l new why contents written) begins h)
@@ -47,7 +42,7 @@ module _ (given : Given) (contents written : Option (List ℕ)) (left : Option L
     pub describe_done : IsOnlyRead old new → DescribesFolder given contents written left Done
     describe_done h = ends_done (IsOnlyRead (life_from given)) (λ n. ⊥) (λ n why. IsOnlyRead (life_from given) n) contents written left new is (subst (λ l. IsOnlyRead l new) begins h)
 
-    pub describe_stopped : (why : Stopped) (ending : Ending) → ending ≡ ending_of why → IsOnlyRead old new → DescribesFolder given contents written left ending
+    pub describe_stopped : (why : Stop) (ending : Ending) → ending ≡ ending_of why → IsOnlyRead old new → DescribesFolder given contents written left ending
     describe_stopped why ending so h =
         ends_stopped (IsOnlyRead (life_from given)) (λ n. ⊥) (λ n why. IsOnlyRead (life_from given) n) contents written left new is why ending so (subst (λ l. IsOnlyRead l new) begins h)
 
@@ -57,7 +52,7 @@ module _ (given : Given) (contents written : Option (List ℕ)) (left : Option L
         ends_judged (λ n v. (o : Life) × IsQuiet (life_from given) o × HasVerified itself o n contents written v) (λ n why. (o : Life) × IsQuiet (life_from given) o × FailsToVerify itself o n why contents written) contents written left new is
         verdict ending so (old, quiet, h)
 
-    pub look_unverified : (why : Stopped) (ending : Ending) → ending ≡ ending_of why → FailsToVerify itself old new why contents written → VerifiesAsItStands given contents written left ending
+    pub look_unverified : (why : Stop) (ending : Ending) → ending ≡ ending_of why → FailsToVerify itself old new why contents written → VerifiesAsItStands given contents written left ending
     look_unverified why ending so h =
         ends_stopped (λ n. (o : Life) × IsQuiet (life_from given) o × HasVerified itself o n contents written verdicts.Whole) (λ n. (o : Life) × IsQuiet (life_from given) o × HasVerified itself o n contents written verdicts.Refused) (λ n why. (o : Life) × IsQuiet (life_from given) o × FailsToVerify itself o n why contents written) contents written left new is
         why ending so (old, quiet, h)

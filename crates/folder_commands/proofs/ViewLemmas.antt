@@ -3,8 +3,8 @@ use Rattle.std.proofs.Common.{ℕ, ℤ, List, Option, Result}
 use Rattle.disk_core.specs.Life.{Life}
 use Rattle.frame_core.specs.declared.refusal.Refusal.{Refusal}
 use Rattle.archive_model.specs.declared.reply.Reply.{Reply}
-use Rattle.tool_core.specs.declared.commands.Stopped.{Stopped}
-use Rattle.tool_core.specs.declared.commands.Stopped.TheVariants as stops
+use Rattle.tool_core.specs.declared.commands.Stop.{Stop}
+use Rattle.tool_core.specs.declared.commands.Stop.TheVariants as stops
 use Rattle.tool_core.specs.declared.reports.Verdict.{Verdict}
 use Rattle.archive_report.specs.ArchiveView.{ArchiveView}
 use Rattle.archive_report.specs.Verifying.{FailsToVerify, HasVerified, VerifiesEach}
@@ -20,7 +20,7 @@ module _ {D : Type 0} (life : D → Life) where
     log = view.log;
   }
 
-  pub view_unlisted : (old : Life) (contents written : Option (List ℕ)) (disk : D) (why : Stopped) → FailsToList life old disk why contents written → FailsToList itself old (life disk) why contents written
+  pub view_unlisted : (old : Life) (contents written : Option (List ℕ)) (disk : D) (why : Stop) → FailsToList life old disk why contents written → FailsToList itself old (life disk) why contents written
   view_unlisted old contents written disk (stops.Refused refusal) h = h
   view_unlisted old contents written disk (stops.Cut end) h = h
 
@@ -36,7 +36,7 @@ module _ {D : Type 0} (life : D → Life) where
     left = h.left;
   }
 
-  pub view_unverified : (old : Life) (contents written : Option (List ℕ)) (disk : D) (why : Stopped) → FailsToVerify life old disk why contents written → FailsToVerify itself old (life disk) why contents written
+  pub view_unverified : (old : Life) (contents written : Option (List ℕ)) (disk : D) (why : Stop) → FailsToVerify life old disk why contents written → FailsToVerify itself old (life disk) why contents written
   view_unverified old contents written disk (stops.Refused refusal) h = h
   view_unverified old contents written disk (stops.Cut end) h = record {
     seen = bare h.seen;

@@ -8,8 +8,8 @@ use Rattle.catalogue_log.specs.LogState.{Banks}
 use Rattle.host_disk.specs.declared.open_fault.OpenFault.{OpenFault}
 use Rattle.host_disk.specs.Events.{Given}
 use Rattle.host_disk.specs.Replay.{life_from}
-use Rattle.tool_core.specs.declared.commands.Stopped.{Stopped}
-use Rattle.tool_core.specs.declared.commands.Stopped.TheVariants as stops
+use Rattle.tool_core.specs.declared.commands.Stop.{Stop}
+use Rattle.tool_core.specs.declared.commands.Stop.TheVariants as stops
 use Rattle.tool_core.specs.declared.fault.EarlyEnd.{EarlyEnd}
 use Rattle.tool_core.specs.declared.frames.Listing.TheVariants as listings
 use Rattle.tool_core.specs.declared.reports.Verdict.{Verdict}
@@ -21,16 +21,16 @@ use Rattle.tool_core.specs.FrameLines.{IsListing, Lists, ListsSome}
 use Rattle.tool_core.specs.Script.{Begins, IsTranscript, IsTranscriptOfFirst}
 use Rattle.tool_core.specs.ScriptLines.{Standing}
 use Rattle.tool_core.specs.Transcript.{WritesText}
-use Rattle.folder_commands.specs.declared.outcome.Ended.{Ended}
+use Rattle.folder_commands.specs.declared.exit.Exit.{Exit}
 use Rattle.folder_commands.specs.declared.status.Ending.{Ending}
 use Rattle.folder_commands.specs.declared.status.Ending.TheVariants.{Done, Cut, Refused, Unopened, FoundDamage}
 
 -- ---- endings
 
 -- how a command ended that answers so
-abbrev pub ending_in : Result (Unit {0}) Ended → Ending
+abbrev pub ending_in : Result (Unit {0}) Exit → Ending
 ending_in (Ok done) = Done
-ending_in (Err ended) = ended.ending
+ending_in (Err exit) = exit.ending
 
 -- how a command ends that came to a verdict
 abbrev pub ending_by : Verdict → Ending
@@ -43,7 +43,7 @@ IsUnopenedFolder ending = (fault : OpenFault) × (ending ≡ Unopened fault)
 
 -- How a command over a folder ends: done; by damage that it found and told; or stopped. Each is said of the life of its folder up
 -- to its closing. Or the folder was not opened, and then nothing is left and nothing is written.
-module _ (IsDone HasFound : Life → Type 0) (IsStopped : Life → Stopped → Type 0) (contents written : Option (List ℕ)) where
+module _ (IsDone HasFound : Life → Type 0) (IsStopped : Life → Stop → Type 0) (contents written : Option (List ℕ)) where
   abbrev pub EndsAs : Option Life → Ending → Type 0
   EndsAs (Some new) Done = IsDone new
   EndsAs (Some new) FoundDamage = HasFound new

@@ -20,4 +20,4 @@ leaves (Err outcome) = left_life outcome.left
 -- how it ends
 abbrev pub ends_with : Result (Option ClosedDisk) Outcome → Ending
 ends_with (Ok left) = Done
-ends_with (Err outcome) = outcome.ended.ending
+ends_with (Err outcome) = outcome.exit.ending

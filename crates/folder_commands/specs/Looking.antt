@@ -5,8 +5,8 @@ use Rattle.frame_core.specs.declared.refusal.Refusal.TheVariants.{BadParameter, 
 use Rattle.disk_core.specs.Life.{IsQuiet, Life}
 use Rattle.host_disk.specs.Events.{Given}
 use Rattle.host_disk.specs.Replay.{life_from}
-use Rattle.tool_core.specs.declared.commands.Stopped.{Stopped}
-use Rattle.tool_core.specs.declared.commands.Stopped.TheVariants as stops
+use Rattle.tool_core.specs.declared.commands.Stop.{Stop}
+use Rattle.tool_core.specs.declared.commands.Stop.TheVariants as stops
 use Rattle.tool_core.specs.declared.fault.EarlyEnd.TheVariants as ends
 use Rattle.tool_core.specs.declared.reports.Verdict.TheVariants as verdicts
 use Rattle.archive_export.specs.declared.span.Span.{Span}
@@ -56,7 +56,7 @@ IsUncaptured (Cut ends.Memory) = Unit {0}
 IsUncaptured ending = ⊥
 
 -- how an export ends that was stopped so: by a device fault where its file takes no more
-abbrev pub uncaptured_ending : Stopped → Ending
+abbrev pub uncaptured_ending : Stop → Ending
 uncaptured_ending (stops.Cut ends.Write) = Refused DeviceFault
 uncaptured_ending why = ending_of why
 

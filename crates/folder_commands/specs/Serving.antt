@@ -11,8 +11,8 @@ use Rattle.host_disk.specs.Replay.{life_from}
 use Rattle.command_line.specs.declared.serving.ServeWords.{ServeWords}
 use Rattle.serve_core.specs.declared.options.ServeOptions.{ServeOptions}
 use Rattle.serve_core.specs.Serving.{IsServedAs, IsServedUpTo}
-use Rattle.folder_commands.specs.declared.reason.Reason.{Reason}
-use Rattle.folder_commands.specs.declared.reason.Reason.TheVariants.{Address, Multicast, Window, NeedsAeron, RecordNeedsAeron, Streams, NeedsRecord, SegmentLength}
+use Rattle.folder_commands.specs.declared.why.Why.{Why}
+use Rattle.folder_commands.specs.declared.why.Why.TheVariants.{Address, Multicast, Window, NeedsAeron, RecordNeedsAeron, Streams, NeedsRecord, SegmentLength}
 use Rattle.folder_commands.specs.declared.status.Ending.{Ending}
 use Rattle.folder_commands.specs.Hidden.{MayHideEntries}
 use Rattle.folder_commands.specs.declared.status.Ending.TheVariants.{Done, Cut, Stuck, Hidden, Unopened, NoCommand, Failed}
@@ -24,10 +24,10 @@ abbrev pub IsNoAddress : List ℕ → Type 0
 IsNoAddress text = (address : Ipv4Addr) → IsIpv4Text text address → IsMulticastV4 address
 
 -- what is wrong with it
-abbrev pub IsAddressReason : List ℕ → Reason → Type 0
+abbrev pub IsAddressReason : List ℕ → Why → Type 0
 IsAddressReason text Address = (address : Ipv4Addr) → IsIpv4Text text address → ⊥
 IsAddressReason text Multicast = (address : Ipv4Addr) × IsIpv4Text text address × IsMulticastV4 address
-IsAddressReason text reason = ⊥
+IsAddressReason text why = ⊥
 
 -- a receiver window that a server can have, in bytes: a multiple of 32, from 4,096 to 1,048,576
 abbrev pub IsReceiverWindow : ℕ → Type 0
@@ -114,17 +114,17 @@ module _ (words : ServeWords) where
   IsUnbound ending = ⊥
 
 -- what is wrong with the words of a bad receiver window
-abbrev pub window_reason : Bool → Reason
+abbrev pub window_reason : Bool → Why
 window_reason false = NeedsAeron
 window_reason true = Window
 
 -- of bad streams
-abbrev pub streams_reason : Bool → Reason
+abbrev pub streams_reason : Bool → Why
 streams_reason false = RecordNeedsAeron
 streams_reason true = Streams
 
 -- and of bad segments, if the words name these streams
-abbrev pub segment_reason : List ℤ → Reason
+abbrev pub segment_reason : List ℤ → Why
 segment_reason [] = NeedsRecord
 segment_reason (stream ∷ streams) = SegmentLength
 

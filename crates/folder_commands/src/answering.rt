@@ -7,7 +7,8 @@ ghost use Rattle.folder_commands.specs.Answering.{AnswersWords, TellsKind};
 ghost use Rattle.folder_commands.specs.Left.{left_life};
 
 use crate::commands::obeyed;
-use crate::outcome::{Ended, Outcome};
+use crate::exit::Exit;
+use crate::outcome::Outcome;
 use crate::status::Ending;
 use crate::telling::told;
 use clap::Error;
@@ -29,7 +30,7 @@ pub fn answered<
 >(net: &R, rt: HostRuntime, words: &[String], input: I, writer: &mut W) -> Outcome
     ghost given: { Given }
     ensures { AnswersWords given (map string_bytes words.now) (I.remaining input) (W.contents writer.old) (W.contents writer.new)
-        (left_life result.left) result.ended.ending }
+        (left_life result.left) result.exit.ending }
 {
     match command_of(rt.alloc(), words) {
         Ok(command) => obeyed(net, rt, &command, input, writer),
@@ -38,7 +39,7 @@ pub fn answered<
 }
 
 /// Tells why a command line asks for no command, or gives the help that it asks for.
-pub fn no_command(rt: HostRuntime, error: &Error) -> Ended
+pub fn no_command(rt: HostRuntime, error: &Error) -> Exit
     ensures { TellsKind (kind_of error.now) result.ending }
 {
     match error.to_string(rt.alloc()) {
@@ -48,6 +49,6 @@ pub fn no_command(rt: HostRuntime, error: &Error) -> Ended
             &mut rt.stdout(),
             &mut rt.stderr(),
         ),
-        Err(_) => Ended::told(Ending::NoCommand(ErrorKind::OutOfMemory)),
+        Err(_) => Exit::told(Ending::NoCommand(ErrorKind::OutOfMemory)),
     }
 }

@@ -6,10 +6,10 @@ ghost use Rattle.folder_commands.specs.declared.status.Ending.TheVariants.{NoCom
 ghost use Rattle.folder_commands.specs.Asking.{IsUnaskable, AsksServer, EndsAsking, FailsAsking, IsOneLine};
 ghost use Rattle.folder_commands.specs.Folders.{ending_in};
 
-use crate::outcome::Ended;
-use crate::reason::Reason;
+use crate::exit::Exit;
 use crate::serving::{misworded, port_of};
 use crate::status::Ending;
+use crate::why::Why;
 use command_line::AskWords;
 use control_client::{AskFault, ConnectionFault, Question, Server, Verdict, are_sendable, is_line};
 use std::io::{self, ErrorKind, Write};
@@ -63,7 +63,7 @@ pub(crate) fn ask<R: Wait + Clock + Net<Listener = TcpListener, Stream = TcpStre
     rt: HostRuntime,
     words: &AskWords<'_>,
     writer: &mut W,
-) -> Result<(), Ended>
+) -> Result<(), Exit>
     ensures { AsksServer words.now (W.contents writer.old) (W.contents writer.new) (ending_in result) }
 {
     let server = LocalServer {
@@ -83,16 +83,16 @@ pub(crate) fn ask<R: Wait + Clock + Net<Listener = TcpListener, Stream = TcpStre
 
 /// The port that the words name. Refused if it is none, if the lines may not be sent at once, or if the reply that has to come last
 /// is more than one line.
-fn port_to_ask(words: &AskWords<'_>) -> Result<u16, Ended>
+fn port_to_ask(words: &AskWords<'_>) -> Result<u16, Exit>
     ensures { MatchResult result
         (λ _. IsUnaskable words.now → ⊥)
-        (λ ended. IsUnaskable words.now × (ended.ending ≡ NoCommand ValueValidation)) }
+        (λ exit. IsUnaskable words.now × (exit.ending ≡ NoCommand ValueValidation)) }
 {
     if !are_sendable(words.lines.as_slice()) {
-        return Err(misworded(Reason::Lines));
+        return Err(misworded(Why::Lines));
     }
     if !is_one_line(words.until) {
-        return Err(misworded(Reason::Until));
+        return Err(misworded(Why::Until));
     }
     port_of(words.port)
 }
@@ -108,39 +108,39 @@ fn is_one_line(text: Option<&str>) -> bool
 }
 
 /// How the command ends by a verdict.
-fn answered_by(verdict: Verdict, words: &AskWords<'_>) -> Result<(), Ended>
+fn answered_by(verdict: Verdict, words: &AskWords<'_>) -> Result<(), Exit>
     ensures { EndsAsking verdict (ending_in result) }
 {
     match verdict {
         Verdict::Answered => Ok(()),
-        Verdict::Refused => Err(Ended::told(Ending::LineRefused)),
+        Verdict::Refused => Err(Exit::told(Ending::LineRefused)),
         Verdict::Unanswered(left) => {
             let lines = words.lines.len();
-            Err(Ended {
+            Err(Exit {
                 ending: Ending::Failed(ErrorKind::UnexpectedEof),
-                reason: Reason::Unanswered(lines.saturating_sub(left), lines),
+                why: Why::Unanswered(lines.saturating_sub(left), lines),
             })
         }
     }
 }
 
 /// How the command ends by a fault.
-fn unanswered_by(fault: AskFault, words: &AskWords<'_>) -> Ended
+fn unanswered_by(fault: AskFault, words: &AskWords<'_>) -> Exit
     ensures { FailsAsking fault result.ending }
 {
     match fault {
-        AskFault::Output => Ended::cut(EarlyEnd::Write, Reason::Told),
-        AskFault::Memory => Ended::cut(EarlyEnd::Memory, Reason::Told),
-        AskFault::Connection(ConnectionFault::Unreachable(error)) => Ended {
+        AskFault::Output => Exit::cut(EarlyEnd::Write, Why::Told),
+        AskFault::Memory => Exit::cut(EarlyEnd::Memory, Why::Told),
+        AskFault::Connection(ConnectionFault::Unreachable(error)) => Exit {
             ending: Ending::Failed(error.kind()),
-            reason: Reason::Unreachable(words.port, error),
+            why: Why::Unreachable(words.port, error),
         },
-        AskFault::Connection(ConnectionFault::Lost(error)) => Ended {
+        AskFault::Connection(ConnectionFault::Lost(error)) => Exit {
             ending: Ending::Failed(error.kind()),
-            reason: if is_late(error) {
-                Reason::Silent(words.wait)
+            why: if is_late(error) {
+                Why::Silent(words.wait)
             } else {
-                Reason::Lost(error)
+                Why::Lost(error)
             },
         },
     }

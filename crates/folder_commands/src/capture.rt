@@ -12,12 +12,13 @@ ghost use Rattle.folder_commands.specs.Left.{ends_with, leaves, left_life};
 ghost use Rattle.folder_commands.specs.Looking.{ExportsFolder, FailsToCapture, HasCaptured, IsUncaptured, uncaptured_ending};
 
 use crate::commands::{opening_of, sync_name};
+use crate::exit::Exit;
 use crate::looking::folder_of;
 use crate::open_folder::{closed, stopped};
-use crate::outcome::{Ended, Left, Outcome};
+use crate::outcome::{Left, Outcome};
 use crate::outlet::Outlet;
-use crate::reason::Reason;
 use crate::status::Ending;
+use crate::why::Why;
 use archive_export::Span;
 use archive_report::{ExportTeller, Extent, export_view};
 use frame_core::Refusal;
@@ -25,7 +26,7 @@ use host_disk::ReadFolder;
 use std::fs::{self, File};
 use std::io::{self, BufWriter, ErrorKind, IsTerminal, Write};
 use std::path::Path;
-use tool_core::{CommandFault, EarlyEnd, Progress, Screen, Stopped, Viewer, Watched};
+use tool_core::{CommandFault, EarlyEnd, Progress, Screen, Stop, Viewer, Watched};
 
 /// Bytes that are written at once.
 const BUFFER: usize = 65_536;
@@ -58,8 +59,8 @@ pub(crate) fn export<W: Write>(
     let disk = folder_of(rt, folder)?;
     let part = match part_outside(rt, folder, pcap) {
         Ok(part) => part,
-        Err(ended) => return Err(Outcome {
-            ended,
+        Err(exit) => return Err(Outcome {
+            exit,
             left: Some(disk.close()),
         }),
     };
@@ -73,36 +74,36 @@ pub(crate) fn export<W: Write>(
 }
 
 /// Says that frames were exported.
-fn exported<W: Write>(writer: &mut W) -> Result<(), Ended>
+fn exported<W: Write>(writer: &mut W) -> Result<(), Exit>
     ensures { MatchResult result
         (λ _. Appends (W.contents writer.old) (W.contents writer.new) (codes "exported\n"))
-        (λ ended. ended.ending ≡ Cut EarlyEnd.Write) }
+        (λ exit. exit.ending ≡ Cut EarlyEnd.Write) }
 {
     match writer.write_all(b"exported\n") {
         Ok(()) => Ok(()),
-        Err(_) => Err(Ended::from(EarlyEnd::Write)),
+        Err(_) => Err(Exit::from(EarlyEnd::Write)),
     }
 }
 
 /// A file next to a place that is not in a folder. Refused if it is in there.
-fn part_outside(rt: HostRuntime, folder: Path<'_>, pcap: Path<'_>) -> Result<Part, Ended>
-    ensures { IfErr result (λ ended. IsUncaptured ended.ending) }
+fn part_outside(rt: HostRuntime, folder: Path<'_>, pcap: Path<'_>) -> Result<Part, Exit>
+    ensures { IfErr result (λ exit. IsUncaptured exit.ending) }
 {
     keep_apart(rt, folder, pcap)?;
     made(rt, pcap.as_str())
 }
 
 /// Refuses a place for a file in an archive's folder, where it could take the name of one of the archive's own.
-fn keep_apart(rt: HostRuntime, folder: Path<'_>, pcap: Path<'_>) -> Result<(), Ended>
-    ensures { IfErr result (λ ended. IsUncaptured ended.ending) }
+fn keep_apart(rt: HostRuntime, folder: Path<'_>, pcap: Path<'_>) -> Result<(), Exit>
+    ensures { IfErr result (λ exit. IsUncaptured exit.ending) }
 {
     match is_in(rt, folder, pcap) {
         Ok(false) => Ok(()),
-        Ok(true) => Err(Ended {
+        Ok(true) => Err(Exit {
             ending: Ending::Refused(Refusal::BadParameter),
-            reason: Reason::CaptureInside,
+            why: Why::CaptureInside,
         }),
-        Err(error) if error.kind() == ErrorKind::OutOfMemory => Err(Ended::from(EarlyEnd::Memory)),
+        Err(error) if error.kind() == ErrorKind::OutOfMemory => Err(Exit::from(EarlyEnd::Memory)),
         Err(error) => Err(unwritten(Some(error))),
     }
 }
@@ -129,12 +130,12 @@ fn captured<V: Viewer<ReadFolder> + Drop>(
     ensures done { IfOk result (λ left. IsSomeAnd (left_life left) (λ new.
         HasCaptured (folder_life disk.disk) new recording.now span.now)) }
     ensures failed { IfErr result (λ outcome. IsSomeAnd (left_life outcome.left) (λ new.
-        FailsToCapture (folder_life disk.disk) new recording.now span.now outcome.ended.ending)) }
+        FailsToCapture (folder_life disk.disk) new recording.now span.now outcome.exit.ending)) }
 {
     match placed(rt, disk, recording, span, part, pcap, teller) {
         Ok(left) => match synced(rt, pcap) {
             Ok(()) => Ok(left),
-            Err(ended) => Err(Outcome { ended, left }),
+            Err(exit) => Err(Outcome { exit, left }),
         },
         Err(outcome) => {
             let _ = fs::remove_file(&rt, part.name.as_str());
@@ -156,19 +157,19 @@ fn placed<V: Viewer<ReadFolder> + Drop>(
     ensures done { IfOk result (λ left. IsSomeAnd (left_life left) (λ new.
         HasCaptured (folder_life disk.disk) new recording.now span.now)) }
     ensures failed { IfErr result (λ outcome. IsSomeAnd (left_life outcome.left) (λ new.
-        FailsToCapture (folder_life disk.disk) new recording.now span.now outcome.ended.ending)) }
+        FailsToCapture (folder_life disk.disk) new recording.now span.now outcome.exit.ending)) }
 {
     let left = written(rt, disk, recording, span, &part.file, teller)?;
     match named(rt, part, pcap) {
         Ok(()) => Ok(left),
-        Err(ended) => Err(Outcome { ended, left }),
+        Err(exit) => Err(Outcome { exit, left }),
     }
 }
 
 /// Makes a file beside a place: under its name with `.part` behind it, or with a number behind that, the first name that no
 /// file has.
-fn made(rt: HostRuntime, pcap: &str) -> Result<Part, Ended>
-    ensures { IfErr result (λ ended. IsUncaptured ended.ending) }
+fn made(rt: HostRuntime, pcap: &str) -> Result<Part, Exit>
+    ensures { IfErr result (λ exit. IsUncaptured exit.ending) }
 {
     for number in 0..PARTS {
         let name = part_name(rt, pcap, number)?;
@@ -182,8 +183,8 @@ fn made(rt: HostRuntime, pcap: &str) -> Result<Part, Ended>
 }
 
 /// The so-many-th name for a file beside a place.
-fn part_name(rt: HostRuntime, pcap: &str, number: u32) -> Result<String, Ended>
-    ensures { IfErr result (λ ended. ended.ending ≡ Cut Memory) }
+fn part_name(rt: HostRuntime, pcap: &str, number: u32) -> Result<String, Exit>
+    ensures { IfErr result (λ exit. exit.ending ≡ Cut Memory) }
 {
     let name = if number == 0 {
         format!(in rt.alloc(); "{pcap}.part")
@@ -192,7 +193,7 @@ fn part_name(rt: HostRuntime, pcap: &str, number: u32) -> Result<String, Ended>
     };
     match name {
         Ok(name) => Ok(name),
-        Err(_) => Err(Ended::from(EarlyEnd::Memory)),
+        Err(_) => Err(Exit::from(EarlyEnd::Memory)),
     }
 }
 
@@ -208,11 +209,11 @@ fn written<V: Viewer<ReadFolder> + Drop>(
     ensures done { IfOk result (λ left. IsSomeAnd (left_life left) (λ new.
         HasCaptured (folder_life disk.disk) new recording.now span.now)) }
     ensures failed { IfErr result (λ outcome. IsSomeAnd (left_life outcome.left) (λ new.
-        FailsToCapture (folder_life disk.disk) new recording.now span.now outcome.ended.ending)) }
+        FailsToCapture (folder_life disk.disk) new recording.now span.now outcome.exit.ending)) }
 {
     let Ok(mut out) = BufWriter::with_capacity(rt.alloc(), BUFFER, Outlet::new(file)) else {
         return Err(Outcome {
-            ended: Ended::from(EarlyEnd::Memory),
+            exit: Exit::from(EarlyEnd::Memory),
             left: closed(disk),
         });
     };
@@ -223,7 +224,7 @@ fn written<V: Viewer<ReadFolder> + Drop>(
     match out.flush() {
         Ok(()) => Ok(left),
         Err(_) => Err(Outcome {
-            ended: unwritten(out.get_ref().fault()),
+            exit: unwritten(out.get_ref().fault()),
             left,
         }),
     }
@@ -234,12 +235,12 @@ fn uncaptured<V: Drop>(
     fault: CommandFault<Watched<ReadFolder, V>>,
     told: Option<io::Error>,
 ) -> Outcome
-    ensures ending { result.ended.ending ≡ uncaptured_ending fault.why }
+    ensures ending { result.exit.ending ≡ uncaptured_ending fault.why }
     ensures left { left_life result.left ≡ Some (folder_life fault.disk.disk) }
 {
     match fault.why {
-        Stopped::Cut(EarlyEnd::Write) => Outcome {
-            ended: unwritten(told),
+        Stop::Cut(EarlyEnd::Write) => Outcome {
+            exit: unwritten(told),
             left: closed(fault.disk),
         },
         _ => stopped(fault),
@@ -247,8 +248,8 @@ fn uncaptured<V: Drop>(
 }
 
 /// Syncs a file and gives it its name.
-fn named(rt: HostRuntime, part: &Part, pcap: &str) -> Result<(), Ended>
-    ensures { IfErr result (λ ended. ended.ending ≡ Refused DeviceFault) }
+fn named(rt: HostRuntime, part: &Part, pcap: &str) -> Result<(), Exit>
+    ensures { IfErr result (λ exit. exit.ending ≡ Refused DeviceFault) }
 {
     if let Err(error) = part.file.sync_all() {
         return Err(unwritten(Some(error)));
@@ -260,8 +261,8 @@ fn named(rt: HostRuntime, part: &Part, pcap: &str) -> Result<(), Ended>
 }
 
 /// Syncs the name of a file.
-fn synced(rt: HostRuntime, pcap: &str) -> Result<(), Ended>
-    ensures { IfErr result (λ ended. ended.ending ≡ Refused DeviceFault) }
+fn synced(rt: HostRuntime, pcap: &str) -> Result<(), Exit>
+    ensures { IfErr result (λ exit. exit.ending ≡ Refused DeviceFault) }
 {
     match sync_name(rt, pcap) {
         Ok(()) => Ok(()),
@@ -270,12 +271,12 @@ fn synced(rt: HostRuntime, pcap: &str) -> Result<(), Ended>
 }
 
 /// The capture file was not written; what the system told of it, if that is known.
-fn unwritten(error: Option<io::Error>) -> Ended
+fn unwritten(error: Option<io::Error>) -> Exit
     ensures { result.ending ≡ Refused DeviceFault }
 {
-    Ended {
+    Exit {
         ending: Ending::Refused(Refusal::DeviceFault),
-        reason: Reason::Capture(error),
+        why: Why::Capture(error),
     }
 }
 

@@ -1,26 +1,27 @@
 //! What the program's commands do. docs/CONTROL.md, "The program".
 
 ghost use Rattle.std.specs.Prelude.{◌≡◌, IfErr, IfOk, Some, true, false};
-ghost use Rattle.disk_core.specs.Life.{IsQuiet};
 ghost use Rattle.host_disk.specs.Events.{Given};
 ghost use Rattle.host_disk.specs.HostDisk.{host_life};
 ghost use Rattle.host_disk.specs.Replay.{life_from};
-ghost use Rattle.folder_commands.specs.Folders.{CompactsFolder, IsUnopenedFolder, ListsFile, ListsFolder, ListsFrames, MakesArchive, RunsFolder, RunsInMemory, RunsOver, VerifiesFolder, ending_by, ending_in};
+ghost use Rattle.folder_commands.specs.Folders.{CompactsFolder, IsUnopenedFolder, ListsFile, ListsFolder, ListsFrames, MakesArchive, RunsFolder, RunsInMemory, RunsOver, ending_in};
 ghost use Rattle.folder_commands.specs.Left.{ends_with, leaves, left_life};
-ghost use Rattle.folder_commands.specs.Looking.{ListsAsItStands, VerifiesAsItStands};
+ghost use Rattle.folder_commands.specs.Looking.{ListsAsItStands};
 ghost use Rattle.folder_commands.specs.Obeying.{HasObeyed, Obeys};
 ghost use Rattle.folder_commands.specs.Status.{ending_of};
 
 use crate::asking::ask;
 use crate::capture::export;
+use crate::exit::Exit;
 use crate::hidden::warns_of_hidden;
-use crate::looking::{describe, list_read_only, verify_read_only};
+use crate::looking::{describe, list_read_only};
 use crate::open_folder::{closed, stopped};
-use crate::outcome::{Ended, Left, Outcome};
-use crate::reason::Reason;
+use crate::outcome::{Left, Outcome};
 use crate::serving::serve;
 use crate::status::Ending;
-use crate::teller::{FaultTeller, OpeningTeller, ScriptTeller, StartTeller, VerifyTeller};
+use crate::teller::{FaultTeller, OpeningTeller, ScriptTeller, StartTeller};
+use crate::verifying::verify;
+use crate::why::Why;
 use archive_export::Span;
 use command_line::ToolCommand;
 use disk_core::{Disk, MemoryDisk};
@@ -36,9 +37,8 @@ use std::rt::Clock;
 use std::sync::Wait;
 use std::thread::Threads;
 use tool_core::{
-    CommandFault, ListedFiles, Listing, Observer, OpeningProgress, Progress, Screen, Stage,
-    Stopped, Verdict, Watched, compact_archive, create_archive, list_archive, list_frames,
-    run_script, verify_archive,
+    CommandFault, Listing, Observer, OpeningProgress, Screen, Stage, Stop, Watched,
+    compact_archive, create_archive, list_archive, list_frames, run_script,
 };
 
 /// Does what a command asks for, hands on what it writes, and answers how that ended, and what it left of its folder. The control
@@ -51,11 +51,11 @@ pub fn obeyed<
 >(net: &R, rt: HostRuntime, command: &ToolCommand<'_>, input: I, writer: &mut W) -> Outcome
     ghost given: { Given }
     ensures { HasObeyed given (I.remaining input) (W.contents writer.old) (W.contents writer.new) command.now
-        (left_life result.left) result.ended.ending }
+        (left_life result.left) result.exit.ending }
 {
-    let Outcome { ended, left } = Outcome::of(obey(net, rt, command, input, writer));
+    let Outcome { exit, left } = Outcome::of(obey(net, rt, command, input, writer));
     Outcome {
-        ended: ended.handed_on(writer.flush().is_ok()),
+        exit: exit.handed_on(writer.flush().is_ok()),
         left,
     }
 }
@@ -117,33 +117,33 @@ fn create<W: Write>(
     ensures { MakesArchive given history (W.contents writer.old) (W.contents writer.new) (leaves result) (ends_with result) }
 {
     if let Err(error) = make_folder(rt, folder.as_str()) {
-        return Err(Outcome::from(Ended {
+        return Err(Outcome::from(Exit {
             ending: Ending::Refused(Refusal::DeviceFault),
-            reason: Reason::NewFolder(error),
+            why: Why::NewFolder(error),
         }));
     }
     match create_archive(rt.alloc(), disk_of(rt, folder)?, history, writer) {
         Ok(disk) => Ok(Some(disk.close())),
         Err(CommandFault { why, disk }) => Err(Outcome {
-            ended: unmade(why, disk.last_fault(), history),
+            exit: unmade(why, disk.last_fault(), history),
             left: Some(disk.close()),
         }),
     }
 }
 
 /// Why no archive was made on a disk whose last fault was this one, with this limit of its history, or was not told to be.
-fn unmade(why: Stopped, fault: Option<LastFault>, history: u32) -> Ended
+fn unmade(why: Stop, fault: Option<LastFault>, history: u32) -> Exit
     ensures { result.ending ≡ ending_of why }
 {
-    if why != Stopped::Refused(Refusal::BadParameter) {
-        return Ended::stopped(why, fault);
+    if why != Stop::Refused(Refusal::BadParameter) {
+        return Exit::stopped(why, fault);
     }
-    Ended {
+    Exit {
         ending: Ending::Refused(Refusal::BadParameter),
-        reason: if history == 0 || history > MAX_HISTORY {
-            Reason::History(history)
+        why: if history == 0 || history > MAX_HISTORY {
+            Why::History(history)
         } else {
-            Reason::HasFiles
+            Why::HasFiles
         },
     }
 }
@@ -176,7 +176,7 @@ fn run_in_memory<I: Read + Drop, W: Write>(
     rt: HostRuntime,
     input: I,
     writer: &mut W,
-) -> Result<(), Ended>
+) -> Result<(), Exit>
     ensures { RunsInMemory (I.remaining input) (W.contents writer.old) (W.contents writer.new) (ending_in result) }
 {
     let screen = Screen::new(&rt);
@@ -223,14 +223,14 @@ fn run_over<I: Read + Drop, W: Write, D: Disk, O: Observer>(
     writer: &mut W,
     disk: D,
     observer: &mut O,
-) -> (D, Result<(), Ended>)
+) -> (D, Result<(), Exit>)
     ensures { RunsOver (D.life disk) (I.remaining input) (W.contents writer.old) (W.contents writer.new) (D.life result.0) (ending_in result.1) }
 {
     match run_script(alloc, input, writer, disk, observer) {
         Ok(disk) => (disk, Ok(())),
         Err(fault) => {
-            let (disk, ended) = Ended::cut_off(fault, Reason::Input);
-            (disk, Err(ended))
+            let (disk, exit) = Exit::cut_off(fault, Why::Input);
+            (disk, Err(exit))
         }
     }
 }
@@ -241,8 +241,7 @@ fn compact<W: Write>(rt: HostRuntime, folder: Path<'_>, writer: &mut W) -> Resul
     ensures { CompactsFolder given (W.contents writer.old) (W.contents writer.new) (leaves result) (ends_with result) }
 {
     let screen = Screen::new(&rt);
-    let disk = Watched::new(disk_of(rt, folder)?, opening_of(&rt, &screen));
-    let _ = warns_of_hidden(rt, folder, &screen);
+    let disk = watched_disk(&rt, folder, &screen)?;
     match compact_archive(rt.alloc(), disk, writer, &mut OpeningTeller::new(&screen)) {
         Ok(compacted) => Ok(closed(compacted)),
         Err(fault) => Err(uncompacted(fault)),
@@ -251,16 +250,16 @@ fn compact<W: Write>(rt: HostRuntime, folder: Path<'_>, writer: &mut W) -> Resul
 
 /// Why the archive of a watched disk was not compacted, or was not told to be. The disk is closed.
 fn uncompacted<V: Drop>(fault: CommandFault<Watched<HostDisk, V>>) -> Outcome
-    ensures ending { result.ended.ending ≡ ending_of fault.why }
+    ensures ending { result.exit.ending ≡ ending_of fault.why }
     ensures left { left_life result.left ≡ Some (host_life fault.disk.disk) }
 {
-    if fault.why != Stopped::Refused(Refusal::NotCatalogue) {
+    if fault.why != Stop::Refused(Refusal::NotCatalogue) {
         return stopped(fault);
     }
     Outcome {
-        ended: Ended {
+        exit: Exit {
             ending: Ending::Refused(Refusal::NotCatalogue),
-            reason: Reason::NoSpare,
+            why: Why::NoSpare,
         },
         left: closed(fault.disk),
     }
@@ -292,108 +291,57 @@ fn list_opened<W: Write>(rt: HostRuntime, folder: Path<'_>, writer: &mut W) -> R
     ensures { ListsFolder given (W.contents writer.old) (W.contents writer.new) (leaves result) (ends_with result) }
 {
     let screen = Screen::new(&rt);
-    let disk = Watched::new(disk_of(rt, folder)?, opening_of(&rt, &screen));
-    let _ = warns_of_hidden(rt, folder, &screen);
+    let disk = watched_disk(&rt, folder, &screen)?;
     match list_archive(rt.alloc(), disk, writer, &mut OpeningTeller::new(&screen)) {
         Ok(disk) => Ok(closed(disk)),
         Err(fault) => Err(stopped(fault)),
     }
 }
 
-/// Reads each recorded frame of the archive in a folder, which is opened, or only looked at, and writes what was found of each
-/// recording.
-fn verify<W: Write>(
-    rt: HostRuntime,
-    folder: Path<'_>,
-    read_only: bool,
-    writer: &mut W,
-) -> Result<Left, Outcome>
-    ghost given: { Given }
-    ensures opened { read_only ≡ false →
-        VerifiesFolder given (W.contents writer.old) (W.contents writer.new) (leaves result) (ends_with result) }
-    ensures seen { read_only ≡ true →
-        VerifiesAsItStands given (W.contents writer.old) (W.contents writer.new) (leaves result) (ends_with result) }
-{
-    if read_only {
-        verify_read_only(rt, folder, writer)
-    } else {
-        verify_opened(rt, folder, writer)
-    }
-}
-
-/// Reads each recorded frame of the archive in a folder, and writes what was found of each recording. How far it has come
-/// is shown on standard error, where that is a terminal, and what it found in all is told there; before the archive is opened,
-/// also if its catalogue may hide entries.
-fn verify_opened<W: Write>(
-    rt: HostRuntime,
-    folder: Path<'_>,
-    writer: &mut W,
-) -> Result<Left, Outcome>
-    ghost given: { Given }
-    ensures { VerifiesFolder given (W.contents writer.old) (W.contents writer.new) (leaves result) (ends_with result) }
-{
-    let screen = Screen::new(&rt);
-    let mut disk = disk_of(rt, folder)?;
-    let _ = warns_of_hidden(rt, folder, &screen);
-    let progress = progress_of(&rt, &screen, &mut disk);
-    let faults = FaultTeller::new(rt.alloc(), &screen, Stage::Working);
-    let disk = Watched::new(disk, (faults, (opening_of(&rt, &screen), progress)));
-    let mut teller = VerifyTeller::new(&screen);
-    match verify_archive(rt.alloc(), disk, writer, &mut teller) {
-        Ok((disk, verdict)) => {
-            teller.finish();
-            Outcome::leaving(judged(verdict), closed(disk))
-        }
-        Err(fault) => {
-            screen.clear();
-            Err(stopped(fault))
-        }
-    }
-}
-
-/// How a command ends that came to a verdict.
-fn judged(verdict: Verdict) -> Result<(), Ended>
-    ensures { ending_in result ≡ ending_by verdict }
-{
-    match verdict {
-        Verdict::Whole => Ok(()),
-        Verdict::Refused => Err(Ended::told(Ending::FoundDamage)),
-    }
-}
-
 /// Writes the frames of a segment file.
-fn frames<W: Write>(rt: HostRuntime, file: &str, writer: &mut W) -> Result<(), Ended>
+fn frames<W: Write>(rt: HostRuntime, file: &str, writer: &mut W) -> Result<(), Exit>
     ensures { ListsFile (W.contents writer.old) (W.contents writer.new) (ending_in result) }
 {
     match File::open(&rt, file) {
         Ok(reader) => frames_of(rt.alloc(), reader, writer),
-        Err(error) => Err(Ended {
+        Err(error) => Err(Exit {
             ending: Ending::Refused(Refusal::DeviceFault),
-            reason: Reason::File(error),
+            why: Why::File(error),
         }),
     }
 }
 
 /// Writes the frames that a reader of a segment file gives.
-fn frames_of<F: Read + Drop, W: Write>(
-    alloc: Global,
-    reader: F,
-    writer: &mut W,
-) -> Result<(), Ended>
+fn frames_of<F: Read + Drop, W: Write>(alloc: Global, reader: F, writer: &mut W) -> Result<(), Exit>
     ensures { ListsFrames (F.remaining reader) (W.contents writer.old) (W.contents writer.new) (ending_in result) }
 {
     match list_frames(alloc, reader, writer) {
         Ok(Listing::Whole) => Ok(()),
-        Ok(Listing::Damaged) => Err(Ended::told(Ending::FoundDamage)),
-        Err(end) => Err(Ended::cut(end, Reason::FileRead)),
+        Ok(Listing::Damaged) => Err(Exit::told(Ending::FoundDamage)),
+        Err(end) => Err(Exit::cut(end, Why::FileRead)),
     }
 }
 
+/// The disk of a folder, whose opening is shown where it lasts. It is told on standard error if its catalogue may hide entries.
+fn watched_disk<'a>(
+    rt: &'a HostRuntime,
+    folder: Path<'_>,
+    screen: &'a Screen<'a, HostRuntime>,
+) -> Result<Watched<HostDisk, Option<OpeningProgress<'a, HostRuntime>>>, Exit>
+    ghost given: { Given }
+    ensures begun { IfOk result (λ watched. host_life watched.disk ≡ life_from given) }
+    ensures unopened { IfErr result (λ exit. IsUnopenedFolder exit.ending) }
+{
+    let disk = Watched::new(disk_of(*rt, folder)?, opening_of(rt, screen));
+    let _ = warns_of_hidden(*rt, folder, screen);
+    Ok(disk)
+}
+
 /// The disk of a folder, which no other process has. It begins with the files that the folder holds.
-pub(crate) fn disk_of(rt: HostRuntime, folder: Path<'_>) -> Result<HostDisk, Ended>
+pub(crate) fn disk_of(rt: HostRuntime, folder: Path<'_>) -> Result<HostDisk, Exit>
     ghost given: { Given }
     ensures begun { IfOk result (λ disk. host_life disk ≡ life_from given) }
-    ensures unopened { IfErr result (λ ended. IsUnopenedFolder ended.ending) }
+    ensures unopened { IfErr result (λ exit. IsUnopenedFolder exit.ending) }
 {
     Ok(HostDisk::open(rt, rt.alloc(), folder)?)
 }
@@ -405,22 +353,6 @@ pub(crate) fn opening_of<'a>(
 ) -> Option<OpeningProgress<'a, HostRuntime>> {
     if rt.stderr().is_terminal() {
         Some(OpeningProgress::new(rt, screen))
-    } else {
-        None
-    }
-}
-
-/// What shows how far a verification of a disk has come, where standard error is a terminal.
-pub(crate) fn progress_of<'a, D: Disk>(
-    rt: &'a HostRuntime,
-    screen: &'a Screen<'a, HostRuntime>,
-    disk: &mut D,
-) -> Option<Progress<'a, HostRuntime, ListedFiles>>
-    ensures { IsQuiet (D.life disk.old) (D.life disk.new) }
-{
-    if rt.stderr().is_terminal() {
-        let files = ListedFiles::of(rt.alloc(), disk)?;
-        Some(Progress::new(rt, screen, files))
     } else {
         None
     }

@@ -5,7 +5,8 @@ ghost use Rattle.host_disk.specs.ClosedDisk.{closed_life};
 ghost use Rattle.folder_commands.specs.Left.{left_life};
 ghost use Rattle.folder_commands.specs.Status.{ending_of};
 
-use crate::outcome::{Ended, Left, Outcome};
+use crate::exit::Exit;
+use crate::outcome::{Left, Outcome};
 use disk_core::Disk;
 use host_disk::{ClosedDisk, HostDisk, LastFault, ReadFolder};
 use tool_core::{CommandFault, Watched};
@@ -50,13 +51,13 @@ pub(crate) fn closed<F: OpenFolder, V: Drop>(folder: Watched<F, V>) -> Left
 
 /// Why a command over a watched folder ended before it was done. The folder is closed.
 pub(crate) fn stopped<F: OpenFolder, V: Drop>(fault: CommandFault<Watched<F, V>>) -> Outcome
-    ensures ending { result.ended.ending ≡ ending_of fault.why }
+    ensures ending { result.exit.ending ≡ ending_of fault.why }
     ensures left { left_life result.left ≡ Some (F.life fault.disk.disk) }
 {
     let CommandFault { why, disk } = fault;
     let (folder, _) = disk.into_parts();
     Outcome {
-        ended: Ended::stopped(why, folder.fault()),
+        exit: Exit::stopped(why, folder.fault()),
         left: Some(folder.closed()),
     }
 }

@@ -1,8 +1,8 @@
 //! What a server reports while it runs: lines on standard error, and the metrics file. docs/SERVING.md, "What the server prints"
 //! and "Metrics".
 
-use crate::reason::{FaultLine, MetricsFault};
 use crate::teller::is_same;
+use crate::why::{FaultLine, MetricsFault};
 use host_disk::{HostDisk, LastFault};
 use metrics_text::{Measures, print_metrics};
 use serve_core::{Happening, LineTeller, Teller};

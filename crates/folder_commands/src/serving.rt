@@ -5,24 +5,25 @@ ghost use Rattle.std.specs.IoError.{error_kind};
 ghost use Rattle.clap.specs.declared.error.ErrorKind.TheVariants.{ValueValidation};
 ghost use Rattle.host_disk.specs.Events.{Given};
 ghost use Rattle.host_disk.specs.HostDisk.{host_life};
-ghost use Rattle.folder_commands.specs.declared.status.Ending.TheVariants.{NoCommand, Failed, Hidden, Stuck};
+ghost use Rattle.folder_commands.specs.declared.status.Ending.TheVariants.{NoCommand, Failed};
 ghost use Rattle.folder_commands.specs.Folders.{ending_in};
 ghost use Rattle.folder_commands.specs.Left.{ends_with, leaves};
 ghost use Rattle.folder_commands.specs.Serving.{AreOptions, HasBadOptions, HasBadSegments, HasBadStreams, HasBadWindow, HasNoEnds, HasSegments, HasWindow, IsAddressReason, IsNoAddress, IsReceiverWindow, IsSegmentLength, IsUnbound, RecordsStreams, ServesFolder, ServesOver, segment_reason, streams_reason, window_reason};
 
 use crate::commands::disk_of;
+use crate::exit::Exit;
 use crate::hidden::warns_of_hidden;
 use crate::open_folder::closed;
-use crate::outcome::{Ended, Left, Outcome};
-use crate::reason::Reason;
+use crate::outcome::{Left, Outcome};
 use crate::reporting::{MetricsFile, ServeFaults, ServeTeller};
 use crate::status::Ending;
+use crate::why::Why;
 use clap::error::ErrorKind;
 use command_line::ServeWords;
 use disk_core::Disk;
 use flow_control::{INITIAL_WINDOW, LONGEST_WINDOW, SHORTEST_WINDOW};
 use frame_core::limits::{FRAME_ALIGNMENT, MAX_TERM_LENGTH, MIN_TERM_LENGTH};
-use serve_core::{SEGMENT_LENGTH, ServeOptions, Served, Stop, Teller, serve_with};
+use serve_core::{SEGMENT_LENGTH, ServeOptions, Served, Teller, serve_with};
 use std::alloc::Global;
 use std::io::{self, Eprint};
 use std::net::{Ipv4Addr, Net, TcpListener, TcpStream, UdpSocket};
@@ -58,7 +59,7 @@ pub(crate) fn serve<
     let disk = disk_of(rt, folder)?;
     if warns_of_hidden(rt, folder, &Screen::new(net)) && words.is_strict {
         return Err(Outcome {
-            ended: hidden(),
+            exit: Exit::told(Ending::Hidden),
             left: Some(disk.close()),
         });
     }
@@ -80,10 +81,10 @@ fn receiver_id(source: &impl RandomSource) -> i64 {
 
 /// The options of a server with this receiver's number that the words ask for. Refused if they name a bad receiver window, or bad
 /// streams or segments.
-fn options_of<'a>(words: &'a ServeWords<'_>, receiver_id: i64) -> Result<ServeOptions<'a>, Ended>
+fn options_of<'a>(words: &'a ServeWords<'_>, receiver_id: i64) -> Result<ServeOptions<'a>, Exit>
     ensures { MatchResult result
         (AreOptions words.now receiver_id)
-        (λ ended. HasBadOptions words.now × (ended.ending ≡ NoCommand ValueValidation)) }
+        (λ exit. HasBadOptions words.now × (exit.ending ≡ NoCommand ValueValidation)) }
 {
     Ok(ServeOptions {
         idle_seconds: u64::from(words.idle),
@@ -100,17 +101,17 @@ fn options_of<'a>(words: &'a ServeWords<'_>, receiver_id: i64) -> Result<ServeOp
 
 /// The greatest receiver window that the words ask for, in bytes; None without `--aeron`. Refused if `--window` comes without
 /// `--aeron`, or is not a multiple of 32 in its range.
-fn window_of(words: &ServeWords<'_>) -> Result<Option<i32>, Ended>
-    ensures window { MatchResult result (HasWindow words.now) (λ ended.
-        HasBadWindow words.now × (ended.ending ≡ NoCommand ValueValidation)) }
-    ensures reason { IfErr result (λ ended. ended.reason ≡ window_reason words.now.is_aeron) }
+fn window_of(words: &ServeWords<'_>) -> Result<Option<i32>, Exit>
+    ensures window { MatchResult result (HasWindow words.now) (λ exit.
+        HasBadWindow words.now × (exit.ending ≡ NoCommand ValueValidation)) }
+    ensures why { IfErr result (λ exit. exit.why ≡ window_reason words.now.is_aeron) }
 {
     match words.window {
         None if words.is_aeron => Ok(Some(INITIAL_WINDOW)),
         None => Ok(None),
-        Some(_) if !words.is_aeron => Err(misworded(Reason::NeedsAeron)),
+        Some(_) if !words.is_aeron => Err(misworded(Why::NeedsAeron)),
         Some(bytes) if is_receiver_window(bytes) => Ok(Some(bytes as i32)),
-        Some(_) => Err(misworded(Reason::Window)),
+        Some(_) => Err(misworded(Why::Window)),
     }
 }
 
@@ -124,34 +125,34 @@ fn is_receiver_window(bytes: u32) -> bool
 }
 
 /// The streams that the words name, in their order. Refused without `--aeron`, and if there are more than 64.
-fn streams_of<'a>(words: &'a ServeWords<'_>) -> Result<&'a [i32], Ended>
+fn streams_of<'a>(words: &'a ServeWords<'_>) -> Result<&'a [i32], Exit>
     ensures streams { MatchResult result
         (λ streams. RecordsStreams words.now × (streams.now ≡ words.now.streams.items))
-        (λ ended. HasBadStreams words.now × (ended.ending ≡ NoCommand ValueValidation)) }
-    ensures reason { IfErr result (λ ended. ended.reason ≡ streams_reason words.now.is_aeron) }
+        (λ exit. HasBadStreams words.now × (exit.ending ≡ NoCommand ValueValidation)) }
+    ensures why { IfErr result (λ exit. exit.why ≡ streams_reason words.now.is_aeron) }
 {
     let streams = words.streams.as_slice();
     if !words.is_aeron && !streams.is_empty() {
-        return Err(misworded(Reason::RecordNeedsAeron));
+        return Err(misworded(Why::RecordNeedsAeron));
     }
     if streams.len() > MOST_STREAMS {
-        return Err(misworded(Reason::Streams));
+        return Err(misworded(Why::Streams));
     }
     Ok(streams)
 }
 
 /// The length of a segment file that the words ask for, in bytes. Refused if `--segment-length` comes without `--record`, or is
 /// not a power of two in its range.
-fn segment_length_of(words: &ServeWords<'_>) -> Result<i32, Ended>
-    ensures length { MatchResult result (HasSegments words.now) (λ ended.
-        HasBadSegments words.now × (ended.ending ≡ NoCommand ValueValidation)) }
-    ensures reason { IfErr result (λ ended. ended.reason ≡ segment_reason words.now.streams.items) }
+fn segment_length_of(words: &ServeWords<'_>) -> Result<i32, Exit>
+    ensures length { MatchResult result (HasSegments words.now) (λ exit.
+        HasBadSegments words.now × (exit.ending ≡ NoCommand ValueValidation)) }
+    ensures why { IfErr result (λ exit. exit.why ≡ segment_reason words.now.streams.items) }
 {
     match words.segment_length {
         None => Ok(SEGMENT_LENGTH),
-        Some(_) if words.streams.is_empty() => Err(misworded(Reason::NeedsRecord)),
+        Some(_) if words.streams.is_empty() => Err(misworded(Why::NeedsRecord)),
         Some(bytes) if is_segment_length(bytes) => Ok(bytes as i32),
-        Some(_) => Err(misworded(Reason::SegmentLength)),
+        Some(_) => Err(misworded(Why::SegmentLength)),
     }
 }
 
@@ -163,28 +164,28 @@ fn is_segment_length(bytes: u32) -> bool
 }
 
 /// The words are wrong, for this reason.
-pub(crate) fn misworded(reason: Reason) -> Ended
+pub(crate) fn misworded(why: Why) -> Exit
     ensures ending { result.ending ≡ NoCommand ValueValidation }
-    ensures reason { result.reason ≡ reason }
+    ensures why { result.why ≡ why }
 {
-    Ended {
+    Exit {
         ending: Ending::NoCommand(ErrorKind::ValueValidation),
-        reason,
+        why,
     }
 }
 
 /// The address that a word names. Refused if it names none, or a multicast address: no one machine has that.
-fn address_of(word: &str) -> Result<Ipv4Addr, Ended>
+fn address_of(word: &str) -> Result<Ipv4Addr, Exit>
     ensures address { MatchResult result
         (λ _. IsNoAddress word.now → ⊥)
-        (λ ended. IsNoAddress word.now × (ended.ending ≡ NoCommand ValueValidation)) }
-    ensures reason { IfErr result (λ ended. IsAddressReason word.now ended.reason) }
+        (λ exit. IsNoAddress word.now × (exit.ending ≡ NoCommand ValueValidation)) }
+    ensures why { IfErr result (λ exit. IsAddressReason word.now exit.why) }
 {
     let Ok(address) = word.parse::<Ipv4Addr>() else {
-        return Err(misworded(Reason::Address));
+        return Err(misworded(Why::Address));
     };
     if address.is_multicast() {
-        return Err(misworded(Reason::Multicast));
+        return Err(misworded(Why::Multicast));
     }
     Ok(address)
 }
@@ -194,10 +195,10 @@ fn address_of(word: &str) -> Result<Ipv4Addr, Ended>
 fn bound<R: Net<Listener = TcpListener, Stream = TcpStream>>(
     net: &R,
     words: &ServeWords<'_>,
-) -> Result<Ports, Ended>
+) -> Result<Ports, Exit>
     ensures { MatchResult result
         (λ _. HasNoEnds words.now → ⊥)
-        (λ ended. IsUnbound words.now ended.ending) }
+        (λ exit. IsUnbound words.now exit.ending) }
 {
     let address = address_of(words.receive_on)?;
     let (control, receive) = (port_of(words.control)?, port_of(words.receive)?);
@@ -212,23 +213,23 @@ fn bound<R: Net<Listener = TcpListener, Stream = TcpStream>>(
 }
 
 /// A port's number.
-pub(crate) fn port_of(port: u32) -> Result<u16, Ended>
+pub(crate) fn port_of(port: u32) -> Result<u16, Exit>
     ensures number { IfOk result (λ number. number ≡ port) }
-    ensures wide { IfErr result (λ ended. (65535 < port) × (ended.ending ≡ NoCommand ValueValidation)) }
+    ensures wide { IfErr result (λ exit. (65535 < port) × (exit.ending ≡ NoCommand ValueValidation)) }
 {
     match u16::try_from(port) {
         Ok(port) => Ok(port),
-        Err(_) => Err(Ended::told(Ending::NoCommand(ErrorKind::ValueValidation))),
+        Err(_) => Err(Exit::told(Ending::NoCommand(ErrorKind::ValueValidation))),
     }
 }
 
 /// The system refuses a port.
-fn unbound(port: u16, error: io::Error) -> Ended
+fn unbound(port: u16, error: io::Error) -> Exit
     ensures { result.ending ≡ Failed (error_kind error) }
 {
-    Ended {
+    Exit {
         ending: Ending::Failed(error.kind()),
-        reason: Reason::Port(port, error),
+        why: Why::Port(port, error),
     }
 }
 
@@ -250,38 +251,18 @@ fn serve_disk<
     disk: D,
     options: &ServeOptions<'_>,
     teller: T,
-) -> (D, Result<(), Ended>)
+) -> (D, Result<(), Exit>)
     ensures { ServesOver options.now.is_strict (D.life disk) (D.life result.0) (ending_in result.1) }
 {
     let Ports { listener, socket } = ports;
     match serve_with(net, alloc, listener, socket, disk, options, teller) {
         Ok(Served { disk, stop }) => match stop {
             None => (disk, Ok(())),
-            Some(stop) => (disk, Err(stuck(stop))),
+            Some(stop) => (disk, Err(Exit::told(Ending::Stuck(stop)))),
         },
         Err(fault) => {
-            let (disk, ended) = Ended::cut_off(fault, Reason::Ends);
-            (disk, Err(ended))
+            let (disk, exit) = Exit::cut_off(fault, Why::Ends);
+            (disk, Err(exit))
         }
-    }
-}
-
-/// A strict server does not open an archive whose catalogue may hide entries.
-fn hidden() -> Ended
-    ensures { result.ending ≡ Hidden }
-{
-    Ended {
-        ending: Ending::Hidden,
-        reason: Reason::Hidden,
-    }
-}
-
-/// A strict server ended that could record nothing.
-fn stuck(stop: Stop) -> Ended
-    ensures { result.ending ≡ Stuck stop }
-{
-    Ended {
-        ending: Ending::Stuck(stop),
-        reason: Reason::Stuck(stop),
     }
 }

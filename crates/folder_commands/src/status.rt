@@ -3,11 +3,12 @@
 ghost use Rattle.std.specs.Prelude.{◌≡◌};
 ghost use Rattle.folder_commands.specs.Status.{refusal_of, status_of, status_of_refusal, untold_status};
 
+use crate::exit::Exit;
 use crate::told_words::words_status;
 use clap::error::ErrorKind;
 use frame_core::Refusal;
 use host_disk::OpenFault;
-use serve_core::Stop;
+use serve_core::Stuck;
 use std::io;
 use tool_core::EarlyEnd;
 
@@ -34,7 +35,7 @@ pub enum Ending {
     /// A server refused a line, and its output says which and why.
     LineRefused,
     /// A strict server could record nothing.
-    Stuck(Stop),
+    Stuck(Stuck),
     /// A strict server did not open an archive whose catalogue may hide entries.
     Hidden,
     /// The words of the command line asked for no command; what is wrong with them, or the help, was told.
@@ -43,10 +44,10 @@ pub enum Ending {
     Failed(io::ErrorKind),
 }
 
-impl Ending {
-    /// The program's status: that of the refusal which is told, where one is.
+impl Exit {
+    /// The program's status: that of the refusal which is told, if one is.
     pub fn status(self) -> u8
-        ensures { result ≡ status_of self }
+        ensures { result ≡ status_of self.ending }
     {
         match self.refusal() {
             Some(refusal) => status_of_refusal(refusal),
@@ -56,9 +57,9 @@ impl Ending {
 
     /// The status of an ending that tells no refusal.
     fn untold_status(self) -> u8
-        ensures { result ≡ untold_status self }
+        ensures { result ≡ untold_status self.ending }
     {
-        match self {
+        match self.ending {
             Ending::FoundDamage => DEVICE,
             Ending::LineRefused => REFUSED,
             Ending::Stuck(_) | Ending::Hidden => DEVICE,
@@ -69,9 +70,9 @@ impl Ending {
 
     /// The refusal whose line is told on standard error.
     pub fn refusal(self) -> Option<Refusal>
-        ensures { result ≡ refusal_of self }
+        ensures { result ≡ refusal_of self.ending }
     {
-        match self {
+        match self.ending {
             Ending::Done
             | Ending::FoundDamage
             | Ending::LineRefused

@@ -1,7 +1,7 @@
 //! What is told on standard error while a command runs. docs/CONTROL.md, "Standard error".
 
 use crate::open_folder::OpenFolder;
-use crate::reason::{FaultLine, file_of, word_of};
+use crate::why::{FaultLine, file_of, word_of};
 use archive_model::{Registration, Reply};
 use control_core::{Event, Request};
 use control_lines::{Line, parse_line};

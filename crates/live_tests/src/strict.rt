@@ -6,7 +6,7 @@ use crate::server::{Told, bound, options};
 use disk_core::{Disk, FileId, MemoryDisk};
 use engine_core::Engine;
 use frame_core::Refusal;
-use serve_core::{SETTLE_EVERY, Served, Stop, serve_with};
+use serve_core::{SETTLE_EVERY, Served, Stuck, serve_with};
 use std::alloc::Global;
 use std::net::{Net, TcpListener, TcpStream};
 use std::rt::Clock;
@@ -87,7 +87,7 @@ fn stop_of<R: Threads + Wait + Clock + Net<Listener = TcpListener, Stream = TcpS
     disk: MemoryDisk,
     is_strict: bool,
     said: Said,
-) -> Option<Stop> {
+) -> Option<Stuck> {
     served(rt, alloc, disk, is_strict, said)?.stop
 }
 
@@ -136,7 +136,7 @@ fn failing_after(alloc: Global, calls: u64) -> Option<MemoryDisk> {
 fn without_an_archive_it_ends(rt: HostRuntime) -> Result<(), Fail> {
     let disk = not_a_catalogue(rt.alloc());
     let stop = stop_of(&rt, rt.alloc(), disk, true, Said::Nothing);
-    assert!(rt; stop == Some(Stop::Unopened(Refusal::NotCatalogue)));
+    assert!(rt; stop == Some(Stuck::Unopened(Refusal::NotCatalogue)));
     Ok(())
 }
 
@@ -157,7 +157,7 @@ asks quit: bye
 fn it_ends_by_a_device_fault(rt: HostRuntime) -> Result<(), Fail> {
     let disk = failing(rt.alloc()).ok_or("disk")?;
     let stop = stop_of(&rt, rt.alloc(), disk, true, Said::Conversation(FAULT));
-    assert!(rt; stop == Some(Stop::Broken));
+    assert!(rt; stop == Some(Stuck::Broken));
     let disk = failing(rt.alloc()).ok_or("disk")?;
     assert!(rt; says_nothing(&rt, rt.alloc(), disk, false, Said::Conversation(FAULTS)));
     Ok(())
@@ -167,7 +167,7 @@ fn it_ends_by_a_device_fault(rt: HostRuntime) -> Result<(), Fail> {
 fn a_quit_says_that_it_is_broken(rt: HostRuntime) -> Result<(), Fail> {
     let disk = failing(rt.alloc()).ok_or("disk")?;
     let stop = stop_of(&rt, rt.alloc(), disk, true, Said::FaultAndQuit);
-    assert!(rt; stop == Some(Stop::Broken));
+    assert!(rt; stop == Some(Stuck::Broken));
     Ok(())
 }
 
@@ -190,12 +190,12 @@ asks quit: bye
 fn it_ends_by_a_full_history(rt: HostRuntime) -> Result<(), Fail> {
     let disk = of_limit(rt.alloc(), 2).ok_or("disk")?;
     let stop = stop_of(&rt, rt.alloc(), disk, true, Said::Conversation(FULL));
-    assert!(rt; stop == Some(Stop::HistoryFull));
+    assert!(rt; stop == Some(Stuck::HistoryFull));
     let disk = of_limit(rt.alloc(), 2).ok_or("disk")?;
     let full = served(&rt, rt.alloc(), disk, false, Said::Conversation(FULL_ON)).ok_or("full")?;
     assert!(rt; full.stop.is_none());
     let stop = stop_of(&rt, rt.alloc(), full.disk, true, Said::Nothing);
-    assert!(rt; stop == Some(Stop::HistoryFull));
+    assert!(rt; stop == Some(Stuck::HistoryFull));
     Ok(())
 }
 
@@ -211,7 +211,7 @@ ends
 fn it_ends_by_a_settling_too(rt: HostRuntime) -> Result<(), Fail> {
     let disk = of_limit(rt.alloc(), 2).ok_or("disk")?;
     let stop = stop_of(&rt, rt.alloc(), disk, true, Said::Conversation(SETTLED));
-    assert!(rt; stop == Some(Stop::HistoryFull));
+    assert!(rt; stop == Some(Stuck::HistoryFull));
     Ok(())
 }
 
@@ -219,6 +219,6 @@ fn it_ends_by_a_settling_too(rt: HostRuntime) -> Result<(), Fail> {
 fn it_ends_by_a_block_that_the_disk_fails(rt: HostRuntime) -> Result<(), Fail> {
     let disk = failing_after(rt.alloc(), FAILS_AFTER_AN_ENTRY).ok_or("disk")?;
     let stop = stop_of(&rt, rt.alloc(), disk, true, Said::Conversation(SETTLED));
-    assert!(rt; stop == Some(Stop::Broken));
+    assert!(rt; stop == Some(Stuck::Broken));
     Ok(())
 }

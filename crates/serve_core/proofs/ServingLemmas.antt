@@ -19,33 +19,33 @@ use Rattle.archive_lock.specs.Held.{engine_seen, view_of}
 use Rattle.archive_lock.specs.History.{Member}
 use Rattle.serve_core.specs.Serving.{EndsFrom, EndsHistory, EndsUpTo, IsServed, IsServedAs, IsServedUpTo, stop_of}
 use Rattle.serve_core.specs.declared.served.Served.{Served}
-use Rattle.serve_core.specs.declared.served.Stop.{Stop}
+use Rattle.serve_core.specs.declared.served.Stuck.{Stuck}
 
 -- what closing gave
-pub ends_history : {D : Type 0} {dg : Disk.Ghosts D} (life : D → Life) (opening : EngineState) (keeps strict : Bool) (passes : List (PassView Made)) (engine : Engine D dg) (begun : DeskState) (history : Stored Call) (new : Life) (stop : Option Stop)
+pub ends_history : {D : Type 0} {dg : Disk.Ghosts D} (life : D → Life) (opening : EngineState) (keeps strict : Bool) (passes : List (PassView Made)) (engine : Engine D dg) (begun : DeskState) (history : Stored Call) (new : Life) (stop : Option Stuck)
     → ((calls : List Member) × ClosesWith opening keeps passes calls (engine_seen life (view_of engine calls)) begun history) → new ≡ life engine.archive.storage.disk → stop ≡ stop_of strict engine.archive.desk.state → EndsHistory opening strict new stop
 ends_history life opening keeps strict passes engine begun history new stop (calls, closes) is stops =
     record { calls = calls; now = engine_seen life (view_of engine calls); legal = closes.legal; leads = closes.leads; settled = closes.settled; left = is; stops = stops }
 
 -- a history of a strict server is one of a server that is not
-lenient : (opening : EngineState) (strict : Bool) (new : Life) (stop : Option Stop) → EndsHistory opening strict new stop → EndsHistory opening false new None
+lenient : (opening : EngineState) (strict : Bool) (new : Life) (stop : Option Stuck) → EndsHistory opening strict new stop → EndsHistory opening false new None
 lenient opening strict new stop ends =
     record { calls = ends.calls; now = ends.now; legal = ends.legal; leads = ends.leads; settled = ends.settled; left = ends.left; stops = refl }
 
-lenient_from : (strict : Bool) (beginning : Beginning) (first : SeenArchive) (new : Life) (stop : Option Stop) → EndsFrom strict beginning first new stop → EndsFrom false beginning first new None
+lenient_from : (strict : Bool) (beginning : Beginning) (first : SeenArchive) (new : Life) (stop : Option Stuck) → EndsFrom strict beginning first new stop → EndsFrom false beginning first new None
 lenient_from strict beginning (Open engine) new stop ends = lenient engine strict new stop ends
 lenient_from strict beginning (Closed life) new stop ends = (ends.0, refl)
 
-pub served_leniently : (strict : Bool) (old new : Life) (stop : Option Stop) → IsServedAs strict old new stop → IsServed old new
+pub served_leniently : (strict : Bool) (old new : Life) (stop : Option Stuck) → IsServedAs strict old new stop → IsServed old new
 served_leniently strict old new stop served =
     record { first = served.first; beginning = served.beginning; begins = served.begins; ends = lenient_from strict served.beginning served.first new stop served.ends }
 
-served_ok : (strict : Bool) (old : Life) (first : SeenArchive) (beginning : Beginning) (new : Life) (stop : Option Stop) (end : Result (Unit {0}) EarlyEnd) → BeginsAs old beginning first → EndsUpTo strict beginning first new stop end → IsOk end → IsServedAs strict old new stop
+served_ok : (strict : Bool) (old : Life) (first : SeenArchive) (beginning : Beginning) (new : Life) (stop : Option Stuck) (end : Result (Unit {0}) EarlyEnd) → BeginsAs old beginning first → EndsUpTo strict beginning first new stop end → IsOk end → IsServedAs strict old new stop
 served_ok strict old (Open engine) beginning new stop end begins (inl ends) is = record { first = Open engine; beginning = beginning; begins = begins; ends = ends }
 served_ok strict old (Open engine) beginning new stop end begins (inr (memory, same)) is = let bad : false ≡ true = subst IsOk memory is in cc
 served_ok strict old (Closed life) beginning new stop end begins ends is = record { first = Closed life; beginning = beginning; begins = begins; ends = ends }
 
-served_err : (strict : Bool) (old : Life) (first : SeenArchive) (beginning : Beginning) (new : Life) (stop : Option Stop) (end : Result (Unit {0}) EarlyEnd) (early : EarlyEnd) → BeginsAs old beginning first → EndsUpTo strict beginning first new stop end → end ≡ Err early → IsServedUpTo old new early
+served_err : (strict : Bool) (old : Life) (first : SeenArchive) (beginning : Beginning) (new : Life) (stop : Option Stuck) (end : Result (Unit {0}) EarlyEnd) (early : EarlyEnd) → BeginsAs old beginning first → EndsUpTo strict beginning first new stop end → end ≡ Err early → IsServedUpTo old new early
 served_err strict old (Open engine) beginning new stop end early begins (inl ends) is = inl (served_leniently strict old new stop (record { first = Open engine; beginning = beginning; begins = begins; ends = ends }))
 served_err strict old (Open engine) beginning new stop end early begins (inr (memory, same)) is = inr (cc, inr (inr (Open engine, beginning, begins, same)))
 served_err strict old (Closed life) beginning new stop end early begins ends is = inl (served_leniently strict old new stop (record { first = Closed life; beginning = beginning; begins = begins; ends = ends }))

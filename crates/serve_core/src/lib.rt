@@ -15,6 +15,6 @@ mod serving;
 mod unopened;
 
 pub use options::{IDLE_SECONDS, SEGMENT_LENGTH, SETTLE_EVERY, ServeOptions};
-pub use served::{Served, Stop};
+pub use served::{Served, Stuck};
 pub use server_state::{Counted, Happening, ImageCounted, LineTeller, Teller, Untold};
 pub use serving::{serve_on, serve_with};

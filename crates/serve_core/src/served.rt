@@ -11,7 +11,7 @@ use tool_core::Beginning;
 
 /// Why a strict server can record nothing.
 #[derive(Clone, Copy, Debug, PartialEq, Eq)]
-pub enum Stop {
+pub enum Stuck {
     /// The archive could not be opened.
     Unopened(Refusal),
     /// A write has failed: the archive is Broken.
@@ -26,13 +26,13 @@ pub struct Served<D> {
     /// The disk, as the last call left it.
     pub disk: D,
     /// Why the server could record nothing at its end, if it is strict and that is so.
-    pub stop: Option<Stop>,
+    pub stop: Option<Stuck>,
 }
 
-impl fmt::Display for Stop {
+impl fmt::Display for Stuck {
     fn fmt<W: fmt::Write>(&self, f: &mut fmt::Formatter<W>) -> fmt::Result {
         match self {
-            Stop::Unopened(refusal) => {
+            Stuck::Unopened(refusal) => {
                 f.write_str("the archive is not open: ")?;
                 let line = print_refusal(refusal);
                 match std::str::from_utf8(line.as_bytes()) {
@@ -40,33 +40,33 @@ impl fmt::Display for Stop {
                     Err(_) => Ok(()),
                 }
             }
-            Stop::Broken => f.write_str("a write has failed, and the archive is Broken"),
-            Stop::HistoryFull => f.write_str("the history is full"),
+            Stuck::Broken => f.write_str("a write has failed, and the archive is Broken"),
+            Stuck::HistoryFull => f.write_str("the history is full"),
         }
     }
 }
 
 /// Why a server can record nothing whose archive stands so at its end, if it is strict.
-pub(crate) fn stop_of(is_strict: bool, desk: &Desk) -> Option<Stop>
+pub(crate) fn stop_of(is_strict: bool, desk: &Desk) -> Option<Stuck>
     ensures { result ≡ stop_of is_strict desk.now.state }
 {
     if !is_strict {
         None
     } else if desk.is_broken() {
-        Some(Stop::Broken)
+        Some(Stuck::Broken)
     } else if !desk.has_room() {
-        Some(Stop::HistoryFull)
+        Some(Stuck::HistoryFull)
     } else {
         None
     }
 }
 
 /// Why a server records nothing whose archive is not open, if it is strict.
-pub(crate) fn unopened_stop(is_strict: bool, beginning: &Beginning) -> Option<Stop>
+pub(crate) fn unopened_stop(is_strict: bool, beginning: &Beginning) -> Option<Stuck>
     ensures { result ≡ unopened_stop is_strict beginning.now }
 {
     match beginning {
-        Beginning::Refused(refusal) if is_strict => Some(Stop::Unopened(*refusal)),
+        Beginning::Refused(refusal) if is_strict => Some(Stuck::Unopened(*refusal)),
         _ => None,
     }
 }

@@ -9,8 +9,8 @@ use Rattle.engine_core.specs.Consistent.{KeepsArchive}
 use Rattle.engine_core.specs.Engine.{EngineState, new_archive}
 use Rattle.engine_core.specs.Opened.{HasNotOpened, HasOpened}
 use Rattle.engine_core.specs.Opening.{IsMadeIn, RefusesNew}
-use Rattle.tool_core.specs.declared.commands.Stopped.{Stopped}
-use Rattle.tool_core.specs.declared.commands.Stopped.TheVariants.{Refused, Cut}
+use Rattle.tool_core.specs.declared.commands.Stop.{Stop}
+use Rattle.tool_core.specs.declared.commands.Stop.TheVariants.{Refused, Cut}
 use Rattle.tool_core.specs.declared.fault.EarlyEnd.{EarlyEnd}
 use Rattle.tool_core.specs.declared.fault.EarlyEnd.TheVariants as ends
 use Rattle.tool_core.specs.declared.reports.Verdict.{Verdict}
@@ -32,7 +32,7 @@ pub record IsCreated (limit : ℕ) (old new : Life) : Type 0 where
   pub left : new ≡ engine.life
 
 -- it was not made, and nothing is written; or it was, and the writer failed
-abbrev pub FailsToCreate : ℕ → Life → Life → Stopped → Option (List ℕ) → Option (List ℕ) → Type 0
+abbrev pub FailsToCreate : ℕ → Life → Life → Stop → Option (List ℕ) → Option (List ℕ) → Type 0
 FailsToCreate limit old new (Refused refusal) contents written = RefusesNew old new limit refusal × (written ≡ contents)
 FailsToCreate limit old new (Cut ends.Write) contents written = IsCreated limit old new
 FailsToCreate limit old new (Cut end) contents written = ⊥
@@ -40,7 +40,7 @@ FailsToCreate limit old new (Cut end) contents written = ⊥
 -- ---- compact
 
 -- It was not opened, or its catalogue not written anew, and nothing is written; or it was, and the writer failed.
-abbrev pub FailsToCompact : Life → Life → Stopped → Option (List ℕ) → Option (List ℕ) → Type 0
+abbrev pub FailsToCompact : Life → Life → Stop → Option (List ℕ) → Option (List ℕ) → Type 0
 FailsToCompact old new (Refused refusal) contents written = HasNotCompacted old new refusal × (written ≡ contents)
 FailsToCompact old new (Cut ends.Write) contents written = HasCompacted old new
 FailsToCompact old new (Cut end) contents written = ⊥
@@ -52,7 +52,7 @@ abbrev pub IsOpenedBy : Life → EngineState → Type 0
 IsOpenedBy old engine = (stopped : ℤ) × HasOpened old engine stopped
 
 -- it was not
-abbrev pub IsUnopenedBy : Life → Life → Stopped → Type 0
+abbrev pub IsUnopenedBy : Life → Life → Stop → Type 0
 IsUnopenedBy old new (Refused refusal) = HasNotOpened old new refusal
 IsUnopenedBy old new (Cut end) = ⊥
 
@@ -73,7 +73,7 @@ pub record HasListedSome (old new : Life) (contents written : Option (List ℕ))
   pub told : FailsToAnswer end contents written
 
 -- it was not opened, and nothing is written; or it was
-abbrev pub FailsToList : Life → Life → Stopped → Option (List ℕ) → Option (List ℕ) → Type 0
+abbrev pub FailsToList : Life → Life → Stop → Option (List ℕ) → Option (List ℕ) → Type 0
 FailsToList old new (Refused refusal) contents written = IsUnopenedBy old new (Refused refusal) × (written ≡ contents)
 FailsToList old new (Cut end) contents written = HasListedSome old new contents written end
 
@@ -96,6 +96,6 @@ pub record HasVerifiedFirst (old new : Life) (contents written : Option (List �
   pub left : new ≡ last.life
 
 -- it was not opened, and nothing is written; or it was
-abbrev pub FailsToVerify : Life → Life → Stopped → Option (List ℕ) → Option (List ℕ) → Type 0
+abbrev pub FailsToVerify : Life → Life → Stop → Option (List ℕ) → Option (List ℕ) → Type 0
 FailsToVerify old new (Refused refusal) contents written = IsUnopenedBy old new (Refused refusal) × (written ≡ contents)
 FailsToVerify old new (Cut end) contents written = HasVerifiedFirst old new contents written end

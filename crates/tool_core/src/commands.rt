@@ -4,7 +4,7 @@ ghost use Rattle.std.specs.Prelude.{◌≡◌, ◌⊎◌, ◌<◌, IfErr, IfOk, 
 ghost use Rattle.std.specs.Io.KnownBytes.{Appends};
 ghost use Rattle.frame_core.specs.declared.refusal.Refusal.TheVariants.{BadParameter};
 ghost use Rattle.engine_core.specs.Seen.{seen};
-ghost use Rattle.tool_core.specs.declared.commands.Stopped.TheVariants.{Refused};
+ghost use Rattle.tool_core.specs.declared.commands.Stop.TheVariants.{Refused};
 ghost use Rattle.tool_core.specs.Commands.{FailsToCompact, FailsToCreate, FailsToList, FailsToVerify, HasListed, HasVerified, IsCreated, IsOpenedBy, IsUnopenedBy};
 ghost use Rattle.tool_core.specs.Archives.{HasCompacted};
 
@@ -20,7 +20,7 @@ use std::io::Write;
 
 /// Why a command ended before it was done.
 #[derive(Clone, Copy, Debug, PartialEq, Eq)]
-pub enum Stopped {
+pub enum Stop {
     /// Its archive was neither made nor opened, or not compacted.
     Refused(Refusal),
     /// It ended early.
@@ -31,7 +31,7 @@ pub enum Stopped {
 #[derive(Drop)]
 pub struct CommandFault<D> {
     /// Why.
-    pub why: Stopped,
+    pub why: Stop,
     /// The disk that was given.
     pub disk: D,
 }
@@ -58,13 +58,13 @@ pub fn create_archive<W: Write, D: Disk>(
     let engine = match Engine::create(alloc, disk, history) {
         Ok(engine) => engine,
         Err(OpenRefusal { refusal, disk }) => return Err(CommandFault {
-            why: Stopped::Refused(refusal),
+            why: Stop::Refused(refusal),
             disk,
         }),
     };
     let disk = engine.into_disk();
     if writer.write_all(b"created\n").is_err() {
-        let why = Stopped::Cut(EarlyEnd::Write);
+        let why = Stop::Cut(EarlyEnd::Write);
         return Err(CommandFault { why, disk });
     }
     Ok(disk)
@@ -90,13 +90,13 @@ pub fn compact_archive<W: Write, D: Disk, O: Observer>(
         Ok(disk) => disk,
         Err(OpenRefusal { refusal, disk }) => {
             observer.began(&Beginning::Refused(refusal));
-            let why = Stopped::Refused(refusal);
+            let why = Stop::Refused(refusal);
             return Err(CommandFault { why, disk });
         }
     };
     observer.began(&Beginning::Opened);
     if writer.write_all(b"compacted\n").is_err() {
-        let why = Stopped::Cut(EarlyEnd::Write);
+        let why = Stop::Cut(EarlyEnd::Write);
         return Err(CommandFault { why, disk });
     }
     Ok(disk)
@@ -123,7 +123,7 @@ pub fn list_archive<W: Write, D: Disk, O: Observer>(
     match outcome {
         Ok(()) => Ok(disk),
         Err(end) => Err(CommandFault {
-            why: Stopped::Cut(end),
+            why: Stop::Cut(end),
             disk,
         }),
     }
@@ -151,7 +151,7 @@ pub fn verify_archive<W: Write, D: Disk, O: Observer>(
     match outcome {
         Ok(verdict) => Ok((disk, verdict)),
         Err(end) => Err(CommandFault {
-            why: Stopped::Cut(end),
+            why: Stop::Cut(end),
             disk,
         }),
     }
@@ -173,7 +173,7 @@ fn opened<D: Disk, O: Observer>(
         }
         Err(OpenRefusal { refusal, disk }) => {
             observer.began(&Beginning::Refused(refusal));
-            let why = Stopped::Refused(refusal);
+            let why = Stop::Refused(refusal);
             Err(CommandFault { why, disk })
         }
     }

@@ -49,14 +49,15 @@ impl<D> ScriptFault<D> {
         }
     }
 
-    /// Why, without the disk.
-    pub fn end(&self) -> EarlyEnd
-        ensures { result ≡ early_end_of self.now }
+    /// Why, and the disk.
+    pub fn into_parts(self) -> (EarlyEnd, D)
+        ensures end { result.0 ≡ early_end_of self }
+        ensures disk { result.1 ≡ disk_of self }
     {
         match self {
-            ScriptFault::Read(_) => EarlyEnd::Read,
-            ScriptFault::Write(_) => EarlyEnd::Write,
-            ScriptFault::Memory(_) => EarlyEnd::Memory,
+            ScriptFault::Read(disk) => (EarlyEnd::Read, disk),
+            ScriptFault::Write(disk) => (EarlyEnd::Write, disk),
+            ScriptFault::Memory(disk) => (EarlyEnd::Memory, disk),
         }
     }
 }

@@ -27,7 +27,7 @@ pub use answerer::Answerer;
 pub use answers::{write_outcome, write_refusal, write_reply};
 pub use archive::ScriptArchive;
 pub use commands::{
-    CommandFault, Stopped, compact_archive, create_archive, list_archive, verify_archive,
+    CommandFault, Stop, compact_archive, create_archive, list_archive, verify_archive,
 };
 pub use fault::{EarlyEnd, ScriptFault};
 pub use frames::{Listing, list_frames};

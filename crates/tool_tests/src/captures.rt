@@ -9,7 +9,7 @@ use disk_core::{Disk, FileId, MemoryDisk};
 use std::alloc::Global;
 use std::net::Ipv4Addr;
 use std::test::*;
-use tool_core::{CommandFault, Stopped, Unobserved};
+use tool_core::{CommandFault, Stop, Unobserved};
 
 /// `hello` at 0, `world` at 64, and a pad of 65,408 bytes at 128, up to the term's end.
 const SCRIPT: &str =
@@ -53,7 +53,7 @@ const NEXT_HELLO: &[u8] = b"\0\0\0\0\0\0\0\0\x5c\0\0\0\x5c\0\0\0\
     \0\0\0\0\0\0\0\0\0\0\0\0\0\0\0\0\0\0\0\0\0\0\0\0\0\0\0";
 
 /// What is written of a part of a recording of a disk, or why it ended early.
-fn export(alloc: Global, disk: MemoryDisk, recording: i64, span: Span) -> Result<Vec<u8>, Stopped> {
+fn export(alloc: Global, disk: MemoryDisk, recording: i64, span: Span) -> Result<Vec<u8>, Stop> {
     let mut out = Vec::new(alloc);
     match export_view(alloc, disk, &recording, &span, &mut out, &mut Unobserved) {
         Ok(_) => Ok(out),
@@ -101,8 +101,8 @@ fn refusal(alloc: Global, recording: i64, span: Span, changed: u64) -> Result<u8
     let disk = changed_at(alloc, SCRIPT, changed)?;
     match export(alloc, disk, recording, span) {
         Ok(_) => Ok(0),
-        Err(Stopped::Refused(refusal)) => Ok(refusal.number()),
-        Err(Stopped::Cut(_)) => Err(Fail::new("the export was cut")),
+        Err(Stop::Refused(refusal)) => Ok(refusal.number()),
+        Err(Stop::Cut(_)) => Err(Fail::new("the export was cut")),
     }
 }
 

@@ -7,9 +7,7 @@ use disk_core::{Disk, FileId, MemoryDisk};
 use std::alloc::Global;
 use std::io::Write;
 use std::test::*;
-use tool_core::{
-    CommandFault, EarlyEnd, HistoryUse, Observer, Stopped, Unobserved, compact_archive,
-};
+use tool_core::{CommandFault, EarlyEnd, HistoryUse, Observer, Stop, Unobserved, compact_archive};
 
 // Bank B behind a full history that was compacted, and a truncation: the header of epoch 2, the next id 1, the recording
 // that stopped at 128, and that it was truncated to 64.
@@ -185,7 +183,7 @@ fn a_compaction_that_stops(rt: HostRuntime) -> Result<(), Fail> {
 }
 
 /// The disk behind the command, or why that ended early.
-fn compact<W: Write>(alloc: Global, disk: MemoryDisk, out: &mut W) -> Result<MemoryDisk, Stopped> {
+fn compact<W: Write>(alloc: Global, disk: MemoryDisk, out: &mut W) -> Result<MemoryDisk, Stop> {
     match compact_archive(alloc, disk, out, &mut Unobserved) {
         Ok(disk) => Ok(disk),
         Err(CommandFault { why, disk: _ }) => Err(why),
@@ -222,16 +220,16 @@ fn the_command_compacts(rt: HostRuntime) -> Result<(), Fail> {
 }
 
 /// Why the command ended early over a disk and a writer that takes nothing.
-fn ended(alloc: Global, disk: MemoryDisk) -> Option<Stopped> {
+fn ended(alloc: Global, disk: MemoryDisk) -> Option<Stop> {
     compact(alloc, disk, &mut FullWriter { room: 0 }).err()
 }
 
 #[test]
 fn the_command_ends_early(rt: HostRuntime) -> Result<(), Fail> {
     let disk = recorded(rt.alloc(), MemoryDisk::new(rt.alloc()))?;
-    assert!(rt; ended(rt.alloc(), disk) == Some(Stopped::Cut(EarlyEnd::Write)));
+    assert!(rt; ended(rt.alloc(), disk) == Some(Stop::Cut(EarlyEnd::Write)));
     let disk = without_spare(rt.alloc())?;
-    assert!(rt; matches!(ended(rt.alloc(), disk), Some(Stopped::Refused(_))));
+    assert!(rt; matches!(ended(rt.alloc(), disk), Some(Stop::Refused(_))));
     Ok(())
 }
 

@@ -110,7 +110,7 @@ pub fn behind<R: Read + Drop, W: Write, O: Observer>(
 ) -> Result<MemoryDisk, EarlyEnd> {
     match run_script(alloc, reader, writer, disk, observer) {
         Ok(disk) => Ok(disk),
-        Err(fault) => Err(fault.end()),
+        Err(fault) => Err(fault.into_parts().0),
     }
 }
 

@@ -8,13 +8,13 @@ use Rattle.folder_commands.proofs.capture.export.Goals as goal
 
 pub returns-in-Err : goal.returns-in-Err
 returns-in-Err g c =
-    export_unmade g.given c.args.recording.now c.args.span.now (g.W.Write.contents c.args.writer.now) (closed_life c.close.result) c.in-Err.ended.ending (c.close.ensures ∙ c.in_ok-disk.ensures.begun) c.in-Err.ensures
+    export_unmade g.given c.args.recording.now c.args.span.now (g.W.Write.contents c.args.writer.now) (closed_life c.close.result) c.in-Err.exit.ending (c.close.ensures ∙ c.in_ok-disk.ensures.begun) c.in-Err.ensures
 
 pub returns-in_err-left : goal.returns-in_err-left
 returns-in_err-left g c =
     let begins = looks_watched g.given c.in_ok-disk.disk c.new-disk.result c.in_ok-disk.ensures.begun c.new-disk.ensures in
     let is : c.from_residual-in_err-left.result ≡ Err c.in_err-left.field-0.0 = search rules in
-    rw is (export_fails g.given c.args.recording.now c.args.span.now (g.W.Write.contents c.args.writer.now) _ (left_life c.in_err-left.field-0.0.left) c.in_err-left.field-0.0.ended.ending begins c.in_err-left.ensures.failed)
+    rw is (export_fails g.given c.args.recording.now c.args.span.now (g.W.Write.contents c.args.writer.now) _ (left_life c.in_err-left.field-0.0.left) c.in_err-left.field-0.0.exit.ending begins c.in_err-left.ensures.failed)
 
 pub returns : goal.returns
 returns g c =

@@ -1,7 +1,4 @@
 use Rattle.folder_commands.proofs.commands.compact.Given as goal
 
-abbrev pub ghost-disk_of : goal.ghost-disk_of
-ghost-disk_of g a = g.given
-
-abbrev pub ghost-warns_of_hidden : goal.ghost-warns_of_hidden
-ghost-warns_of_hidden g a = g.given
+abbrev pub ghost-watched_disk : goal.ghost-watched_disk
+ghost-watched_disk g a = g.given

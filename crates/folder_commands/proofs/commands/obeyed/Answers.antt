@@ -12,9 +12,9 @@ returns g c =
     let gained = g.W.Write.contents c.obey.new.writer in
     let outcome = c.of-left.result in
     record {
-      ended = outcome.ended.ending;
+      ended = outcome.exit.ending;
       gained = gained;
-      obeyed = subst (λ (l : Option Life). Obeys g.given input contents gained c.args.command.now l outcome.ended.ending) (sym c.of-left.ensures.left)
+      obeyed = subst (λ (l : Option Life). Obeys g.given input contents gained c.args.command.now l outcome.exit.ending) (sym c.of-left.ensures.left)
           (subst (Obeys g.given input contents gained c.args.command.now (leaves c.obey.result)) (sym c.of-left.ensures.ending) c.obey.ensures);
       kept = c.flush.ensures.bytes;
       is_flushed = c.is_ok.result;

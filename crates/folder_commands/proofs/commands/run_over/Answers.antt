@@ -1,8 +1,7 @@
 -- What was answered of the disk.
-use Rattle.std.proofs.Common.{ap, subst, sym, ◌∙◌}
+use Rattle.std.proofs.Common.{subst, sym}
 use Rattle.tool_core.specs.Archives.{disk_of}
 use Rattle.folder_commands.specs.declared.status.Ending.{Ending}
-use Rattle.folder_commands.specs.declared.status.Ending.TheVariants.{Cut}
 use Rattle.folder_commands.specs.Folders.{RunsOver}
 use Rattle.folder_commands.proofs.commands.run_over.Goals as goal
 

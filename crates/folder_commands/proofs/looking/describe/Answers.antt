@@ -13,4 +13,4 @@ returns-in-Err g c =
     let begins = looks_watched g.given c.in_ok-folder_of.field-0 c.new-disk.result c.in_ok-folder_of.ensures.begun c.new-disk.ensures in
     let contents = g.W.Write.contents c.args.writer.now in
     let written = g.W.Write.contents c.describe_archive.new.writer in
-    describe_stopped g.given contents written (left_life c.stopped.result.left) _ c.stopped.ensures.left _ begins c.in-Err.fault.why c.stopped.result.ended.ending c.stopped.ensures.ending c.in-Err.ensures.fault
+    describe_stopped g.given contents written (left_life c.stopped.result.left) _ c.stopped.ensures.left _ begins c.in-Err.fault.why c.stopped.result.exit.ending c.stopped.ensures.ending c.in-Err.ensures.fault

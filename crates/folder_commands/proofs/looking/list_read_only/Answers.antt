@@ -14,5 +14,5 @@ returns-in-Err g c =
     let begins = looks_watched g.given c.in_ok-folder_of.field-0 c.new-disk.result c.in_ok-folder_of.ensures.begun c.new-disk.ensures in
     let contents = g.W.Write.contents c.args.writer.now in
     let written = g.W.Write.contents c.list_view.new.writer in
-    look_unlisted g.given contents written (left_life c.stopped.result.left) _ c.stopped.ensures.left _ begins c.in-Err.fault.why c.stopped.result.ended.ending c.stopped.ensures.ending
+    look_unlisted g.given contents written (left_life c.stopped.result.left) _ c.stopped.ensures.left _ begins c.in-Err.fault.why c.stopped.result.exit.ending c.stopped.ensures.ending
     (view_unlisted inside _ contents written c.in-Err.fault.disk c.in-Err.fault.why c.in-Err.ensures.fault)

@@ -10,22 +10,22 @@ use Rattle.folder_commands.proofs.serving.serve.Goals as goal
 
 pub returns-in_err-ports : goal.returns-in_err-ports
 returns-in_err-ports g c =
-    let ended = c.in_err-ports.field-0.0 in
-    let is : c.from_residual-in_err-ports.result ≡ Err (record { ended = ended; left = None }) = search rules in
-    rw is (not_bound g.given c.args.words.now _ _ c.in_ok-options.ensures ended.ending c.in_err-ports.ensures)
+    let exit = c.in_err-ports.field-0.0 in
+    let is : c.from_residual-in_err-ports.result ≡ Err (record { exit = exit; left = None }) = search rules in
+    rw is (not_bound g.given c.args.words.now _ _ c.in_ok-options.ensures exit.ending c.in_err-ports.ensures)
 
 pub returns-in_err-disk : goal.returns-in_err-disk
 returns-in_err-disk g c =
-    let ended = c.in_err-disk.field-0.0 in
-    let is : c.from_residual-in_err-disk.result ≡ Err (record { ended = ended; left = None }) = search rules in
-    rw is (not_opened g.given c.args.words.now _ _ c.in_ok-options.ensures c.in_ok-ports.ensures ended.ending c.in_err-disk.ensures.unopened)
+    let exit = c.in_err-disk.field-0.0 in
+    let is : c.from_residual-in_err-disk.result ≡ Err (record { exit = exit; left = None }) = search rules in
+    rw is (not_opened g.given c.args.words.now _ _ c.in_ok-options.ensures c.in_ok-ports.ensures exit.ending c.in_err-disk.ensures.unopened)
 
 pub returns-then-words : goal.returns-then-words
 returns-then-words g c =
     let warned : IsTrue c.warns_of_hidden.result = search rules in
     let strict : IsTrue c.args.words.now.is_strict = search rules in
     let new = closed_life c.close.result in
-    subst (ServesFolder g.given c.args.words.now (Some new)) (sym c.hidden.ensures)
+    subst (ServesFolder g.given c.args.words.now (Some new)) (sym c.told.ensures)
     (not_looked g.given c.args.words.now _ _ c.in_ok-options.ensures c.in_ok-ports.ensures new (c.close.ensures ∙ c.in_ok-disk.ensures.begun) strict (c.warns_of_hidden.ensures warned))
 
 pub returns : goal.returns

@@ -1,4 +1,4 @@
-use Rattle.folder_commands.proofs.commands.verify_opened.Given as goal
+use Rattle.folder_commands.proofs.commands.watched_disk.Given as goal
 
 abbrev pub ghost-disk_of : goal.ghost-disk_of
 ghost-disk_of g a = g.given

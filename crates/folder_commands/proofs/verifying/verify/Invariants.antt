@@ -1,4 +1,4 @@
-use Rattle.folder_commands.proofs.commands.verify.Given as goal
+use Rattle.folder_commands.proofs.verifying.verify.Given as goal
 
 abbrev pub ghost-verify_read_only : goal.ghost-verify_read_only
 ghost-verify_read_only g a = g.given

@@ -1,18 +1,15 @@
-//! Why a command could not do what it was asked for, in a line behind its refusal's. docs/CONTROL.md, "Standard error".
+//! Why a command could not do what it was asked for, where its ending does not say that. docs/CONTROL.md, "Standard error".
 
 use disk_core::FileId;
-use host_disk::{FailedCall, LastFault, OpenFault};
-use serve_core::Stop;
+use host_disk::{FailedCall, LastFault};
 use std::fmt;
 use std::io::{self, Cursor, ErrorKind, Write};
 
 /// Why a command ended as it did.
 #[derive(Clone, Copy, Drop)]
-pub enum Reason {
-    /// What was told says so.
+pub enum Why {
+    /// Nothing more is known than what was told.
     Told,
-    /// Its folder was not opened.
-    Folder(OpenFault),
     /// Its folder was not made.
     NewFolder(io::Error),
     /// Where an archive was to be made the folder has files of one.
@@ -65,88 +62,74 @@ pub enum Reason {
     SegmentLength,
     /// The listener of control lines or the socket of datagrams failed.
     Ends,
-    /// A strict server could record nothing.
-    Stuck(Stop),
-    /// A strict server opens no archive whose catalogue may hide entries.
-    Hidden,
     /// Standard input could not be read on.
     Input,
     /// Standard output took no more; what the system told of it, if it told anything.
     Output(Option<io::Error>),
 }
 
-impl fmt::Display for Reason {
+impl fmt::Display for Why {
     fn fmt<W: fmt::Write>(&self, f: &mut fmt::Formatter<W>) -> fmt::Result {
         match self {
-            Reason::Told => Ok(()),
-            Reason::Folder(fault) => write!(f, "{fault}"),
-            Reason::NewFolder(error) => write!(
-                f,
-                "the folder cannot be made: {}",
-                SystemText(*error)
-            ),
-            Reason::HasFiles => write!(f, "the folder has an archive, or files of one"),
-            Reason::History(entries) => {
+            Why::Told => Ok(()),
+            Why::NewFolder(error) => write!(f, "the folder cannot be made: {}", SystemText(*error)),
+            Why::HasFiles => write!(f, "the folder has an archive, or files of one"),
+            Why::History(entries) => {
                 write!(f, "a history has 1 to 16777216 entries, and not {entries}")
             }
-            Reason::NoSpare => write!(
+            Why::NoSpare => write!(
                 f,
                 "there is no catalogue, or no other bank that a compaction may write"
             ),
-            Reason::Call(fault) => write!(f, "{}", FaultLine(*fault)),
-            Reason::File(error) => write!(f, "the file cannot be opened: {}", SystemText(*error)),
-            Reason::FileRead => write!(f, "the file cannot be read on"),
-            Reason::Capture(Some(error)) => {
+            Why::Call(fault) => write!(f, "{}", FaultLine(*fault)),
+            Why::File(error) => write!(f, "the file cannot be opened: {}", SystemText(*error)),
+            Why::FileRead => write!(f, "the file cannot be read on"),
+            Why::Capture(Some(error)) => {
                 write!(
                     f,
                     "the capture file cannot be written: {}",
                     SystemText(*error)
                 )
             }
-            Reason::Capture(None) => write!(f, "the capture file cannot be written"),
-            Reason::CaptureInside => write!(
-                f,
-                "the capture file would lie in the archive's folder"
-            ),
-            Reason::Moving => write!(
+            Why::Capture(None) => write!(f, "the capture file cannot be written"),
+            Why::CaptureInside => write!(f, "the capture file would lie in the archive's folder"),
+            Why::Moving => write!(
                 f,
                 "the archive is being written: what is told to be damaged may be whole, so look again"
             ),
-            Reason::Port(port, error) => {
+            Why::Port(port, error) => {
                 write!(f, "the port {port} cannot be bound: {}", SystemText(*error))
             }
-            Reason::Address => write!(f, "--receive-on wants an IPv4 address"),
-            Reason::Multicast => write!(
+            Why::Address => write!(f, "--receive-on wants an IPv4 address"),
+            Why::Multicast => write!(
                 f,
                 "--receive-on wants an address of this machine, not a multicast address"
             ),
-            Reason::Window => write!(f, "--window wants a multiple of 32"),
-            Reason::NeedsAeron => write!(f, "--window needs --aeron"),
-            Reason::Lines => write!(
+            Why::Window => write!(f, "--window wants a multiple of 32"),
+            Why::NeedsAeron => write!(f, "--window needs --aeron"),
+            Why::Lines => write!(
                 f,
                 "lines have no line feed, and with their ends at most 65536 bytes"
             ),
-            Reason::Until => write!(f, "--until wants a line without a line feed"),
-            Reason::Unreachable(port, error) => {
+            Why::Until => write!(f, "--until wants a line without a line feed"),
+            Why::Unreachable(port, error) => {
                 write!(f, "no server on port {port}: {}", SystemText(*error))
             }
-            Reason::Lost(error) => write!(f, "the connection failed: {}", SystemText(*error)),
-            Reason::Silent(seconds) => write!(f, "nothing came for {seconds} seconds"),
-            Reason::Unanswered(answered, lines) => {
+            Why::Lost(error) => write!(f, "the connection failed: {}", SystemText(*error)),
+            Why::Silent(seconds) => write!(f, "nothing came for {seconds} seconds"),
+            Why::Unanswered(answered, lines) => {
                 write!(f, "the server answered {answered} of {lines} lines")
             }
-            Reason::RecordNeedsAeron => write!(f, "--record needs --aeron"),
-            Reason::Streams => write!(f, "--record may be given at most 64 times"),
-            Reason::NeedsRecord => write!(f, "--segment-length needs --record"),
-            Reason::SegmentLength => write!(f, "--segment-length wants a power of two"),
-            Reason::Ends => write!(f, "a port failed"),
-            Reason::Stuck(stop) => write!(f, "nothing can be recorded: {stop}"),
-            Reason::Hidden => write!(f, "the archive is not opened, since entries may be hidden"),
-            Reason::Input => write!(f, "standard input cannot be read on"),
-            Reason::Output(Some(error)) if !is_closed(error) => {
+            Why::RecordNeedsAeron => write!(f, "--record needs --aeron"),
+            Why::Streams => write!(f, "--record may be given at most 64 times"),
+            Why::NeedsRecord => write!(f, "--segment-length needs --record"),
+            Why::SegmentLength => write!(f, "--segment-length wants a power of two"),
+            Why::Ends => write!(f, "a port failed"),
+            Why::Input => write!(f, "standard input cannot be read on"),
+            Why::Output(Some(error)) if !is_closed(error) => {
                 write!(f, "standard output: {}", SystemText(*error))
             }
-            Reason::Output(_) => write!(f, "standard output was closed"),
+            Why::Output(_) => write!(f, "standard output was closed"),
         }
     }
 }

@@ -1,0 +1,163 @@
+//! The command `verify`, over a folder that is opened or only read. docs/CONTROL.md, "The program" and "Looking without a change".
+
+ghost use Rattle.std.specs.Prelude.{◌≡◌, Some, true, false};
+ghost use Rattle.disk_core.specs.Life.{IsQuiet};
+ghost use Rattle.host_disk.specs.Events.{Given};
+ghost use Rattle.folder_commands.specs.Folders.{VerifiesFolder, ending_by, ending_in};
+ghost use Rattle.folder_commands.specs.Left.{ends_with, leaves};
+ghost use Rattle.folder_commands.specs.Looking.{VerifiesAsItStands};
+
+use crate::commands::{disk_of, opening_of};
+use crate::exit::Exit;
+use crate::hidden::warns_of_hidden;
+use crate::looking::folder_of;
+use crate::open_folder::{OpenFolder, closed, stopped};
+use crate::outcome::{Left, Outcome};
+use crate::status::Ending;
+use crate::teller::{FaultTeller, VerifyTeller};
+use crate::why::Why;
+use archive_report::{Finding, verify_view};
+use disk_core::Disk;
+use std::io::{IsTerminal, Write};
+use std::path::Path;
+use tool_core::{
+    ListedFiles, OpeningProgress, Progress, Screen, Stage, Verdict, Watched, verify_archive,
+};
+
+/// Tells the calls that fail, and shows how far an opening and a verification have come.
+type VerifyViewer<'a> = (
+    FaultTeller<'a, HostRuntime>,
+    (
+        Option<OpeningProgress<'a, HostRuntime>>,
+        Option<Progress<'a, HostRuntime, ListedFiles>>,
+    ),
+);
+
+/// Reads each recorded frame of the archive in a folder, which is opened, or only looked at, and writes what was found of each
+/// recording. How far it has come is shown on standard error, where that is a terminal, and what it found in all is told there.
+pub(crate) fn verify<W: Write>(
+    rt: HostRuntime,
+    folder: Path<'_>,
+    read_only: bool,
+    writer: &mut W,
+) -> Result<Left, Outcome>
+    ghost given: { Given }
+    ensures opened { read_only ≡ false →
+        VerifiesFolder given (W.contents writer.old) (W.contents writer.new) (leaves result) (ends_with result) }
+    ensures seen { read_only ≡ true →
+        VerifiesAsItStands given (W.contents writer.old) (W.contents writer.new) (leaves result) (ends_with result) }
+{
+    if read_only {
+        verify_read_only(rt, folder, writer)
+    } else {
+        verify_opened(rt, folder, writer)
+    }
+}
+
+/// Verifies the archive in a folder, which is opened. Before that it is told if its catalogue may hide entries.
+fn verify_opened<W: Write>(
+    rt: HostRuntime,
+    folder: Path<'_>,
+    writer: &mut W,
+) -> Result<Left, Outcome>
+    ghost given: { Given }
+    ensures { VerifiesFolder given (W.contents writer.old) (W.contents writer.new) (leaves result) (ends_with result) }
+{
+    let screen = Screen::new(&rt);
+    let disk = disk_of(rt, folder)?;
+    let _ = warns_of_hidden(rt, folder, &screen);
+    let disk = watched(&rt, &screen, disk);
+    let mut teller = VerifyTeller::new(&screen);
+    match verify_archive(rt.alloc(), disk, writer, &mut teller) {
+        Ok((disk, verdict)) => {
+            // Nobody else writes it meanwhile.
+            let is_moving = false;
+            found(disk, Finding { verdict, is_moving }, teller)
+        }
+        Err(fault) => {
+            screen.clear();
+            Err(stopped(fault))
+        }
+    }
+}
+
+/// Verifies the archive in a folder as it stands. It is told if the archive is being written.
+fn verify_read_only<W: Write>(
+    rt: HostRuntime,
+    folder: Path<'_>,
+    writer: &mut W,
+) -> Result<Left, Outcome>
+    ghost given: { Given }
+    ensures { VerifiesAsItStands given (W.contents writer.old) (W.contents writer.new) (leaves result) (ends_with result) }
+{
+    let screen = Screen::new(&rt);
+    let folder = watched(&rt, &screen, folder_of(rt, folder)?);
+    let mut teller = VerifyTeller::new(&screen);
+    match verify_view(rt.alloc(), folder, writer, &mut teller) {
+        Ok((folder, finding)) => found(folder, finding, teller),
+        Err(fault) => {
+            screen.clear();
+            Err(stopped(fault))
+        }
+    }
+}
+
+/// A folder that is watched while it is verified. Its files are listed before, where standard error is a terminal.
+fn watched<'a, F: OpenFolder>(
+    rt: &'a HostRuntime,
+    screen: &'a Screen<'a, HostRuntime>,
+    folder: F,
+) -> Watched<F, VerifyViewer<'a>>
+    ensures { IsQuiet (F.life folder) (F.life result.disk) }
+{
+    let mut folder = folder;
+    let progress = progress_of(rt, screen, &mut folder);
+    let faults = FaultTeller::new(rt.alloc(), screen, Stage::Working);
+    Watched::new(folder, (faults, (opening_of(rt, screen), progress)))
+}
+
+/// How the verification of a watched folder ends that found this. The folder is closed.
+fn found<F: OpenFolder, V: Drop>(
+    folder: Watched<F, V>,
+    finding: Finding,
+    teller: VerifyTeller<'_, HostRuntime>,
+) -> Result<Left, Outcome>
+    ensures ending { ends_with result ≡ ending_by finding.verdict }
+    ensures left { leaves result ≡ Some (F.life folder.disk) }
+{
+    teller.finish();
+    Outcome::leaving(judged(finding), closed(folder))
+}
+
+/// How a command ends that found this.
+fn judged(finding: Finding) -> Result<(), Exit>
+    ensures { ending_in result ≡ ending_by finding.verdict }
+{
+    match finding.verdict {
+        Verdict::Whole => Ok(()),
+        Verdict::Refused => Err(Exit {
+            ending: Ending::FoundDamage,
+            why: if finding.is_moving {
+                Why::Moving
+            } else {
+                Why::Told
+            },
+        }),
+    }
+}
+
+/// What shows how far a verification of a disk has come, where standard error is a terminal.
+fn progress_of<'a, D: Disk>(
+    rt: &'a HostRuntime,
+    screen: &'a Screen<'a, HostRuntime>,
+    disk: &mut D,
+) -> Option<Progress<'a, HostRuntime, ListedFiles>>
+    ensures { IsQuiet (D.life disk.old) (D.life disk.new) }
+{
+    if rt.stderr().is_terminal() {
+        let files = ListedFiles::of(rt.alloc(), disk)?;
+        Some(Progress::new(rt, screen, files))
+    } else {
+        None
+    }
+}
