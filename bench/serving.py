@@ -4,9 +4,10 @@
 Usage: bench/serving.py [--frames N] [--runs N] [program], on the file system of TRIAL_ROOM, else that of TMPDIR. First:
 cd crates/lock_trials && rt run -- memory 1 1
 
-Three kinds of run come in turn:
+Four kinds of run come in turn:
 - a sender with flow control (sender.rs --flow-control) to `serve --aeron`, with the system's default receive buffer;
 - a sender that is at most 768 KiB ahead of what `positions` shows (sender.rs), to `serve` with a receive buffer of 8 MiB;
+- the same beside a late consumer: a client that replays the recording from its beginning, again and again, 4,096 frames a poll;
 - what one thread settles there by the library, in batches of 16 blocks of 46 frames.
 A sender sends again what is asked for, and is done when every byte is recorded. Only root may enlarge the buffer (docs/SERVING.md):
 while a server starts, `net.core.rmem_default` of the machine is 8 MiB. If it can't be set, the first two kinds are not compared.
@@ -16,6 +17,7 @@ import os
 import statistics
 import subprocess
 import sys
+import threading
 import time
 from collections.abc import Iterator
 from contextlib import contextmanager
@@ -32,18 +34,21 @@ LIBRARY = ROOT / "crates/lock_trials/out/lock_trials"
 FRAME = 1_408
 BLOCK = 46 * FRAME
 BATCH = 16
-LEAST, GOAL = 0.5, 0.8
+LEAST, GOAL, BESIDE_POLLS = 0.5, 0.8, 0.9
+POLL = b"poll %d 4096\n"
 BUFFER, LARGE_BUFFER = Path("/proc/sys/net/core/rmem_default"), 8_388_608
 
 
 @dataclass(frozen=True)
 class Kind:
-    """A sender and its server: their options, and how large the server's receive buffer is, if it isn't the system's default."""
+    """A sender and its server: their options, how large the server's receive buffer is, if it isn't the system's default, and whether
+    a client polls meanwhile."""
 
     name: str
     sender: tuple[str, ...]
     server: tuple[str, ...]
     buffer: int | None
+    is_polled: bool = False
 
 
 @dataclass(frozen=True)
@@ -80,6 +85,62 @@ def started(tool: Path, folder: Path, kind: Kind) -> Server:
     return server
 
 
+class LateConsumer(threading.Thread):
+    """A client that replays a server's first recording from its beginning, and begins again where it comes to what is recorded."""
+
+    def __init__(self, server: Server) -> None:
+        super().__init__()
+        self.client, self.is_over, self.bytes = server.client(), False, 0
+
+    def run(self) -> None:
+        try:
+            while not self.is_over:
+                self.replay()
+        except OSError:
+            pass  # the server has ended
+        finally:
+            self.client.close()
+
+    def replay(self) -> None:
+        words = next(self.client.ask("replay 0 0 -1"), "").split()
+        if words[:1] != ["replay"]:
+            time.sleep(0.02)  # nothing is recorded yet
+            return
+        replay, last = int(words[1]), b""
+        while not self.is_over:
+            reply = self.poll(replay)
+            if reply == last or not reply.startswith(b"more "):
+                break
+            last = reply
+        list(self.client.ask(f"close {replay}"))
+
+    def poll(self, replay: int) -> bytes:
+        """The last line of a poll's reply."""
+        self.client.socket.sendall(POLL % replay)
+        held = b""
+        while not held.endswith(b"\n") or held.rstrip(b"\n").rpartition(b"\n")[2].startswith(b"frame "):
+            came = self.client.socket.recv(1_048_576)
+            if not came:
+                raise ConnectionError
+            self.bytes += len(came)
+            held = (held + came)[-4_096:]
+        return held.rstrip(b"\n").rpartition(b"\n")[2]
+
+
+@contextmanager
+def polled(server: Server, is_polled: bool) -> Iterator[LateConsumer | None]:
+    """Has a late consumer poll meanwhile, if one shall."""
+    consumer = LateConsumer(server) if is_polled else None
+    if consumer:
+        consumer.start()
+    try:
+        yield consumer
+    finally:
+        if consumer:
+            consumer.is_over = True
+            consumer.join()
+
+
 def processor_seconds(pid: int) -> float:
     words = Path(f"/proc/{pid}/stat").read_text().rpartition(")")[2].split()
     return (int(words[11]) + int(words[12])) / os.sysconf("SC_CLK_TCK")
@@ -92,12 +153,13 @@ def served(tool: Path, sender: Path, folder: Path, frames: int, kind: Kind) -> F
     words = [sender, str(server.control), str(server.receive), str(frames), str(FRAME), *kind.sender]
     process = subprocess.Popen(words, stdout=subprocess.PIPE, text=True)
     lost, spent = 0, began
-    while process.poll() is None:
-        try:
-            lost, spent = max(lost, server.dropped()), processor_seconds(server.process.pid)
-        except OSError:
-            pass
-        time.sleep(0.02)
+    with polled(server, kind.is_polled) as consumer:
+        while process.poll() is None:
+            try:
+                lost, spent = max(lost, server.dropped()), processor_seconds(server.process.pid)
+            except OSError:
+                pass
+            time.sleep(0.02)
     numbers = process.stdout.read().split()
     if process.returncode or len(numbers) != 5:
         raise Fault(f"the sender ended with status {process.returncode}: {numbers}; {server.errors()}")
@@ -106,9 +168,12 @@ def served(tool: Path, sender: Path, folder: Path, frames: int, kind: Kind) -> F
     entries = settles(folder)
     expect("what is recorded", stop_positions(tool, folder), [position])
     counts = server.counts()
-    rest = (f"dropped by the system {lost}, NAKs {naks}, sent again {repeats}, status messages {status_messages}; the server counted "
-            + ", ".join(f"{name} {count}" for name, count in counts.items()))
     seconds = microseconds / 1e6
+    if consumer:
+        expect("whether the late consumer was given frames", consumer.bytes > 0, True)
+    read = f"{consumer.bytes / seconds / 1e6:,.0f} MB a second of replies read, " if consumer else ""
+    rest = (f"{read}dropped by the system {lost}, NAKs {naks}, sent again {repeats}, status messages {status_messages}; the server counted "
+            + ", ".join(f"{name} {count}" for name, count in counts.items()))
     return Found(frames / seconds, entries / seconds, (spent - began) / counts["datagrams"] * 1e6, rest)
 
 
@@ -122,11 +187,12 @@ def library(folder: Path, frames: int) -> float:
 
 
 def kinds() -> list[Kind]:
-    """The kinds of run with a server: with flow control, and with a sender that paces itself."""
+    """The kinds of run with a server: with flow control, and with a sender that paces itself, alone and beside a late consumer."""
     large = LARGE_BUFFER if os.access(BUFFER, os.W_OK) else None
     print(f"the system's default receive buffer has {BUFFER.read_text().strip()} bytes"
           + ("" if large else "; it can't be enlarged here"), flush=True)
-    return [Kind("with flow control", ("--flow-control",), ("--aeron",), None), Kind("paced by `positions`", (), (), large)]
+    return [Kind("with flow control", ("--flow-control",), ("--aeron",), None), Kind("paced by `positions`", (), (), large),
+            Kind("paced, beside polls", (), (), large, is_polled=True)]
 
 
 def medians(found: list[Found]) -> Found:
@@ -136,14 +202,16 @@ def medians(found: list[Found]) -> Found:
 
 def conclusion(served_by: dict[Kind, list[Found]], theirs: list[float]) -> int:
     """Prints medians and ratios; the status."""
-    (flow, paced), by_library = map(medians, served_by.values()), statistics.median(theirs)
-    for kind, found in zip(served_by, (flow, paced), strict=True):
+    found_by, by_library = [medians(found) for found in served_by.values()], statistics.median(theirs)
+    for kind, found in zip(served_by, found_by, strict=True):
         print(f"medians {kind.name}: {found.rate:,.0f} frames and {found.entries:,.0f} entries a second, {found.processor:.2f} "
               "microseconds of a processor for each datagram")
-    to_paced, to_library = flow.rate / paced.rate, paced.rate / by_library
+    flow, paced, beside_polls = found_by
+    to_paced, to_library, to_unpolled = flow.rate / paced.rate, paced.rate / by_library, beside_polls.rate / paced.rate
     is_compared = all(kind.buffer or kind.server for kind in served_by)
     print(f"with flow control {to_paced:.2f} of the paced sender" + (f" (goal {GOAL})" if is_compared else ", of the same buffer: no goal")
-          + f"; paced {to_library:.2f} of the library's {by_library:,.0f} frames a second (goal {GOAL}, at least {LEAST})", flush=True)
+          + f"; paced {to_library:.2f} of the library's {by_library:,.0f} frames a second (goal {GOAL}, at least {LEAST}); beside polls {to_unpolled:.2f} of paced "
+          f"(goal {BESIDE_POLLS})", flush=True)
     return 0 if to_library >= LEAST and (to_paced >= GOAL or not is_compared) else 1
 
 
