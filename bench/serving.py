@@ -192,7 +192,7 @@ def kinds() -> list[Kind]:
     print(f"the system's default receive buffer has {BUFFER.read_text().strip()} bytes"
           + ("" if large else "; it can't be enlarged here"), flush=True)
     return [Kind("with flow control", ("--flow-control",), ("--aeron",), None), Kind("paced by `positions`", (), (), large),
-            Kind("paced, beside polls", (), (), large, is_polled=True)]
+            Kind("paced, beside polls", (), ("--clients", "2"), large, is_polled=True)]
 
 
 def medians(found: list[Found]) -> Found:
@@ -208,7 +208,7 @@ def conclusion(served_by: dict[Kind, list[Found]], theirs: list[float]) -> int:
               "microseconds of a processor for each datagram")
     flow, paced, beside_polls = found_by
     to_paced, to_library, to_unpolled = flow.rate / paced.rate, paced.rate / by_library, beside_polls.rate / paced.rate
-    is_compared = all(kind.buffer or kind.server for kind in served_by)
+    is_compared = all(kind.buffer or "--aeron" in kind.server for kind in served_by)
     print(f"with flow control {to_paced:.2f} of the paced sender" + (f" (goal {GOAL})" if is_compared else ", of the same buffer: no goal")
           + f"; paced {to_library:.2f} of the library's {by_library:,.0f} frames a second (goal {GOAL}, at least {LEAST}); beside polls {to_unpolled:.2f} of paced "
           f"(goal {BESIDE_POLLS})", flush=True)
