@@ -245,3 +245,18 @@ module _ {K : Type 0} (takes : K → List PolledFrame → Bool → K → Type 0)
         number = number;
         reader = reader;
       }
+
+-- ---- one turn
+
+-- a poll that was answered is one call of the pass
+pub one_polled : {D : Type 0} (life : D → Life) (opening : EngineState) (p q : PassView Made) (event : Event) (outcome : Result Reply Refusal) → EndsWithAnswer life opening p event outcome q → (call : Made) × (q.own ≡ p.own ++ call ∷ [])
+one_polled life opening p q event outcome ends = (ends.call, ends.extends.gains.own)
+
+-- one that was refused too, unless there was no memory for it
+pub one_refused : {D : Type 0} (life : D → Life) (opening : EngineState) (p q : PassView Made) (event : Event) (refusal : Refusal) → (IsNoted (Err refusal) → EndsWithAnswer life opening p event (Err refusal) q) → (refusal ≡ NoMemory → q ≡ p)
+    → ((call : Made) × (q.own ≡ p.own ++ call ∷ [])) ⊎ ((q.own ≡ p.own) × (Some refusal ≡ Some NoMemory))
+one_refused life opening p q event refusal answers unnoted = by (refused_how life opening p q event refusal answers unnoted)
+  where
+    by : IsNotedCall p event (Err refusal) q ⊎ ((refusal ≡ NoMemory) × (q ≡ p)) → ((call : Made) × (q.own ≡ p.own ++ call ∷ [])) ⊎ ((q.own ≡ p.own) × (Some refusal ≡ Some NoMemory))
+    by (inl noted) = inl (noted.call, noted.own)
+    by (inr none) = inr (ap (λ (v : PassView Made). v.own) none.1, ap Some none.0)

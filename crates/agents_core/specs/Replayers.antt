@@ -59,6 +59,10 @@ pub record ReplayerRan {K : Type 0} (takes : K → List PolledFrame → Bool →
   pub number : new.pass.number ≡ old.pass.number
   pub reader : new.reader.table ≡ old.reader.table
 
+-- One turn made one poll; or none for want of memory, which is kept.
+abbrev pub MakesOnePoll : {K : Type 0} → Replayer K → Replayer K → Type 0
+MakesOnePoll old new = ((call : Made) × (new.pass.own ≡ old.pass.own ++ call ∷ [])) ⊎ ((new.pass.own ≡ old.pass.own) × (new.refused ≡ Some NoMemory))
+
 -- a replayer has ended
 pub record ReplayerEnded {K : Type 0} (takes : K → List PolledFrame → Bool → K → Type 0) (old new : Replayer K) : Type 0 where
   pub goes_on : Bool

@@ -4,7 +4,7 @@ ghost use Rattle.std.specs.Prelude.{◌≡◌, ◌<◌, ℤ, List, Option, is_no
 ghost use Rattle.frame_core.specs.declared.refusal.Refusal.{Refusal};
 ghost use Rattle.archive_model.specs.declared.reply.PolledFrame.{PolledFrame};
 ghost use Rattle.archive_model.specs.declared.reply.Reply.TheVariants.{Polled};
-ghost use Rattle.agents_core.specs.Replayers.{ReplayerEnded, ReplayerRan, frames_of_reply};
+ghost use Rattle.agents_core.specs.Replayers.{MakesOnePoll, ReplayerEnded, ReplayerRan, frames_of_reply};
 
 use crate::frame_sink::FrameSink;
 use crate::gate::{Gate, Signals};
@@ -52,7 +52,8 @@ impl<K: FrameSink> Replayer<K> {
         requires pass { self.old.pass.table ≡ A.table }
         requires reader { self.old.reader.table ≡ board.now }
         requires slot { self.old.slot < board.now.words }
-        ensures { (stop : Option Refusal) × ReplayerRan K.takes self.old self.new result stop }
+        ensures ran { (stop : Option Refusal) × ReplayerRan K.takes self.old self.new result stop }
+        ensures one { MakesOnePoll self.old self.new }
     {
         if self.looked.reserve(1).is_err() {
             self.refused = Some(Refusal::NoMemory);
