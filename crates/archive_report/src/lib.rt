@@ -5,6 +5,7 @@ mod dates;
 mod describe;
 mod document;
 mod export;
+mod form;
 mod list;
 mod page;
 mod progress;
@@ -13,8 +14,9 @@ mod verify;
 mod version;
 mod viewing;
 
-pub use describe::{Form, describe_archive};
+pub use describe::describe_archive;
 pub use export::export_view;
+pub use form::Form;
 pub use list::list_view;
 pub use progress::{ExportObserver, ExportTeller, Extent};
 pub use verify::{Finding, verify_view};

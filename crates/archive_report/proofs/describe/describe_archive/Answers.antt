@@ -1,22 +1,16 @@
-use Rattle.std.proofs.Common.{rules, ◌≡◌, subst, sym}
-use Rattle.archive_view.specs.ReadOnly.{IsOnlyRead, disk_of}
-use Rattle.archive_view.specs.Viewed.{read_of}
-use Rattle.archive_report.specs.Viewing.{inner}
-use Rattle.archive_report.proofs.ReportLemmas.{read_on}
+use Rattle.std.proofs.Common.{◌∙◌, ap}
+use Rattle.archive_view.specs.ReadOnly.{disk_of}
+use Rattle.archive_report.proofs.DescribedLemmas.{described_on, undescribed_on}
 use Rattle.archive_report.proofs.describe.describe_archive.Goals as goal
 
-pub returns-in-Ok-clause-read : goal.returns-in-Ok-clause-read
-returns-in-Ok-clause-read g c =
+pub returns-in-Ok-clause-described : goal.returns-in-Ok-clause-described
+returns-in-Ok-clause-described g c =
     let life = g.D.Disk.life in
-    let seen = c.in_ok-view.view in
-    let last = c.described-outcome.new.view in
-    let same : c.into_disk-disk.result ≡ disk_of (read_of last) = search rules in
-    subst (λ d. IsOnlyRead (life c.args.disk) (life d)) (sym same) (read_on (life c.args.disk) (inner life seen) (inner life last) c.in_ok-view.ensures.viewed.inside c.described-outcome.ensures.inside)
+    described_on life (life c.args.disk) (life c.into_disk-disk.result) c.in_ok-view.view c.described-outcome.new.view c.args.form _ _ c.in_ok-view.ensures.viewed c.described-outcome.ensures.look c.in-Ok.ensures.told
+    (ap life (c.into_disk-disk.ensures ∙ ap disk_of c.into_disk.ensures))
 
 pub returns-in-Err-clause-fault : goal.returns-in-Err-clause-fault
 returns-in-Err-clause-fault g c =
     let life = g.D.Disk.life in
-    let seen = c.in_ok-view.view in
-    let last = c.described-outcome.new.view in
-    let same : c.into_disk-disk.result ≡ disk_of (read_of last) = search rules in
-    subst (λ d. IsOnlyRead (life c.args.disk) (life d)) (sym same) (read_on (life c.args.disk) (inner life seen) (inner life last) c.in_ok-view.ensures.viewed.inside c.described-outcome.ensures.inside)
+    undescribed_on life (life c.args.disk) c.into_disk-disk.result c.in_ok-view.view c.described-outcome.new.view c.in-Err.why _ _ c.in_ok-view.ensures.viewed c.described-outcome.ensures.look c.in-Err.ensures.fault
+    (ap life (c.into_disk-disk.ensures ∙ ap disk_of c.into_disk.ensures))

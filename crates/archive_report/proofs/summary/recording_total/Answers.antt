@@ -1,0 +1,12 @@
+use Rattle.std.proofs.Common.{◌≡◌, ◌∙◌, sym, take}
+use Rattle.archive_report.specs.Files.{is_segment_of, total_of}
+use Rattle.archive_report.proofs.FilesLemmas.{none_yet, total_of-more}
+use Rattle.archive_report.proofs.summary.recording_total.Goals as goal
+
+pub loop-found-init : goal.loop-found-init
+loop-found-init c = none_yet (is_segment_of c.args.recording.now) c.default-total.result c.default-total.ensures.0 c.default-total.ensures.1
+
+pub loop-found-preserved : goal.loop-found-preserved
+loop-found-preserved c =
+    let so_far : c.loop-found.total ≡ total_of (is_segment_of c.args.recording.now) (take c.loop-found.found-index c.args.files.now) = c.loop-found.invariant in
+    c.with-total.ensures ∙ rw (c.is_segment_of.ensures, so_far) (sym (total_of-more (is_segment_of c.args.recording.now) c.args.files.now c.loop-found.found-index _ c.loop-found-test.true))
