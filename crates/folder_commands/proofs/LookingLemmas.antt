@@ -1,5 +1,5 @@
 -- How a command that only looks at a folder ends, by what it was answered of the watched folder.
-use Rattle.std.proofs.Common.{◌≡◌, ℕ, List, Option, Some, ap, subst, ◌∙◌}
+use Rattle.std.proofs.Common.{◌≡◌, ℕ, Bool, List, Option, Some, ap, subst, ◌∙◌}
 use Rattle.disk_core.specs.Life.{IsQuiet, Life}
 use Rattle.host_disk.specs.Events.{Given}
 use Rattle.host_disk.specs.declared.read_folder.ReadFolder.{ReadFolder}
@@ -9,13 +9,14 @@ use Rattle.tool_core.specs.declared.commands.Stop.{Stop}
 use Rattle.tool_core.specs.declared.reports.Verdict.{Verdict}
 use Rattle.tool_core.specs.declared.reports.Verdict.TheVariants as verdicts
 use Rattle.tool_core.specs.declared.watched.Watched.{Watched}
-use Rattle.archive_report.specs.ReadOnly.{IsOnlyRead}
+use Rattle.archive_report.specs.declared.form.Form.{Form}
+use Rattle.archive_report.specs.Describing.{FailsToDescribe, HasDescribed}
 use Rattle.archive_report.specs.Verifying.{FailsToVerify, HasVerified}
 use Rattle.archive_report.specs.Viewing.{FailsToList, HasListed}
 use Rattle.folder_commands.specs.declared.status.Ending.{Ending}
 use Rattle.folder_commands.specs.declared.status.Ending.TheVariants.{Done}
 use Rattle.folder_commands.specs.Folders.{ending_by}
-use Rattle.folder_commands.specs.Looking.{DescribesFolder, ListsAsItStands, VerifiesAsItStands, itself}
+use Rattle.folder_commands.specs.Looking.{DescribesFolder, ListsAsItStands, VerifiesAsItStands, form_of, itself}
 use Rattle.folder_commands.specs.Status.{ending_of}
 use Rattle.folder_commands.proofs.FolderLemmas.{ends_done, ends_judged, ends_stopped}
 
@@ -39,12 +40,15 @@ module _ (given : Given) (contents written : Option (List ℕ)) (left : Option L
         ends_stopped (λ n. HasListed (life_from given) n contents written) (λ n. ⊥) (λ n why. FailsToList itself (life_from given) n why contents written) contents written left new is
         why ending so (subst (λ l. FailsToList itself l new why contents written) begins h)
 
-    pub describe_done : IsOnlyRead old new → DescribesFolder given contents written left Done
-    describe_done h = ends_done (IsOnlyRead (life_from given)) (λ n. ⊥) (λ n why. IsOnlyRead (life_from given) n) contents written left new is (subst (λ l. IsOnlyRead l new) begins h)
+    pub describe_done : (json : Bool) (form : Form) → form ≡ form_of json → HasDescribed old new form contents written → DescribesFolder given json contents written left Done
+    describe_done json form asked h =
+        ends_done (λ n. HasDescribed (life_from given) n (form_of json) contents written) (λ n. ⊥) (λ n why. FailsToDescribe itself (life_from given) n why contents written) contents written left new is
+        (subst (λ f. HasDescribed (life_from given) new f contents written) asked (subst (λ l. HasDescribed l new form contents written) begins h))
 
-    pub describe_stopped : (why : Stop) (ending : Ending) → ending ≡ ending_of why → IsOnlyRead old new → DescribesFolder given contents written left ending
-    describe_stopped why ending so h =
-        ends_stopped (IsOnlyRead (life_from given)) (λ n. ⊥) (λ n why. IsOnlyRead (life_from given) n) contents written left new is why ending so (subst (λ l. IsOnlyRead l new) begins h)
+    pub describe_stopped : (json : Bool) (why : Stop) (ending : Ending) → ending ≡ ending_of why → FailsToDescribe itself old new why contents written → DescribesFolder given json contents written left ending
+    describe_stopped json why ending so h =
+        ends_stopped (λ n. HasDescribed (life_from given) n (form_of json) contents written) (λ n. ⊥) (λ n why. FailsToDescribe itself (life_from given) n why contents written) contents written left new is
+        why ending so (subst (λ l. FailsToDescribe itself l new why contents written) begins h)
 
   module _ (quiet : IsQuiet (life_from given) old) where
     pub look_verified : (verdict : Verdict) (ending : Ending) → ending ≡ ending_by verdict → HasVerified itself old new contents written verdict → VerifiesAsItStands given contents written left ending

@@ -7,6 +7,7 @@ use Rattle.tool_core.specs.declared.commands.Stop.{Stop}
 use Rattle.tool_core.specs.declared.commands.Stop.TheVariants as stops
 use Rattle.tool_core.specs.declared.reports.Verdict.{Verdict}
 use Rattle.archive_report.specs.ArchiveView.{ArchiveView}
+use Rattle.archive_report.specs.Describing.{FailsToDescribe}
 use Rattle.archive_report.specs.Verifying.{FailsToVerify, HasVerified, VerifiesEach}
 use Rattle.archive_report.specs.Viewing.{FailsToList}
 use Rattle.folder_commands.specs.Looking.{itself}
@@ -23,6 +24,10 @@ module _ {D : Type 0} (life : D → Life) where
   pub view_unlisted : (old : Life) (contents written : Option (List ℕ)) (disk : D) (why : Stop) → FailsToList life old disk why contents written → FailsToList itself old (life disk) why contents written
   view_unlisted old contents written disk (stops.Refused refusal) h = h
   view_unlisted old contents written disk (stops.Cut end) h = h
+
+  pub view_undescribed : (old : Life) (contents written : Option (List ℕ)) (disk : D) (why : Stop) → FailsToDescribe life old disk why contents written → FailsToDescribe itself old (life disk) why contents written
+  view_undescribed old contents written disk (stops.Refused refusal) h = h
+  view_undescribed old contents written disk (stops.Cut end) h = h
 
   each : {old new : ArchiveView D} {ids : List ℤ} {outcomes : List (Result Reply Refusal)} → VerifiesEach life old new ids outcomes → VerifiesEach itself (bare old) (bare new) ids outcomes
   each h = record { inside = h.inside; same = h.same; desk = h.desk; total = h.total; each = h.each }

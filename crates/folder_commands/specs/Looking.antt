@@ -1,5 +1,5 @@
 -- What a command does that only looks at a folder, whatever files that holds, and how it ends: docs/CONTROL.md, "Looking without a change".
-use Rattle.std.specs.Prelude.{◌≡◌, ◌⊎◌, ℕ, ℤ, List, Option, None, Some, codes}
+use Rattle.std.specs.Prelude.{◌≡◌, ◌⊎◌, ℕ, ℤ, Bool, true, false, List, Option, None, Some, codes}
 use Rattle.std.specs.Io.KnownBytes.{Appends}
 use Rattle.frame_core.specs.declared.refusal.Refusal.TheVariants.{BadParameter, DeviceFault}
 use Rattle.disk_core.specs.Life.{IsQuiet, Life}
@@ -11,6 +11,9 @@ use Rattle.tool_core.specs.declared.fault.EarlyEnd.TheVariants as ends
 use Rattle.tool_core.specs.declared.reports.Verdict.TheVariants as verdicts
 use Rattle.archive_export.specs.declared.span.Span.{Span}
 use Rattle.archive_report.specs.ReadOnly.{IsOnlyRead}
+use Rattle.archive_report.specs.declared.form.Form.{Form}
+use Rattle.archive_report.specs.declared.form.Form.TheVariants.{Page, Json}
+use Rattle.archive_report.specs.Describing.{FailsToDescribe, HasDescribed}
 use Rattle.archive_report.specs.Exported.{FailsToExportFrom, HasExportedFrom}
 use Rattle.archive_report.specs.Verifying.{FailsToVerify, HasVerified}
 use Rattle.archive_report.specs.Viewing.{FailsToList, HasListed}
@@ -22,6 +25,11 @@ use Rattle.folder_commands.specs.Status.{ending_of}
 -- A disk of which its life alone is seen.
 abbrev pub itself : Life → Life
 itself life = life
+
+-- the form in which an archive is described, with `--json` or without
+abbrev pub form_of : Bool → Form
+form_of true = Json
+form_of false = Page
 
 module _ (given : Given) where
   -- `list --read-only`: the archive of these files was seen, and its recordings are written
@@ -40,12 +48,12 @@ module _ (given : Given) where
       (λ new why. (old : Life) × IsQuiet (life_from given) old × FailsToVerify itself old new why contents written)
       contents written
 
-  -- `describe`: the folder was only read
-  abbrev pub DescribesFolder : Option (List ℕ) → Option (List ℕ) → Option Life → Ending → Type 0
-  DescribesFolder contents written = EndsAs
-      (λ new. IsOnlyRead (life_from given) new)
+  -- `describe`: the archive of these files was seen, and the page on it is written, or the document with `--json`
+  abbrev pub DescribesFolder : Bool → Option (List ℕ) → Option (List ℕ) → Option Life → Ending → Type 0
+  DescribesFolder json contents written = EndsAs
+      (λ new. HasDescribed (life_from given) new (form_of json) contents written)
       (λ new. ⊥)
-      (λ new why. IsOnlyRead (life_from given) new)
+      (λ new why. FailsToDescribe itself (life_from given) new why contents written)
       contents written
 
 -- a capture file is not written: its place is in the archive's folder, a call of the system failed, or there is no memory

@@ -24,7 +24,7 @@ module _ (given : Given) (input contents written : Option (List ℕ)) where
   Obeys (AskList folder true) left ending = ListsAsItStands given contents written left ending
   Obeys (Verify folder false) left ending = VerifiesFolder given contents written left ending
   Obeys (Verify folder true) left ending = VerifiesAsItStands given contents written left ending
-  Obeys (Describe folder json) left ending = DescribesFolder given contents written left ending
+  Obeys (Describe folder json) left ending = DescribesFolder given json contents written left ending
   Obeys (Export folder recording from to pcap) left ending =
       ExportsFolder given recording (record { from = from; to = to }) contents written left ending
   Obeys (Frames file) left ending = ListsFile contents written ending × (left ≡ None)

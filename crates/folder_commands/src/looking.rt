@@ -6,7 +6,7 @@ ghost use Rattle.host_disk.specs.ReadFolder.{folder_life};
 ghost use Rattle.host_disk.specs.Replay.{life_from};
 ghost use Rattle.folder_commands.specs.Folders.{IsUnopenedFolder};
 ghost use Rattle.folder_commands.specs.Left.{ends_with, leaves};
-ghost use Rattle.folder_commands.specs.Looking.{DescribesFolder, ListsAsItStands};
+ghost use Rattle.folder_commands.specs.Looking.{DescribesFolder, ListsAsItStands, form_of};
 
 use crate::commands::opening_of;
 use crate::exit::Exit;
@@ -46,9 +46,9 @@ pub(crate) fn describe<W: Write>(
     writer: &mut W,
 ) -> Result<Left, Outcome>
     ghost given: { Given }
-    ensures { DescribesFolder given (W.contents writer.old) (W.contents writer.new) (leaves result) (ends_with result) }
+    ensures { DescribesFolder given json (W.contents writer.old) (W.contents writer.new) (leaves result) (ends_with result) }
 {
-    let form = if json { Form::Json } else { Form::Page };
+    let form = form_of(json);
     let screen = Screen::new(&rt);
     let disk = Watched::new(folder_of(rt, folder)?, opening_of(&rt, &screen));
     let hidden = hidden_place(rt, folder);
@@ -62,6 +62,13 @@ pub(crate) fn describe<W: Write>(
         }
         Err(fault) => Err(stopped(fault)),
     }
+}
+
+/// The form of a description.
+fn form_of(json: bool) -> Form
+    ensures { result ≡ form_of json }
+{
+    if json { Form::Json } else { Form::Page }
 }
 
 /// A folder that is only read. As a disk it begins with the files that the folder holds.
