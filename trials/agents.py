@@ -29,6 +29,7 @@ HISTORY = 16_777_216
 FRAME = 64  # bytes of a recorded frame
 FEW_BLOCKS = 50  # of a process that ends by itself
 NOBODY = 65_534  # a user who runs nothing else
+PATIENCE = 60  # seconds for a run that has to end by itself
 THREADS = 2  # that a run of a receiver and a recorder makes; the recorder's is the program's own
 
 
@@ -63,7 +64,11 @@ def unthreaded() -> None:
         agents = shutil.copy(AGENTS, folder)
         os.chmod(agents, 0o755)
         for threads in (0, THREADS):
-            ended = subprocess.run([agents, "queue", str(FEW_BLOCKS)], capture_output=True, text=True, preexec_fn=as_nobody(threads))
+            words = [agents, "queue", str(FEW_BLOCKS)]
+            try:
+                ended = subprocess.run(words, capture_output=True, text=True, preexec_fn=as_nobody(threads), timeout=PATIENCE)
+            except subprocess.TimeoutExpired:
+                raise Fault(f"with {threads} threads: no end after {PATIENCE} seconds") from None
             is_run = ended.returncode == 0 and ended.stdout.strip().isdecimal() and ended.stderr == ""
             is_refused = ended.returncode == 1 and ended.stdout == "" and ended.stderr.split()[-1:] == ["NoMemory"]
             if not (is_run if threads else is_refused):

@@ -19,6 +19,8 @@ Then a server that can record nothing, with `--strict` and without: over a damag
 takes no more, over a full disk, and over a catalogue with an entry past its closed gate. With `--strict` it ends by itself, and a
 `quit` ends it, with status 3 and its line; without it goes on, and `quit` ends it with status 0. Mounting a disk takes the right to;
 else that one is skipped, and said to be.
+
+Then a server whose metrics file would lie in a folder that is not there: it says so once, goes on, and ends well.
 """
 import random
 import resource
@@ -313,6 +315,28 @@ def try_all_stuck(tool: Path) -> None:
     print("a server that can record nothing, or finds an entry past a closed gate, ends with status 3 if it is strict, and else goes on")
 
 
+# ---- a metrics file that can't be written
+
+
+UNWRITTEN = "the metrics file cannot be written: No such file or directory"
+
+
+def try_unwritten_metrics(tool: Path) -> None:
+    """A metrics file in a folder that is not there: the server says so once, goes on, and ends well."""
+    control, receive = free_port(socket.SOCK_STREAM), free_port(socket.SOCK_DGRAM)
+    with room() as above:
+        ports = ["--control", str(control), "--receive", str(receive)]
+        words = [tool, "serve", above / "archive", *ports, "--metrics", above / "missing" / "metrics"]
+        server = subprocess.Popen(words, stderr=subprocess.PIPE, text=True)
+        ask_all(control, ["list 0 1"])
+        time.sleep(3)  # it writes each second
+        ask_all(control, ["quit"])
+        _, errors = server.communicate(timeout=PATIENCE)
+        expect("metrics in no folder: the status", server.returncode, 0)
+        expect("metrics in no folder: what is said of it", errors.splitlines().count(UNWRITTEN), 1)
+    print("a metrics file that can't be written is reported once, and the server goes on")
+
+
 def main() -> int:
     words = trial_words(__doc__)
     words.add_argument("--days", type=int, default=12, help="lives of the server")
@@ -323,6 +347,7 @@ def main() -> int:
     try_days(tool, chance, args.senders, args.days, rewinds=False)
     try_days(tool, chance, args.senders, max(1, args.days // 2), rewinds=True)
     try_all_stuck(tool)
+    try_unwritten_metrics(tool)
     return 0
 
 

@@ -1,9 +1,10 @@
 //! The commands over a real folder, and how they end: docs/CONTROL.md, "The program". Each test has a folder of its own
 //! under the system's folder for temporary files.
 
+use crate::words::Full;
 use command_line::ToolCommand;
 use disk_core::{Disk, FileId};
-use folder_commands::{Exit, obeyed};
+use folder_commands::{Exit, Outlet, obeyed};
 use host_disk::HostDisk;
 use std::io::{self, Eprint, Read, Write};
 use std::net::{Net, TcpListener, TcpStream};
@@ -333,4 +334,14 @@ fn what_is_not_handed_on_is_told(rt: HostRuntime) -> Result<(), Fail> {
     assert!(rt; status_of(&rt, rt, command, NO_LINES, &mut Holding) == 3);
     fs::remove_dir_all(&rt, folder)?;
     Ok(())
+}
+
+/// The error of a write, and that of handing on. What was taken is no error.
+#[test]
+fn an_outlet_keeps_its_error(rt: HostRuntime) {
+    let mut full = Outlet::new(Full);
+    assert!(rt; full.write(b"end 0\n").is_err() && full.fault().is_some());
+    let mut holding = Outlet::new(Holding);
+    assert!(rt; matches!(holding.write(b"end 0\n"), Ok(6)) && holding.fault().is_none());
+    assert!(rt; holding.flush().is_err() && holding.fault().is_some());
 }

@@ -1,6 +1,7 @@
 -- How the program ends, and the status that says so: docs/CONTROL.md, "The program".
 use Rattle.std.specs.Prelude.{◌≡◌, ℕ, Bool, false, List, Option, Some, None}
 use Rattle.std.specs.Option.{option_map_or}
+use Rattle.std.specs.declared.io.Error.{Error}
 use Rattle.std.specs.declared.io.ErrorKind.TheVariants as io
 use Rattle.clap.specs.declared.error.ErrorKind.{ErrorKind}
 use Rattle.clap.specs.declared.error.ErrorKind.TheVariants as kinds
@@ -12,6 +13,8 @@ use Rattle.tool_core.specs.declared.commands.Stop.TheVariants as stops
 use Rattle.tool_core.specs.declared.fault.EarlyEnd.TheVariants as faults
 use Rattle.folder_commands.specs.declared.status.Ending.{Ending}
 use Rattle.folder_commands.specs.declared.status.Ending.TheVariants.{Done, Cut, Refused, Unopened, FoundDamage, LineRefused, Stuck, Hidden, NoCommand, Failed}
+use Rattle.folder_commands.specs.declared.why.Why.{Why}
+use Rattle.folder_commands.specs.declared.why.Why.TheVariants.{Output}
 use Rattle.folder_commands.specs.Telling.{FailsToTell, IsToldBy, words_status}
 
 -- the status of a refused command: 1, or 3 for a device fault or damage
@@ -63,6 +66,11 @@ abbrev pub handed_on : Ending → Bool → Ending
 handed_on Done false = Cut faults.Write
 handed_on FoundDamage false = Cut faults.Write
 handed_on ending is_flushed = ending
+
+-- why a command ended, once it is known what the system said of standard output where that failed
+abbrev pub why_with_output_fault : Option Error → Why → Why
+why_with_output_fault fault (Output None) = Output fault
+why_with_output_fault fault why = why
 
 -- an error of that kind was told so, or could not be
 abbrev pub IsTold : ErrorKind → List ℕ → Option (List ℕ) → Option (List ℕ) → Option (List ℕ) → Option (List ℕ) → Ending → Type 0

@@ -3,7 +3,7 @@
 ghost use Rattle.std.specs.Prelude.{◌≡◌, None};
 ghost use Rattle.tool_core.specs.Archives.{disk_of, early_end_of};
 ghost use Rattle.folder_commands.specs.declared.status.Ending.TheVariants.{Cut, Unopened};
-ghost use Rattle.folder_commands.specs.Status.{ending_of, handed_on};
+ghost use Rattle.folder_commands.specs.Status.{ending_of, handed_on, why_with_output_fault};
 
 use crate::status::Ending;
 use crate::why::Why;
@@ -87,7 +87,8 @@ impl Exit {
 
     /// The same, where that is what the system told of standard output.
     pub fn with_output_fault(self, fault: Option<io::Error>) -> Exit
-        ensures { result.ending ≡ self.ending }
+        ensures ending { result.ending ≡ self.ending }
+        ensures why { result.why ≡ why_with_output_fault fault self.why }
     {
         let why = match self.why {
             Why::Output(None) => Why::Output(fault),
