@@ -325,8 +325,10 @@ def try_unwritten_metrics(tool: Path) -> None:
     """A metrics file in a folder that is not there: the server says so once, goes on, and ends well."""
     control, receive = free_port(socket.SOCK_STREAM), free_port(socket.SOCK_DGRAM)
     with room() as above:
+        archive = above / "archive"
+        run([tool, "create", archive])
         ports = ["--control", str(control), "--receive", str(receive)]
-        words = [tool, "serve", above / "archive", *ports, "--metrics", above / "missing" / "metrics"]
+        words = [tool, "serve", archive, *ports, "--metrics", above / "missing" / "metrics"]
         server = subprocess.Popen(words, stderr=subprocess.PIPE, text=True)
         ask_all(control, ["list 0 1"])
         time.sleep(3)  # it writes each second
