@@ -1,5 +1,5 @@
 use Rattle.std.proofs.Common.{[]}
-use Rattle.command_tests.proofs.folders.exit.Given as goal
+use Rattle.command_tests.proofs.folders.ended.Given as goal
 
 -- no clause here rests on what the folder holds
 abbrev pub ghost-obeyed : goal.ghost-obeyed
