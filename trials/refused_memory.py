@@ -47,7 +47,7 @@ BROKEN = b"error 16 Broken\n"
 # file has no room for are read.
 MOST = {
     "archives::counted_memory_of_a_late_poll": 2 * 100 + 50,
-    "boards::counted_memory_of_a_board": 30,
+    "boards::counted_memory_of_a_board": 5,
     "sparse::counted_memory_of_a_long_pad": 0,
     "sparse::counted_memory_of_a_short_file": 0,
 }

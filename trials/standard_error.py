@@ -9,6 +9,7 @@ import os
 import re
 import resource
 import shutil
+import socket
 import subprocess
 import sys
 from collections.abc import Callable, Iterator
@@ -18,6 +19,7 @@ from functools import partial
 from pathlib import Path
 
 from mounts import Skipped, mount, mounted
+from serving import free_port
 from tool import Session, Stream, bank, expect, hides, program, room
 
 STREAM = Stream(term_length=65_536, segment_length=131_072)
@@ -442,6 +444,28 @@ def try_read_only(tool: Program, work: Path) -> None:
         expect("create, read-only", tool.run(folder, row), (row.status, row.output, row.error))
 
 
+def try_ports(tool: Program) -> None:
+    """A port that another socket has, of control lines and of datagrams. The folder is not opened."""
+    for kind, option, other in ((socket.SOCK_STREAM, "--control", "--receive"), (socket.SOCK_DGRAM, "--receive", "--control")):
+        with room() as folder, socket.socket(socket.AF_INET, kind) as taken:
+            taken.bind(("127.0.0.1", 0))
+            port = str(taken.getsockname()[1])
+            words = ["serve", ".", option, port, other, str(free_port(socket.SOCK_DGRAM if other == "--receive" else socket.SOCK_STREAM))]
+            row = Row("", words, 3, "", FAULT + f"the port {port} cannot be bound: Address already in use\n")
+            expect(f"{option}, taken", tool.run(folder, row), (row.status, row.output, row.error))
+            expect(f"{option}, taken: files", list(folder.iterdir()), [])
+
+
+def try_unread_input(tool: Program) -> None:
+    """Standard input that is a folder."""
+    with room() as folder:
+        given = os.open(folder, os.O_RDONLY)
+        ended = subprocess.run([tool.path, "run"], stdin=given, capture_output=True, text=True)
+        os.close(given)
+        told = (ended.returncode, ended.stdout, ended.stderr)
+        expect("run, of a folder as its input", told, (3, "", FAULT + "standard input cannot be read on\n"))
+
+
 def try_new_folder(tool: Program, work: Path) -> None:
     """`create` syncs the name of its folder before it tells that an archive was made, also in a folder that is there."""
     for what in ("a new folder", "a folder that a creation left which was stopped"):
@@ -470,6 +494,8 @@ def main() -> int:
             try_row(tool, row)
         print(f"{len(table)} commands tell what they have to")
         try_use(tool)
+        try_ports(tool)
+        try_unread_input(tool)
         if shutil.which("strace"):
             try_new_folder(tool, work)
         else:

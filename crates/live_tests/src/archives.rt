@@ -5,6 +5,8 @@ ghost use Rattle.archive_lock.specs.Held.{engine_seen, view_of};
 ghost use Rattle.call_history.specs.Passes.{AllOfTable, new_passes};
 
 use crate::agents::{gated_pairs, two_pairs};
+use crate::failing::{Left, each_again, faults, left_on, reads_again};
+use crate::handed_on::handed_on;
 use crate::held_back::one_pair;
 use crate::refused_turns::{damaged_turns, reopened, turned_again};
 use crate::scenarios::{bounded_part, breaks, missing_pass};
@@ -15,8 +17,9 @@ use disk_core::{Disk, MemoryDisk};
 use engine_core::Engine;
 use frame_core::Refusal;
 use std::alloc::{AllocError, Global};
+use std::io::Eprint;
 use std::marker::Brand;
-use std::process::Abort;
+use std::process::{Abort, Termination};
 use std::sync::Wait;
 use std::test::Fail;
 use std::thread::Threads;
@@ -32,6 +35,22 @@ pub(crate) enum Scenario {
     HeldBack,
     DamagedTurn,
     TurnAgain,
+    /// The call of the disk of this number fails, counted after those that make the archive.
+    Fault(u64),
+    EachAgain,
+    ReadAgain,
+    HandedOn,
+}
+
+/// A disk that tells how many changes it has seen.
+pub(crate) trait Counted {
+    fn changes_seen(&self) -> u64;
+}
+
+impl Counted for MemoryDisk {
+    fn changes_seen(&self) -> u64 {
+        self.changes()
+    }
 }
 
 /// All seats of an archive.
@@ -54,11 +73,29 @@ pub(crate) fn played<R: Threads + Wait + Abort + Sync>(
     opened(rt, alloc, keeps, engine, scenario)
 }
 
-/// The archive in memory that a scenario is played on: a new one, or for a refused turn one that has a recording.
+/// The same, once more if it was refused memory before a call or after it. Nothing is refused a second time.
+pub(crate) fn played_again<R: Threads + Wait + Abort + Sync + Eprint>(
+    rt: &R,
+    alloc: Global,
+    keeps: bool,
+    scenario: Scenario,
+) -> Result<(), Fail> {
+    match played(rt, alloc, keeps, scenario) {
+        Ok(()) => Ok(()),
+        first => {
+            first.report(rt);
+            played(rt, alloc, keeps, scenario)
+        }
+    }
+}
+
+/// The archive in memory that a scenario is played on: a new one, or for a refused turn or reading one that has a recording.
 fn made(alloc: Global, scenario: Scenario) -> Result<Engine<MemoryDisk>, Refusal> {
     match scenario {
         Scenario::DamagedTurn => reopened(alloc, true),
-        Scenario::TurnAgain => reopened(alloc, false),
+        Scenario::TurnAgain | Scenario::ReadAgain => reopened(alloc, false),
+        // Seven calls make the archive.
+        Scenario::Fault(call) => begun(alloc, call.wrapping_add(7)),
         Scenario::Break => begun(alloc, 19),
         Scenario::HeldBack => begun(alloc, 27),
         _ => begun(alloc, 0),
@@ -76,7 +113,7 @@ fn begun(alloc: Global, fails_at: u64) -> Result<Engine<MemoryDisk>, Refusal> {
     }
 }
 
-fn opened<D: Disk + Drop + Send, R: Threads + Wait + Abort + Sync>(
+fn opened<D: Disk + Drop + Send + Counted, R: Threads + Wait + Abort + Sync>(
     rt: &R,
     alloc: Global,
     keeps: bool,
@@ -89,7 +126,11 @@ fn opened<D: Disk + Drop + Send, R: Threads + Wait + Abort + Sync>(
     shared::<D, Brand, R>(rt, alloc, opened, keeps, engine, scenario)
 }
 
-fn shared<D: Disk + Drop + Send, A: Naming + Send + Sync, R: Threads + Wait + Abort + Sync>(
+fn shared<
+    D: Disk + Drop + Send + Counted,
+    A: Naming + Send + Sync,
+    R: Threads + Wait + Abort + Sync,
+>(
     rt: &R,
     alloc: Global,
     opened: Opened<Made>,
@@ -131,7 +172,7 @@ fn seats_of<A: Naming>(mut passes: Vec<Pass<Made>>) -> Option<Seats<A>>
     })
 }
 
-fn play<D: Disk + Drop + Send, A: Naming + Send + Sync, R: Threads + Wait + Abort + Sync>(
+fn play<D: Disk + Drop + Send + Counted, A: Naming + Send + Sync, R: Threads + Wait + Abort + Sync>(
     rt: &R,
     alloc: Global,
     archive: SharedArchive<D, A>,
@@ -148,6 +189,10 @@ fn play<D: Disk + Drop + Send, A: Naming + Send + Sync, R: Threads + Wait + Abor
         Scenario::HeldBack => one_pair(rt, alloc, archive, seats),
         Scenario::DamagedTurn => damaged_turns(rt, alloc, archive, seats),
         Scenario::TurnAgain => turned_again(rt, alloc, archive, seats),
+        Scenario::Fault(call) => faults(rt, alloc, archive, seats, call),
+        Scenario::EachAgain => each_again(rt, alloc, archive, seats),
+        Scenario::ReadAgain => reads_again(rt, alloc, archive, seats),
+        Scenario::HandedOn => handed_on(rt, alloc, archive, seats, keeps),
     }
 }
 
@@ -157,12 +202,55 @@ pub(crate) fn closed<D: Disk + Drop, A: Naming>(
     archive: SharedArchive<D, A>,
     seats: Seats<A>,
 ) -> Option<(u64, bool)> {
+    match closed_with(alloc, archive, seats) {
+        Some(history) => Some(stored(&history)),
+        None => None,
+    }
+}
+
+/// What was stored of an archive that is closed with all seats.
+pub(crate) fn closed_with<D: Disk + Drop, A: Naming>(
+    alloc: Global,
+    archive: SharedArchive<D, A>,
+    seats: Seats<A>,
+) -> Option<Stored<Call>> {
     let Ok(passes) = passes_of(alloc, seats) else {
         return None;
     };
     match archive.close(passes) {
-        Ok(closed) => Some(stored(&closed.history)),
+        Ok(closed) => Some(closed.history),
         Err(_) => None,
+    }
+}
+
+/// What an archive that is closed with all seats leaves; `NoMemory` if there is none for their passes.
+pub(crate) fn left_by<D: Disk + Drop + Counted, A: Naming, R: Abort>(
+    rt: &R,
+    alloc: Global,
+    archive: SharedArchive<D, A>,
+    seats: Seats<A>,
+) -> Result<Left, Refusal> {
+    match passes_of(alloc, seats) {
+        Ok(passes) => left_with(rt, alloc, archive, passes),
+        Err(_) => Err(Refusal::NoMemory),
+    }
+}
+
+/// The same of one that is closed with these passes.
+fn left_with<D: Disk + Drop + Counted, A: Naming, R: Abort>(
+    rt: &R,
+    alloc: Global,
+    archive: SharedArchive<D, A>,
+    passes: Vec<Pass<Made>>,
+) -> Result<Left, Refusal>
+    requires { AllOfTable A.table passes.items }
+{
+    match archive.close(passes) {
+        Ok(closed) => {
+            let calls = stored(&closed.history);
+            left_on(alloc, closed.engine.into_disk(), calls)
+        }
+        Err(_) => panic!(rt; "a call is of no pass"),
     }
 }
 

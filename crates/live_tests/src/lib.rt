@@ -13,6 +13,10 @@ mod conversations;
 #[cfg(test)]
 mod crowds;
 #[cfg(test)]
+mod failing;
+#[cfg(test)]
+mod handed_on;
+#[cfg(test)]
 mod held_back;
 #[cfg(test)]
 mod leaving;

@@ -1,7 +1,7 @@
 //! Turns of a bounded replayer that are refused over damage, and for want of memory: "Bounded replayer", docs/SCENARIOS.md.
 
 use crate::agents::block_at;
-use crate::archives::{Scenario, Seats, closed, played};
+use crate::archives::{Scenario, Seats, closed, played, played_again};
 use crate::held_back::{Pair, seated};
 use agents_core::Turn;
 use archive_lock::{Naming, SharedArchive};
@@ -11,7 +11,7 @@ use disk_core::{Disk, FileId, MemoryDisk};
 use engine_core::Engine;
 use frame_core::Refusal;
 use std::alloc::Global;
-use std::process::{Abort, Termination};
+use std::process::Abort;
 use std::sync::Wait;
 use std::test::Fail;
 
@@ -24,14 +24,7 @@ fn a_turn_over_damage(rt: HostRuntime) -> Result<(), Fail> {
 /// for each of its requests for memory, which it refuses.
 #[test]
 fn refused_memory_leaves_a_turn(rt: HostRuntime) -> Result<(), Fail> {
-    match played(&rt, rt.alloc(), true, Scenario::TurnAgain) {
-        Ok(()) => Ok(()),
-        // It was refused before the turn or after it. Nothing is refused a second time.
-        first => {
-            first.report(&rt);
-            played(&rt, rt.alloc(), true, Scenario::TurnAgain)
-        }
-    }
+    played_again(&rt, rt.alloc(), true, Scenario::TurnAgain)
 }
 
 /// An archive with an ended recording of two frames, which was opened again, and a replay of it. The first frame's header has

@@ -2,13 +2,15 @@
 
 ghost use Rattle.std.specs.Prelude.{◌≡◌};
 
-use archive_lock::{Made, Naming, SharedArchive};
+use archive_lock::{Made, Naming, SharedArchive, Standing};
 use archive_model::Reply;
 use call_history::Pass;
 use control_core::Event;
 use control_lines::{Line, parse_line, print_refusal, print_reply};
 use disk_core::Disk;
+use engine_core::Poll;
 use frame_core::{Refusal, block_of};
+use replay_core::FrameTaker;
 use std::alloc::Global;
 use std::marker::PhantomData;
 use std::process::Abort;
@@ -41,6 +43,15 @@ impl<A: Naming> Seat<A> {
         self.pass
     }
 
+    /// Where its archive stands.
+    pub fn standing<D: Disk, R: Wait>(
+        &mut self,
+        rt: &R,
+        archive: &SharedArchive<D, A>,
+    ) -> Standing {
+        archive.standing(rt, &mut self.pass)
+    }
+
     /// What the archive answers to an event.
     fn call<D: Disk, R: Wait>(
         &mut self,
@@ -50,6 +61,18 @@ impl<A: Naming> Seat<A> {
         event: &Event,
     ) -> Result<Reply, Refusal> {
         archive.call(rt, alloc, &mut self.pass, event)
+    }
+
+    /// What the archive answers to a poll whose frames are handed on to a taker.
+    pub fn hand_on<D: Disk, R: Wait, T: FrameTaker>(
+        &mut self,
+        rt: &R,
+        alloc: Global,
+        archive: &SharedArchive<D, A>,
+        poll: &Poll,
+        taker: &mut T,
+    ) -> Result<Option<i64>, Refusal> {
+        archive.hand_on(rt, alloc, &mut self.pass, poll, taker)
     }
 
     /// What the archive answers to a line. Bytes of a block are read by the terms of their session first.
@@ -99,6 +122,17 @@ impl<A: Naming> Seat<A> {
         }
     }
 
+    /// What is told of the answer to a line.
+    pub fn tells<D: Disk, R: Wait>(
+        &mut self,
+        rt: &R,
+        alloc: Global,
+        archive: &SharedArchive<D, A>,
+        line: &str,
+    ) -> Result<Vec<u8>, Refusal> {
+        told(alloc, &self.answer(rt, alloc, archive, line))
+    }
+
     /// Adds a line to a transcript, and behind a colon what is answered.
     fn put<D: Disk, R: Wait>(
         &mut self,
@@ -108,8 +142,7 @@ impl<A: Naming> Seat<A> {
         text: &mut Vec<u8>,
         line: &str,
     ) -> Result<(), Refusal> {
-        let answer = self.answer(rt, alloc, archive, line);
-        let mut lines = told(alloc, &answer)?;
+        let mut lines = self.tells(rt, alloc, archive, line)?;
         text.extend_from_slice(line.as_bytes())?;
         text.extend_from_slice(b": ")?;
         text.append(&mut lines)?;
