@@ -117,14 +117,15 @@ class LateConsumer(threading.Thread):
     def poll(self, replay: int) -> bytes:
         """The last line of a poll's reply."""
         self.client.socket.sendall(POLL % replay)
-        held = b""
-        while not held.endswith(b"\n") or held.rstrip(b"\n").rpartition(b"\n")[2].startswith(b"frame "):
+        held = last = b""
+        while not held.endswith(b"\n") or last.startswith(b"frame "):
             came = self.client.socket.recv(1_048_576)
             if not came:
                 raise ConnectionError
             self.bytes += len(came)
-            held = (held + came)[-4_096:]
-        return held.rstrip(b"\n").rpartition(b"\n")[2]
+            held = (held + came)[-4_096:]  # more than a frame's line
+            last = held.rstrip(b"\n").rpartition(b"\n")[2]
+        return last
 
 
 @contextmanager
@@ -210,8 +211,8 @@ def conclusion(served_by: dict[Kind, list[Found]], theirs: list[float]) -> int:
     to_paced, to_library, to_unpolled = flow.rate / paced.rate, paced.rate / by_library, beside_polls.rate / paced.rate
     is_compared = all(kind.buffer or "--aeron" in kind.server for kind in served_by)
     print(f"with flow control {to_paced:.2f} of the paced sender" + (f" (goal {GOAL})" if is_compared else ", of the same buffer: no goal")
-          + f"; paced {to_library:.2f} of the library's {by_library:,.0f} frames a second (goal {GOAL}, at least {LEAST}); beside polls {to_unpolled:.2f} of paced "
-          f"(goal {BESIDE_POLLS})", flush=True)
+          + f"; paced {to_library:.2f} of the library's {by_library:,.0f} frames a second (goal {GOAL}, at least {LEAST})"
+          + f"; beside polls {to_unpolled:.2f} of paced (goal {BESIDE_POLLS})", flush=True)
     return 0 if to_library >= LEAST and (to_paced >= GOAL or not is_compared) else 1
 
 
