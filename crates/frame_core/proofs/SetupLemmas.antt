@@ -1,13 +1,34 @@
 -- Setup frames, and the bytes that they are read from.
-use Rattle.std.proofs.Common.{◌≡◌, ◌∙◌, sym, refl, ℕ, ℤ, List, Option, Some, None}
+use Rattle.std.proofs.Common.{◌≡◌, ◌∙◌, sym, refl, ℕ, ℤ, List, ◌++◌, drop, Option, Some, None, arith}
 use Rattle.std.specs.Prelude.{true, MatchOption}
 use Rattle.frame_core.specs.declared.setup.Setup.{Setup}
 use Rattle.frame_core.specs.Decoding.{read_setup}
-use Rattle.frame_core.specs.FrameEncoding.{IsAligned}
+use Rattle.frame_core.specs.FrameEncoding.{IsAligned, u16_at, i32_at}
 use Rattle.frame_core.specs.Limits.{is_term_length, is_mtu}
 use Rattle.frame_core.specs.Position.{HasPosition}
+use Rattle.frame_core.proofs.FrameEncodingLemmas.{i32_back}
 use Rattle.frame_core.proofs.PositionLemmas.{one_position}
-use Rattle.frame_core.specs.Setup.{HasJoinPosition, IsSetup, IsUsable, geometry_of}
+use Rattle.frame_core.specs.Setup.{HasJoinPosition, IsSetup, IsUsable, SetupFits, encoded_setup, geometry_of}
+
+-- an encoding has each field at its offset
+pub IsSetup-encoded_setup : (s : Setup) (rest : List ℕ) → SetupFits s → IsUsable s → IsSetup (encoded_setup s ++ rest) s
+unfolding encoded_setup u16_at i32_at
+IsSetup-encoded_setup s rest fits usable = record {
+  whole = omega arith;
+  length_at = refl;
+  version_at = refl;
+  flags_at = refl;
+  type_at = refl;
+  term_offset_at = i32_back s.term_offset (drop 12 (encoded_setup s ++ rest)) fits.term_offset;
+  session_id_at = i32_back s.session_id (drop 16 (encoded_setup s ++ rest)) fits.session_id;
+  stream_id_at = i32_back s.stream_id (drop 20 (encoded_setup s ++ rest)) fits.stream_id;
+  initial_term_id_at = i32_back s.initial_term_id (drop 24 (encoded_setup s ++ rest)) fits.initial_term_id;
+  active_term_id_at = i32_back s.active_term_id (drop 28 (encoded_setup s ++ rest)) fits.active_term_id;
+  term_length_at = i32_back s.term_length (drop 32 (encoded_setup s ++ rest)) fits.term_length;
+  mtu_at = i32_back s.mtu (drop 36 (encoded_setup s ++ rest)) fits.mtu;
+  ttl_at = i32_back s.ttl rest fits.ttl;
+  usable = usable;
+}
 
 -- a setup frame of lengths in the limits is decided by its position
 pub joins_where_it_may : (s : Setup) (found : Option ℤ) → is_term_length s.term_length ≡ true → is_mtu s.mtu ≡ true → IsAligned s.term_offset

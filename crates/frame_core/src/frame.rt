@@ -111,7 +111,7 @@ impl AsFrame for FrameRef<'_> {
 }
 
 impl FrameRef<'_> {
-    ghost use Rattle.frame_core.specs.FrameEncoding.{aligned_length, HasLength};
+    ghost use Rattle.frame_core.specs.FrameEncoding.{header_of, aligned_length, HasLength};
 
     /// As [`Frame::aligned_length`].
     pub fn aligned_length(&self) -> u64
@@ -119,6 +119,22 @@ impl FrameRef<'_> {
         ensures small { result < 2 ^ 33 }
     {
         aligned_size(&self.length)
+    }
+
+    /// As [`Frame::header`].
+    pub fn header(&self) -> [u8; 32]
+        ensures { result ≡ header_of (frame_of self.now) }
+    {
+        let mut out = [0; 32];
+        put_i32(&mut out, 0, self.length);
+        out[5] = self.flags;
+        put_u16(&mut out, 6, self.kind.number());
+        put_i32(&mut out, 8, self.term_offset);
+        put_i32(&mut out, 12, self.session_id);
+        put_i32(&mut out, 16, self.stream_id);
+        put_i32(&mut out, 20, self.term_id);
+        put_i64(&mut out, 24, self.reserved);
+        out
     }
 
     /// A copy of the frame. Costs its payload's length.
@@ -211,16 +227,7 @@ impl Frame {
     pub fn header(&self) -> [u8; 32]
         ensures { result ≡ header_of self.now }
     {
-        let mut out = [0; 32];
-        put_i32(&mut out, 0, self.length);
-        out[5] = self.flags;
-        put_u16(&mut out, 6, self.kind.number());
-        put_i32(&mut out, 8, self.term_offset);
-        put_i32(&mut out, 12, self.session_id);
-        put_i32(&mut out, 16, self.stream_id);
-        put_i32(&mut out, 20, self.term_id);
-        put_i64(&mut out, 24, self.reserved);
-        out
+        self.as_ref().header()
     }
 }
 

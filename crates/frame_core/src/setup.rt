@@ -1,11 +1,11 @@
 //! Setup frames: Aeron Transport Protocol Specification, "Setup Frame"; docs/PROTOCOL.md, "Setup frame".
 
-ghost use Rattle.std.specs.Prelude.{◌≡◌, ◌<◌, ◌≤◌, ◌≤ℤ◌, ◌<ℤ◌, ◌^◌, pos, length, IfOk, IfErr, IfSome, OnErr, MatchOption};
+ghost use Rattle.std.specs.Prelude.{◌≡◌, ◌<◌, ◌≤◌, ◌≤ℤ◌, ◌<ℤ◌, ◌^◌, ◌++◌, ℕ, List, pos, length, IfOk, IfErr, IfSome, OnErr, MatchOption};
 ghost use Rattle.frame_core.specs.Decoding.{read_setup};
 ghost use Rattle.frame_core.specs.FrameEncoding.{i32_at, u16_at};
-ghost use Rattle.frame_core.specs.Setup.{HasJoinPosition, HasNoSetup, IsSetup, IsUsable, geometry_of};
+ghost use Rattle.frame_core.specs.Setup.{HasJoinPosition, HasNoSetup, IsSetup, IsUsable, encoded_setup, geometry_of};
 
-use crate::fields::{read_i32, read_u16};
+use crate::fields::{put_i32, put_u16, read_i32, read_u16};
 use crate::frame::is_aligned;
 use crate::geometry::Geometry;
 use crate::limits::{is_mtu, is_term_length};
@@ -41,6 +41,27 @@ pub struct Setup {
 }
 
 impl Setup {
+    /// The 40 bytes of the frame, with the version 0. If it may be used, `decode` reads them as this setup frame, whatever
+    /// follows. Does not allocate.
+    pub fn encode(&self) -> [u8; 40]
+        ensures bytes { result ≡ encoded_setup self.now }
+        ensures read { IsUsable self.now → (rest : List ℕ) → IsSetup (result ++ rest) self.now }
+    {
+        let mut out = [0; LENGTH];
+        put_i32(&mut out, 0, 40);
+        out[5] = self.flags;
+        put_u16(&mut out, 6, TYPE);
+        put_i32(&mut out, 8, self.term_offset);
+        put_i32(&mut out, 12, self.session_id);
+        put_i32(&mut out, 16, self.stream_id);
+        put_i32(&mut out, 20, self.initial_term_id);
+        put_i32(&mut out, 24, self.active_term_id);
+        put_i32(&mut out, 28, self.term_length);
+        put_i32(&mut out, 32, self.mtu);
+        put_i32(&mut out, 36, self.ttl);
+        out
+    }
+
     /// The setup frame in front of the bytes; what follows its 40 bytes is not read. Where none stands there that
     /// may be used, BadFrame with offset 0: fewer than 40 bytes, another version, type or length, a term length or an
     /// MTU outside docs/CONTROL.md, "Limits", a term offset that is no multiple of 32, or an active term and an offset

@@ -3,8 +3,8 @@ use Rattle.std.specs.Prelude.{replicate, slice_set}
 use Rattle.std.proofs.lemmas.Int.{to_z-of_z}
 use Rattle.byteorder.specs.Endian.{little_bytes}
 use Rattle.frame_core.specs.declared.frame.Frame.{Frame}
-use Rattle.frame_core.specs.FrameEncoding.{i32_bytes, i64_bytes, header_of, type_of}
-use Rattle.frame_core.proofs.frame.Frame.header.Goals as goal
+use Rattle.frame_core.specs.FrameEncoding.{i32_bytes, i64_bytes, frame_of, header_of, type_of}
+use Rattle.frame_core.proofs.frame.FrameRef.header.Goals as goal
 
 -- bytes with others written over them, from an offset on
 abbrev over : List ℕ → ℕ → List ℕ → ℕ → List ℕ
@@ -26,7 +26,7 @@ returns c =
     let term_fits : FitsSigned w32 c.args.self.now.term_id = search rules in
     let reserved_fits : FitsSigned w64 c.args.self.now.reserved = search rules in
     built
-    c.args.self.now
+    (frame_of c.args.self.now)
     c.number.result
     c.put_i32.new.out
     c.put_u16.new.out
