@@ -1,6 +1,6 @@
 -- Consumed positions are multiples of 32.
 use Rattle.std.proofs.Common.{◌≡◌, ◌∙◌, ap, ◌+◌, ◌-◌, ◌*◌, ◌/◌, ◌^◌, ◌≤◌, ◌≤ℤ◌, ◌+ℤ◌, ◌*ℤ◌, ℕ, ℤ, pos, negsuc, List, [], ◌∷◌, true, Some, None, arith}
-use Rattle.std.specs.Prelude.{Option, unsigned_abs}
+use Rattle.std.specs.Prelude.{Option, min, unsigned_abs}
 use Rattle.std.proofs.lemmas.Int.{ints}
 use Rattle.std.proofs.lemmas.Nat.{pow-add}
 use Rattle.frame_core.specs.declared.block.Block.{Block}
@@ -17,7 +17,7 @@ use Rattle.image_core.specs.Rebuild.{end_of}
 use Rattle.image_core.specs.Received.{IsBegun, IsChain, Received}
 use Rattle.image_core.specs.Stock.{Offers}
 use Rattle.image_core.specs.Take.{GivesBlock}
-use Rattle.flow_control.specs.Feedback.{IsStatusOf}
+use Rattle.flow_control.specs.Feedback.{IsStatusOf, told_position}
 use Rattle.flow_control.specs.Progress.{IsAlignedImage}
 use Rattle.flow_control.proofs.ProgressLemmas.{keeps_consumed}
 
@@ -70,11 +70,17 @@ given old new b gives is = record {
   terms = rw (ap (λ (r : Received). r.geometry) gives.same) is.terms;
 }
 
+-- what a status message names of such an image is a multiple of 32
+pub told_aligned : (r : Received) (bound : Option ℕ) → IsAlignedImage r → IsAligned (pos (told_position r bound))
+told_aligned r None is = is.consumed
+told_aligned r (Some bound) is =
+    let at = is.consumed.1 in (min is.consumed.0 (bound / 32), ap pos (omega (arith, ints, at)))
+
 -- a status message of such an image is one that may stand
-pub stands : (r : Received) (bytes receiver : ℤ) (s : StatusMessage) → IsStatusOf r bytes receiver s → pos 0 ≤ℤ bytes → IsAlignedImage r → MayStand s
-stands r bytes receiver s is least aligned =
-    let at = is.consumed in
+pub stands : (r : Received) (bound : Option ℕ) (bytes receiver : ℤ) (s : StatusMessage) → IsStatusOf r bound bytes receiver s → pos 0 ≤ℤ bytes → IsAlignedImage r → MayStand s
+stands r bound bytes receiver s is least aligned =
+    let at = is.told in
     record {
-      offset = rest_aligned _ s.consumption_term_offset r.geometry.term_length r.from at.since at.low at.sum aligned.terms aligned.consumed;
+      offset = rest_aligned _ s.consumption_term_offset r.geometry.term_length (told_position r bound) at.since at.low at.sum aligned.terms (told_aligned r bound aligned);
       window = rw is.window least;
     }

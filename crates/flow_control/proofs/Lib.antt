@@ -1,3 +1,4 @@
+mod AdmissionLemmas
 mod AlignmentLemmas
 mod ProgressLemmas
 mod RoomLemmas

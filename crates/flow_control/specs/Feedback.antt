@@ -1,5 +1,5 @@
 -- What the sender of an image is sent, and when: docs/PROTOCOL.md, "Status messages and NAKs of a receiver".
-use Rattle.std.specs.Prelude.{◌≡◌, ◌⊎◌, ◌-◌, ◌*◌, ◌^◌, ◌*ℤ◌, ◌==◌, ◌&&◌, ◌||◌, ℕ, ℤ, pos, min, nat_le, nat_lt, int_le, int_lt, not, Bool, true, false, Option, None, Some, if◌then◌else◌}
+use Rattle.std.specs.Prelude.{◌≡◌, ◌⊎◌, ◌-◌, ◌*◌, ◌/◌, ◌^◌, ◌*ℤ◌, ◌==◌, ◌&&◌, ◌||◌, ℕ, ℤ, pos, min, nat_le, nat_lt, int_le, int_lt, not, Bool, true, false, Option, None, Some, if◌then◌else◌}
 use Rattle.frame_core.specs.declared.geometry.Geometry.{Geometry}
 use Rattle.frame_core.specs.declared.status.StatusMessage.{StatusMessage}
 use Rattle.frame_core.specs.declared.nak.Nak.{Nak}
@@ -21,6 +21,15 @@ is_live time f = not (has_passed 10000 f.heard time)
 
 -- ---- status messages
 
+-- rounded down to a multiple of 32
+abbrev pub rounded_down : ℕ → ℕ
+rounded_down n = n / 32 * 32
+
+-- The position that a status message of an image names: how far its stream was consumed. With a bound it is at most the greatest multiple of 32 that is not past the bound.
+abbrev pub told_position : Received → Option ℕ → ℕ
+told_position r None = r.from
+told_position r (Some bound) = min r.from (rounded_down bound)
+
 -- a position lies before the end of the last term, so that it has a term id: a stream has 2^31 terms
 abbrev pub has_term : Geometry → ℕ → Bool
 has_term g p = int_lt (pos p) (pos (2 ^ 31) *ℤ g.term_length)
@@ -29,31 +38,31 @@ has_term g p = int_lt (pos p) (pos (2 ^ 31) *ℤ g.term_length)
 abbrev pub is_quarter : ℤ → ℕ → ℕ → Bool
 is_quarter window from to = int_le window (pos (4 * (to - from)))
 
--- no status message was sent, or the last one 200 milliseconds ago or longer, or the consumed position has moved by a quarter of the window or more since
+-- no status message was sent, or the last one 200 milliseconds ago or longer, or from the position that it named to the one that is named next it is a quarter of the window or more
 abbrev pub is_status_time : ℕ → ℤ → ℕ → Option SentStatus → Bool
-is_status_time time window consumed None = true
-is_status_time time window consumed (Some last) = has_passed 200 last.at time || is_quarter window last.position consumed
+is_status_time time window told None = true
+is_status_time time window told (Some last) = has_passed 200 last.at time || is_quarter window last.position told
 
--- a status message is due: the image is live, its publication has a window, its consumed position has a term, and it is time for it
-abbrev pub is_status_due : ℕ → ℤ → Received → Feedback → Bool
-is_status_due time most r f =
+-- a status message is due: the image is live, its publication has a window, the position that is named has a term, and it is time for it
+abbrev pub is_status_due : ℕ → ℤ → Option ℕ → Received → Feedback → Bool
+is_status_due time most bound r f =
     is_live time f
     && has_window r.geometry most
-    && has_term r.geometry r.from
-    && is_status_time time (receiver_window r.geometry most) r.from f.status
+    && has_term r.geometry (told_position r bound)
+    && is_status_time time (receiver_window r.geometry most) (told_position r bound) f.status
 
--- a status message of an image: how far its stream was consumed, and the window past that
-pub record IsStatusOf (r : Received) (bytes receiver : ℤ) (s : StatusMessage) : Type 0 where
+-- a status message of an image: how far its stream was consumed, at most up to a bound, and the window past that
+pub record IsStatusOf (r : Received) (bound : Option ℕ) (bytes receiver : ℤ) (s : StatusMessage) : Type 0 where
   pub flags : s.flags ≡ 0
   pub session_id : s.session_id ≡ r.publication.session_id
   pub stream_id : s.stream_id ≡ r.publication.stream_id
-  pub consumed : HasPosition r.geometry s.consumption_term_id s.consumption_term_offset (pos r.from)
+  pub told : HasPosition r.geometry s.consumption_term_id s.consumption_term_offset (pos (told_position r bound))
   pub window : s.receiver_window ≡ bytes
   pub receiver_id : s.receiver_id ≡ receiver
 
 -- after a status message that named this position
 abbrev pub after_status : ℕ → ℕ → Feedback → Feedback
-after_status time consumed f = record f { status = Some (record { at = time; position = consumed }) }
+after_status time told f = record f { status = Some (record { at = time; position = told }) }
 
 -- ---- NAKs
 
@@ -83,10 +92,12 @@ after_request time r f =
 -- ---- what is given
 
 -- the status message that is due, or none
-abbrev pub GivesStatus : ℕ → ℤ → ℤ → Received → Feedback → Option StatusMessage → Feedback → Type 0
-GivesStatus time most receiver_id r old None new = (is_status_due time most r old ≡ false) × (new ≡ old)
-GivesStatus time most receiver_id r old (Some s) new =
-    (is_status_due time most r old ≡ true) × IsStatusOf r (receiver_window r.geometry most) receiver_id s × (new ≡ after_status time r.from old)
+abbrev pub GivesStatus : ℕ → ℤ → Option ℕ → ℤ → Received → Feedback → Option StatusMessage → Feedback → Type 0
+GivesStatus time most bound receiver_id r old None new = (is_status_due time most bound r old ≡ false) × (new ≡ old)
+GivesStatus time most bound receiver_id r old (Some s) new =
+    (is_status_due time most bound r old ≡ true)
+    × IsStatusOf r bound (receiver_window r.geometry most) receiver_id s
+    × (new ≡ after_status time (told_position r bound) old)
 
 -- the NAK that is due, or none: nothing is missing for which there is room, or it is too early
 abbrev pub GivesRequest : ℕ → Received → Feedback → Option Nak → Feedback → Type 0

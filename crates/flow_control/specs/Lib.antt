@@ -2,5 +2,6 @@
 pub mod Windows
 pub mod Feedback
 pub mod Setups
--- What follows for an image as it moves on.
+-- What follows for an image as it moves on, and for what is admitted.
 pub mod Progress
+pub mod Admission

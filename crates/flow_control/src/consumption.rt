@@ -2,7 +2,7 @@
 
 ghost use Rattle.std.specs.Prelude.{◌≡◌, ◌<◌, ◌^◌, true};
 ghost use Rattle.image_core.specs.Received.{rebuilt};
-ghost use Rattle.flow_control.specs.Feedback.{IsStatusOf, has_term};
+ghost use Rattle.flow_control.specs.Feedback.{IsStatusOf, has_term, told_position};
 ghost use Rattle.flow_control.specs.Windows.{receiver_window};
 
 use crate::windows::receiver_window;
@@ -25,19 +25,39 @@ pub fn rebuilt(image: &BoundedImage) -> u64
     image.rebuilt() as u64
 }
 
-/// Whether the consumed position has a term id: it lies before the end of the stream's last term.
-pub fn has_term(image: &BoundedImage) -> bool
-    ensures { result ≡ has_term image.now.geometry image.now.from }
+/// The position that a status message names, in bytes of the stream: the consumed one. With a bound it is at most the
+/// greatest multiple of 32 that is not past the bound. Does not allocate.
+pub fn told_position(image: &BoundedImage, bound: Option<u64>) -> u64
+    ensures position { result ≡ told_position image.now bound }
+    ensures small { result < 2 ^ 63 }
 {
-    image.taken() < (1 << 31) * i64::from(image.geometry().term_length)
+    match bound {
+        Some(bound) => consumed(image).min(bound / 32 * 32),
+        None => consumed(image),
+    }
+}
+
+/// Whether a position of an image's stream has a term id: it lies before the end of the stream's last term.
+pub fn has_term(image: &BoundedImage, position: u64) -> bool
+    requires { position < 2 ^ 63 }
+    ensures { result ≡ has_term image.now.geometry position }
+{
+    (position as i64) < (1 << 31) * i64::from(image.geometry().term_length)
 }
 
 /// The status message of an image, with a window of at most so many bytes.
-pub fn status_of(image: &BoundedImage, most: i32, receiver_id: i64) -> StatusMessage
-    requires { has_term image.now.geometry image.now.from ≡ true }
-    ensures { IsStatusOf image.now (receiver_window image.now.geometry most) receiver_id result }
+pub fn status_of(
+    image: &BoundedImage,
+    most: i32,
+    bound: Option<u64>,
+    receiver_id: i64,
+) -> StatusMessage
+    requires { has_term image.now.geometry (told_position image.now bound) ≡ true }
+    ensures { let window = receiver_window image.now.geometry most in
+        IsStatusOf image.now bound window receiver_id result }
 {
-    let (term_id, term_offset) = term_of(image.geometry(), image.taken());
+    let told = told_position(image, bound);
+    let (term_id, term_offset) = term_of(image.geometry(), told as i64);
     StatusMessage {
         flags: 0,
         session_id: image.publication().session_id,

@@ -6,7 +6,7 @@ ghost use Rattle.flow_control.specs.Feedback.{GivesRequest, GivesStatus, is_live
 ghost use Rattle.flow_control.specs.Progress.{HasRoomWithin, IsAlignedImage};
 ghost use Rattle.flow_control.specs.Windows.{receiver_window};
 
-use crate::consumption::{consumed, has_term, rebuilt, status_of};
+use crate::consumption::{has_term, rebuilt, status_of, told_position};
 use crate::timing::{has_passed, is_quarter};
 use crate::windows::{has_window, receiver_window};
 use frame_core::{Nak, StatusMessage};
@@ -14,7 +14,7 @@ use image_core::BoundedImage;
 
 // Milliseconds after which a publication of which nothing came is not live.
 const SILENCE: u64 = 10_000;
-// Milliseconds from one status message to the next, if the consumed position hardly moves.
+// Milliseconds from one status message to the next, if the position that they name hardly moves.
 const STATUS_PAUSE: u64 = 200;
 // Milliseconds from the first NAK of a gap to the second.
 const FIRST_PAUSE: u64 = 10;
@@ -26,7 +26,7 @@ const LONGEST_PAUSE: u64 = 160;
 pub struct SentStatus {
     /// When, in milliseconds.
     pub at: u64,
-    /// The consumed position that it named, in bytes of the stream.
+    /// The position that it named, in bytes of the stream.
     pub position: u64,
 }
 
@@ -82,33 +82,36 @@ impl Feedback {
     }
 
     /// The status message that is due now, of a receiver with this id. None if no status message is due, and nothing
-    /// changes then. `most` is the bound of its window, in bytes.
+    /// changes then. `most` is the bound of its window, in bytes. `bound` is one of the position that it names, in bytes of
+    /// the stream, if there is one: the message names the consumed position, but no position past the bound.
     ///
-    /// It is due if the image is live, its publication has a window ([`window_of`](crate::window_of)), its consumed
-    /// position has a term id, and it is time for it. It is time if none was sent yet, if 200 milliseconds have passed
-    /// since the last one, or if a quarter of the window was consumed since. Does not allocate.
+    /// It is due if the image is live, its publication has a window ([`window_of`](crate::window_of)), the position that it
+    /// names has a term id, and it is time for it. It is time if none was sent yet, if 200 milliseconds have passed since
+    /// the last one, or if that named a position that is a quarter of the window or more before this one's. Does not
+    /// allocate.
     pub fn status(
         &mut self,
         now: u64,
         image: &BoundedImage,
         most: i32,
+        bound: Option<u64>,
         receiver_id: i64,
     ) -> Option<StatusMessage>
-        ensures due { GivesStatus now most receiver_id image.now self.old result self.new }
+        ensures due { GivesStatus now most bound receiver_id image.now self.old result self.new }
         // The stock and the window of the image have room for each frame that the message admits, then and later.
         ensures room { IfSome result (λ status. HasRoomWithin image.now status.receiver_window) }
         // `StatusMessage::decode` reads it.
         ensures stands { IfSome result (λ status.
             IsAlignedImage image.now → pos 0 ≤ℤ most → MayStand status) }
     {
-        if !self.is_status_due(now, image, most) {
+        if !self.is_status_due(now, image, most, bound) {
             return None;
         }
         self.status = Some(SentStatus {
             at: now,
-            position: consumed(image),
+            position: told_position(image, bound),
         });
-        Some(status_of(image, most, receiver_id))
+        Some(status_of(image, most, bound, receiver_id))
     }
 
     /// The NAK that is due now, as [`BoundedImage::request`] gives it. None if no NAK is due, and nothing changes then.
@@ -134,21 +137,23 @@ impl Feedback {
         Some(nak)
     }
 
-    /// Whether a status message is due of an image whose window has at most so many bytes: [`status`](Feedback::status) gives
-    /// one then. Does not allocate.
-    pub fn is_status_due(&self, now: u64, image: &BoundedImage, most: i32) -> bool
-        ensures { result ≡ is_status_due now most image.now self.now }
+    /// Whether a status message is due of an image whose window has at most so many bytes, and whose status messages name
+    /// no position past a bound: [`status`](Feedback::status) gives one then. Does not allocate.
+    pub fn is_status_due(
+        &self,
+        now: u64,
+        image: &BoundedImage,
+        most: i32,
+        bound: Option<u64>,
+    ) -> bool
+        ensures { result ≡ is_status_due now most bound image.now self.now }
     {
         let geometry = image.geometry();
+        let told = told_position(image, bound);
         self.is_live(now)
             && has_window(geometry, most)
-            && has_term(image)
-            && is_status_time(
-                now,
-                receiver_window(geometry, most),
-                consumed(image),
-                &self.status,
-            )
+            && has_term(image, told)
+            && is_status_time(now, receiver_window(geometry, most), told, &self.status)
     }
 
     /// Whether a NAK may go out for the gap that begins at a position.
@@ -159,13 +164,13 @@ impl Feedback {
     }
 }
 
-/// Whether it is time for a status message that names a consumed position.
-fn is_status_time(time: u64, window: i32, consumed: u64, last: &Option<SentStatus>) -> bool
-    ensures { result ≡ is_status_time time window consumed last.now }
+/// Whether it is time for a status message that names a position.
+fn is_status_time(time: u64, window: i32, told: u64, last: &Option<SentStatus>) -> bool
+    ensures { result ≡ is_status_time time window told last.now }
 {
     match last {
         Some(last) => {
-            has_passed(STATUS_PAUSE, last.at, time) || is_quarter(window, last.position, consumed)
+            has_passed(STATUS_PAUSE, last.at, time) || is_quarter(window, last.position, told)
         }
         None => true,
     }

@@ -8,6 +8,9 @@ mod setups;
 mod timing;
 mod windows;
 
+pub use consumption::told_position;
 pub use feedback::{Feedback, SentRequest, SentStatus};
 pub use setups::{SetupRequest, SetupRequests, setup_request};
-pub use windows::{INITIAL_WINDOW, LONGEST_WINDOW, SHORTEST_WINDOW, window_of};
+pub use windows::{
+    INITIAL_WINDOW, LONGEST_WINDOW, SHORTEST_WINDOW, five_sixteenths, settled_bound, window_of,
+};

@@ -1,8 +1,8 @@
 //! Receiver windows: docs/PROTOCOL.md, "Status messages and NAKs of a receiver".
 
-ghost use Rattle.std.specs.Prelude.{◌≡◌, ◌≤◌, ◌≤ℤ◌, min, SomeIff};
+ghost use Rattle.std.specs.Prelude.{◌≡◌, ◌<◌, ◌≤◌, ◌≤ℤ◌, ◌^◌, min, SomeIff};
 ghost use Rattle.image_core.specs.Received.{window};
-ghost use Rattle.flow_control.specs.Windows.{has_window, receiver_window};
+ghost use Rattle.flow_control.specs.Windows.{five_sixteenths, has_window, receiver_window, settled_bound};
 
 use frame_core::Geometry;
 use image_core::STOCK;
@@ -25,6 +25,25 @@ pub fn window_of(geometry: &Geometry, most: i32) -> Option<i32>
     } else {
         None
     }
+}
+
+/// The bound of the positions that status messages name, in bytes of the stream, for a window of at most `most` bytes and a
+/// stream that is settled up to a position: what they admit then ends at most five sixteenths of a term past that position,
+/// if the window is no longer. Does not allocate.
+pub fn settled_bound(geometry: &Geometry, most: i32, settled: u64) -> u64
+    requires { settled < 2 ^ 63 }
+    ensures { result ≡ settled_bound geometry.now most settled }
+{
+    let window = receiver_window(geometry, most);
+    (settled + five_sixteenths(geometry)).saturating_sub(u64::from(window.unsigned_abs()))
+}
+
+/// Five sixteenths of a term, in bytes. Does not allocate.
+pub fn five_sixteenths(geometry: &Geometry) -> u64
+    ensures value { result ≡ five_sixteenths geometry.now }
+    ensures small { result < 2 ^ 31 }
+{
+    u64::from(geometry.term_length.unsigned_abs()) * 5 / 16
 }
 
 /// Whether no frame of the publication is longer than its receiver window.

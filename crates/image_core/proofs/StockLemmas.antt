@@ -1,6 +1,6 @@
 -- What is held stays within the stock.
-use Rattle.std.proofs.Common.{◌≡◌, refl, ◌+◌, ◌<◌, ◌≤◌, ℕ, pos, List, [], ◌∷◌, ◌++◌, true, false, Some, None, Bool, cond, arith}
-use Rattle.std.specs.Prelude.{◌&&◌, ◌-◌, IfOk, MatchOption, OnErr, Option, Result, Ok, Err, min, unsigned_abs}
+use Rattle.std.proofs.Common.{◌≡◌, refl, ◌+◌, ◌*◌, ◌<◌, ◌≤◌, ℕ, pos, List, [], ◌∷◌, ◌++◌, true, false, Some, None, Bool, cond, arith}
+use Rattle.std.specs.Prelude.{◌&&◌, ◌-◌, IfOk, MatchOption, OnErr, Option, Result, Ok, Err, length, max, min, unsigned_abs}
 use Rattle.std.proofs.lemmas.Int.{ints}
 use Rattle.frame_core.specs.declared.nak.Nak.{Nak}
 use Rattle.frame_core.specs.declared.refusal.Refusal.{Refusal}
@@ -15,22 +15,24 @@ use Rattle.frame_core.specs.declared.block.Block.{Block}
 use Rattle.frame_core.specs.declared.block.Publication.{Publication}
 use Rattle.frame_core.specs.declared.geometry.Geometry.{Geometry}
 use Rattle.frame_core.specs.declared.setup.Setup.{Setup}
-use Rattle.frame_core.specs.FrameEncoding.{aligned_length}
+use Rattle.frame_core.specs.FrameEncoding.{HasLength, IsEncodable, aligned_length}
 use Rattle.frame_core.specs.Position.{frame_position}
 use Rattle.image_core.specs.declared.fate.Fate.TheVariants.{Drops, Joins}
 use Rattle.image_core.specs.declared.inserted.Inserted.{Inserted}
 use Rattle.image_core.specs.Insert.{TakesIn}
+use Rattle.image_core.specs.Kept.{AreMembers, AreSpaced}
+use Rattle.image_core.specs.Laws.{LieApart}
 use Rattle.image_core.specs.Rebuild.{end_of}
 use Rattle.image_core.specs.Received.{IsBegun, IsChain, Received, after_frame, fate_of, frame_fate, gap_end, heartbeat_fate, is_open, joining_position, rebuilt, received, received_all}
 use Rattle.image_core.specs.Take.{GivesBlock, IsGap}
-use Rattle.image_core.specs.Stock.{Asks, HoldsItsStock, are_near, ends_within, is_near, is_near_of, is_stocked, reach, stock_end}
+use Rattle.image_core.specs.Stock.{Asks, HoldsItsStock, are_near, ends_within, is_near, is_near_of, is_stocked, kept_bytes, kept_length, reach, stock_end}
 
 -- nothing is held of what has just begun
 pub begun_stock : (s : Setup) (r : Received) → IsBegun s r → HoldsItsStock r
 begun_stock s r begun = rw begun.begins refl
 
 -- one frame more
-stock_insert : (limit p : ℕ) (f : Frame) (ms : List (ℕ × Frame)) → list_all (is_stocked limit) ms ≡ true → p + aligned_length f ≤ limit
+stock_insert : (limit p : ℕ) (f : Frame) (ms : List (ℕ × Frame)) → list_all (is_stocked limit) ms ≡ true → p + kept_length f ≤ limit
     → list_all (is_stocked limit) (insert_entry nat_cmp ms p f) ≡ true
 stock_insert limit p f [] all fits = grind (arith, nat_tests)
 stock_insert limit p f (m ∷ ms) all fits = grind (arith, nat_tests, stock_insert limit p f ms)
@@ -46,7 +48,7 @@ joins_at : (g : Geometry) (publication : Publication) (f : Frame) (p : ℕ) → 
 unfolding joining_position
 joins_at g publication f p is = grind arith
 
-keeps_joining : (r : Received) (f : Frame) (found : Option ℕ) → HoldsItsStock r → ((p : ℕ) → found ≡ Some p → p + aligned_length f ≤ stock_end r) → Keeps r (after_frame r f (frame_fate r f found))
+keeps_joining : (r : Received) (f : Frame) (found : Option ℕ) → HoldsItsStock r → ((p : ℕ) → found ≡ Some p → p + kept_length f ≤ stock_end r) → Keeps r (after_frame r f (frame_fate r f found))
 keeps_joining r f None stock fits = record { from = refl; geometry = refl; stock = stock }
 keeps_joining r f (Some p) stock fits = joined (is_open r p (p + aligned_length f))
   where
@@ -54,20 +56,22 @@ keeps_joining r f (Some p) stock fits = joined (is_open r p (p + aligned_length 
     joined true = record { from = refl; geometry = refl; stock = stock_insert (stock_end r) p f r.joined stock (fits p refl) }
     joined false = record { from = refl; geometry = refl; stock = stock }
 
-near_ends : (limit p : ℕ) (f : Frame) (found : Option ℕ) → ends_within limit f found ≡ true → found ≡ Some p → p + aligned_length f ≤ limit
-near_ends limit p f None near is = absurd cc
-near_ends limit p f (Some q) near is = let same : q ≡ p = cc in grind (arith, nat_tests)
+near_ends : (limit size p : ℕ) (found : Option ℕ) → ends_within limit size found ≡ true → found ≡ Some p → p + size ≤ limit
+near_ends limit size p None near is = absurd cc
+near_ends limit size p (Some q) near is = let same : q ≡ p = cc in grind (arith, nat_tests)
 
 keeps_told : (r : Received) (f : Frame) (found : Option ℕ) → HoldsItsStock r → Keeps r (after_frame r f (heartbeat_fate found))
 keeps_told r f None stock = record { from = refl; geometry = refl; stock = stock }
 keeps_told r f (Some p) stock = record { from = refl; geometry = refl; stock = stock }
 
-keeps_of : (kind : FrameKind) (r : Received) (f : Frame) → HoldsItsStock r → is_near_of kind r.geometry (stock_end r) f ≡ true → Keeps r (after_frame r f (fate_of kind r f))
-keeps_of Pad r f stock near =
-    keeps_joining r f (joining_position r.geometry r.publication f) stock (λ p is. near_ends (stock_end r) p f (frame_position r.geometry f) near (joins_at r.geometry r.publication f p is))
-keeps_of Message r f stock near =
-    keeps_joining r f (joining_position r.geometry r.publication f) stock (λ p is. near_ends (stock_end r) p f (frame_position r.geometry f) near (joins_at r.geometry r.publication f p is))
-keeps_of Heartbeat r f stock near = keeps_told r f _ stock
+keeps_of : (kind : FrameKind) (r : Received) (f : Frame) → f.kind ≡ kind → HoldsItsStock r → is_near_of kind r.geometry (stock_end r) f ≡ true → Keeps r (after_frame r f (fate_of kind r f))
+keeps_of Pad r f is stock near =
+    keeps_joining r f (joining_position r.geometry r.publication f) stock
+    (λ p at. rw is (near_ends (stock_end r) 32 p (frame_position r.geometry f) near (joins_at r.geometry r.publication f p at)))
+keeps_of Message r f is stock near =
+    keeps_joining r f (joining_position r.geometry r.publication f) stock
+    (λ p at. rw is (near_ends (stock_end r) (aligned_length f) p (frame_position r.geometry f) near (joins_at r.geometry r.publication f p at)))
+keeps_of Heartbeat r f is stock near = keeps_told r f _ stock
 
 both_true : (a b : Bool) → a && b ≡ true → (a ≡ true) × (b ≡ true)
 both_true true b is = (refl, is)
@@ -78,7 +82,7 @@ pub keeps_all : (r : Received) (fs : List Frame) → HoldsItsStock r → are_nea
 keeps_all r [] stock near = stock
 keeps_all r (f ∷ fs) stock near =
     let parts = both_true (is_near r.geometry (stock_end r) f) (are_near r fs) near in
-    let one = keeps_of f.kind r f stock parts.0 in
+    let one = keeps_of f.kind r f refl stock parts.0 in
     keeps_all (received r f) fs one.stock (rw (one.geometry, one.from) parts.1)
 
 -- the rest of what is held, where the stock goes further
@@ -109,6 +113,55 @@ pub offered_any : (old new : Received) (fs : List Frame) (result : Result Insert
     → OnErr result (new ≡ old) → HoldsItsStock new
 offered_any old new fs (Ok i) stock near takes same = rw takes.after (keeps_all old fs stock near)
 offered_any old new fs (Err refusal) stock near takes same = rw same stock
+
+-- ---- how much is kept
+
+-- a frame that may join covers what is kept of it, at least a header
+record IsKept (f : Frame) : Type 0 where
+  some : 32 ≤ kept_length f
+  covered : kept_length f ≤ aligned_length f
+
+kept_of : (kind : FrameKind) (f : Frame) → f.kind ≡ kind → HasLength kind f.length f.payload → (kind ≡ Heartbeat → ⊥) → IsKept f
+kept_of Pad f is size held = record { some = rw is (omega arith); covered = rw is (omega (arith, ints, size.0)) }
+kept_of Message f is size held = record { some = rw is (omega (arith, ints, size)); covered = rw is (omega arith) }
+kept_of Heartbeat f is size held = absurd (held refl)
+
+-- a heartbeat may not join
+joins_kind : (g : Geometry) (publication : Publication) (f : Frame) (p : ℕ) → joining_position g publication f ≡ Some p → f.kind ≡ Heartbeat → ⊥
+unfolding joining_position
+joins_kind g publication f p at is = grind arith
+
+kept : (g : Geometry) (publication : Publication) (f : Frame) (p : ℕ) → IsEncodable f → joining_position g publication f ≡ Some p → IsKept f
+kept g publication f p encodable at = kept_of f.kind f refl encodable.length (joins_kind g publication f p at)
+
+-- what is kept of frames that lie one after another, each within a limit, lies within the limit as a whole
+kept_within : (g : Geometry) (publication : Publication) (low high limit : ℕ) (ms : List (ℕ × Frame)) → AreSpaced low high ms → AreMembers g publication ms
+    → list_all (is_stocked limit) ms ≡ true → low + kept_bytes ms ≤ max low limit
+kept_within g publication low high limit [] spaced members all = omega arith
+kept_within g publication low high limit (m ∷ ms) spaced members all =
+    let parts = both_true (is_stocked limit m) (list_all (is_stocked limit) ms) all in
+    let here : m.0 + kept_length m.1 ≤ limit = grind (arith, nat_tests, parts.0) in
+    let it = kept g publication m.1 m.0 members.0 members.1 in
+    let rest = kept_within g publication (end_of m) high limit ms spaced.3 members.2 parts.1 in
+    omega (arith, here, it.covered, rest, spaced.0)
+
+-- a header of each frame is kept
+kept_headers : (g : Geometry) (publication : Publication) (ms : List (ℕ × Frame)) → AreMembers g publication ms → 32 * length ms ≤ kept_bytes ms
+kept_headers g publication [] members = omega arith
+kept_headers g publication (m ∷ ms) members =
+    let it = kept g publication m.1 m.0 members.0 members.1 in
+    let rest = kept_headers g publication ms members.2 in omega (arith, it.some, rest)
+
+-- an image keeps no more than its stock
+pub kept_stock : (r : Received) → LieApart r.from r → HoldsItsStock r → kept_bytes r.joined ≤ 1048576
+kept_stock r apart stock =
+    let all = kept_within r.geometry r.publication r.from r.high (stock_end r) r.joined apart.spaced apart.members stock in omega (arith, all)
+
+-- and so it holds few frames
+pub kept_few : (r : Received) → LieApart r.from r → HoldsItsStock r → length r.joined ≤ 32768
+kept_few r apart stock =
+    let all = kept_stock r apart stock in
+    let headers = kept_headers r.geometry r.publication r.joined apart.members in omega (arith, all, headers)
 
 -- ---- requests
 

@@ -1,5 +1,5 @@
 -- What an image is offered, so that what nobody takes is bounded: docs/PROTOCOL.md, "Stock".
-use Rattle.std.specs.Prelude.{◌≡◌, ◌<◌, ◌≤◌, ◌+◌, ◌⊎◌, ◌+ℤ◌, ℕ, pos, min, nat_le, Bool, true, false, List, Option, Some, None}
+use Rattle.std.specs.Prelude.{◌≡◌, ◌<◌, ◌≤◌, ◌+◌, ◌⊎◌, ◌+ℤ◌, ℕ, pos, min, nat_le, Bool, true, false, List, [], ◌∷◌, Option, Some, None}
 use Rattle.std.specs.List.{list_all}
 use Rattle.frame_core.specs.declared.frame.FrameKind.{FrameKind}
 use Rattle.frame_core.specs.declared.frame.FrameKind.TheVariants.{Pad, Message, Heartbeat}
@@ -11,44 +11,57 @@ use Rattle.frame_core.specs.Nak.{HasRange}
 use Rattle.frame_core.specs.Position.{HasPosition, frame_position}
 use Rattle.image_core.specs.declared.inserted.Inserted.{Inserted}
 use Rattle.image_core.specs.Insert.{TakesIn}
-use Rattle.image_core.specs.Rebuild.{end_of}
 use Rattle.image_core.specs.Received.{Received, gap_end, rebuilt, window}
 
 -- where the stock of an image ends: 1,048,576 bytes of the stream past what was taken
 abbrev pub stock_end : Received → ℕ
 stock_end r = r.from + 1048576
 
--- a frame that begins there, if it has a position, ends at a limit at most
-abbrev pub ends_within : ℕ → Frame → Option ℕ → Bool
-ends_within limit f None = true
-ends_within limit f (Some p) = nat_le (p + aligned_length f) limit
+-- how many bytes of the stock a frame takes, from where it begins: what an image that holds it keeps in memory. Of a message it keeps all, of a pad the header, however long the range is that the pad fills. A heartbeat is never held
+abbrev pub kept_length_of : FrameKind → Frame → ℕ
+kept_length_of Pad f = 32
+kept_length_of Message f = aligned_length f
+kept_length_of Heartbeat f = 0
 
--- it is never held, or ends at a limit at most
+abbrev pub kept_length : Frame → ℕ
+kept_length f = kept_length_of f.kind f
+
+-- so many bytes from a position on, if there is one, end at a limit at most
+abbrev pub ends_within : ℕ → ℕ → Option ℕ → Bool
+ends_within limit size None = true
+ends_within limit size (Some p) = nat_le (p + size) limit
+
+-- it is never held, or what is kept of it ends at a limit at most
 abbrev pub is_near_of : FrameKind → Geometry → ℕ → Frame → Bool
-is_near_of Pad g limit f = ends_within limit f (frame_position g f)
-is_near_of Message g limit f = ends_within limit f (frame_position g f)
+is_near_of Pad g limit f = ends_within limit (kept_length_of Pad f) (frame_position g f)
+is_near_of Message g limit f = ends_within limit (kept_length_of Message f) (frame_position g f)
 is_near_of Heartbeat g limit f = true
 
 abbrev pub is_near : Geometry → ℕ → Frame → Bool
 is_near g limit f = is_near_of f.kind g limit f
 
--- each of the frames is never held, or ends within the stock
+-- each of the frames is never held, or what is kept of it ends within the stock
 abbrev pub are_near : Received → List Frame → Bool
 are_near r fs = list_all (is_near r.geometry (stock_end r)) fs
 
 -- ---- offers
 
--- The frames of a datagram are taken in where each of them ends within the stock or is never held; else they are lost.
+-- The frames of a datagram are taken in if what is kept of each of them ends within the stock. If not, they are lost.
 abbrev pub Offers : Received → List Frame → Option Inserted → Received → Type 0
 Offers old fs None new = (are_near old fs ≡ false) × (new ≡ old)
 Offers old fs (Some i) new = (are_near old fs ≡ true) × TakesIn old fs i new
 
--- no frame that is held ends past the stock
+-- of no frame that is held, what is kept ends past the stock
 abbrev pub is_stocked : ℕ → ℕ × Frame → Bool
-is_stocked limit m = nat_le (end_of m) limit
+is_stocked limit m = nat_le (m.0 + kept_length m.1) limit
 
 abbrev pub HoldsItsStock : Received → Type 0
 HoldsItsStock r = list_all (is_stocked (stock_end r)) r.joined ≡ true
+
+-- how many bytes are kept of some frames
+abbrev pub kept_bytes : List (ℕ × Frame) → ℕ
+kept_bytes [] = 0
+kept_bytes (m ∷ ms) = kept_length m.1 + kept_bytes ms
 
 -- ---- requests
 

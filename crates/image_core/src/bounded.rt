@@ -1,13 +1,13 @@
 //! An image and its stock: docs/PROTOCOL.md, "Stock".
 
-ghost use Rattle.std.specs.Prelude.{◌≡◌, ◌≢◌, ◌<◌, ◌↔◌, false, map, pos, IfErr, IfOk, IsTrue, MatchOption, OnErr};
+ghost use Rattle.std.specs.Prelude.{◌≡◌, ◌≢◌, ◌<◌, ◌≤◌, ◌↔◌, false, length, map, pos, IfErr, IfOk, IsTrue, MatchOption, OnErr};
 ghost use Rattle.frame_core.specs.Block.{AreEncodable};
 ghost use Rattle.frame_core.specs.FrameEncoding.{frame_of};
 ghost use Rattle.frame_core.specs.Setup.{IsUsable};
 ghost use Rattle.frame_core.specs.declared.refusal.Refusal.TheVariants.{NoMemory};
 ghost use Rattle.image_core.specs.Insert.{tally, uncounted};
 ghost use Rattle.image_core.specs.Received.{IsBegun, rebuilt};
-ghost use Rattle.image_core.specs.Stock.{Asks, AsksNothing, HoldsItsStock, Offers};
+ghost use Rattle.image_core.specs.Stock.{Asks, AsksNothing, HoldsItsStock, Offers, kept_bytes};
 ghost use Rattle.image_core.specs.Take.{GivesBlock};
 
 use crate::image::Image;
@@ -18,8 +18,8 @@ use frame_core::{Block, FrameRef, Geometry, Nak, Publication, Refusal, Setup};
 use std::alloc::Global;
 use std::marker::Model;
 
-/// An image that holds no frame which ends more than [`STOCK`](crate::STOCK) bytes past what was taken of it. To a contract
-/// it is the image.
+/// An image that keeps at most [`STOCK`](crate::STOCK) bytes past what was taken of it. Of each frame that it holds, what it
+/// keeps ends within the stock: a message as a whole, and the header of a pad. To a contract it is the image.
 #[derive(Drop)]
 pub struct BoundedImage {
     image: Image,
@@ -47,9 +47,9 @@ impl BoundedImage {
         Ok(BoundedImage { image })
     }
 
-    /// Offers the frames of a datagram to the image. None where one of them ends past the stock: then all are lost, as a
-    /// datagram always may be. NoMemory as of [`Image::insert_frames`]; nothing changes then. Costs a step for each frame
-    /// beside that.
+    /// Offers the frames of a datagram to the image. None if what would be kept of one of them ends past the stock: of a
+    /// message all of it, of a pad its header. Then all are lost, as a datagram always may be. NoMemory as of
+    /// [`Image::insert_frames`]; nothing changes then. Costs a step for each frame as well.
     pub fn offer(&mut self, frames: &[FrameRef<'_>]) -> Result<Option<Inserted>, Refusal>
         requires { AreEncodable (map frame_of frames.now) }
         ensures offered { IfOk result
@@ -92,11 +92,13 @@ impl BoundedImage {
         self.image.geometry()
     }
 
-    /// Where what was not taken yet begins, in bytes of the stream: nothing is held that ends further past it than the
-    /// stock. Does not allocate.
+    /// Where what was not taken yet begins, in bytes of the stream. What is kept of each held frame ends at most a stock
+    /// past it, so all that is kept is no longer than the stock, in no more than 32,768 frames. Does not allocate.
     pub fn taken(&self) -> i64
         ensures value { result ≡ pos self.now.from }
         ensures stock { HoldsItsStock self.now }
+        ensures kept { kept_bytes self.now.joined ≤ 1048576 }
+        ensures few { length self.now.joined ≤ 32768 }
     {
         self.image.taken()
     }

@@ -11,6 +11,7 @@ ghost use Rattle.frame_core.specs.Setup.{IsUsable};
 ghost use Rattle.image_core.specs.Take.{GivesBlock, IsGap};
 ghost use Rattle.image_core.specs.Received.{StandsFor};
 ghost use Rattle.image_core.specs.Insert.{Inserts, IsForeign, IsInsertRefusal, TakesIn, tally, uncounted};
+ghost use Rattle.image_core.specs.Laws.{LieApart};
 ghost use Rattle.image_core.specs.Kept.{HasTerms, IsComing, IsJoining, IsKeptImage, undone};
 ghost use Rattle.image_core.specs.Received.{IsBegun, Received, after_frame, begun, fate, frame_fate, gap_end, heartbeat_fate, is_of, is_open, joining_position, rebuilt, received, received_all};
 
@@ -101,10 +102,12 @@ impl Image {
         }
     }
 
-    /// Where what was not taken yet begins, in bytes of the stream. Does not allocate.
+    /// Where what was not taken yet begins, in bytes of the stream. The held frames lie one after another from there on.
+    /// Does not allocate.
     pub fn taken(&self) -> i64
         ensures value { result ≡ pos self.now.from }
         ensures small { self.now.from ≤ 2 ^ 61 }
+        ensures apart { LieApart self.now.from self.now }
     {
         self.from as i64
     }

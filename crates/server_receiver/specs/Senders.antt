@@ -79,7 +79,7 @@ module _ {E : Type 0} (puts : E → SocketAddr → List ℕ → E → Type 0) wh
   abbrev pub TellsStatus : Bool → ℕ → Receiver → Received → SocketAddr → Feedback → E → Feedback → E → Type 0
   TellsStatus is_recorded now receiver image to old end new later =
       MatchBool is_recorded
-      ((status : Option StatusMessage) × GivesStatus now receiver.window receiver.id image old status new × PutsStatus to status end later)
+      ((status : Option StatusMessage) × GivesStatus now receiver.window None receiver.id image old status new × PutsStatus to status end later)
       ((new ≡ old) × (later ≡ end))
 
   -- then the NAK that is due
@@ -126,7 +126,7 @@ module _ {E : Type 0} (puts : E → SocketAddr → List ℕ → E → Type 0) wh
 -- a status message is due to the sender of an image, if it is recorded
 abbrev pub is_status_due_to : Option ImageSender → ℕ → ℤ → Received → Bool
 is_status_due_to None now window image = false
-is_status_due_to (Some sender) now window image = is_status_due now window image sender.feedback
+is_status_due_to (Some sender) now window image = is_status_due now window None image sender.feedback
 
 -- ---- what is given back
 

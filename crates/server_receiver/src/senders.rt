@@ -134,7 +134,7 @@ fn tell_status<E: SenderEnd>(
     if !is_recorded {
         return;
     }
-    if let Some(status) = feedback.status(now, image, receiver.window, receiver.id) {
+    if let Some(status) = feedback.status(now, image, receiver.window, None, receiver.id) {
         end.put(&status.encode(), to);
     }
 }
@@ -235,7 +235,7 @@ impl Senders {
         match self.senders.as_slice().get(index) {
             Some(sender) => sender
                 .feedback
-                .is_status_due(now, image, self.receiver.window),
+                .is_status_due(now, image, self.receiver.window, None),
             None => false,
         }
     }

@@ -2,7 +2,7 @@
 
 use crate::images::{datagram, message};
 use crate::vectors::{HEARTBEAT_AT_256, HELLO_AT_0, HELLO_AT_128, SETUP};
-use frame_core::{Refusal, Setup, frames_of_datagram};
+use frame_core::{Frame, FrameKind, Refusal, Setup, frames_of_datagram};
 use image_core::{BoundedImage, Inserted};
 use std::alloc::{AllocError, Global};
 use std::process::Abort;
@@ -67,6 +67,171 @@ fn what_ends_past_the_stock_is_lost(rt: HostRuntime) -> Result<(), Fail> {
     let mut image = joined(rt.alloc())?;
     fill(&rt, rt.alloc(), &mut image)?;
     check_stock(&rt, rt.alloc(), &mut image)
+}
+
+/// An image of a stream with terms of so many bytes that nothing came of.
+fn joined_in(alloc: Global, term_length: i32) -> Result<BoundedImage, Refusal> {
+    let mut setup = Setup::decode(&SETUP)?;
+    setup.term_length = term_length;
+    BoundedImage::from_setup(alloc, &setup)
+}
+
+/// A pad in term 42.
+fn pad(alloc: Global, offset: i32, length: i32) -> Result<Frame, AllocError> {
+    let mut frame = message(alloc, 42, offset, &[])?;
+    frame.kind = FrameKind::Pad;
+    frame.length = length;
+    Ok(frame)
+}
+
+/// Whether a frame that comes alone is held, if it isn't lost.
+fn holds(alloc: Global, image: &mut BoundedImage, frame: &Frame) -> Result<Option<bool>, Fail> {
+    let bytes = datagram(alloc, frame)?;
+    let inserted = offer(alloc, image, &bytes)?;
+    Ok(inserted.map(|inserted: Inserted| inserted.held == 1))
+}
+
+/// The same of a pad.
+fn holds_pad(
+    alloc: Global,
+    image: &mut BoundedImage,
+    offset: i32,
+    length: i32,
+) -> Result<Option<bool>, Fail> {
+    let frame = pad(alloc, offset, length)?;
+    holds(alloc, image, &frame)
+}
+
+/// The same of a message of 1,024 bytes.
+fn holds_message(
+    alloc: Global,
+    image: &mut BoundedImage,
+    offset: i32,
+) -> Result<Option<bool>, Fail> {
+    let frame = message(alloc, 42, offset, &[0; 992])?;
+    holds(alloc, image, &frame)
+}
+
+/// Terms, pads of up to half a term in them, and what becomes of a message past two of 1,024 bytes and the pad: where it
+/// begins, and whether it is held, if it isn't lost, before anything is taken.
+const PADS: [(i32, i32, i32, Option<bool>); 5] = [
+    (1_048_576, 524_288, 526_336, Some(true)),
+    (4_194_304, 1_048_608, 1_050_656, None),
+    (4_194_304, 2_097_152, 2_099_200, None),
+    (16_777_216, 1_114_112, 1_116_160, None),
+    (16_777_216, 8_388_608, 8_390_656, None),
+];
+
+/// A pad comes alone, and is taken.
+fn check_alone(
+    rt: &impl Abort,
+    alloc: Global,
+    image: &mut BoundedImage,
+    length: i32,
+) -> Result<(), Fail> {
+    assert!(rt;
+        holds_pad(alloc, image, 0, length)? == Some(true),
+        "of {length}"
+    );
+    assert!(rt; image.rebuilt() == i64::from(length) && image.request().is_none());
+    assert!(rt; frames_taken(image)? == 1 && image.taken() == i64::from(length));
+    Ok(())
+}
+
+#[test]
+fn long_pads_go_through_alone(rt: HostRuntime) -> Result<(), Fail> {
+    for (term_length, length, next, is_held) in PADS {
+        let _ = (next, is_held);
+        let mut image = joined_in(rt.alloc(), term_length)?;
+        check_alone(&rt, rt.alloc(), &mut image, length)?;
+    }
+    Ok(())
+}
+
+/// Two messages come, and a pad.
+fn pad_after_two(
+    rt: &impl Abort,
+    alloc: Global,
+    image: &mut BoundedImage,
+    length: i32,
+) -> Result<(), Fail> {
+    assert!(rt; holds_message(alloc, image, 0)? == Some(true));
+    assert!(rt; holds_message(alloc, image, 1_024)? == Some(true));
+    assert!(rt;
+        holds_pad(alloc, image, 2_048, length)? == Some(true),
+        "of {length}"
+    );
+    assert!(rt; image.rebuilt() == 2_048 + i64::from(length));
+    Ok(())
+}
+
+/// They are taken as two blocks, and a message past them that was lost is held then.
+fn check_after_frames(
+    rt: &impl Abort,
+    alloc: Global,
+    image: &mut BoundedImage,
+    next: i32,
+    is_held: Option<bool>,
+) -> Result<(), Fail> {
+    assert!(rt;
+        holds_message(alloc, image, next)? == is_held,
+        "before {next} is reached"
+    );
+    assert!(rt; frames_taken(image)? == 2 && image.taken() == 2_048);
+    assert!(rt; frames_taken(image)? == 1 && image.taken() == i64::from(next));
+    assert!(rt; holds_message(alloc, image, next)? == Some(is_held.is_none()));
+    assert!(rt; frames_taken(image)? == 1 && image.taken() == 1_024 + i64::from(next));
+    Ok(())
+}
+
+#[test]
+fn long_pads_go_through_after_frames(rt: HostRuntime) -> Result<(), Fail> {
+    for (term_length, length, next, is_held) in PADS {
+        let mut image = joined_in(rt.alloc(), term_length)?;
+        pad_after_two(&rt, rt.alloc(), &mut image, length)?;
+        check_after_frames(&rt, rt.alloc(), &mut image, next, is_held)?;
+    }
+    Ok(())
+}
+
+/// 1,023 messages of 1,024 bytes come, and one of so many more than its header.
+fn nearly_fill(
+    rt: &impl Abort,
+    alloc: Global,
+    image: &mut BoundedImage,
+    last: &[u8],
+) -> Result<(), Fail> {
+    for number in 0..1_023 {
+        assert!(rt;
+            holds_message(alloc, image, number * 1_024)? == Some(true),
+            "at {number}"
+        );
+    }
+    let frame = message(alloc, 42, 1_047_552, last)?;
+    assert!(rt; holds(alloc, image, &frame)? == Some(true));
+    Ok(())
+}
+
+/// The last 32 bytes of the stock are room for the header of a pad of half a term.
+#[test]
+fn a_pad_takes_32_bytes_of_the_stock(rt: HostRuntime) -> Result<(), Fail> {
+    let mut image = joined_in(rt.alloc(), 16_777_216)?;
+    nearly_fill(&rt, rt.alloc(), &mut image, &[0; 960])?;
+    assert!(rt; holds_message(rt.alloc(), &mut image, 1_048_544)?.is_none());
+    assert!(rt; holds_pad(rt.alloc(), &mut image, 1_048_544, 8_388_608)? == Some(true));
+    assert!(rt; image.rebuilt() == 9_437_152 && image.taken() == 0);
+    Ok(())
+}
+
+/// A full stock has no room for a pad of 32 bytes. Once a block is taken, it has room for one of half a term.
+#[test]
+fn a_full_stock_has_no_room_for_a_pad(rt: HostRuntime) -> Result<(), Fail> {
+    let mut image = joined_in(rt.alloc(), 16_777_216)?;
+    nearly_fill(&rt, rt.alloc(), &mut image, &[0; 992])?;
+    assert!(rt; holds_pad(rt.alloc(), &mut image, 1_048_576, 32)?.is_none());
+    assert!(rt; frames_taken(&mut image)? == 64);
+    assert!(rt; holds_pad(rt.alloc(), &mut image, 1_048_576, 8_388_608)? == Some(true));
+    Ok(())
 }
 
 /// How many bytes the request of an image asks for.

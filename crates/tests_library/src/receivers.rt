@@ -2,7 +2,9 @@
 
 use crate::bounded_images::{joined, offer};
 use crate::vectors::HEARTBEAT_AT_256;
-use flow_control::{Feedback, INITIAL_WINDOW, SetupRequests, setup_request, window_of};
+use flow_control::{
+    Feedback, INITIAL_WINDOW, SetupRequests, settled_bound, setup_request, window_of,
+};
 use frame_core::{Geometry, Nak, Publication, Refusal, StatusMessage};
 use image_core::BoundedImage;
 use std::alloc::Global;
@@ -88,7 +90,7 @@ fn said(consumed: i32) -> StatusMessage {
 
 /// What is due of an image now.
 fn due(feedback: &mut Feedback, now: u64, image: &BoundedImage) -> Option<StatusMessage> {
-    feedback.status(now, image, INITIAL_WINDOW, 9)
+    feedback.status(now, image, INITIAL_WINDOW, None, 9)
 }
 
 /// A pad comes and is given as a block.
@@ -136,6 +138,65 @@ fn status_messages_follow_the_clock_and_the_stream(rt: HostRuntime) -> Result<()
     check_quarter(&rt, rt.alloc(), &mut feedback, &mut image)?;
     check_silence(&rt, &mut feedback, &image);
     Ok(())
+}
+
+/// What is due of an image now, if its status messages name no position past a bound.
+fn due_up_to(
+    feedback: &mut Feedback,
+    now: u64,
+    image: &BoundedImage,
+    bound: u64,
+) -> Option<StatusMessage> {
+    feedback.status(now, image, INITIAL_WINDOW, Some(bound), 9)
+}
+
+/// Messages of an image of which 8,192 bytes are consumed: what they name is at most the bound, and a multiple of 32. What
+/// counts for a quarter of the window is what they name.
+fn check_bounds(rt: &impl Abort, image: &BoundedImage) {
+    let mut feedback = Feedback::new(0);
+    for (now, bound, told) in [
+        (0, 0, Some(0)),
+        (1, 8_191, None),
+        (200, 31, Some(0)),
+        (201, 8_191, None),
+        (202, 8_224, Some(8_192)),
+        (203, 1_000_000, None),
+        (402, 63, Some(32)),
+    ] {
+        let due = due_up_to(&mut feedback, now, image, bound);
+        assert!(rt; due == told.map(|told: i32| said(told)), "at {now}");
+    }
+}
+
+#[test]
+fn status_messages_name_no_position_past_a_bound(rt: HostRuntime) -> Result<(), Fail> {
+    let mut image = joined(rt.alloc())?;
+    consume(rt.alloc(), &mut image, PAD_OF_8160)?;
+    consume(rt.alloc(), &mut image, PAD_AT_8160)?;
+    check_bounds(&rt, &image);
+    Ok(())
+}
+
+/// The bound by which nothing is admitted more than five sixteenths of a term past what is settled.
+fn bound(term_length: i32, most: i32, settled: u64) -> u64 {
+    settled_bound(
+        &Geometry {
+            initial_term_id: 0,
+            term_length,
+            mtu: 1_408,
+        },
+        most,
+        settled,
+    )
+}
+
+#[test]
+fn bounds_of_what_is_settled(rt: HostRuntime) {
+    assert!(rt; bound(65_536, 20_480, 4_096) == 4_096);
+    assert!(rt; bound(65_536, 1_408, 4_096) == 23_168);
+    assert!(rt; bound(1_048_576, 131_072, 64) == 196_672);
+    assert!(rt; bound(16_777_216, 131_072, 0) == 5_111_808);
+    assert!(rt; bound(16_777_216, 1_048_576, 0) == 4_194_304);
 }
 
 /// The window of a publication.

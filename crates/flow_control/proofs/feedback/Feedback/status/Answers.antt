@@ -15,4 +15,4 @@ pub returns-clause-stands : goal.returns-clause-stands
 returns-clause-stands c aligned least =
     let fits : FitsSigned w32 c.args.most = search rules in
     let is = simp to_z-of_z at c.status_of.ensures in
-    stands c.args.image.now (receiver_window c.args.image.now.geometry c.args.most) _ c.status_of.result is (window_low c.args.image.now.geometry c.args.most least) aligned
+    stands c.args.image.now c.args.bound (receiver_window c.args.image.now.geometry c.args.most) _ c.status_of.result is (window_low c.args.image.now.geometry c.args.most least) aligned
