@@ -43,7 +43,12 @@ impl FrameTaker for PlacedCopies {
 
     ghost leaves = { λ old new. new.frames.items ≡ old.frames.items };
 
-    fn take(&mut self, position: i64, frame: &FrameRef<'_>) -> Result<(), AllocError> {
+    fn take(
+        &mut self,
+        position: i64,
+        _header: &[u8],
+        frame: &FrameRef<'_>,
+    ) -> Result<(), AllocError> {
         let Ok(copy) = frame.to_frame(self.alloc) else {
             return Err(AllocError);
         };

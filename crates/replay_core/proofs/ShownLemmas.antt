@@ -1,7 +1,8 @@
 -- A frame in front of gathered bytes is one that the disk shows.
-use Rattle.std.proofs.Common.{◌≡◌, ◌∙◌, sym, ap, refl, ℕ, ℤ, pos, ◌+ℤ◌, ◌+◌, ◌%◌, ◌<◌, ◌≤◌, ◌&&◌, Bool, true, false, Option, Some, None, List, length, get_or, length-append, arith}
+use Rattle.std.proofs.Common.{◌≡◌, ◌∙◌, sym, ap, refl, ℕ, ℤ, pos, ◌+ℤ◌, ◌+◌, ◌%◌, ◌<◌, ◌≤◌, ◌&&◌, Bool, true, false, Option, Some, None, List, ◌++◌, length, take, get_or, length-append, append_assoc, arith}
 use Rattle.std.proofs.lemmas.Int.{ints}
 use Rattle.std.proofs.lemmas.List.{get_or_append_left}
+use Rattle.std.proofs.Math.Seq.{take-append_seam}
 use Rattle.std.specs.Prelude.{IfOk, int_le, unsigned_abs, Result, Ok, Err}
 use Rattle.disk_core.specs.DiskImage.{DiskImage, bytes_of}
 use Rattle.disk_core.specs.declared.file_id.FileId.TheVariants.{Segment}
@@ -9,9 +10,10 @@ use Rattle.frame_core.specs.declared.frame.Frame.{Frame}
 use Rattle.frame_core.specs.declared.frame.FrameKind.{FrameKind}
 use Rattle.frame_core.specs.declared.frame.FrameKind.TheVariants.{Pad, Message, Heartbeat}
 use Rattle.frame_core.specs.declared.geometry.Geometry.{Geometry}
-use Rattle.frame_core.specs.FrameEncoding.{HasLength, aligned_length, encoded}
+use Rattle.frame_core.specs.FrameEncoding.{HasLength, aligned_length, encoded, header_of}
 use Rattle.frame_core.specs.Front.{IsFront}
 use Rattle.frame_core.specs.Position.{frame_position}
+use Rattle.frame_core.proofs.FrameEncodingLemmas.{length-header_of}
 use Rattle.frame_core.proofs.FrontLemmas.{length-encoded}
 use Rattle.frame_core.proofs.PositionLemmas.{given}
 use Rattle.segment_store.specs.Layout.{IsGeometryOf, IsLayout, base_of, file_of, offset_of}
@@ -80,3 +82,14 @@ module _ (image : DiskImage) (s : Source) (g : Geometry) (limit : ℤ) (base : P
 pub answered_as : {T E : Type 0} → (result : Result T E) (P Q : T → Type 0) → ((t : T) → P t → Q t) → IfOk result P → IfOk result Q
 answered_as (Ok t) P Q so is = so t is
 answered_as (Err e) P Q so is = tt
+
+-- a frame in front begins with the 32 bytes of its header
+pub front_long : (bytes : List ℕ) (frame : Frame) (used : ℕ) → IsFront bytes frame used → 32 ≤ length bytes
+front_long bytes frame used front =
+    let whole : length bytes ≡ length (encoded frame) + length front.rest = ap length front.stands ∙ length-append (encoded frame) front.rest in
+    omega (arith, whole, length-encoded frame)
+
+pub front_bytes : (bytes : List ℕ) (frame : Frame) (used : ℕ) → IsFront bytes frame used → take 32 bytes ≡ header_of frame
+front_bytes bytes frame used front =
+    let parts : bytes ≡ header_of frame ++ (frame.payload ++ front.rest) = front.stands ∙ append_assoc (header_of frame) frame.payload front.rest in
+    ap (take 32) parts ∙ ap (λ (n : ℕ). take n (header_of frame ++ (frame.payload ++ front.rest))) (sym (length-header_of frame)) ∙ take-append_seam (header_of frame) (frame.payload ++ front.rest)

@@ -1,9 +1,11 @@
 //! What replays of a recording read from: a disk through pages. docs/STORAGE.md, "Pages" and "Damaged frames".
 
-ghost use Rattle.std.specs.Prelude.{◌≡◌, ◌⊎◌, ◌<◌, ◌^◌, IfOk, IfErr, IsErrOf, IsTrue, OnErr};
+ghost use Rattle.std.specs.Prelude.{◌≡◌, ◌⊎◌, ◌<◌, ◌^◌, ℕ, IfOk, IfErr, IsErrOf, IsTrue, OnErr};
 ghost use Rattle.disk_core.specs.DiskImage.{reads};
 ghost use Rattle.disk_core.specs.Life.{HasFailed, IsQuiet};
 ghost use Rattle.frame_core.specs.declared.refusal.Refusal.TheVariants.{DeviceFault};
+ghost use Rattle.frame_core.specs.FrameEncoding.{frame_of, header_of};
+ghost use Rattle.frame_core.specs.Front.{IsFront};
 ghost use Rattle.segment_store.specs.Layout.{IsFromStart, IsGeometryOf, IsLayout};
 ghost use Rattle.replay_core.specs.Pages.{KeepsRead, kept};
 ghost use Rattle.replay_core.specs.Taking.{HandsOne, RefusesHanding};
@@ -12,7 +14,8 @@ use crate::cache::PageCache;
 use crate::gathering::{Source, gather_frame};
 use crate::taking::FrameTaker;
 use disk_core::Disk;
-use frame_core::{Geometry, Refusal};
+use frame_core::limits::HEADER_LENGTH;
+use frame_core::{FrameRef, Geometry, Refusal};
 use segment_store::{Layout, read_frame, shown_frame};
 use std::alloc::Global;
 
@@ -84,7 +87,7 @@ impl<D> Store<'_, D> {
         gather_frame(alloc, self.disk, self.pages, &source, at, most)?;
         let bytes = self.pages.gathered.as_slice();
         if let Some(shown) = shown_frame(&self.layout, &self.geometry, at, &limit, bytes) {
-            taker.take(position, &shown)?;
+            taker.take(position, header_in(bytes, &shown), &shown)?;
             return Ok(shown.aligned_length());
         }
         let frame = read_frame(
@@ -95,7 +98,16 @@ impl<D> Store<'_, D> {
             position,
             limit,
         )?;
-        taker.take(position, &frame.as_ref())?;
+        let header = frame.header();
+        taker.take(position, &header, &frame.as_ref())?;
         Ok(frame.aligned_length())
     }
+}
+
+/// The bytes of the header of the frame that the bytes begin with.
+fn header_in<'a>(bytes: &'a [u8], frame: &FrameRef<'_>) -> &'a [u8]
+    requires { (used : ℕ) × IsFront bytes.now (frame_of frame.now) used }
+    ensures { result.now ≡ header_of (frame_of frame.now) }
+{
+    &bytes[..HEADER_LENGTH]
 }

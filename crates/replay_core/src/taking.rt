@@ -2,7 +2,7 @@
 
 ghost use Rattle.std.specs.Prelude.{◌≡◌, ◌∷◌, ◌++◌, [], ℤ, OnErr, OnOk};
 ghost use Rattle.frame_core.specs.declared.frame.Frame.{Frame};
-ghost use Rattle.frame_core.specs.FrameEncoding.{frame_of};
+ghost use Rattle.frame_core.specs.FrameEncoding.{frame_of, header_of};
 
 use frame_core::{Frame, FrameRef};
 use std::alloc::{AllocError, Global};
@@ -15,8 +15,10 @@ pub trait FrameTaker {
     /// That a take for which there is no memory may make the one taker the other.
     ghost leaves: { Self → Self → Type 0 };
 
-    /// Takes a frame that begins at a position, in bytes of the stream. AllocError where there is no memory for it.
-    fn take(&mut self, position: i64, frame: &FrameRef<'_>) -> Result<(), AllocError>
+    /// Takes a frame that begins at a position, in bytes of the stream. The bytes are those of its header: in front of its
+    /// payload they are the frame's encoding. AllocError where there is no memory for it.
+    fn take(&mut self, position: i64, header: &[u8], frame: &FrameRef<'_>) -> Result<(), AllocError>
+        requires header { header.now ≡ header_of (frame_of frame.now) }
         ensures taken { OnOk result (takes self.old position (frame_of frame.now) self.new) }
         ensures left { OnErr result (leaves self.old self.new) };
 }
@@ -35,7 +37,12 @@ impl FrameTaker for FrameCopies {
 
     ghost leaves = { λ old new. new.frames.items ≡ old.frames.items };
 
-    fn take(&mut self, _position: i64, frame: &FrameRef<'_>) -> Result<(), AllocError> {
+    fn take(
+        &mut self,
+        _position: i64,
+        _header: &[u8],
+        frame: &FrameRef<'_>,
+    ) -> Result<(), AllocError> {
         let Ok(copy) = frame.to_frame(self.alloc) else {
             return Err(AllocError);
         };

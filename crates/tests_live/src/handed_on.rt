@@ -32,7 +32,12 @@ impl FrameTaker for Starts {
 
     ghost leaves = { λ old new. Unit {0} };
 
-    fn take(&mut self, position: i64, frame: &FrameRef<'_>) -> Result<(), AllocError> {
+    fn take(
+        &mut self,
+        position: i64,
+        _header: &[u8],
+        frame: &FrameRef<'_>,
+    ) -> Result<(), AllocError> {
         if self.found.len() >= self.most {
             return Err(AllocError);
         }
