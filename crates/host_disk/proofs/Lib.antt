@@ -7,3 +7,4 @@ pub mod MarkLemmas
 pub mod FaultLemmas
 pub mod RefusedLemmas
 pub mod CloseLemmas
+mod OtherOpeningLemmas

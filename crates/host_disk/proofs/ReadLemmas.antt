@@ -41,7 +41,7 @@ nat_le_says : (m n : ℕ) → nat_le m n ≡ true → m ≤ n
 nat_le_says m n says = grind (arith, leb_tells m n, says)
 
 -- what an answer says that agrees
-agrees_says : (bytes : List ℕ) (at n : ℕ) (old new : List ℕ) → agrees bytes at n old new ≡ true
+pub agrees_says : (bytes : List ℕ) (at n : ℕ) (old new : List ℕ) → agrees bytes at n old new ≡ true
     → (new ≡ take n (drop at bytes) ++ drop n old) × (n ≤ length bytes - at) × (min 1 (min (length old) (length bytes - at)) ≤ n)
 agrees_says bytes at n old new agree =
     let parts = three_parts (bytes_eq new (take n (drop at bytes) ++ drop n old)) (nat_le n (length bytes - at)) (nat_le (min 1 (min (length old) (length bytes - at))) n) agree in

@@ -9,6 +9,7 @@ pub mod FolderDisk
 pub mod HostDisk
 pub mod ReadFolder
 pub mod ClosedDisk
+pub mod OtherOpening
 -- what only private functions say, representation, and the proof of a law
 pub mod Noted
 pub mod EventCodes

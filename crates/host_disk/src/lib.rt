@@ -9,6 +9,7 @@ pub mod folder_disk;
 pub mod host_disk;
 pub mod host_folder;
 pub mod last_fault;
+pub mod laws;
 mod looked;
 pub mod lost;
 pub mod open_fault;

@@ -14,8 +14,8 @@ use std::alloc::Global;
 use std::path::Path;
 
 /// A folder that is only read: no lock is taken, each file is opened for reading alone, and a write, a cut, a remove and a
-/// sync are faults of which the system is asked nothing. It obeys the crash model as long as nobody writes into the folder;
-/// where another process does, what is read may be of several moments.
+/// sync are faults of which the system is asked nothing. It obeys the crash model as long as nobody writes into the folder.
+/// If somebody does, what is read may be of several moments, unless all that is asked for was synced and stays.
 #[derive(Drop)]
 pub struct ReadFolder {
     folder: Looked,
