@@ -228,11 +228,14 @@ pub fn a_run_keeps_what_a_replay_reads()
         StaysRead old new n replay r }
 {}
 
-/// What a reader is shown of an image where these frames are in their places is what a poll would give: if the reader knows
-/// of the recording what it knew when it was opened, and up to where it is recorded now.
+/// What a reader is shown of an image where these frames are in their places is what a poll would give. The reader knows the
+/// recording as it was when its replay was opened, and up to where it is recorded now. As the reader goes forward, both hold
+/// from its later position on.
 pub fn what_is_read_beside_is_recorded()
     ensures known { (p : ℤ) (r new : Recording) → KeepsFrom p r new →
         KnowsFrom p (record (registration_of r) { recorded = recorded_position new }) new }
+    ensures later { (image : DiskImage) (p q : ℤ) (g : Registration) (r : Recording) → p ≤ℤ q →
+        StandFrom image p r → KnowsFrom p g r → StandFrom image q r × KnowsFrom q g r }
     ensures read { (image : DiskImage) (g : Registration) (r : Recording) (replay : OpenReplay)
         (most : ℤ)
         (frames : List PolledFrame) (end : ℕ) → IsKept r → IsTrue (is_boundary replay.next r) →

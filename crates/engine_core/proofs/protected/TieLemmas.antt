@@ -19,7 +19,7 @@ use Rattle.archive_model.specs.Replay.{is_between, placed}
 use Rattle.recording_reads.specs.Reading.{GivesShown}
 use Rattle.engine_core.specs.Protected.{KeepsFrom, KnowsFrom, StandFrom, frames_from, is_from}
 use Rattle.engine_core.proofs.files.RecoveryLemmas.{belong}
-use Rattle.engine_core.proofs.protected.FromLemmas.{all_cover, back_from}
+use Rattle.engine_core.proofs.protected.FromLemmas.{all_cover, back_from, stand_later}
 use Rattle.engine_core.proofs.replays.ReadLemmas.{SplitsAt, between_parts, bounds_edge, placed_take, splits_at}
 
 -- ---- what a reader knows of a recording
@@ -27,6 +27,13 @@ use Rattle.engine_core.proofs.replays.ReadLemmas.{SplitsAt, between_parts, bound
 -- what was known of it when it was read first, with the position up to which it is recorded now
 pub still_known : (p : ℤ) (r new : Recording) → KeepsFrom p r new → KnowsFrom p (record (registration_of r) { recorded = recorded_position new }) new
 still_known p r new k = record { id = sym k.id; stream = sym k.stream; geometry = sym k.geometry; recorded = refl; places = λ q from. sym (k.places q from) }
+
+-- from a later position on the frames stand too, and the reader knows the recording too
+pub goes_forward : (image : DiskImage) (p q : ℤ) (g : Registration) (r : Recording) → p ≤ℤ q → StandFrom image p r → KnowsFrom p g r → StandFrom image q r × KnowsFrom q g r
+goes_forward image p q g r low stand knows = (
+  stand_later image p q r low stand,
+  record { id = knows.id; stream = knows.stream; geometry = knows.geometry; recorded = knows.recorded; places = λ n from. knows.places n (omega (arith, ints, from, low)) },
+)
 
 -- a frame is shown alike where its position has the same base
 shows_alike : (image : DiskImage) (old new : Layout) (g : Geometry) (limit : ℤ) (q : ℕ) (f : Frame) → new.recording ≡ old.recording → new.stream_id ≡ old.stream_id → base_of new q ≡ base_of old q → ShowsFrame image new g limit q f → ShowsFrame image old g limit q f
