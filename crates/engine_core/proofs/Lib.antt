@@ -3,3 +3,4 @@ pub mod files
 pub mod openings
 pub mod replays
 pub mod calls
+pub mod protected

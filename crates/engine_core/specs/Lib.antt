@@ -12,6 +12,7 @@ pub mod Reading
 pub mod Shown
 pub mod Touching
 pub mod Catalogued
+pub mod Protected
 -- what only private functions say
 pub mod Moves
 pub mod KeptPages

@@ -1,6 +1,6 @@
 //! Laws of the definitions, each the contract of a function that does nothing.
 
-ghost use Rattle.std.specs.Prelude.{◌≡◌, ◌+◌, ◌++◌, ◌∷◌, ℤ, IsFalse, IsTrue, List, [], Result, Ok, Err, length, unsigned_abs};
+ghost use Rattle.std.specs.Prelude.{◌≡◌, ◌+◌, ◌++◌, ◌∷◌, ◌≤ℤ◌, ℕ, ℤ, false, IsFalse, IsTrue, List, [], Some, Result, Ok, Err, length, unsigned_abs};
 ghost use Rattle.disk_core.specs.DiskImage.{DiskImage, Files, MayLeave, begun, reads};
 ghost use Rattle.disk_core.specs.Life.{LeavesOnly, Life, MayHaveLeft, moment};
 ghost use Rattle.frame_core.specs.declared.block.Block.{Block};
@@ -9,14 +9,17 @@ ghost use Rattle.frame_core.specs.Block.{covered};
 ghost use Rattle.segment_store.specs.Layout.{IsBlockIn, IsFromStart, IsLayout, base_of, file_of};
 ghost use Rattle.segment_store.specs.Stored.{HoldsFrames};
 ghost use Rattle.archive_model.specs.declared.command.Command.{Command};
+ghost use Rattle.archive_model.specs.declared.registration.Registration.{Registration};
+ghost use Rattle.archive_model.specs.declared.reply.PolledFrame.{PolledFrame};
 ghost use Rattle.archive_model.specs.declared.reply.Reply.{Reply};
 ghost use Rattle.archive_model.specs.Acceptance.{BookState};
 ghost use Rattle.archive_model.specs.Accepting.{Accepts};
 ghost use Rattle.archive_model.specs.Commands.{after, frames_of};
 ghost use Rattle.archive_model.specs.Keyed.{Each};
 ghost use Rattle.archive_model.specs.Register.{no_recordings};
-ghost use Rattle.archive_model.specs.State.{Recording, State, register_of};
-ghost use Rattle.archive_model.specs.WellFormed.{IsWell};
+ghost use Rattle.archive_model.specs.Replay.{is_boundary, polled};
+ghost use Rattle.archive_model.specs.State.{Recording, State, recorded_position, register_of, registration_of};
+ghost use Rattle.archive_model.specs.WellFormed.{IsKept, IsWell};
 ghost use Rattle.catalogue_entries.specs.declared.entry.Entry.{Entry};
 ghost use Rattle.archive_model.specs.declared.version.BankVersion.{BankVersion};
 ghost use Rattle.catalogue_entries.specs.Fold.{AreAdmitted, after_entries, first_place};
@@ -25,17 +28,22 @@ ghost use Rattle.catalogue_log.specs.declared.bank.BankHeader.{BankHeader};
 ghost use Rattle.catalogue_log.specs.Catalogue.{IsCatalogue};
 ghost use Rattle.catalogue_log.specs.Compacting.{HasRegister, LeavesRegister};
 ghost use Rattle.catalogue_log.specs.LogState.{LogState};
+ghost use Rattle.control_core.specs.declared.callers.OpenReplay.{OpenReplay};
 ghost use Rattle.control_core.specs.declared.event.Event.{Event};
-ghost use Rattle.control_core.specs.Exact.{Archive, ArchiveEnds};
+ghost use Rattle.control_core.specs.Consistent.{IsConsistent};
+ghost use Rattle.control_core.specs.Exact.{Archive, ArchiveEnds, CallEnds, recording_at};
 ghost use Rattle.control_core.specs.Orderly.{AreLaid};
 ghost use Rattle.control_core.specs.Runs.{MayStand, StoodAmong};
+ghost use Rattle.control_core.specs.Turns.{open_replay_in};
 ghost use Rattle.engine_core.specs.Calls.{AnswersEvent, HasFailedOften, IsRun, KeepsStanding, LeavesAlone, Ran, StoodIn, WorksOn, faults_in};
 ghost use Rattle.engine_core.specs.Catalogued.{IsCatalogued, MakesRegister};
 ghost use Rattle.engine_core.specs.Consistent.{IsCrashConsistent, Stands};
 ghost use Rattle.engine_core.specs.Engine.{Content, EngineState, DiskGoesOn, archive_of};
 ghost use Rattle.engine_core.specs.Moves.{Enters, EntryLeads};
 ghost use Rattle.engine_core.specs.Opened.{HasOpened, LeavesEither};
+ghost use Rattle.engine_core.specs.Protected.{GoesOn, HasFrom, KeepOpen, KeepsFrom, KnowsFrom, StandFrom, StaysRead, closes};
 ghost use Rattle.engine_core.specs.Recovery.{IsDurable, IsSound, Recovers, last_of};
+ghost use Rattle.recording_reads.specs.Reading.{GivesShown};
 ghost use Rattle.recording_reads.specs.Recording.{layout_of};
 
 /// Every image that a crash may leave of a sound archive recovers to its state.
@@ -177,4 +185,61 @@ pub fn a_catalogue_of_the_same_register_keeps_the_state()
 pub fn admitted_entries_make_laid_recordings()
     ensures { (v : BankVersion) (entries : List Entry) → AreAdmitted (first_place v) entries →
         AreLaid (after_entries no_recordings entries) }
+{}
+
+/// While a replay is open, a call, whatever it is and whatever fails in it, leaves each recorded frame from where the replay
+/// goes on in its place, in every image that a crash at any moment of the call may leave. The archive has to work as the
+/// call begins.
+pub fn a_step_keeps_what_a_replay_reads()
+    ensures { (old new : EngineState) (c : Content) (event : Event) (outcome : Result Reply Refusal)
+        (n : ℤ)
+        (replay : OpenReplay) (r : Recording) →
+        IsCrashConsistent old.life old.log (archive_of old c) → IsTrue new.life.obeys →
+        IsFalse old.desk.is_broken → AnswersEvent old new event outcome →
+        open_replay_in old.desk n ≡ Some replay →
+        recording_at (archive_of old c) replay.recording ≡ Some r →
+        LeavesOnly old.life new.life (λ image. StandFrom image replay.next r) }
+{}
+
+/// A replay stays open until a call closes it. It is of the same recording, and goes on where it went on or past that. After
+/// any call, its recording has the frames that it had from there on, perhaps with more after them, where they were.
+pub fn a_replay_stays_open()
+    ensures goes_on { (a b : Archive) (event : Event) (outcome : Result Reply Refusal) (n : ℤ)
+        (replay : OpenReplay) →
+        IsConsistent a → open_replay_in a.desk n ≡ Some replay → closes n event outcome ≡ false →
+        CallEnds a event (Unit {0}) outcome b → GoesOn b.desk n replay }
+    ensures keeps { (a b : Archive) (event : Event) (outcome : Result Reply Refusal) (n : ℤ)
+        (replay : OpenReplay) (r : Recording) →
+        IsConsistent a → open_replay_in a.desk n ≡ Some replay →
+        recording_at a replay.recording ≡ Some r → r.descriptor.start_position ≤ℤ replay.next →
+        CallEnds a event (Unit {0}) outcome b → HasFrom replay.next replay.recording r b.state }
+{}
+
+/// So do calls one after another of which none closes the replay, also once a write among them has failed. The archive has to
+/// work as the first of them begins.
+pub fn a_run_keeps_what_a_replay_reads()
+    ensures { (old new : EngineState) (c : Content) (events : List Event) (outcomes : List
+        (Result Reply Refusal)) (n : ℤ)
+        (replay : OpenReplay) (r : Recording) →
+        IsRun old events outcomes new → IsCrashConsistent old.life old.log (archive_of old c) →
+        IsTrue new.life.obeys → IsFalse old.desk.is_broken →
+        open_replay_in old.desk n ≡ Some replay →
+        recording_at (archive_of old c) replay.recording ≡ Some r → KeepOpen n events outcomes →
+        StaysRead old new n replay r }
+{}
+
+/// What a reader is shown of an image where these frames are in their places is what a poll would give. The reader knows the
+/// recording as it was when its replay was opened, and up to where it is recorded now. As the reader goes forward, both hold
+/// from its later position on.
+pub fn what_is_read_beside_is_recorded()
+    ensures known { (p : ℤ) (r new : Recording) → KeepsFrom p r new →
+        KnowsFrom p (record (registration_of r) { recorded = recorded_position new }) new }
+    ensures later { (image : DiskImage) (p q : ℤ) (g : Registration) (r : Recording) → p ≤ℤ q →
+        StandFrom image p r → KnowsFrom p g r → StandFrom image q r × KnowsFrom q g r }
+    ensures read { (image : DiskImage) (g : Registration) (r : Recording) (replay : OpenReplay)
+        (most : ℤ)
+        (frames : List PolledFrame) (end : ℕ) → IsKept r → IsTrue (is_boundary replay.next r) →
+        StandFrom image replay.next r → KnowsFrom replay.next g r →
+        GivesShown image g replay most frames end →
+        frames ≡ polled replay.next replay.bound (unsigned_abs most) r }
 {}

@@ -56,7 +56,7 @@ belongs d limit p f at stream inside within =
     let in_limit : int_le (pos (p + aligned_length f)) limit ≡ true = search rules in
     and_true (and_true (and_true (and_true stored same) here) in_term) in_limit
 
-belong : (d : Descriptor) (limit : ℤ) (fs : List Frame) (p : ℕ) → AreContiguous (geometry_of d) (pos p) fs → Each (IsOfStream d.stream_id) fs → (pos p +ℤ pos (covered fs)) ≤ℤ limit → Belong (layout_of d) (geometry_of d) limit p fs
+pub belong : (d : Descriptor) (limit : ℤ) (fs : List Frame) (p : ℕ) → AreContiguous (geometry_of d) (pos p) fs → Each (IsOfStream d.stream_id) fs → (pos p +ℤ pos (covered fs)) ≤ℤ limit → Belong (layout_of d) (geometry_of d) limit p fs
 belong d limit [] p contiguous stream within = tt
 belong d limit (f ∷ fs) p contiguous stream within =
     let given = is_given (geometry_of d) f.term_id f.term_offset (pos p) contiguous.0 in

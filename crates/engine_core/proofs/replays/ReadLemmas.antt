@@ -189,7 +189,7 @@ between_back bound (f ∷ fs) p at low = by (int_lt (pos at) bound) refl (betwee
     by false is rest = past_bound (pos p) bound at 0 (f ∷ fs) is
 
 -- frames before the position are not between
-between_parts : (bound : ℤ) (front back : List Frame) (at q : ℕ) → q ≡ at + covered front
+pub between_parts : (bound : ℤ) (front back : List Frame) (at q : ℕ) → q ≡ at + covered front
     → Each (λ (f : Frame). 0 < aligned_length f) front
     → filter (is_between (pos q) bound) (placed (pos at) (front ++ back)) ≡ placed (pos q) (before bound q back)
 between_parts bound [] back at q is cover =
@@ -199,7 +199,7 @@ between_parts bound (f ∷ fs) back at q is cover =
     let past : nat_le q at ≡ false = (let some = cover.0 in grind (arith, nat_tests)) in
     rw past (between_parts bound fs back (at + aligned_length f) q (omega arith) cover.1)
 
-placed_take : (count at : ℕ) (fs : List Frame)
+pub placed_take : (count at : ℕ) (fs : List Frame)
     → take count (placed (pos at) fs) ≡ placed (pos at) (take count fs)
 placed_take zero at fs = refl
 placed_take (suc n) at [] = refl
