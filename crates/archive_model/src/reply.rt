@@ -38,6 +38,12 @@ pub enum Reply {
         /// The recorded position, in bytes of the stream.
         position: i64,
     },
+    /// All blocks that several recorder sessions wrote are recorded.
+    SettledAll {
+        /// The recorded position of each session's recording, in bytes of the stream, in the order of the sessions that were
+        /// named. None for a number that no open session has.
+        positions: Items<Option<i64>>,
+    },
     /// A recording stopped.
     Stopped {
         /// Its stop position, in bytes of the stream.
@@ -104,6 +110,8 @@ pub enum Reply {
     },
     /// The catalogue was written anew.
     Compacted,
+    /// The catalogue was written anew in its other bank, and recording goes on.
+    Checkpointed,
     /// A merge began.
     MergeOpened {
         /// Where, in bytes of the stream.
