@@ -36,8 +36,8 @@ use Rattle.control_core.specs.declared.request.Request.{Request}
 use Rattle.control_core.specs.Decisions.{Allows, asked_command, command_in, decision_of}
 use Rattle.control_core.specs.Turns.{MayOpen, begins_at, close_decision, open_decision, open_tests, opened_at, opening_decided, opening_in, opening_of, poll_decision, session_in, settle_decision, settle_tests, settling_of, sweep_tests, write_decision}
 use Rattle.control_core.specs.Agreement.{WroteBlocks}
-use Rattle.control_core.specs.Exact.{Archive, ArchiveEnds, DecisionEnds, Leaves, OpeningEnds, PolledEnds, PollingEnds, SettlingEnds, SweepEnds, archive_after, asked_frames, asked_opening, book_of, recording_at, settled_archive}
-use Rattle.control_core.specs.Consistent.{IsAcceptable, IsConsistent, MakesCommand, SettlesByAppend, command_asked, is_append, is_asked}
+use Rattle.control_core.specs.Exact.{Archive, ArchiveEnds, CheckpointEnds, DecisionEnds, Leaves, OpeningEnds, PolledEnds, PollingEnds, SettlingEnds, SweepEnds, archive_after, asked_frames, asked_opening, book_of, recording_at, settled_archive}
+use Rattle.control_core.specs.Consistent.{is_append, is_asked}
 use Rattle.control_core.proofs.AllowedLemmas.{differ, works_of}
 use Rattle.control_core.proofs.DecidedLemmas.{decided_accepted, held, settling_accepted, settling_session}
 use Rattle.control_core.proofs.AgreementLemmas.{asked_is}
@@ -123,35 +123,26 @@ sweep_refused : (a : Archive) (decision : Result (Unit {0}) Refusal) (refusal : 
 sweep_refused a (Err r) refusal b h = h.1
 sweep_refused a (Ok done) refusal b h = absurd (let clash = h.1.0 in cc)
 
+checkpoint_refused : (a : Archive) (decision : Result (Unit {0}) Refusal) (refusal : Refusal) (b : Archive) → CheckpointEnds a decision (Err refusal) b → b ≡ a
+checkpoint_refused a (Err r) refusal b h = h.1
+checkpoint_refused a (Ok done) refusal b (inl answered) = absurd (let clash = answered.0 in cc)
+checkpoint_refused a (Ok done) refusal b (inr (inl spare)) = spare.1
+checkpoint_refused a (Ok done) refusal b (inr (inr last)) = last.1
+
 pub refused_unchanged : (a : Archive) (event : Event) (refusal : Refusal) (b : Archive) → ArchiveEnds a event (Err refusal) b → b ≡ a
 refused_unchanged a (events.Ask request) refusal b h = decision_refused a (asked_frames a (decision_of a.desk request)) refusal b h
 refused_unchanged a (events.Write session block) refusal b (fits, says, h) = left a _ _ refusal b h
 refused_unchanged a (events.Settle session) refusal b h = settling_refused a session (settle_decision a.desk session) refusal b h
+refused_unchanged a (events.SettleAll sessions) refusal b h = left a _ _ refusal b h
 refused_unchanged a (events.ReplayOpen id position size) refusal b h = opening_refused a (asked_opening a id (open_decision a.desk id position size)) refusal b h
 refused_unchanged a (events.ReplayPoll number most) refusal b h = polling_refused a most None (poll_decision a.desk number most None) refusal b h
 refused_unchanged a (events.ReplayPollTo number most limit) refusal b h = polling_refused a most (Some limit) (poll_decision a.desk number most (Some limit)) refusal b h
 refused_unchanged a (events.ReplayClose number) refusal b h = left a _ (close_decision a.desk number) refusal b h
 refused_unchanged a events.Sweep refusal b h = sweep_refused a (checked (sweep_tests a.desk) checks (Ok tt)) refusal b h
 refused_unchanged a (events.Verify id) refusal b h = left a _ _ refusal b h
+refused_unchanged a events.Checkpoint refusal b h = checkpoint_refused a (checked (sweep_tests a.desk) checks (Ok tt)) refusal b h
 
--- ---- a call is at most one command
-
-abbrev pub MakesAtMostOne : Archive → Event → Archive → Type 0
-MakesAtMostOne a event b = (book_of b ≡ book_of a) ⊎ MakesCommand a b event
-
-same_book : (a x b : Archive) (event : Event) → b ≡ x → book_of x ≡ book_of a → MakesAtMostOne a event b
-same_book a x b event is same = inl (ap book_of is ∙ same)
-
--- the history's count and limit after a command that is no append
-counted_after : (a : Archive) (c : Command) → IsFalse (is_append c) → book_of (archive_after a c) ≡ book_after (book_of a) c
-counted_after a (commands.Start f) none = refl
-counted_after a (commands.Append id blocks) none = absurd (true≢false none)
-counted_after a (commands.Stop id timestamp) none = refl
-counted_after a (commands.Extend f) none = refl
-counted_after a (commands.Truncate id position) none = refl
-counted_after a (commands.PurgeSegments id position) none = refl
-counted_after a (commands.PurgeRecording id) none = refl
-counted_after a commands.Restart none = refl
+-- ---- what a request makes
 
 pub no_append : (c : Command) → IsTrue (is_asked c) → IsFalse (is_append c)
 no_append (commands.Start f) asked = refl
@@ -173,93 +164,3 @@ asked_works d (commands.Truncate id position) asked allows = works_of d (command
 asked_works d (commands.PurgeSegments id position) asked allows = works_of d (commands.PurgeSegments id position) refl allows
 asked_works d (commands.PurgeRecording id) asked allows = works_of d (commands.PurgeRecording id) refl allows
 asked_works d commands.Restart asked allows = absurd (true≢false (sym asked))
-
-makes : (a b : Archive) (request : Request) (c : Command) → asked_command request ≡ Some c → IsAcceptable a c × IsTrue (is_asked c) → b ≡ archive_after a c → MakesCommand a b (events.Ask request)
-makes a b request c asks (acceptable, asked) is = record { command = c; asked = asks; works = asked_works a.desk c asked acceptable.allowed; acceptable = acceptable; book = ap book_of is ∙ counted_after a c (no_append c asked); desk = ap (λ (x : Archive). x.desk) is }
-
-asked_one : (a : Archive) (request : Request) (decision : Decision) (reply : Reply) (b : Archive) → ((c : Command) → decision ≡ decisions.Accepted c → IsAcceptable a c × IsTrue (is_asked c))
-    → ((c : Command) → decision ≡ decisions.Accepted c → asked_command request ≡ Some c) → DecisionEnds a decision (Ok reply) b → MakesAtMostOne a (events.Ask request) b
-asked_one a request (decisions.Refused r) reply b accepts asks h = absurd (let clash = h.0 in cc)
-asked_one a request (decisions.Answered answer) reply b accepts asks h = same_book a a b (events.Ask request) h.1 refl
-asked_one a request (decisions.Accepted c) reply b accepts asks h = inr (makes a b request c (asks c refl) (accepts c refl) h.1)
-asked_one a request (decisions.IfBoundary id position decided) reply b accepts asks h = absurd h
-
-left_one : (a x : Archive) (event : Event) (decision : Result Reply Refusal) (reply : Reply) (b : Archive) → book_of x ≡ book_of a → Leaves a x decision (Ok reply) b → MakesAtMostOne a event b
-left_one a x event (Ok answer) reply b same h = same_book a x b event h.1 same
-left_one a x event (Err r) reply b same h = absurd (let clash = h.0 in cc)
-
--- the command that the frames let through is one that the request asks for
-framed_asked : (a : Archive) (request : Request) (decision : Decision) (c : Command) → decision_of a.desk request ≡ decision → asked_frames a decision ≡ decisions.Accepted c → asked_command request ≡ Some c
-framed_asked a request (decisions.Refused r) c is framed = absurd cc
-framed_asked a request (decisions.Answered answer) c is framed = absurd cc
-framed_asked a request (decisions.Accepted made) c is framed = asked_is a.desk request c (ap command_in is ∙ ap command_in framed)
-framed_asked a request (decisions.IfBoundary id position (Err r)) c is framed = by (begins_in (recording_at a id) position) framed
-  where
-    by : (t : Bool) → cond t (decisions.Refused r) (decisions.Refused BadPosition) ≡ decisions.Accepted c → asked_command request ≡ Some c
-    by true clash = absurd cc
-    by false clash = absurd cc
-framed_asked a request (decisions.IfBoundary id position (Ok made)) c is framed = by (begins_in (recording_at a id) position) framed
-  where
-    by : (t : Bool) → cond t (decisions.Accepted made) (decisions.Refused BadPosition) ≡ decisions.Accepted c → asked_command request ≡ Some c
-    by true same = asked_is a.desk request c (ap command_in is ∙ ap command_in same)
-    by false clash = absurd cc
-
--- what a settling of a session's blocks makes of the history's count
-settled_counts : (a : Archive) (session id : ℤ) → IsConsistent a → SettlesByAppend a session id → book_of (settled_archive a session id) ≡ book_after (book_of a) (commands.Append id (a.blocks session))
-settled_counts a session id consistent settles =
-    let blocks : List Block = a.blocks session in
-    let wrote : WroteBlocks a.desk a.state id blocks = settles.acceptable.written in
-    let by_session : desk_after a.desk (commands.Append id blocks) ≡ settled_by wrote.session (Some wrote.written) a.desk =
-    ap (λ (o : Option RecorderSession). settled o a.desk) wrote.writer ∙ ap (λ (o : Option Written). settled_by wrote.session o a.desk) wrote.has in
-    let desk : settled (session_in a.desk session) a.desk ≡ settled_by wrote.session (Some wrote.written) a.desk = sym settles.same ∙ by_session in
-    let B : DeskState → BookState = λ d. record { state = after a.state (commands.Append id blocks); counted = d.counted; limit = d.limit } in
-    ap B desk
-
--- a settling asks for the append of what its session wrote
-settling_asked : (a : Archive) (session id : ℤ) (w : Written) → settle_decision a.desk session ≡ Ok (settling.Blocks id w) → command_asked a (events.Settle session) ≡ Some (commands.Append id (a.blocks session))
-settling_asked a session id w is =
-    let settles = held (settle_tests a.desk session) checks (settling_of a.desk (session_in a.desk session)) (settling.Blocks id w) is in
-    let of = settling_session a.desk session id w (session_in a.desk session) refl settles.1 in
-    ap (option_map (λ (s : RecorderSession). commands.Append s.recording (a.blocks session))) of.found ∙ ap (λ (n : ℤ). Some (commands.Append n (a.blocks session))) of.recording
-
-settled_one : (a : Archive) (session : ℤ) (decision : Result Settling Refusal) (reply : Reply) (b : Archive) → IsConsistent a → settle_decision a.desk session ≡ decision → SettlingEnds a session decision (Ok reply) b → MakesAtMostOne a (events.Settle session) b
-settled_one a session (Err r) reply b consistent is h = absurd (let clash = h.0 in cc)
-settled_one a session (Ok (settling.Nothing position)) reply b consistent is h = same_book a a b (events.Settle session) h.1 refl
-settled_one a session (Ok (settling.Blocks id w)) reply b consistent is h =
-    let settles = settling_accepted a session id w consistent is in
-    inr (record {
-      command = commands.Append id (a.blocks session);
-      asked = settling_asked a session id w is;
-      works = works_of a.desk (commands.Append id (a.blocks session)) refl settles.acceptable.allowed;
-      acceptable = settles.acceptable;
-      book = ap book_of h.1 ∙ settled_counts a session id consistent settles;
-      desk = ap (λ (x : Archive). x.desk) h.1 ∙ sym settles.same;
-    })
-
-opened_one : (a : Archive) (event : Event) (decision : Result Opening Refusal) (reply : Reply) (b : Archive) → OpeningEnds a decision (Ok reply) b → MakesAtMostOne a event b
-opened_one a event (Err r) reply b h = absurd (let clash = h.0 in cc)
-opened_one a event (Ok o) reply b h = same_book a _ b event h.1 refl
-
-polled_one : (a : Archive) (event : Event) (replay : OpenReplay) (most : ℤ) (limit : Option ℤ) (found : Option Recording) (reply : Reply) (b : Archive) → PolledEnds a replay most limit found (Ok reply) b → MakesAtMostOne a event b
-polled_one a event replay most limit None reply b h = absurd h
-polled_one a event replay most limit (Some r) reply b h = same_book a _ b event h.1 refl
-
-polling_one : (a : Archive) (event : Event) (most : ℤ) (limit : Option ℤ) (decision : Result OpenReplay Refusal) (reply : Reply) (b : Archive) → PollingEnds a most limit decision (Ok reply) b → MakesAtMostOne a event b
-polling_one a event most limit (Err r) reply b h = absurd (let clash = h.0 in cc)
-polling_one a event most limit (Ok replay) reply b h = polled_one a event replay most limit (recording_at a replay.recording) reply b h
-
-sweep_one : (a : Archive) (decision : Result (Unit {0}) Refusal) (reply : Reply) (b : Archive) → SweepEnds a decision (Ok reply) b → MakesAtMostOne a events.Sweep b
-sweep_one a (Err r) reply b h = absurd (let clash = h.0 in cc)
-sweep_one a (Ok done) reply b h = same_book a a b events.Sweep h.1.1 refl
-
-pub at_most_one : (a : Archive) (event : Event) (reply : Reply) (b : Archive) → IsConsistent a → ArchiveEnds a event (Ok reply) b → MakesAtMostOne a event b
-at_most_one a (events.Ask request) reply b consistent h =
-    asked_one a request (asked_frames a (decision_of a.desk request)) reply b (λ c is. decided_accepted a request c consistent.agrees is) (λ c is. framed_asked a request (decision_of a.desk request) c refl is) h
-at_most_one a (events.Write session block) reply b consistent (fits, says, h) = left_one a _ (events.Write session block) (write_decision a.desk session _ fits) reply b refl h
-at_most_one a (events.Settle session) reply b consistent h = settled_one a session (settle_decision a.desk session) reply b consistent refl h
-at_most_one a (events.ReplayOpen id position size) reply b consistent h = opened_one a (events.ReplayOpen id position size) (asked_opening a id (open_decision a.desk id position size)) reply b h
-at_most_one a (events.ReplayPoll number most) reply b consistent h = polling_one a (events.ReplayPoll number most) most None (poll_decision a.desk number most None) reply b h
-at_most_one a (events.ReplayPollTo number most limit) reply b consistent h = polling_one a (events.ReplayPollTo number most limit) most (Some limit) (poll_decision a.desk number most (Some limit)) reply b h
-at_most_one a (events.ReplayClose number) reply b consistent h = left_one a _ (events.ReplayClose number) (close_decision a.desk number) reply b refl h
-at_most_one a events.Sweep reply b consistent h = sweep_one a (checked (sweep_tests a.desk) checks (Ok tt)) reply b h
-at_most_one a (events.Verify id) reply b consistent h = left_one a a (events.Verify id) _ reply b refl h

@@ -1,13 +1,15 @@
 -- An archive that is consistent still is after each call.
-use Rattle.std.proofs.Common.{◌≡◌, ◌≢◌, ◌+ℤ◌, ◌⊎◌, inl, inr, ◌&&◌, ◌||◌, ℤ, pos, negsuc, Bool, true, false, cond, List, [], ◌∷◌, ◌++◌, map, ℕ, Option, Some, None, Result, Ok, Err, refl, sym, ap, subst, ◌∙◌, true≢false, int_le, unsigned_abs}
-use Rattle.std.specs.Prelude.{IsSomeAnd, IsTrue, is_some, option_map}
+use Rattle.std.proofs.Common.{◌≡◌, ◌≢◌, ◌+ℤ◌, ◌<◌, ◌≤◌, ◌⊎◌, inl, inr, ◌&&◌, ◌||◌, not, nat_lt, nat_le, length, arith, ℤ, pos, negsuc, Bool, true, false, cond, List, [], ◌∷◌, ◌++◌, map, ℕ, Option, Some, None, Result, Ok, Err, refl, sym, ap, subst, ◌∙◌, true≢false, int_le, unsigned_abs}
+use Rattle.std.specs.Prelude.{IsFalse, IsSomeAnd, IsTrue, is_some, option_map}
 use Rattle.std.specs.Ordering.{int_eq}
+use Rattle.std.proofs.lemmas.Bool.Decides.{nat_tests}
 use Rattle.frame_core.specs.declared.refusal.Refusal.{Refusal}
 use Rattle.frame_core.specs.declared.refusal.Refusal.TheVariants.{BadPosition, DeviceFault, NoMemory}
 use Rattle.archive_model.specs.declared.command.Command.{Command}
 use Rattle.archive_model.specs.declared.command.Command.TheVariants as commands
 use Rattle.archive_model.specs.declared.registration.Registration.{Registration}
 use Rattle.archive_model.specs.declared.reply.Reply.{Reply}
+use Rattle.archive_model.specs.declared.reply.Reply.TheVariants as replies
 use Rattle.archive_model.specs.declared.version.BankVersion.{BankVersion}
 use Rattle.archive_model.specs.Keyed.{Each, Rise, change, find}
 use Rattle.archive_model.specs.Register as register
@@ -19,7 +21,7 @@ use Rattle.archive_model.specs.Acceptance.{Continue}
 use Rattle.archive_model.specs.Checks.{Tests, block_checks, checked, checks, first_checks, is_boundary_by, is_of, last_checks, passes}
 use Rattle.archive_model.specs.Commands.{after, appended}
 use Rattle.archive_model.specs.Replay.{is_boundary, polled}
-use Rattle.archive_model.proofs.AnswerLemmas.{all_hold}
+use Rattle.archive_model.proofs.AnswerLemmas.{all_hold, passed}
 use Rattle.archive_model.proofs.CommandsLemmas.{find_other}
 use Rattle.archive_model.proofs.RegisterLemmas.{each_push, found_number as number_found}
 use Rattle.archive_model.proofs.StateLemmas.{each_found, found_registration, well_after}
@@ -37,19 +39,20 @@ use Rattle.control_core.specs.Opened as opening
 use Rattle.control_core.specs.declared.turns.Settling.{Settling}
 use Rattle.control_core.specs.declared.turns.Settling.TheVariants as settling
 use Rattle.control_core.specs.Callers.{moved_to, replay_number, session_number, with_written}
-use Rattle.control_core.specs.Desk.{DeskState}
-use Rattle.control_core.specs.Changes.{after_close, after_open, after_poll, settled, settled_by}
+use Rattle.control_core.specs.Desk.{DeskState, has_room}
+use Rattle.control_core.specs.Changes.{after_close, after_open, after_poll, checkpointed, positions_each, settled, settled_by, settled_each}
 use Rattle.control_core.specs.Decisions.{decision_of}
-use Rattle.control_core.specs.Turns.{begins_at, close_decision, held_to, open_decision, open_tests, opened_at, opening_decided, opening_in, opening_of, poll_decision, poll_tests, open_replay_in, open_replay_of, session_in, settle_decision, sweep_tests, write_decision}
+use Rattle.control_core.specs.Turns.{begins_at, close_decision, held_to, open_decision, open_tests, opened_at, opening_decided, opening_in, opening_of, poll_decision, poll_tests, open_replay_in, open_replay_of, session_in, settle_all_tests, settle_decision, settle_tests, settling_by, settling_of, has_room_for_each, has_written, are_once, sweep_tests, write_decision}
 use Rattle.control_core.specs.Seats.{AreApart, KeepsSeats}
 use Rattle.control_core.specs.Agreement.{Agrees, WroteBlocks}
-use Rattle.control_core.specs.Exact.{Archive, ArchiveEnds, CallEnds, DecisionEnds, Leaves, LeftByFault, OpeningEnds, PolledEnds, PollingEnds, SettlingEnds, SweepEnds, asked_frames, asked_opening, book_of, broken, frames_end, opened_archive, recording_at, settled_archive, span_of, with_desk, with_session_blocks, written}
+use Rattle.control_core.specs.Exact.{Archive, ArchiveEnds, CallEnds, CheckpointEnds, DecisionEnds, Leaves, LeftByFault, OpeningEnds, PolledEnds, PollingEnds, SettlingEnds, SweepEnds, asked_frames, asked_opening, book_of, broken, frames_end, opened_archive, recording_at, settled_archive, settled_archives, settled_by_number, settling_in, span_of, with_desk, with_session_blocks, written}
 use Rattle.control_core.specs.Consistent.{AreAtBoundaries, HasBlocks, IsAcceptable, IsAtBoundary, IsConsistent, SettlesByAppend, StaysConsistent, StaysOpen, WroteNothing, is_asked}
 use Rattle.control_core.proofs.AgreementLemmas.{agrees}
+use Rattle.control_core.proofs.GroupLemmas.{HasRoomBehind, one_desk, room_behind, room_here, roomy, same_broken}
 use Rattle.control_core.proofs.BoundaryLemmas.{boundary_appended, boundary_polled}
 use Rattle.control_core.proofs.CallLemmas.{no_append, opening_allowed, refused_unchanged}
 use Rattle.control_core.proofs.CommandLemmas.{consistent_after, no_blocks, still_blocks}
-use Rattle.control_core.proofs.DecidedLemmas.{decided_accepted, found_number, held, settled_session, settling_accepted}
+use Rattle.control_core.proofs.DecidedLemmas.{decided_accepted, found_number, held, settled_session, settling_accepted, settling_session}
 use Rattle.control_core.proofs.DeskLemmas.{keeps_closed, keeps_moved, keeps_none, keeps_opened, keeps_settled, not_same}
 use Rattle.control_core.proofs.FoundLemmas.{each_both, each_weaker}
 use Rattle.control_core.proofs.StayLemmas.{at_changed, blocks_stay, each_changed, each_itself, each_without, goes_on_at, is_at, none_before, same_recording}
@@ -275,7 +278,83 @@ settling_sessions a session id w consistent is =
     subst (λ (x : DeskState). Each (Goes a (with_settled a session id x)) x.callers.sessions) (sym (settled_desk a session wb.session wb.written found wb.has))
     (settled_sessions a session id wb.session wb.written consistent found wb.recording)
 
+-- ---- settling several sessions
+
+-- what there is to settle of a session is decided on, where the archive works and the history has room for it
+pub decided_blocks : (a : Archive) (n id : ℤ) (w : Written) → IsFalse a.desk.is_broken → a.desk.counted < a.desk.limit → settling_in a n ≡ settling.Blocks id w → settle_decision a.desk n ≡ Ok (settling.Blocks id w)
+decided_blocks a n id w works room is =
+    let s = settling_session a.desk n id w (session_in a.desk n) refl is in
+    let d = a.desk in
+    let there : is_some (session_in d n) ≡ true = ap is_some s.found in
+    let fits : (not (has_written (session_in d n)) || has_room d) ≡ true = by (has_written (session_in d n)) in
+    let all : passes (settle_tests d n) checks ≡ true = rw (works, there, fits) refl in
+    passed (settle_tests d n) checks (Ok (settling_of d (session_in d n))) all ∙ ap Ok is
+  where
+    by : (b : Bool) → (not b || has_room a.desk) ≡ true
+    by true = grind (arith, nat_tests)
+    by false = refl
+
+-- what is settled of one of them keeps the archive consistent
+pub one_settled : (a : Archive) (n : ℤ) → IsConsistent a → IsFalse a.desk.is_broken → (has_written (session_in a.desk n) ≡ true → a.desk.counted < a.desk.limit) → StaysConsistent a (settled_by_number a n (settling_in a n))
+one_settled a n consistent works room = by (settling_in a n) refl
+  where
+    by : (s : Settling) → settling_in a n ≡ s → StaysConsistent a (settled_by_number a n s)
+    by (settling.Nothing position) is = unchanged a consistent
+    by (settling.Blocks id w) is =
+        let s = settling_session a.desk n id w (session_in a.desk n) refl is in
+        let wrote : has_written (session_in a.desk n) ≡ true = ap has_written s.found ∙ ap is_some s.written in
+        let decided = decided_blocks a n id w works (room wrote) is in
+        let by_append = settling_accepted a n id w consistent decided in
+        settles a n id consistent by_append by_append.acceptable.written (settled_session a n id w consistent decided by_append.acceptable.written)
+
+-- the others are settled behind the first one
+pub behind_one : (a : Archive) (n : ℤ) (ns : List ℤ) → IsFalse a.desk.is_broken → HasRoomBehind a.desk (n ∷ ns)
+    → IsFalse (settled_by_number a n (settling_in a n)).desk.is_broken × HasRoomBehind (settled_by_number a n (settling_in a n)).desk ns
+behind_one a n ns works room =
+    let desk = one_desk a n in (
+      ap (λ (d : DeskState). d.is_broken) desk ∙ same_broken a.desk n ∙ works,
+      subst (λ (d : DeskState). HasRoomBehind d ns) (sym desk) (room_behind a.desk n ns room),
+    )
+
+all_settled : (a : Archive) (ns : List ℤ) → IsConsistent a → IsFalse a.desk.is_broken → HasRoomBehind a.desk ns → StaysConsistent a (settled_archives ns a)
+all_settled a [] consistent works room = unchanged a consistent
+all_settled a (n ∷ ns) consistent works room =
+    let one = one_settled a n consistent works (room_here a.desk n ns room) in
+    let behind = behind_one a n ns works room in
+    let rest = all_settled (settled_by_number a n (settling_in a n)) ns one.consistent behind.0 behind.1 in
+    record { consistent = rest.consistent; boundaries = λ at_all. rest.boundaries (one.boundaries at_all) }
+
+-- what passes the checks of several sessions
+pub record MayOfAll (d : DeskState) (ns : List ℤ) : Type 0 where
+  pub works : IsFalse d.is_broken
+  pub few : nat_le (length ns) 64 ≡ true
+  pub once : are_once ns ≡ true
+  pub room : HasRoomBehind d ns
+
+pub may_of_all : (d : DeskState) (ns : List ℤ) → passes (settle_all_tests d ns) checks ≡ true → MayOfAll d ns
+may_of_all d ns all =
+    let whole : (not d.is_broken ≡ true) × (((nat_le (length ns) 64 && are_once ns) && (has_room_for_each d ns && true)) ≡ true) = both all in
+    let parts : ((nat_le (length ns) 64 && are_once ns) ≡ true) × ((has_room_for_each d ns && true) ≡ true) = both whole.1 in
+    let numbers : (nat_le (length ns) 64 ≡ true) × (are_once ns ≡ true) = both parts.0 in
+    record { works = works d.is_broken whole.0; few = numbers.0; once = numbers.1; room = roomy d ns (both parts.1).0 }
+  where
+    works : (b : Bool) → not b ≡ true → b ≡ false
+    works true is = absurd (true≢false (sym is))
+    works false is = refl
+
+group_settled : (a : Archive) (ns : List ℤ) (y : Reply) → IsConsistent a → checked (settle_all_tests a.desk ns) checks (Ok (replies.SettledAll (positions_each ns a.desk))) ≡ Ok y → StaysConsistent a (settled_archives ns a)
+group_settled a ns y consistent is =
+    let may = may_of_all a.desk ns (held (settle_all_tests a.desk ns) checks (replies.SettledAll (positions_each ns a.desk)) y is).0 in
+    all_settled a ns consistent may.works may.room
+
 -- ---- calls
+
+-- a checkpoint leaves what is recorded and written as it was
+checkpoint_consistent : (a : Archive) (decision : Result (Unit {0}) Refusal) (reply : Reply) (b : Archive) → IsConsistent a → CheckpointEnds a decision (Ok reply) b → StaysConsistent a b
+checkpoint_consistent a (Err r) reply b consistent h = absurd (let clash = h.0 in cc)
+checkpoint_consistent a (Ok done) reply b consistent (inl h) = subst (StaysConsistent a) (sym h.1) (with_replays a (checkpointed a.desk) consistent refl refl refl consistent.seats (λ at_all. at_all))
+checkpoint_consistent a (Ok done) reply b consistent (inr (inl h)) = absurd (let clash = h.0 in cc)
+checkpoint_consistent a (Ok done) reply b consistent (inr (inr h)) = absurd (let clash = h.0 in cc)
 
 asked : (a : Archive) (decision : Decision) (reply : Reply) (b : Archive) → IsConsistent a → ((c : Command) → decision ≡ decisions.Accepted c → IsAcceptable a c × IsTrue (is_asked c)) → DecisionEnds a decision (Ok reply) b → StaysConsistent a b
 asked a (decisions.Refused r) reply b consistent accepts h = absurd (let clash = h.0 in cc)
@@ -326,12 +405,14 @@ answered a (events.Ask request) reply b consistent h = asked a (asked_frames a (
 answered a (events.Write session block) reply b consistent (fits, says, h) =
     left_consistent a (written a session block) (write_decision a.desk session (span_of block) fits) reply b (λ y is. wrote a session block consistent (write_allowed a session block fits y consistent says is)) h
 answered a (events.Settle session) reply b consistent h = settled_consistent a session (settle_decision a.desk session) reply b consistent refl h
+answered a (events.SettleAll sessions) reply b consistent h = left_consistent a (settled_archives sessions a) _ reply b (λ y is. group_settled a sessions y consistent is) h
 answered a (events.ReplayOpen id position size) reply b consistent h = opened_consistent a id position size (asked_opening a id (open_decision a.desk id position size)) reply b consistent refl h
 answered a (events.ReplayPoll number most) reply b consistent h = polling_consistent a number most None (poll_decision a.desk number most None) reply b consistent refl h
 answered a (events.ReplayPollTo number most limit) reply b consistent h = polling_consistent a number most (Some limit) (poll_decision a.desk number most (Some limit)) reply b consistent refl h
 answered a (events.ReplayClose number) reply b consistent h = left_consistent a _ (close_decision a.desk number) reply b (λ y is. closed a number consistent) h
 answered a events.Sweep reply b consistent h = sweep_consistent a (checked (sweep_tests a.desk) checks (Ok tt)) reply b consistent h
 answered a (events.Verify id) reply b consistent h = left_consistent a a _ reply b (λ y is. unchanged a consistent) h
+answered a events.Checkpoint reply b consistent h = checkpoint_consistent a (checked (sweep_tests a.desk) checks (Ok tt)) reply b consistent h
 
 refused : (a : Archive) (event : Event) (refusal : Refusal) (b : Archive) → IsConsistent a → ArchiveEnds a event (Err refusal) b → StaysConsistent a b
 refused a event refusal b consistent h = subst (StaysConsistent a) (sym (refused_unchanged a event refusal b h)) (unchanged a consistent)

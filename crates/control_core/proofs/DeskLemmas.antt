@@ -70,7 +70,7 @@ each_written P n w (x ∷ ss) all = by (int_eq n (session_number x)) (each_writt
     by true rest = (all.0, all.1)
     by false rest = (all.0, rest)
 
-apart_written : (n : ℤ) (w : Option Written) (ss : List RecorderSession) → AreApart ss → AreApart (change session_number n (with_written w) ss)
+pub apart_written : (n : ℤ) (w : Option Written) (ss : List RecorderSession) → AreApart ss → AreApart (change session_number n (with_written w) ss)
 apart_written n w [] apart = tt
 apart_written n w (x ∷ ss) apart = by (int_eq n (session_number x)) (apart_written n w ss apart.1)
   where

@@ -4,7 +4,7 @@ use Rattle.std.specs.Prelude.{IsSomeAnd, IsTrue, MatchBool, is_none, is_some, no
 use Rattle.std.proofs.lemmas.Int.{ints}
 use Rattle.frame_core.specs.declared.block.Block.{Block}
 use Rattle.frame_core.specs.declared.refusal.Refusal.{Refusal}
-use Rattle.frame_core.specs.declared.refusal.Refusal.TheVariants.{BadBlock, BadPosition, Broken, StaleSession}
+use Rattle.frame_core.specs.declared.refusal.Refusal.TheVariants.{BadBlock, BadPosition, Broken, HistoryFull, NotCatalogue, StaleSession}
 use Rattle.frame_core.specs.ReplayEnd.{bound_of}
 use Rattle.archive_model.specs.declared.registration.Registration.{Registration}
 use Rattle.archive_model.specs.declared.reply.Reply.{Reply}
@@ -31,12 +31,13 @@ use Rattle.control_core.specs.Opened.{OpeningDecision}
 use Rattle.control_core.specs.Opened as opening
 use Rattle.control_core.specs.Callers.{replay_number, written_to}
 use Rattle.control_core.specs.Desk.{DeskState}
-use Rattle.control_core.specs.Changes.{after_close, after_open, after_poll, after_write, recorded_of, settled, settled_by, settled_position}
+use Rattle.control_core.specs.Changes.{after_close, after_open, after_poll, after_write, checkpointed, positions_each, recorded_of, settled, settled_by, settled_each, settled_position}
 use Rattle.control_core.specs.Decisions.{decision_of}
-use Rattle.control_core.specs.Turns.{begins_at, close_tests, continues, held_back, held_to, is_done_at, is_limit, open_tests, opened_at, opening_decided, opening_of, poll_decision, poll_tests, open_replay_in, open_replay_of, session_in, settle_tests, settling_by, settling_of, sweep_tests, verify_tests, write_tests}
-use Rattle.control_core.specs.Machine.{AtPosition, Breaks, Decided, Either, Ended, Faults, GivesFrames, Outcome, Passing, RefusesCall, Step, UnlessBoundary, Unread, recording_of}
-use Rattle.control_core.specs.Exact.{Archive, ArchiveEnds, DecisionEnds, Is, Leaves, OpeningEnds, PolledEnds, PollingEnds, SettlingEnds, SweepEnds, WriteEnds, asked_frames, asked_of, asked_opening, frames_end, frames_of_one, from_position, goes_on, plain, plain_poll, recording_at, settled_archive, span_of, told_of, with_desk, written, is_poll}
+use Rattle.control_core.specs.Turns.{begins_at, close_tests, continues, held_back, held_to, is_done_at, is_limit, open_tests, opened_at, opening_decided, opening_of, poll_decision, poll_tests, open_replay_in, open_replay_of, session_in, settle_all_tests, settle_tests, settling_by, settling_of, sweep_tests, verify_tests, write_tests}
+use Rattle.control_core.specs.Machine.{AtPosition, Breaks, Decided, Either, Ended, Faults, GivesFrames, Outcome, Passing, RefusedByBanks, RefusesCall, Step, UnlessBoundary, Unread, recording_of}
+use Rattle.control_core.specs.Exact.{Archive, ArchiveEnds, CheckpointEnds, DecisionEnds, Is, Leaves, OpeningEnds, PolledEnds, PollingEnds, SettlingEnds, SweepEnds, WriteEnds, asked_frames, asked_of, asked_opening, frames_end, frames_of_one, from_position, goes_on, plain, plain_poll, recording_at, settled_archive, settled_archives, span_of, told_of, with_desk, written, is_poll}
 use Rattle.control_core.specs.Consistent.{AreAtBoundaries, IsAtBoundary, IsConsistent}
+use Rattle.control_core.proofs.GroupLemmas.{all_desk}
 use Rattle.control_core.proofs.PollLemmas.{le_true, poll_moves}
 
 -- this answer and this archive are this outcome and its desk, however the answer is told
@@ -133,6 +134,14 @@ exact_settle a session o b h =
     passing a (SettlingEnds a session) (λ r o b h. h) (settle_tests a.desk session) checks (Ok (settling_of a.desk found)) settled_so o b
     (λ done. inl (settles a session (session_in a.desk session) o b refl done)) h
 
+exact_settle_all : (a : Archive) (ns : List ℤ) (o : Result Reply Refusal) (b : Archive) → ArchiveEnds a (events.SettleAll ns) o b → Step a.desk (asked_of (events.SettleAll ns)) (plain o) b.desk
+exact_settle_all a ns o b h =
+    let x = settled_archives ns a in
+    let answer : Result Reply Refusal = Ok (replies.SettledAll (positions_each ns a.desk)) in
+    let settled_so : Outcome → DeskState → Type 0 = Either (Ended (plain answer) (settled_each ns a.desk)) (Breaks a.desk) in
+    passing a (Leaves a x) (λ r o b h. h) (settle_all_tests a.desk ns) checks answer settled_so o b
+    (λ done. let is = told_so answer x o b done in inl (is.0, is.1 ∙ all_desk a ns)) h
+
 -- ---- opening a replay
 
 opens_behind : (a : Archive) (id position size : ℤ) (o : Result Reply Refusal) (b : Archive)
@@ -192,6 +201,18 @@ exact_verify a id o b h =
     let verified_so : Outcome → DeskState → Type 0 = λ outcome new. ((frames : ℤ) × Ended (plain (Ok (replies.Verified frames))) a.desk outcome new) ⊎ Unread a.desk outcome new in
     passing a (Leaves a a) (λ r o b h. h) (verify_tests a.desk id) checks answer verified_so o b (λ done. inl (frames_of_one (recording_at a id), told_so answer a o b done)) h
 
+-- the catalogue's banks may refuse it
+checkpoint_ends : (a : Archive) (o : Result Reply Refusal) (b : Archive) → CheckpointEnds a (Ok tt) o b
+    → Either (Ended (plain (Ok replies.Checkpointed)) (checkpointed a.desk)) (Either (RefusedByBanks a.desk) (Breaks a.desk)) (plain o) b.desk
+checkpoint_ends a o b (inl done) = inl (told_so (Ok replies.Checkpointed) (with_desk (checkpointed a.desk) a) o b done)
+checkpoint_ends a o b (inr (inl spare)) = inr (inl (inl (told_so (Err NotCatalogue) a o b spare)))
+checkpoint_ends a o b (inr (inr last)) = inr (inl (inr (told_so (Err HistoryFull) a o b last)))
+
+exact_checkpoint : (a : Archive) (o : Result Reply Refusal) (b : Archive) → ArchiveEnds a events.Checkpoint o b → Step a.desk (asked_of events.Checkpoint) (plain o) b.desk
+exact_checkpoint a o b h =
+    let anew_so : Outcome → DeskState → Type 0 = Either (Ended (plain (Ok replies.Checkpointed)) (checkpointed a.desk)) (Either (RefusedByBanks a.desk) (Breaks a.desk)) in
+    passing a (CheckpointEnds a) (λ r o b h. h) (sweep_tests a.desk) checks (Ok tt) anew_so o b (λ done. checkpoint_ends a o b done) h
+
 -- ---- polling
 
 is_done : (t : Bool) (next : ℤ) → is_none (cond t None (Some next)) ≡ t
@@ -250,9 +271,11 @@ pub exact_is_allowed : (a : Archive) (event : Event) (o : Result Reply Refusal) 
 exact_is_allowed a (events.Ask request) o b consistent h = exact_decision a (decision_of a.desk request) o b h
 exact_is_allowed a (events.Write session block) o b consistent h = exact_write a session block o b h
 exact_is_allowed a (events.Settle session) o b consistent h = exact_settle a session o b h
+exact_is_allowed a (events.SettleAll sessions) o b consistent h = exact_settle_all a sessions o b h
 exact_is_allowed a (events.ReplayOpen id position size) o b consistent h = exact_open a id position size o b h
 exact_is_allowed a (events.ReplayPoll number most) o b consistent h = let was = consistent refl in exact_poll a number most None o b was.0 was.1 h
 exact_is_allowed a (events.ReplayPollTo number most limit) o b consistent h = let was = consistent refl in exact_poll a number most (Some limit) o b was.0 was.1 h
 exact_is_allowed a (events.ReplayClose number) o b consistent h = exact_close a number o b h
 exact_is_allowed a events.Sweep o b consistent h = exact_sweep a o b h
 exact_is_allowed a (events.Verify id) o b consistent h = exact_verify a id o b h
+exact_is_allowed a events.Checkpoint o b consistent h = exact_checkpoint a o b h

@@ -21,12 +21,13 @@ use Rattle.control_core.specs.declared.turns.Opening.{Opening}
 use Rattle.control_core.specs.Opened.{OpeningDecision}
 use Rattle.control_core.specs.Opened as opening
 use Rattle.control_core.specs.Desk.{DeskState}
-use Rattle.control_core.specs.Changes.{after_open, after_write, broken_desk, settled, settled_position}
+use Rattle.control_core.specs.Changes.{after_open, after_write, broken_desk, checkpointed, positions_each, settled, settled_each, settled_position}
 use Rattle.control_core.specs.Decisions.{command_in, decision_of}
-use Rattle.control_core.specs.Turns.{begins_at, open_tests, opened_at, opening_decided, opening_of, poll_tests, open_replay_in, session_in, settle_tests, sweep_tests, verify_tests, write_tests}
-use Rattle.control_core.specs.Machine.{AtPosition, Breaks, Decided, Either, Ended, Ends, Faults, GivesFrames, Outcome, Passing, Polls, RefusesCall, Step, Stepped, UnlessBoundary, Unread, recording_of}
+use Rattle.control_core.specs.Turns.{begins_at, open_tests, opened_at, opening_decided, opening_of, poll_tests, open_replay_in, session_in, settle_all_tests, settle_tests, sweep_tests, verify_tests, write_tests, wrote_any}
+use Rattle.control_core.specs.Machine.{AtPosition, Breaks, Decided, Either, Ended, Ends, Faults, GivesFrames, Outcome, Passing, Polls, RefusedByBanks, RefusesCall, Step, Stepped, UnlessBoundary, Unread, recording_of}
 use Rattle.control_core.specs.Exact.{Archive, CallEnds, LeftByFault, MakesState, asked_of, opens_by_frames, reads_files, span_of, told_of, waits_for_frames, writes_files, is_poll}
 use Rattle.control_core.specs.Consistent.{AreAtBoundaries, IsConsistent}
+use Rattle.archive_model.proofs.WellLemmas.{both}
 use Rattle.control_core.proofs.ExactLemmas.{exact_is_allowed}
 
 -- ---- where each check holds
@@ -97,6 +98,8 @@ left_read : (a : Archive) (event : Event) (new : DeskState) → IsTrue (reads_fi
 left_read a (events.Ask request) new reads same = decided_unread a.desk (decision_of a.desk request) new reads same
 left_read a (events.Write session block) new reads same = absurd (true≢false (sym reads))
 left_read a (events.Settle session) new reads same = absurd (true≢false (sym reads))
+left_read a (events.SettleAll sessions) new reads same = absurd (true≢false (sym reads))
+left_read a events.Checkpoint new reads same = absurd (true≢false (sym reads))
 left_read a (events.ReplayOpen id position size) new reads same =
     let d = a.desk in
     let found = registration_in d.register id in
@@ -130,6 +133,13 @@ left_written a (events.Settle session) u new writes (reply, (b, ends, state)) sa
     let found = session_in a.desk session in
     let done : Ends = Either (Ended (Ok (told.Reply (replies.Settled (settled_position a.desk found)))) (settled found a.desk)) (Breaks a.desk) in
     passed_on a.desk (settle_tests a.desk session) checks done done (told.Reply reply) b.desk (Err DeviceFault) new (exact_is_allowed a (events.Settle session) (Ok reply) b (λ poll. absurd (true≢false (sym poll))) ends) (λ was. inr (inr (refl, same)))
+left_written a (events.SettleAll sessions) u new writes makes same =
+    let done : Ends = Either (Ended (Ok (told.Reply (replies.SettledAll (positions_each sessions a.desk)))) (settled_each sessions a.desk)) (Breaks a.desk) in
+    let passes_all : (passes (settle_all_tests a.desk sessions) checks ≡ true) × (wrote_any a.desk sessions ≡ true) = both writes in
+    passed a.desk (settle_all_tests a.desk sessions) checks done (Err DeviceFault) new passes_all.0 (inr (inr (refl, same)))
+left_written a events.Checkpoint u new writes makes same =
+    let done : Ends = Either (Ended (Ok (told.Reply replies.Checkpointed)) (checkpointed a.desk)) (Either (RefusedByBanks a.desk) (Breaks a.desk)) in
+    passed a.desk (sweep_tests a.desk) checks done (Err DeviceFault) new writes (inr (inr (inr (refl, same))))
 left_written a (events.ReplayOpen id position size) u new writes makes same = absurd (true≢false (sym writes))
 left_written a (events.ReplayPoll number most) u new writes makes same = absurd (true≢false (sym writes))
 left_written a (events.ReplayPollTo number most limit) u new writes makes same = absurd (true≢false (sym writes))
@@ -152,6 +162,8 @@ told_as_is : (d : DeskState) (event : Event) (refusal : Refusal) → told_of d e
 told_as_is d (events.Ask request) refusal = refl
 told_as_is d (events.Write session block) refusal = refl
 told_as_is d (events.Settle session) refusal = refl
+told_as_is d (events.SettleAll sessions) refusal = refl
+told_as_is d events.Checkpoint refusal = refl
 told_as_is d (events.ReplayOpen id position size) refusal = refl
 told_as_is d (events.ReplayPoll number most) refusal = refl
 told_as_is d (events.ReplayPollTo number most limit) refusal = refl

@@ -1,9 +1,11 @@
 -- Recordings stay laid, whatever commands make of them.
-use Rattle.std.proofs.Common.{rules, ◌≡◌, ◌∙◌, sym, ap, refl, ℕ, ℤ, pos, negsuc, ◌*◌, ◌/◌, ◌%◌, ◌^◌, ◌-◌, ◌<◌, ◌≤◌, ◌≤ℤ◌, ◌<ℤ◌, ◌&&◌, Bool, true, false, cond, true≢false, Option, Some, int_le, int_lt, nat_lt, unsigned_abs, arith}
+use Rattle.std.proofs.Common.{rules, ◌≡◌, ◌∙◌, sym, ap, refl, ℕ, ℤ, pos, negsuc, ◌*◌, ◌/◌, ◌%◌, ◌^◌, ◌-◌, ◌<◌, ◌≤◌, ◌≤ℤ◌, ◌<ℤ◌, ◌&&◌, Bool, true, false, cond, true≢false, List, [], ◌∷◌, length, Option, Some, int_le, int_lt, nat_lt, unsigned_abs, arith}
 use Rattle.std.proofs.lemmas.Int.{ints}
 use Rattle.std.proofs.lemmas.Nat.{pow-add}
 use Rattle.std.proofs.lemmas.Bool.Decides.{nat_tests}
-use Rattle.std.specs.Prelude.{◌==◌, not}
+use Rattle.std.specs.Char.{is_control}
+use Rattle.std.specs.List.{list_all, list_any}
+use Rattle.std.specs.Prelude.{◌==◌, not, chars, nat_le}
 use Rattle.frame_core.specs.FrameEncoding.{IsAligned}
 use Rattle.frame_core.specs.Limits.{is_mtu, is_term_length}
 use Rattle.frame_core.specs.Segment.{segment_base}
@@ -13,9 +15,12 @@ use Rattle.archive_model.specs.declared.registration.Change.{Change}
 use Rattle.archive_model.specs.declared.registration.Change.TheVariants as changes
 use Rattle.archive_model.specs.declared.registration.Registration.{Registration}
 use Rattle.archive_model.specs.Checks.{is_of}
-use Rattle.archive_model.specs.Descriptor.{is_in_range, is_layout, is_negative, is_origin, is_start_position}
+use Rattle.archive_model.specs.Descriptor.{is_blank, is_channel, is_in_range, is_layout, is_negative, is_origin, is_source, is_start_position}
+use Rattle.archive_model.specs.Version.{holds}
+use Rattle.archive_model.specs.declared.version.BankVersion.TheVariants.{Two}
 use Rattle.archive_model.specs.Register.{RegisterState, all_stopped, changed, changed_by, id_of, is_active, is_later_base, is_within, registered, registration_in, restarted, with_one, with_out}
 use Rattle.archive_model.proofs.RegisterLemmas.{each_map, each_push}
+use Rattle.archive_model.specs.Keyed.{Each}
 use Rattle.archive_model.proofs.StateLemmas.{each_change, each_without}
 use Rattle.archive_model.proofs.WellLemmas.{base_is_term, both}
 use Rattle.control_core.specs.Orderly.{AreLaid, IsLaid, IsLayoutIn, stream_end}
@@ -46,6 +51,7 @@ record HasRange (f : StartFields) : Type 0 where
   no_less : f.term_length ≤ℤ f.segment_length
   mtu : is_mtu f.mtu ≡ true
   start : is_start_position f.start_position f.term_length ≡ true
+  origin : is_origin f.channel f.source_identity ≡ true
 
 has_range : (f : StartFields) → is_in_range f ≡ true → HasRange f
 unfolding is_layout
@@ -56,7 +62,7 @@ has_range f range =
     let layout : ((is_term_length f.term_length && is_term_length f.segment_length) && int_le f.term_length f.segment_length ≡ true) × (is_mtu f.mtu ≡ true) = both third.0 in
     let lengths : (is_term_length f.term_length && is_term_length f.segment_length ≡ true) × (int_le f.term_length f.segment_length ≡ true) = both layout.0 in
     let each : (is_term_length f.term_length ≡ true) × (is_term_length f.segment_length ≡ true) = both lengths.0 in
-    record { term = each.0; segment = each.1; no_less = le_true f.term_length f.segment_length lengths.1; mtu = layout.1; start = third.1 }
+    record { term = each.0; segment = each.1; no_less = le_true f.term_length f.segment_length lengths.1; mtu = layout.1; start = third.1; origin = first.1 }
 
 pub laid_begun : (id : ℤ) (f : StartFields) → is_in_range f ≡ true → IsLaid (registered id f)
 laid_begun id f range =
@@ -67,21 +73,22 @@ laid_begun id f range =
         layout = record { term = has.term; segment = has.segment; no_less = has.no_less; start = units.0; start_is = units.1; in_terms = units.2 };
         mtu = has.mtu;
       };
+      origin = has.origin;
       from_start = omega (arith, ints);
       in_stream = omega (arith, ints, units.1, units.2);
       aligned = (units.0, units.1);
     }
 
 pub laid_stopped : (timestamp : ℤ) (r : Registration) → IsLaid r → IsLaid (changed_by (changes.Stop timestamp) r)
-laid_stopped timestamp r laid = record { laid_out = record { layout = laid.laid_out.layout; mtu = laid.laid_out.mtu }; from_start = laid.from_start; in_stream = laid.in_stream; aligned = laid.aligned }
+laid_stopped timestamp r laid = record { laid_out = record { layout = laid.laid_out.layout; mtu = laid.laid_out.mtu }; origin = laid.origin; from_start = laid.from_start; in_stream = laid.in_stream; aligned = laid.aligned }
 
 pub laid_extended : (session_id : ℤ) (r : Registration) → IsLaid r → IsLaid (changed_by (changes.Extend session_id) r)
-laid_extended session_id r laid = record { laid_out = record { layout = laid.laid_out.layout; mtu = laid.laid_out.mtu }; from_start = laid.from_start; in_stream = laid.in_stream; aligned = laid.aligned }
+laid_extended session_id r laid = record { laid_out = record { layout = laid.laid_out.layout; mtu = laid.laid_out.mtu }; origin = laid.origin; from_start = laid.from_start; in_stream = laid.in_stream; aligned = laid.aligned }
 
 -- recorded further, in its stream, up to a multiple of 32
 pub laid_settled : (position : ℤ) (r : Registration) → IsLaid r → r.recorded ≤ℤ position → position ≤ℤ stream_end r → IsAligned position → IsLaid (changed_by (changes.Settle position) r)
 laid_settled position r laid further inside aligned = record {
-  laid_out = record { layout = laid.laid_out.layout; mtu = laid.laid_out.mtu };
+  laid_out = record { layout = laid.laid_out.layout; mtu = laid.laid_out.mtu }; origin = laid.origin;
   from_start = omega (arith, ints, laid.from_start, further);
   in_stream = inside;
   aligned = aligned;
@@ -92,7 +99,7 @@ laid_truncated position r laid within aligned =
     let ends : (int_le r.descriptor.start_position position ≡ true) × (int_le position r.recorded ≡ true) = both within in
     let low : r.descriptor.start_position ≤ℤ position = le_true r.descriptor.start_position position ends.0 in
     let high : position ≤ℤ r.recorded = le_true position r.recorded ends.1 in
-    record { laid_out = record { layout = laid.laid_out.layout; mtu = laid.laid_out.mtu }; from_start = low; in_stream = omega (arith, ints, high, laid.in_stream); aligned = aligned }
+    record { laid_out = record { layout = laid.laid_out.layout; mtu = laid.laid_out.mtu }; origin = laid.origin; from_start = low; in_stream = omega (arith, ints, high, laid.in_stream); aligned = aligned }
 
 -- a base of a segment behind the start lies a whole number of terms into the stream
 record IsLater (r : Registration) (position : ℤ) : Type 0 where
@@ -136,6 +143,7 @@ laid_purged position r laid base =
         layout = record { term = layout.term; segment = layout.segment; no_less = layout.no_less; start = whole.0 * 2 ^ (t.0 - 5); start_is = units; in_terms = omega (arith, ints, inside) };
         mtu = laid.laid_out.mtu;
       };
+      origin = laid.origin;
       from_start = later.before;
       in_stream = laid.in_stream;
       aligned = laid.aligned;
@@ -162,3 +170,27 @@ all_stopped_laid g are = each_map IsLaid restarted g.recordings (λ r laid. laid
 -- a test of what is found holds of the recording
 pub test_of : (o : Option Registration) (test : Registration → Bool) (r : Registration) → o ≡ Some r → is_of o test ≡ true → test r ≡ true
 test_of o test r found is = ap (λ (x : Option Registration). is_of x test) (sym found) ∙ is
+
+-- ---- what a bank of version 2 can hold
+
+channel_held : (text : List ℕ) → is_channel text ≡ true → nat_le (length text) 1024 ≡ true
+unfolding is_channel
+channel_held text is =
+    let first : ((nat_le 1 (length text) && nat_le (length text) 1024) ≡ true) × (not (list_any is_control (chars text)) ≡ true) = both is in
+    (both first.0).1
+
+source_held : (text : List ℕ) → is_source text ≡ true → nat_le (length text) 128 ≡ true
+unfolding is_source
+source_held text is =
+    let first : (nat_le (length text) 128 ≡ true) × (not (list_any is_blank (chars text)) ≡ true) = both is in
+    first.0
+
+one_held : (r : Registration) → IsLaid r → holds Two r.descriptor.channel r.descriptor.source_identity ≡ true
+one_held r laid =
+    let origin : (is_channel r.descriptor.channel ≡ true) × (is_source r.descriptor.source_identity ≡ true) = both laid.origin in
+    rw (channel_held r.descriptor.channel origin.0, source_held r.descriptor.source_identity origin.1) refl
+
+-- recordings that are laid fit into a bank of version 2
+pub laid_held : (rs : List Registration) → Each IsLaid rs → list_all (λ r. holds Two r.descriptor.channel r.descriptor.source_identity) rs ≡ true
+laid_held [] are = refl
+laid_held (r ∷ rs) are = rw (one_held r are.0, laid_held rs are.1) refl

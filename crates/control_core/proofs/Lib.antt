@@ -12,6 +12,7 @@ mod KeptLemmas
 mod WaitLemmas
 pub mod AgreementLemmas
 pub mod DecidedLemmas
+pub mod GroupLemmas
 pub mod CallLemmas
 pub mod PollLemmas
 pub mod PollEventLemmas
@@ -20,6 +21,7 @@ pub mod StayLemmas
 pub mod CommandLemmas
 pub mod WriteLemmas
 pub mod ConsistentLemmas
+pub mod MadeLemmas
 pub mod ExactLemmas
 pub mod FaultLemmas
 pub mod RunLemmas

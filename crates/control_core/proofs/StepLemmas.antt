@@ -2,7 +2,7 @@
 use Rattle.std.proofs.Common.{◌≡◌, ◌≢◌, inl, inr, ◌++◌, ◌&&◌, ℤ, pos, Bool, true, false, cond, true≢false, List, [], ◌∷◌, Option, Some, None, Result, Ok, Err, refl, sym, int_le}
 use Rattle.std.specs.Prelude.{MatchBool, is_some}
 use Rattle.frame_core.specs.declared.refusal.Refusal.{Refusal}
-use Rattle.frame_core.specs.declared.refusal.Refusal.TheVariants.{BadBlock, BadPosition, DeviceFault, NoMemory}
+use Rattle.frame_core.specs.declared.refusal.Refusal.TheVariants.{BadBlock, BadPosition, DeviceFault, HistoryFull, NoMemory, NotCatalogue}
 use Rattle.frame_core.specs.ReplayEnd.{bound_of}
 use Rattle.archive_model.specs.declared.command.Command.{Command}
 use Rattle.archive_model.specs.declared.registration.Registration.{Registration}
@@ -20,10 +20,10 @@ use Rattle.control_core.specs.Decisions.{decision_of}
 use Rattle.control_core.specs.declared.callers.OpenReplay.{OpenReplay}
 use Rattle.control_core.specs.declared.turns.Opening.{Opening}
 use Rattle.control_core.specs.Opened as opening
-use Rattle.control_core.specs.Changes.{after_close, after_open, after_write, desk_after, reply_after, settled, settled_position}
+use Rattle.control_core.specs.Changes.{after_close, after_open, after_write, checkpointed, desk_after, positions_each, reply_after, settled, settled_each, settled_position}
 use Rattle.control_core.specs.Desk.{DeskState}
-use Rattle.control_core.specs.Turns.{begins_at, close_tests, is_limit, open_decision, open_tests, opened_at, opening_decided, opening_of, poll_decision, poll_tests, open_replay_in, open_replay_of, session_in, settle_tests, sweep_tests, verify_tests, write_tests}
-use Rattle.control_core.specs.Machine.{AtPosition, Breaks, Decided, Does, Either, Ended, Ends, GivesFrames, Outcome, Passing, RefusesCall, Step, Stepped, UnlessBoundary, Unread, recording_of}
+use Rattle.control_core.specs.Turns.{begins_at, close_tests, is_limit, open_decision, open_tests, opened_at, opening_decided, opening_of, poll_decision, poll_tests, open_replay_in, open_replay_of, session_in, settle_all_tests, settle_tests, sweep_tests, verify_tests, write_tests}
+use Rattle.control_core.specs.Machine.{AtPosition, Breaks, Decided, Does, Either, Ended, Ends, GivesFrames, Outcome, Passing, RefusedByBanks, RefusesCall, Step, Stepped, UnlessBoundary, Unread, recording_of}
 use Rattle.control_core.specs.ByDecision.{OpensAs, OpensBy, PollsBy, SweepsBy, VerifiesBy}
 
 -- what an answer that is checked ends with, one check after another
@@ -150,6 +150,12 @@ swept_stays d = record { is = λ refusal new other h. elim h [ inl swept ↦ swe
 verified_stays : (d : DeskState) → Stays d (VerifiesBy d (Ok tt))
 verified_stays d = record { is = λ refusal new other h. elim h [ inl counted ↦ counted.1.1 | inr unread ↦ (unread_stays d).is refusal new other unread ] }
 
+checkpoint_stays : (d : DeskState) → Stays d (Either (Ended (Ok (told.Reply replies.Checkpointed)) (checkpointed d)) (Either (RefusedByBanks d) (Breaks d)))
+checkpoint_stays d =
+    let banks : Stays d (RefusedByBanks d) = either_stays d (RefusesCall d NotCatalogue) (RefusesCall d HistoryFull) (refuses_stay d NotCatalogue) (refuses_stay d HistoryFull) in
+    either_stays d (Ended (Ok (told.Reply replies.Checkpointed)) (checkpointed d)) (Either (RefusedByBanks d) (Breaks d)) (told_stays d (checkpointed d) (told.Reply replies.Checkpointed))
+    (either_stays d (RefusedByBanks d) (Breaks d) banks (breaks_stay d))
+
 step_stays : (d : DeskState) (asked : Asked) → Stays d (Step d asked)
 step_stays d (calls.Ask request) = decided_stays d (decision_of d request)
 step_stays d (calls.Write session block) =
@@ -159,6 +165,9 @@ step_stays d (calls.Write session block) =
 step_stays d (calls.Settle session) =
     let found = session_in d session in
     passing_stays d (settle_tests d session) checks _ (done_stays d (settled found d) (told.Reply (replies.Settled (settled_position d found))))
+step_stays d (calls.SettleAll sessions) =
+    passing_stays d (settle_all_tests d sessions) checks _ (done_stays d (settled_each sessions d) (told.Reply (replies.SettledAll (positions_each sessions d))))
+step_stays d calls.Checkpoint = passing_stays d (sweep_tests d) checks _ (checkpoint_stays d)
 step_stays d (calls.ReplayOpen id position size) =
     let found = registration_in d.register id in
     let next = begins_at position found in

@@ -8,9 +8,11 @@ use Rattle.control_core.specs.declared.callers.Written.{Written}
 abbrev pub last_number : ℤ
 last_number = pos 9223372036854775807
 
+-- the number of a recorder session, by which it is found
 abbrev pub session_number : RecorderSession → ℤ
 session_number s = s.number
 
+-- the number of a replay, by which it is found
 abbrev pub replay_number : OpenReplay → ℤ
 replay_number r = r.number
 

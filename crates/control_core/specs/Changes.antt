@@ -1,9 +1,10 @@
 -- What becomes of the desk. docs/CONTROL.md, "Control state" and "Requests".
-use Rattle.std.specs.Prelude.{◌+ℤ◌, ◌+◌, ◌++◌, not, ℤ, pos, Bool, true, [], ◌∷◌, filter, Option, Some, None}
+use Rattle.std.specs.Prelude.{◌+ℤ◌, ◌+◌, ◌++◌, not, ℤ, pos, Bool, true, [], ◌∷◌, List, filter, Option, Some, None}
 use Rattle.std.specs.Ordering.{int_eq}
 use Rattle.archive_model.specs.declared.command.Command.{Command}
 use Rattle.archive_model.specs.declared.command.Command.TheVariants.{Start, Append, Stop, Extend, Truncate, PurgeSegments, PurgeRecording, Restart}
 use Rattle.archive_model.specs.declared.registration.Registration.{Registration}
+use Rattle.archive_model.specs.declared.version.BankVersion.TheVariants.{Two}
 use Rattle.archive_model.specs.declared.registration.Change.TheVariants as changes
 use Rattle.archive_model.specs.declared.reply.Reply.{Reply}
 use Rattle.archive_model.specs.declared.reply.Reply.TheVariants as replies
@@ -62,6 +63,12 @@ abbrev pub settled : Option RecorderSession → DeskState → DeskState
 settled None d = d
 settled (Some s) d = settled_by s s.written d
 
+-- what each of these sessions wrote is recorded, one after another, one entry each; where one wrote nothing or is not open,
+-- nothing changes
+abbrev pub settled_each : List ℤ → DeskState → DeskState
+settled_each [] d = d
+settled_each (n ∷ ns) d = settled_each ns (settled (find session_number n d.callers.sessions) d)
+
 -- the recorder session that writes a recording
 abbrev pub writer_in : DeskState → ℤ → Option RecorderSession
 writer_in d id = find (λ s. s.recording) id d.callers.sessions
@@ -96,6 +103,21 @@ next_position d s = written_to s.written (recorded_of (registration_in d.registe
 abbrev pub settled_position : DeskState → Option RecorderSession → ℤ
 settled_position d None = pos 0
 settled_position d (Some s) = next_position d s
+
+-- up to where the recording of a session is recorded then, if the session is open
+abbrev pub position_of : DeskState → Option RecorderSession → Option ℤ
+position_of d None = None
+position_of d (Some s) = Some (next_position d s)
+
+-- up to where the recording of each of these sessions is recorded, once what they wrote is, one after another
+abbrev pub positions_each : List ℤ → DeskState → List (Option ℤ)
+positions_each [] d = []
+positions_each (n ∷ ns) d = let found = find session_number n d.callers.sessions in position_of d found ∷ positions_each ns (settled found d)
+
+-- each of these sessions as it is when its turn comes, if it is open
+abbrev pub sessions_each : List ℤ → DeskState → List (Option RecorderSession)
+sessions_each [] d = []
+sessions_each (n ∷ ns) d = let found = find session_number n d.callers.sessions in found ∷ sessions_each ns (settled found d)
 
 abbrev pub reply_after : DeskState → Command → Reply
 reply_after d (Start f) = replies.Started d.register.next d.callers.next_session
@@ -132,6 +154,10 @@ after_poll number next d = record d { callers = record d.callers { replays = cha
 
 abbrev pub after_close : ℤ → DeskState → DeskState
 after_close number d = record d { callers = record d.callers { replays = without replay_number number d.callers.replays } }
+
+-- the catalogue was written anew by a checkpoint: an entry counts for each active recording, and its bank is of version 2
+abbrev pub checkpointed : DeskState → DeskState
+checkpointed d = record d { counted = active_count d.register; version = Two }
 
 -- a write has failed
 abbrev pub broken_desk : DeskState → DeskState

@@ -1,5 +1,5 @@
 -- What holds of an archive between calls, and of the commands that its calls make. docs/CONTROL.md, "Control state".
-use Rattle.std.specs.Prelude.{◌≡◌, ◌⊎◌, ◌+ℤ◌, ◌<◌, ℤ, pos, Bool, true, false, IsFalse, IsTrue, IsSomeAnd, [], Option, Some, None, is_some, option_map}
+use Rattle.std.specs.Prelude.{◌≡◌, ◌⊎◌, ◌+ℤ◌, ◌<◌, ℤ, pos, Bool, true, false, IsFalse, IsTrue, IsSomeAnd, List, [], ◌∷◌, ◌++◌, length, ◌≤◌, ◌≢◌, Option, Some, None, is_some}
 use Rattle.frame_core.specs.Block.{covered}
 use Rattle.archive_model.specs.declared.command.Command.{Command}
 use Rattle.archive_model.specs.declared.command.Command.TheVariants.{Append, Restart}
@@ -7,13 +7,14 @@ use Rattle.archive_model.specs.Keyed.{Each, find}
 use Rattle.archive_model.specs.Register.{is_later_base}
 use Rattle.archive_model.specs.State.{Recording, State, id_of, registration_of}
 use Rattle.archive_model.specs.Commands.{frames_of, purged, recorded_in}
-use Rattle.archive_model.specs.Acceptance.{book_after}
 use Rattle.archive_model.specs.Accepting.{Accepts, Follow}
 use Rattle.archive_model.specs.Replay.{is_boundary}
 use Rattle.archive_model.specs.WellFormed.{IsWell}
 use Rattle.control_core.specs.declared.callers.OpenReplay.{OpenReplay}
 use Rattle.control_core.specs.declared.callers.RecorderSession.{RecorderSession}
 use Rattle.control_core.specs.declared.callers.Written.{Written}
+use Rattle.control_core.specs.declared.turns.Settling.{Settling}
+use Rattle.control_core.specs.declared.turns.Settling.TheVariants as settling
 use Rattle.control_core.specs.Changes.{desk_after, settled}
 use Rattle.control_core.specs.declared.event.Event.{Event}
 use Rattle.control_core.specs.declared.event.Event.TheVariants as events
@@ -21,7 +22,8 @@ use Rattle.control_core.specs.Decisions.{Allows, asked_command}
 use Rattle.control_core.specs.Turns.{session_in}
 use Rattle.control_core.specs.Seats.{KeepsSeats}
 use Rattle.control_core.specs.Agreement.{Agrees, HasWritten}
-use Rattle.control_core.specs.Exact.{Archive, book_of, recording_at}
+use Rattle.control_core.specs.Exact.{Archive, book_of, recording_at, settled_by_number, settling_in}
+use Rattle.control_core.specs.Steps.{AreAcceptedSteps, AreAllowedSteps, BookStep, Entered, Recounted, books_after, desks_after}
 
 -- the blocks of a session go on where its recording ends: from there on, and up to where, is what the desk says
 pub record Wrote (a : Archive) (s : RecorderSession) (w : Written) : Type 0 where
@@ -83,20 +85,43 @@ pub record IsAcceptable (a : Archive) (c : Command) : Type 0 where
   pub allowed : Allows a.desk c
   pub written : HasWritten a.desk a.state c
 
--- the command that a call asks for: its request's, or the append of what its session wrote
-abbrev pub command_asked : Archive → Event → Option Command
-command_asked a (events.Ask request) = asked_command request
-command_asked a (events.Settle session) = option_map (λ (s : RecorderSession). Append s.recording (a.blocks session)) (session_in a.desk session)
-command_asked a event = None
+-- the command that a request asks for, as a step
+abbrev pub request_steps : Option Command → List BookStep
+request_steps None = []
+request_steps (Some c) = Entered c ∷ []
 
--- the call made the accepted command that it asked for, of a desk that works: what is recorded, and the desk, are those after it
-pub record MakesCommand (a b : Archive) (event : Event) : Type 0 where
-  pub command : Command
-  pub asked : command_asked a event ≡ Some command
-  pub works : IsFalse a.desk.is_broken
-  pub acceptable : IsAcceptable a command
-  pub book : book_of b ≡ book_after (book_of a) command
-  pub desk : b.desk ≡ desk_after a.desk command
+-- what there is to settle of a session is recorded by an append of its blocks, if there is something
+abbrev pub append_of : Archive → ℤ → Settling → List BookStep
+append_of a session (settling.Nothing position) = []
+append_of a session (settling.Blocks id w) = Entered (Append id (a.blocks session)) ∷ []
+
+-- what each of these sessions wrote is recorded, one after another
+abbrev pub appends_of : Archive → List ℤ → List BookStep
+appends_of a [] = []
+appends_of a (n ∷ ns) = append_of a n (settling_in a n) ++ appends_of (settled_by_number a n (settling_in a n)) ns
+
+-- The steps that a call asks for, in order: the command of its request, the appends of what its sessions wrote, or a
+-- checkpoint. Other calls ask for none.
+abbrev pub steps_asked : Archive → Event → List BookStep
+steps_asked a (events.Ask request) = request_steps (asked_command request)
+steps_asked a (events.Settle session) = append_of a session (settling_in a session)
+steps_asked a (events.SettleAll sessions) = appends_of a sessions
+steps_asked a events.Checkpoint = Recounted ∷ []
+steps_asked a event = []
+
+-- The call made the steps that it asked for, all of them, in order, each command accepted. What is recorded is that after
+-- them. If there are some, the desk worked, allowed them, and is the one after them.
+pub record MakesSteps (a b : Archive) (event : Event) : Type 0 where
+  pub accepted : AreAcceptedSteps (book_of a) (steps_asked a event)
+  pub allowed : AreAllowedSteps (book_of a) a.desk (steps_asked a event)
+  pub book : book_of b ≡ books_after (book_of a) (steps_asked a event)
+  pub works : steps_asked a event ≢ [] → IsFalse a.desk.is_broken
+  pub desk : steps_asked a event ≢ [] → b.desk ≡ desks_after a.desk (steps_asked a event)
+
+-- a call that settles several sessions asks for an append of each that wrote something, any other for one step at most
+abbrev pub AsksFew : Archive → Event → Type 0
+AsksFew a (events.SettleAll sessions) = length (steps_asked a (events.SettleAll sessions)) ≤ length sessions
+AsksFew a event = length (steps_asked a event) ≤ 1
 
 abbrev pub is_append : Command → Bool
 is_append (Append id blocks) = true

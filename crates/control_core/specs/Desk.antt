@@ -1,5 +1,5 @@
 -- All that an archive knows but its frames. docs/CONTROL.md, "Control state".
-use Rattle.std.specs.Prelude.{◌&&◌, not, ℕ, ℤ, Bool, false, nat_lt, int_le}
+use Rattle.std.specs.Prelude.{◌&&◌, ◌||◌, ◌+◌, not, ℕ, ℤ, Bool, false, nat_le, nat_lt, int_le}
 use Rattle.std.specs.List.{list_any}
 use Rattle.std.specs.Ordering.{int_eq}
 use Rattle.archive_model.specs.declared.version.BankVersion.{BankVersion}
@@ -29,6 +29,10 @@ new_desk limit = opened_desk no_recordings 0 limit Two
 -- the history has room for one more entry
 abbrev pub has_room : DeskState → Bool
 has_room d = nat_lt d.counted d.limit
+
+-- the history has room for so many more entries, or there are none
+abbrev pub has_room_for : ℕ → DeskState → Bool
+has_room_for entries d = not (nat_lt 0 entries) || nat_le (d.counted + entries) d.limit
 
 -- there is a number for one more recorder session
 abbrev pub has_session_number : DeskState → Bool

@@ -1,10 +1,10 @@
 -- What each call of an archive is answered exactly, by its state with the frames, its desk and what its sessions wrote.
 -- docs/CONTROL.md, "Requests", "Recorder sessions" and "Replays".
-use Rattle.std.specs.Prelude.{◌≡◌, ◌⊎◌, ◌++◌, ◌+ℤ◌, ℕ, ℤ, pos, int_le, Bool, true, false, IsTrue, IsSomeAnd, MatchBool, List, [], ◌∷◌, length, unsigned_abs, Option, Some, None, is_none, is_some, Result, Ok, Err, if◌then◌else◌}
+use Rattle.std.specs.Prelude.{◌≡◌, ◌⊎◌, ◌++◌, ◌+ℤ◌, ℕ, ℤ, pos, int_le, Bool, true, false, IsTrue, IsSomeAnd, MatchBool, List, [], ◌∷◌, length, unsigned_abs, Option, Some, None, is_none, is_some, nat_lt, Result, Ok, Err, if◌then◌else◌, ◌&&◌}
 use Rattle.std.specs.Ordering.{int_eq}
 use Rattle.frame_core.specs.declared.block.Block.{Block}
 use Rattle.frame_core.specs.declared.refusal.Refusal.{Refusal}
-use Rattle.frame_core.specs.declared.refusal.Refusal.TheVariants.{BadPosition}
+use Rattle.frame_core.specs.declared.refusal.Refusal.TheVariants.{BadPosition, HistoryFull, NotCatalogue}
 use Rattle.frame_core.specs.Block.{IsBlock, end_position}
 use Rattle.frame_core.specs.FrameEncoding.{aligned_length}
 use Rattle.archive_model.specs.declared.command.Command.{Command}
@@ -37,9 +37,9 @@ use Rattle.control_core.specs.declared.turns.Settling.{Settling}
 use Rattle.control_core.specs.declared.turns.Settling.TheVariants as settling
 use Rattle.control_core.specs.Callers.{last_number}
 use Rattle.control_core.specs.Desk.{DeskState, opened_desk}
-use Rattle.control_core.specs.Changes.{after_close, after_open, after_poll, after_write, broken_desk, desk_after, reply_after, settled}
+use Rattle.control_core.specs.Changes.{after_close, after_open, after_poll, after_write, broken_desk, checkpointed, desk_after, positions_each, reply_after, settled}
 use Rattle.control_core.specs.Decisions.{accepted, command_in, decision_of}
-use Rattle.control_core.specs.Turns.{close_decision, held_to, is_done_at, open_decision, poll_decision, poll_tests, open_replay_in, session_in, settle_decision, sweep_tests, verify_tests, write_decision}
+use Rattle.control_core.specs.Turns.{close_decision, held_to, is_done_at, open_decision, poll_decision, poll_tests, open_replay_in, session_in, settle_all_tests, settle_decision, settling_of, sweep_tests, verify_tests, write_decision, wrote_any}
 use Rattle.control_core.specs.Machine.{OrOutside, Outcome}
 
 -- The recordings with their frames, the desk, the blocks that each recorder session wrote and did not settle, and the
@@ -141,6 +141,23 @@ SettlingEnds a session (Err refusal) = Is (Err refusal) a
 SettlingEnds a session (Ok (settling.Nothing position)) = Is (Ok (replies.Settled position)) a
 SettlingEnds a session (Ok (settling.Blocks id w)) = Is (Ok (replies.Settled w.last)) (settled_archive a session id)
 
+-- what there is to settle of a session is recorded, if there is something
+abbrev pub settled_by_number : Archive → ℤ → Settling → Archive
+settled_by_number a session (settling.Nothing position) = a
+settled_by_number a session (settling.Blocks id w) = settled_archive a session id
+
+-- what there is to settle of the session of a number
+abbrev pub settling_in : Archive → ℤ → Settling
+settling_in a session = settling_of a.desk (session_in a.desk session)
+
+-- what each of these sessions wrote is recorded, one after another
+abbrev pub settled_archives : List ℤ → Archive → Archive
+settled_archives [] a = a
+settled_archives (n ∷ ns) a = settled_archives ns (settled_by_number a n (settling_in a n))
+
+abbrev pub SettlingAllEnds : Archive → List ℤ → ArchiveEnd
+SettlingAllEnds a ns = Leaves a (settled_archives ns a) (checked (settle_all_tests a.desk ns) checks (Ok (replies.SettledAll (positions_each ns a.desk))))
+
 -- ---- replays
 
 abbrev pub asked_opening : Archive → ℤ → OpeningDecision → Result Opening Refusal
@@ -177,7 +194,13 @@ abbrev pub poll_event : ℤ → ℤ → Option ℤ → Event
 poll_event number most None = events.ReplayPoll number most
 poll_event number most (Some limit) = events.ReplayPollTo number most limit
 
--- ---- sweeping and verifying
+-- ---- checkpoints, sweeping and verifying
+
+-- the catalogue was written anew, or its banks refuse that: the other one may not be written, or the epoch is the last one
+abbrev pub CheckpointEnds : Archive → Result (Unit {0}) Refusal → ArchiveEnd
+CheckpointEnds a (Err refusal) = Is (Err refusal) a
+CheckpointEnds a (Ok done) = λ outcome new.
+    Is (Ok replies.Checkpointed) (with_desk (checkpointed a.desk) a) outcome new ⊎ (Is (Err NotCatalogue) a outcome new ⊎ Is (Err HistoryFull) a outcome new)
 
 abbrev pub SweepEnds : Archive → Result (Unit {0}) Refusal → ArchiveEnd
 SweepEnds a (Err refusal) = Is (Err refusal) a
@@ -193,12 +216,14 @@ abbrev pub ArchiveEnds : Archive → Event → ArchiveEnd
 ArchiveEnds a (events.Ask request) = DecisionEnds a (asked_frames a (decision_of a.desk request))
 ArchiveEnds a (events.Write session block) = WriteEnds a session block
 ArchiveEnds a (events.Settle session) = SettlingEnds a session (settle_decision a.desk session)
+ArchiveEnds a (events.SettleAll sessions) = SettlingAllEnds a sessions
 ArchiveEnds a (events.ReplayOpen id position size) = OpeningEnds a (asked_opening a id (open_decision a.desk id position size))
 ArchiveEnds a (events.ReplayPoll number most) = PollingEnds a most None (poll_decision a.desk number most None)
 ArchiveEnds a (events.ReplayPollTo number most limit) = PollingEnds a most (Some limit) (poll_decision a.desk number most (Some limit))
 ArchiveEnds a (events.ReplayClose number) = Leaves a (with_desk (after_close number a.desk) a) (close_decision a.desk number)
 ArchiveEnds a events.Sweep = SweepEnds a (checked (sweep_tests a.desk) checks (Ok tt))
 ArchiveEnds a (events.Verify id) = Leaves a a (checked (verify_tests a.desk id) checks (Ok (replies.Verified (frames_of_one (recording_at a id)))))
+ArchiveEnds a events.Checkpoint = CheckpointEnds a (checked (sweep_tests a.desk) checks (Ok tt))
 
 -- a write has failed, and this state is in doubt
 abbrev pub broken : State → Archive → Archive
@@ -231,6 +256,8 @@ abbrev pub writes_files : DeskState → Event → Bool
 writes_files d (events.Ask request) = is_some (command_in (decision_of d request))
 writes_files d (events.Write session block) = true
 writes_files d (events.Settle session) = has_blocks (settle_decision d session)
+writes_files d (events.SettleAll sessions) = passes (settle_all_tests d sessions) checks && wrote_any d sessions
+writes_files d events.Checkpoint = passes (sweep_tests d) checks
 writes_files d _ = false
 
 -- a poll gives recorded frames
@@ -260,12 +287,14 @@ abbrev pub asked_of : Event → Asked
 asked_of (events.Ask request) = calls.Ask request
 asked_of (events.Write session block) = calls.Write session (span_of block)
 asked_of (events.Settle session) = calls.Settle session
+asked_of (events.SettleAll sessions) = calls.SettleAll sessions
 asked_of (events.ReplayOpen id position size) = calls.ReplayOpen id position size
 asked_of (events.ReplayPoll number most) = calls.ReplayPoll number most None
 asked_of (events.ReplayPollTo number most limit) = calls.ReplayPoll number most (Some limit)
 asked_of (events.ReplayClose number) = calls.ReplayClose number
 asked_of events.Sweep = calls.Sweep
 asked_of (events.Verify id) = calls.Verify id
+asked_of events.Checkpoint = calls.Checkpoint
 
 abbrev pub plain : Result Reply Refusal → Outcome
 plain (Ok reply) = Ok (told.Reply reply)

@@ -12,6 +12,7 @@ pub mod Machine
 pub mod ByDecision
 pub mod Agreement
 pub mod Exact
+pub mod Steps
 pub mod Bytes
 pub mod Consistent
 pub mod Runs

@@ -1,7 +1,7 @@
 -- The desk machine: what each call may be answered, and the desk then. docs/CONTROL.md, "Control state" and "Refusals".
 use Rattle.std.specs.Prelude.{◌≡◌, ◌⊎◌, ◌≤ℤ◌, ◌<ℤ◌, ◌++◌, ℤ, Bool, true, MatchBool, List, [], ◌∷◌, Option, Some, None, Result, Ok, Err}
 use Rattle.frame_core.specs.declared.refusal.Refusal.{Refusal}
-use Rattle.frame_core.specs.declared.refusal.Refusal.TheVariants.{BadBlock, BadPosition, Damaged, DeviceFault, NoMemory}
+use Rattle.frame_core.specs.declared.refusal.Refusal.TheVariants.{BadBlock, BadPosition, Damaged, DeviceFault, HistoryFull, NoMemory, NotCatalogue}
 use Rattle.frame_core.specs.ReplayEnd.{bound_of}
 use Rattle.archive_model.specs.declared.command.Command.{Command}
 use Rattle.archive_model.specs.declared.registration.Registration.{Registration}
@@ -17,9 +17,9 @@ use Rattle.control_core.specs.declared.callers.Written.{Written}
 use Rattle.control_core.specs.Decided.{Decision}
 use Rattle.control_core.specs.Decided.{Refused, Answered, Accepted, IfBoundary}
 use Rattle.control_core.specs.Desk.{DeskState}
-use Rattle.control_core.specs.Changes.{after_close, after_open, after_poll, after_write, broken_desk, desk_after, reply_after, settled, settled_position}
+use Rattle.control_core.specs.Changes.{after_close, after_open, after_poll, after_write, broken_desk, checkpointed, desk_after, positions_each, reply_after, settled, settled_each, settled_position}
 use Rattle.control_core.specs.Decisions.{decision_of}
-use Rattle.control_core.specs.Turns.{begins_at, close_tests, held_back, is_done_at, open_tests, poll_tests, open_replay_in, session_in, settle_tests, sweep_tests, verify_tests, write_tests}
+use Rattle.control_core.specs.Turns.{begins_at, close_tests, held_back, is_done_at, open_tests, poll_tests, open_replay_in, session_in, settle_all_tests, settle_tests, sweep_tests, verify_tests, write_tests}
 
 abbrev pub Outcome : Type 0
 Outcome = Result Told Refusal
@@ -91,6 +91,12 @@ Settles old session =
     let found = session_in old session in
     Passing old (settle_tests old session) checks (Either (Ended (Ok (told.Reply (replies.Settled (settled_position old found)))) (settled found old)) (Breaks old))
 
+-- several sessions at once, by the fold of what one does
+abbrev pub SettlesAll : DeskState → List ℤ → Ends
+SettlesAll old sessions =
+    Passing old (settle_all_tests old sessions) checks
+    (Either (Ended (Ok (told.Reply (replies.SettledAll (positions_each sessions old)))) (settled_each sessions old)) (Breaks old))
+
 -- the start and the recorded position need no frames
 abbrev pub AtPosition : DeskState → Option Registration → ℤ → Ends → Ends
 AtPosition old None position ends outcome new = UnlessBoundary old ends outcome new
@@ -139,16 +145,28 @@ Sweeps old = Passing old (sweep_tests old) checks (λ outcome new. ((removed : B
 abbrev pub Verifies : DeskState → ℤ → Ends
 Verifies old id = Passing old (verify_tests old id) checks (λ outcome new. ((frames : ℤ) × Ended (Ok (told.Reply (replies.Verified frames))) old outcome new) ⊎ Unread old outcome new)
 
+-- the catalogue's banks, which the desk doesn't know, may refuse a checkpoint: the other one may not be written, or the
+-- epoch is the last one
+abbrev pub RefusedByBanks : DeskState → Ends
+RefusedByBanks old = Either (RefusesCall old NotCatalogue) (RefusesCall old HistoryFull)
+
+-- how full the history is refuses no checkpoint
+abbrev pub Checkpoints : DeskState → Ends
+Checkpoints old = Passing old (sweep_tests old) checks
+    (Either (Ended (Ok (told.Reply replies.Checkpointed)) (checkpointed old)) (Either (RefusedByBanks old) (Breaks old)))
+
 -- The desk machine
 abbrev pub Step : DeskState → Asked → Outcome → DeskState → Type 0
 Step old (calls.Ask request) = Decided old (decision_of old request)
 Step old (calls.Write session block) = Writes old session block
 Step old (calls.Settle session) = Settles old session
+Step old (calls.SettleAll sessions) = SettlesAll old sessions
 Step old (calls.ReplayOpen recording position size) = Opens old recording position size
 Step old (calls.ReplayPoll replay most limit) = Polls old replay most limit
 Step old (calls.ReplayClose replay) = Closes old replay
 Step old calls.Sweep = Sweeps old
 Step old (calls.Verify recording) = Verifies old recording
+Step old calls.Checkpoint = Checkpoints old
 
 -- a run of the desk machine
 abbrev pub Run : DeskState → List (Asked × Outcome) → DeskState → Type 0

@@ -4,6 +4,7 @@ use Rattle.std.specs.Prelude.{◌≡◌, ◌≤◌, ◌≤ℤ◌, ◌<ℤ◌, �
 use Rattle.frame_core.specs.FrameEncoding.{IsAligned}
 use Rattle.frame_core.specs.Limits.{is_mtu, is_term_length}
 use Rattle.archive_model.specs.declared.registration.Registration.{Registration}
+use Rattle.archive_model.specs.Descriptor.{is_origin}
 use Rattle.archive_model.specs.Keyed.{Each}
 use Rattle.archive_model.specs.Register.{RegisterState, registration_in}
 use Rattle.control_core.specs.declared.callers.OpenReplay.{OpenReplay}
@@ -31,9 +32,11 @@ pub record IsLaidOut (g : Registration) : Type 0 where
 abbrev pub stream_end : Registration → ℤ
 stream_end g = pos (2 ^ 31 * unsigned_abs g.descriptor.term_length)
 
--- A recording is laid out, and is recorded up to a position of its stream that is not before its start, a multiple of 32.
+-- A recording is laid out, so it starts at a multiple of 32, and its channel and source are in their limits. It is recorded up
+-- to a position of its stream that is not before its start, a multiple of 32 too.
 pub record IsLaid (g : Registration) : Type 0 where
   pub laid_out : IsLaidOut g
+  pub origin : is_origin g.descriptor.channel g.descriptor.source_identity ≡ true
   pub from_start : g.descriptor.start_position ≤ℤ g.recorded
   pub in_stream : g.recorded ≤ℤ stream_end g
   pub aligned : IsAligned g.recorded

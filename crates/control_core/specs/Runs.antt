@@ -1,17 +1,13 @@
--- Calls of an archive one after another, and the accepted commands that they made. docs/CONTROL.md, "Control state";
--- docs/STORAGE.md, "Recovery".
-use Rattle.std.specs.Prelude.{◌≡◌, ◌⊎◌, ◌++◌, ◌≤◌, List, [], ◌∷◌, length, Some, Result}
+-- Calls of an archive one after another, and the steps that they made. docs/CONTROL.md, "Control state"; docs/STORAGE.md,
+-- "Recovery".
+use Rattle.std.specs.Prelude.{◌≡◌, ◌⊎◌, ◌++◌, List, [], ◌∷◌, IsFalse, IsTrue, Some, Result}
 use Rattle.frame_core.specs.declared.refusal.Refusal.{Refusal}
-use Rattle.archive_model.specs.declared.command.Command.{Command}
 use Rattle.archive_model.specs.declared.reply.Reply.{Reply}
 use Rattle.archive_model.specs.State.{State}
-use Rattle.archive_model.specs.Commands.{after}
-use Rattle.archive_model.specs.Acceptance.{BookState, book_after}
-use Rattle.archive_model.specs.Accepting.{Accepts}
-use Rattle.archive_model.specs.WellFormed.{AreAccepted}
 use Rattle.control_core.specs.declared.event.Event.{Event}
-use Rattle.control_core.specs.Consistent.{command_asked}
+use Rattle.control_core.specs.Consistent.{steps_asked}
 use Rattle.control_core.specs.Exact.{Archive, CallEnds, book_of}
+use Rattle.control_core.specs.Steps.{AreAcceptedCalls, AreAcceptedSteps, BookStep, books_after, books_after_calls}
 
 -- ---- archives one after another
 
@@ -35,32 +31,32 @@ abbrev pub StoodAmong : Archive → List Archive → State → Type 0
 StoodAmong a [] x = MayStand a x
 StoodAmong a (b ∷ left) x = MayStand a x ⊎ StoodAmong b left x
 
--- ---- the commands that they made
+-- ---- the steps that they made
 
--- the plain book after accepted commands, the first of them first
-abbrev pub books_after : BookState → List Command → BookState
-books_after b [] = b
-books_after b (c ∷ cs) = books_after (book_after b c) cs
+-- each call made no step, or each that it asked for
+abbrev pub AreMade : Archive → List Event → List Archive → List (List BookStep) → Type 0
+AreMade a [] [] [] = Unit {0}
+AreMade a (event ∷ events) (b ∷ left) (steps ∷ made) =
+    ((steps ≡ []) ⊎ (steps ≡ steps_asked a event)) × (book_of b ≡ books_after (book_of a) steps) × AreMade b events left made
+AreMade a _ _ _ = ⊥
 
--- what a beginning of these commands gives; or what all of them give and one accepted command more, which was in doubt
-abbrev pub IsAfterSome : BookState → List Command → State → Type 0
-IsAfterSome b commands x =
-    ((front : List Command) × (back : List Command) × (commands ≡ front ++ back) × (x ≡ (books_after b front).state))
-    ⊎ ((c : Command) × Accepts (books_after b commands) c × (x ≡ after (books_after b commands).state c))
+-- one of the calls broke the archive, and had asked for these steps
+abbrev pub BrokeAsking : Archive → List Event → List Archive → List BookStep → Type 0
+BrokeAsking a (event ∷ events) (b ∷ left) steps =
+    (IsFalse a.desk.is_broken × IsTrue b.desk.is_broken × (steps ≡ steps_asked a event)) ⊎ BrokeAsking b events left steps
+BrokeAsking a _ _ steps = ⊥
 
--- each call left what is recorded as it was, or made the next of these commands, which it asked for
-abbrev pub AreMade : Archive → List Event → List Archive → List Command → Type 0
-AreMade a [] [] commands = commands ≡ []
-AreMade a (event ∷ events) (b ∷ left) commands =
-    ((book_of b ≡ book_of a) × AreMade b events left commands)
-    ⊎ ((c : Command) × (rest : List Command) × (commands ≡ c ∷ rest) × (command_asked a event ≡ Some c) × (book_of b ≡ book_after (book_of a) c) × AreMade b events left rest)
-AreMade a _ _ commands = ⊥
+-- what a beginning of the calls made; or what all of them made and, behind it, the steps, all of them accepted, that the call
+-- asked for which broke the archive
+abbrev pub IsAfterSome : Archive → List Event → List Archive → List (List BookStep) → State → Type 0
+IsAfterSome a events left made x =
+    ((front : List (List BookStep)) × (back : List (List BookStep)) × (made ≡ front ++ back) × (x ≡ (books_after_calls (book_of a) front).state))
+    ⊎ ((steps : List BookStep) × BrokeAsking a events left steps × AreAcceptedSteps (books_after_calls (book_of a) made) steps × (x ≡ (books_after (books_after_calls (book_of a) made) steps).state))
 
--- Calls made these commands: each was accepted, and was asked for by the call that made it; no call made two, they lead to
--- what the last archive has recorded, and whatever stood meanwhile is what a beginning of them gives.
-pub record IsHistory (a : Archive) (events : List Event) (left : List Archive) (commands : List Command) : Type 0 where
-  pub made : AreMade a events left commands
-  pub accepted : AreAccepted (book_of a) commands
-  pub few : length commands ≤ length left
-  pub last : book_of (last_left a left) ≡ books_after (book_of a) commands
-  pub prefix : (x : State) → StoodAmong a left x → IsAfterSome (book_of a) commands x
+-- Calls made these steps, a list for each call: each command was accepted, and was asked for by the call that made it. They
+-- lead to what the last archive has recorded, and whatever stood meanwhile is what a beginning of the calls made.
+pub record IsHistory (a : Archive) (events : List Event) (left : List Archive) (steps : List (List BookStep)) : Type 0 where
+  pub made : AreMade a events left steps
+  pub accepted : AreAcceptedCalls (book_of a) steps
+  pub last : book_of (last_left a left) ≡ books_after_calls (book_of a) steps
+  pub prefix : (x : State) → StoodAmong a left x → IsAfterSome a events left steps x

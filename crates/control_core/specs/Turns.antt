@@ -1,7 +1,8 @@
 -- What is decided on a call that is no request: writing and settling, replays, sweeping and verifying.
 -- docs/CONTROL.md, "Recorder sessions", "Replays" and "Refusals".
-use Rattle.std.specs.Prelude.{◌≡◌, ◌≢◌, ◌<◌, ◌&&◌, ◌||◌, ◌++◌, not, ℤ, pos, negsuc, Bool, true, false, IsSomeAnd, IsTrue, length, nat_lt, int_le, int_lt, Option, Some, None, is_some, Result, Ok, Err, if◌then◌else◌}
+use Rattle.std.specs.Prelude.{◌≡◌, ◌≢◌, ◌<◌, ◌&&◌, ◌||◌, ◌++◌, not, ℤ, pos, negsuc, Bool, true, false, IsSomeAnd, IsTrue, List, [], ◌∷◌, length, nat_le, nat_lt, int_le, int_lt, Option, Some, None, is_some, Result, Ok, Err, if◌then◌else◌}
 use Rattle.std.specs.Bool.{MatchBool}
+use Rattle.std.specs.List.{list_any}
 use Rattle.std.specs.Ordering.{int_eq}
 use Rattle.frame_core.specs.declared.block.Block.{Block}
 use Rattle.frame_core.specs.declared.refusal.Refusal.{Refusal}
@@ -28,7 +29,7 @@ use Rattle.control_core.specs.declared.turns.Settling.{Settling}
 use Rattle.control_core.specs.declared.turns.Settling.TheVariants as settling
 use Rattle.control_core.specs.Callers.{last_number, replay_number, session_number, written_to}
 use Rattle.control_core.specs.Desk.{DeskState, has_room}
-use Rattle.control_core.specs.Changes.{next_position, recorded_of}
+use Rattle.control_core.specs.Changes.{next_position, recorded_of, settled_each}
 use Rattle.control_core.specs.Seats.{IsWriter}
 
 abbrev pub session_in : DeskState → ℤ → Option RecorderSession
@@ -118,6 +119,28 @@ pub record DecidesSettling (d : DeskState) (number : ℤ) (settles : Settling) :
   pub found : session_in d number ≡ Some session
   pub number_is : session.number ≡ number
   pub is : settling_by d session session.written ≡ settles
+
+-- ---- settling several sessions
+
+-- no number stands twice
+abbrev pub are_once : List ℤ → Bool
+are_once [] = true
+are_once (n ∷ ns) = not (list_any (int_eq n) ns) && are_once ns
+
+-- one of them wrote something
+abbrev pub wrote_any : DeskState → List ℤ → Bool
+wrote_any d ns = nat_lt d.counted (settled_each ns d).counted
+
+-- the history has room for an entry of each of them that wrote something
+abbrev pub has_room_for_each : DeskState → List ℤ → Bool
+has_room_for_each d ns = not (wrote_any d ns) || nat_le (settled_each ns d).counted d.limit
+
+-- a number that no open session has is let through
+abbrev pub settle_all_tests : DeskState → List ℤ → Tests
+settle_all_tests d ns Broken = not d.is_broken
+settle_all_tests d ns BadParameter = nat_le (length ns) 64 && are_once ns
+settle_all_tests d ns HistoryFull = has_room_for_each d ns
+settle_all_tests d ns _ = true
 
 -- ---- opening a replay
 
@@ -210,8 +233,9 @@ close_tests d number _ = true
 abbrev pub close_decision : DeskState → ℤ → Result Reply Refusal
 close_decision d number = checked (close_tests d number) checks (Ok Closed)
 
--- ---- sweeping and verifying
+-- ---- sweeping, checkpoints and verifying
 
+-- nothing but a failed write refuses them
 abbrev pub sweep_tests : DeskState → Tests
 sweep_tests d Broken = not d.is_broken
 sweep_tests d _ = true

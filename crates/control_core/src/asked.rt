@@ -4,6 +4,7 @@
 use crate::callers::Written;
 use crate::request::Request;
 use archive_model::Reply;
+use frame_core::Items;
 
 /// A call on an archive, a block by its first and last position.
 #[derive(Debug, Drop)]
@@ -21,6 +22,11 @@ pub enum Asked {
     Settle {
         /// The recorder session's number.
         session: i64,
+    },
+    /// Record what several recorder sessions wrote, together: all of it, or nothing.
+    SettleAll {
+        /// The recorder sessions' numbers, each once, at most 64. A number that no open session has refuses nothing.
+        sessions: Items<i64>,
     },
     /// Open a replay of a range of a recording.
     ReplayOpen {
@@ -53,6 +59,8 @@ pub enum Asked {
         /// The recording's id.
         recording: i64,
     },
+    /// Write the catalogue anew in its other bank, while recordings go on.
+    Checkpoint,
 }
 
 /// What an archive answered, a poll's frames by their first and last position.

@@ -4,7 +4,7 @@ ghost use Rattle.std.specs.Prelude.{◌≡◌, ◌<◌, ◌≤ℤ◌, IfErr, IsS
 ghost use Rattle.frame_core.specs.declared.refusal.Refusal.TheVariants.{NoMemory};
 ghost use Rattle.archive_model.specs.Numbered.{IsIndexOf};
 ghost use Rattle.control_core.specs.Callers.{replay_number, session_number};
-ghost use Rattle.control_core.specs.Changes.{after_close, after_open, after_poll, after_write, broken_desk, settled, with_block};
+ghost use Rattle.control_core.specs.Changes.{after_close, after_open, after_poll, after_write, broken_desk, checkpointed, settled, with_block};
 ghost use Rattle.archive_model.specs.Register.{registration_in};
 ghost use Rattle.control_core.specs.Orderly.{BeginsBy, LiesBehind};
 ghost use Rattle.control_core.specs.Seats.{IsFoundSession};
@@ -13,7 +13,7 @@ ghost use Rattle.control_core.specs.Turns.{MayOpen, open_replay_in, session_in};
 use crate::callers::{FoundSession, Written};
 use crate::desk::Desk;
 use crate::turns::Opening;
-use archive_model::Change;
+use archive_model::{BankVersion, Change};
 use frame_core::Refusal;
 
 impl Desk {
@@ -84,6 +84,15 @@ impl Desk {
         ensures { self.new.state ≡ after_close replay.now self.old.state }
     {
         self.replays.close(replay, index);
+    }
+
+    /// A checkpoint wrote the catalogue anew: an entry counts for each active recording, and its bank is of version 2. Costs a
+    /// lookup at each recording; does not allocate.
+    pub fn note_checkpoint(&mut self)
+        ensures { self.new.state ≡ checkpointed self.old.state }
+    {
+        self.counted = self.register.active_count() as u64;
+        self.version = BankVersion::Two;
     }
 
     /// A write has failed: no further call writes.

@@ -89,7 +89,8 @@ impl Request {
     }
 }
 
-/// A copy of a reply. It takes memory, for texts and frames, only where the reply holds some.
+/// A copy of a reply. It takes memory, for texts, frames and positions of several recordings, only where the reply holds
+/// some.
 pub fn copy_reply(alloc: Global, reply: &Reply) -> Result<Reply, Refusal>
     ensures same { IfOk result (λ copy. copy ≡ reply.now) }
     ensures long { OnErr result (IsLong reply.now) }
@@ -107,8 +108,21 @@ pub fn copy_reply(alloc: Global, reply: &Reply) -> Result<Reply, Refusal>
         }
         Reply::Taken(taken) => Ok(Reply::Taken(copy_taken(alloc, taken)?)),
         Reply::Source(text) => Ok(Reply::Source(text.copy(alloc)?)),
+        Reply::SettledAll { positions } => {
+            let positions = copy_positions(alloc, positions.as_slice())?;
+            Ok(Reply::SettledAll { positions })
+        }
         _ => Ok(copy_short(reply)),
     }
+}
+
+fn copy_positions(
+    alloc: Global,
+    positions: &[Option<i64>],
+) -> Result<Items<Option<i64>>, AllocError>
+    ensures { IfOk result (λ copies. copies ≡ positions.now) }
+{
+    Ok(Items::from_vec(positions.to_vec(alloc)?))
 }
 
 fn copy_descriptors(
@@ -155,14 +169,17 @@ fn copy_frame(alloc: Global, polled: &PolledFrame) -> Result<PolledFrame, Refusa
     })
 }
 
-/// A copy of a reply without texts and frames.
+/// A copy of a reply without texts, frames and positions of several recordings.
 fn copy_short(reply: &Reply) -> Reply
     requires { IsLong reply.now → ⊥ }
     ensures { result ≡ reply.now }
 {
     match reply {
-        Reply::Recordings(_) | Reply::Polled { .. } | Reply::Taken(_) | Reply::Source(_) =>
-            unreachable!(),
+        Reply::Recordings(_)
+        | Reply::Polled { .. }
+        | Reply::Taken(_)
+        | Reply::Source(_)
+        | Reply::SettledAll { .. } => unreachable!(),
         Reply::Started { recording, session } => Reply::Started {
             recording: *recording,
             session: *session,
@@ -204,6 +221,7 @@ fn copy_short(reply: &Reply) -> Reply
             recordings: *recordings,
         },
         Reply::Compacted => Reply::Compacted,
+        Reply::Checkpointed => Reply::Checkpointed,
         Reply::MergeOpened { position } => Reply::MergeOpened {
             position: *position,
         },

@@ -1,14 +1,16 @@
 //! All that an archive knows but its frames. docs/CONTROL.md, "Control state".
 
-ghost use Rattle.std.specs.Prelude.{◌≡◌, ◌<◌, ◌^◌, length, option_copied, IfSome, MatchOption, None, ◌&&◌};
-ghost use Rattle.std.specs.List.{list_any};
+ghost use Rattle.std.specs.Prelude.{◌≡◌, ◌<◌, ◌^◌, length, option_copied, IfSome, MatchOption, None, true, ◌&&◌};
+ghost use Rattle.std.specs.List.{list_all, list_any};
 ghost use Rattle.archive_model.specs.Register.{HasLayout, active_count, may_begin, may_record, registration_in, no_recordings};
+ghost use Rattle.archive_model.specs.Version.{holds};
+ghost use Rattle.archive_model.specs.declared.version.BankVersion.TheVariants.{Two};
 ghost use Rattle.control_core.specs.Callers.{no_callers};
 ghost use Rattle.control_core.specs.Changes.{next_position, recorded_of};
 ghost use Rattle.control_core.specs.Turns.{open_replay_in, session_in};
 ghost use Rattle.control_core.specs.Orderly.{KeepsDesk};
 ghost use Rattle.control_core.specs.Seats.{IsReader, IsWriter};
-ghost use Rattle.control_core.specs.Desk.{new_desk, has_room, has_session_number, is_replayed, is_replay_before};
+ghost use Rattle.control_core.specs.Desk.{new_desk, has_room, has_room_for, has_session_number, is_replayed, is_replay_before};
 
 use crate::callers::{Reader, RecorderSession, Writer};
 use crate::replays::Replays;
@@ -83,6 +85,16 @@ impl Desk {
         }
     }
 
+    /// The recordings without their frames, as a checkpoint writes them: each fits into a bank of version 2.
+    #[tactic(auto, using(crate::proofs::LaidLemmas::laid_held))]
+    pub fn register(&self) -> &Register
+        ensures same { result.now.state ≡ self.now.state.register }
+        ensures held { list_all (λ r. holds Two r.descriptor.channel r.descriptor.source_identity)
+            result.now.state.recordings ≡ true }
+    {
+        &self.register
+    }
+
     /// The recording of an id. In constant time.
     pub fn recording(&self, id: &i64) -> Option<&Registration>
         ensures found { option_copied result ≡ registration_in self.now.state.register id.now }
@@ -141,6 +153,13 @@ impl Desk {
         ensures { result ≡ has_room self.now.state }
     {
         self.counted < u64::from(self.limit)
+    }
+
+    /// Whether the history has room for so many more entries, or there are none.
+    pub(crate) fn has_room_for(&self, entries: usize) -> bool
+        ensures { result ≡ has_room_for entries self.now.state }
+    {
+        entries == 0 || u64::from(self.limit).saturating_sub(self.counted) >= entries as u64
     }
 
     /// Whether one more recording may begin: there are fewer than 1,024, and there is an id for it.

@@ -1,7 +1,7 @@
 //! What may happen to an archive. docs/CONTROL.md, "Lines".
 
 use crate::request::Request;
-use frame_core::Block;
+use frame_core::{Block, Items};
 
 /// A call on an archive.
 #[derive(Debug, Drop)]
@@ -19,6 +19,11 @@ pub enum Event {
     Settle {
         /// The recorder session's number.
         session: i64,
+    },
+    /// Record what several recorder sessions wrote, together: all of it, or nothing.
+    SettleAll {
+        /// The recorder sessions' numbers, each once, at most 64. A number that no open session has refuses nothing.
+        sessions: Items<i64>,
     },
     /// Open a replay of a range of a recording.
     ReplayOpen {
@@ -57,4 +62,6 @@ pub enum Event {
         /// The recording's id.
         recording: i64,
     },
+    /// Write the catalogue anew in its other bank, while recordings go on.
+    Checkpoint,
 }

@@ -1,6 +1,6 @@
 //! Laws of the definitions, each the contract of a function that does nothing.
 
-ghost use Rattle.std.specs.Prelude.{◌≡◌, ◌≢◌, ◌⊎◌, ℕ, ℤ, List, Option, None, Some, Ok, Err, Result, IsFalse, IsTrue};
+ghost use Rattle.std.specs.Prelude.{◌≡◌, ◌≢◌, ◌⊎◌, ℕ, ℤ, List, map, Option, None, Some, Ok, Err, Result, IsFalse, IsTrue};
 ghost use Rattle.archive_model.specs.declared.command.Command.{Command};
 ghost use Rattle.archive_model.specs.Checks.{checked, checks};
 ghost use Rattle.archive_model.specs.Descriptor.{is_aligned};
@@ -13,7 +13,7 @@ ghost use Rattle.archive_model.specs.Accepting.{Accepts};
 ghost use Rattle.archive_model.specs.WellFormed.{IsWell};
 ghost use Rattle.control_core.specs.declared.request.Request.{Request};
 ghost use Rattle.control_core.specs.Desk.{DeskState};
-ghost use Rattle.control_core.specs.Changes.{desk_after};
+ghost use Rattle.control_core.specs.Changes.{desk_after, position_of, positions_each, sessions_each};
 ghost use Rattle.control_core.specs.Decisions.{Allows, asked_command, command_in, decision_of};
 ghost use Rattle.control_core.specs.Agreement.{Agrees, HasWritten};
 ghost use Rattle.frame_core.specs.declared.refusal.Refusal.{Refusal};
@@ -24,13 +24,14 @@ ghost use Rattle.control_core.specs.declared.event.Event.{Event};
 ghost use Rattle.control_core.specs.ByDecision.{OpensBy, PollsBy, SweepsBy, VerifiesBy};
 ghost use Rattle.control_core.specs.Machine.{Outcome, Step, Stepped};
 ghost use Rattle.control_core.specs.declared.asked.Asked.{Asked};
-ghost use Rattle.control_core.specs.Seats.{KeepsSeats};
+ghost use Rattle.control_core.specs.Seats.{AreApart, KeepsSeats};
 ghost use Rattle.control_core.specs.declared.asked.Asked.TheVariants.{ReplayOpen, ReplayPoll, Sweep, Verify};
-ghost use Rattle.control_core.specs.Exact.{Archive, ArchiveEnds, CallEnds, archive_after, asked_frames, asked_of, book_of, is_poll, opened_archive, recording_at, settled_archive, told_of, with_desk};
-ghost use Rattle.control_core.specs.Consistent.{AreAtBoundaries, IsAcceptable, IsAtBoundary, IsConsistent, MakesCommand, SettlesByAppend, StaysConsistent, StaysOpen, WroteNothing, is_append, is_asked};
+ghost use Rattle.control_core.specs.Exact.{Archive, ArchiveEnds, CallEnds, archive_after, asked_frames, asked_of, is_poll, opened_archive, recording_at, settled_archive, told_of, with_desk};
+ghost use Rattle.control_core.specs.Consistent.{AreAtBoundaries, AsksFew, IsAcceptable, IsAtBoundary, IsConsistent, MakesSteps, SettlesByAppend, StaysConsistent, StaysOpen, WroteNothing, is_append, is_asked};
 ghost use Rattle.control_core.specs.Orderly.{BeginsBy};
 ghost use Rattle.control_core.specs.Runs.{IsHistory, Leave};
-ghost use Rattle.control_core.specs.Turns.{DecidesSettling, MayOpen, open_decision, opening_in, poll_decision, settle_decision, sweep_tests, verify_tests};
+ghost use Rattle.control_core.specs.Steps.{BookStep};
+ghost use Rattle.control_core.specs.Turns.{DecidesSettling, MayOpen, are_once, open_decision, opening_in, poll_decision, session_in, settle_decision, sweep_tests, verify_tests};
 ghost use Rattle.control_core.specs.declared.turns.Opening.{Opening};
 ghost use Rattle.control_core.specs.declared.callers.Written.{Written};
 ghost use Rattle.control_core.specs.Decided.{Accepted};
@@ -114,12 +115,24 @@ pub fn a_refused_call_changes_nothing()
         ArchiveEnds a event (Err refusal) new → new ≡ a }
 {}
 
-/// A call of a consistent archive that is answered leaves what is recorded as it was, or makes exactly one accepted
-/// command: docs/CONTROL.md, "Requests".
-#[tactic(auto, using(crate::proofs::CallLemmas::at_most_one))]
-pub fn a_call_is_at_most_one_command()
-    ensures { (a : Archive) (event : Event) (reply : Reply) (new : Archive) → IsConsistent a →
-        ArchiveEnds a event (Ok reply) new → (book_of new ≡ book_of a) ⊎ MakesCommand a new event }
+/// A call of a consistent archive that is answered makes exactly the steps that it asks for: the command of its request, the
+/// append of what its session wrote, or a checkpoint. That is one at most; a call that settles several sessions makes an append
+/// of each that wrote something: docs/CONTROL.md, "Requests".
+#[tactic(auto, using(crate::proofs::MadeLemmas::makes_asked, crate::proofs::MadeLemmas::asks_few))]
+pub fn an_answered_call_makes_what_it_asks_for()
+    ensures made { (a : Archive) (event : Event) (reply : Reply) (new : Archive) → IsConsistent a →
+        ArchiveEnds a event (Ok reply) new → MakesSteps a new event }
+    ensures few { (a : Archive) (event : Event) → AsksFew a event }
+{}
+
+/// What several sessions wrote, and up to where their recordings are recorded once it is settled, is known before the first of
+/// them is settled, where no number stands twice: docs/CONTROL.md, "Recorder sessions".
+#[tactic(auto, using(crate::proofs::GroupLemmas::sessions_before, crate::proofs::GroupLemmas::positions_before))]
+pub fn what_several_sessions_settle_is_known_before()
+    ensures sessions { (d : DeskState) (numbers : List ℤ) → IsTrue (are_once numbers) →
+        sessions_each numbers d ≡ map (session_in d) numbers }
+    ensures positions { (d : DeskState) (numbers : List ℤ) → AreApart d.callers.sessions → IsTrue (are_once numbers) →
+        positions_each numbers d ≡ map (λ n. position_of d (session_in d n)) numbers }
 {}
 
 /// What a call is answered exactly, with the frames, is one of the answers that the desk machine allows, which knows none:
@@ -183,16 +196,16 @@ pub fn a_call_keeps_the_archive_consistent()
         CallEnds a event (Unit {0}) outcome new → StaysConsistent a new }
 {}
 
-/// Calls one after another of a consistent archive that nothing is in doubt of made a list of accepted commands, at most one
-/// each, the one that it asked for: they lead to what the last archive has recorded, and whatever stood meanwhile, or was in doubt, is what a beginning
-/// of them gives, or what all of them give and the one command more that a failed write left in doubt: docs/STORAGE.md,
-/// "Recovery".
+/// Calls one after another of a consistent archive that nothing is in doubt of made steps, each call none or those that it asked
+/// for, and each command of them accepted. They lead to what the last archive has recorded. Whatever stood meanwhile, or was in
+/// doubt, is what a beginning of the calls made, or what all of them made and what the call asked for which broke the archive:
+/// docs/STORAGE.md, "Recovery".
 #[tactic(auto, using(crate::proofs::RunLemmas::run_history))]
 pub fn a_run_is_a_history()
     ensures { (a : Archive) (events : List Event) (outcomes : List (Result Reply Refusal))
         (left : List Archive) →
         IsConsistent a → a.doubt ≡ None → Leave a events outcomes left →
-        (commands : List Command) × IsHistory a events left commands }
+        (steps : List (List BookStep)) × IsHistory a events left steps }
 {}
 
 /// What is decided on a call that reads says what the desk machine allows: whatever the files hold. docs/CONTROL.md,

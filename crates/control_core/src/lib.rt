@@ -11,6 +11,7 @@ mod deciding;
 mod decision;
 mod desk;
 mod event;
+mod grouping;
 pub mod laws;
 mod opening;
 mod replays;
@@ -28,6 +29,7 @@ pub use deciding::decide;
 pub use decision::Decision;
 pub use desk::Desk;
 pub use event::Event;
+pub use grouping::decide_settle_all;
 pub use request::{FindFields, Request};
 pub use turns::{
     FoundSettling, FoundWriting, Opening, OpeningDecision, Settling, decide_close, decide_open,
