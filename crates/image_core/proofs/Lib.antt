@@ -1,10 +1,10 @@
-mod ChainLemmas
+pub mod ChainLemmas
 mod RunLemmas
 mod LongestLemmas
-mod FateLemmas
+pub mod FateLemmas
 mod ReceivedLemmas
 mod InsertLemmas
-mod JoinLemmas
+pub mod JoinLemmas
 mod KeptLemmas
 mod LawLemmas
 mod RangeLemmas
