@@ -1,0 +1,3 @@
+mod BytesLemmas
+mod DatagramLemmas
+mod PositionLemmas
