@@ -1,7 +1,7 @@
 #!/usr/bin/env python3
 """What a look at a slot costs beside a load, and what a receiver and a recorder make beside one thread without a queue.
 
-Usage: bench/agents.py [--runs N]. First: cd crates/agent_trials && rt run -- look 1
+Usage: bench/agents.py [--runs N]. First: cd crates/trial_agents && rt run -- look 1
 
 Two processors have to be free: on a machine with other work, `chrt -f 10 bench/agents.py` takes them.
 
@@ -19,7 +19,7 @@ import sys
 from measure import most_memory
 from tool import ROOT, needs
 
-PROGRAM = ROOT / "crates/agent_trials/out/agent_trials"
+PROGRAM = ROOT / "crates/trial_agents/out/trial_agents"
 LOOKS = 50_000_000
 BLOCKS = 1_000
 LEAST = {"look": 0.5, "queue": 0.8}  # of a load, and of one thread

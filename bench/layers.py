@@ -1,7 +1,7 @@
 #!/usr/bin/env python3
-"""What the layers below the program cost over a disk in memory, by the program of crates/layer_measures.
+"""What the layers below the program cost over a disk in memory, by the program of crates/trial_layers.
 
-Usage: bench/layers.py. First: cd crates/layer_measures && rt run -- disk 1
+Usage: bench/layers.py. First: cd crates/trial_layers && rt run -- disk 1
 
 A bank of 100,000 entries is opened, beside a plain Rust fold over the same bytes (catalogue.rs); blocks of 46 frames of 1,408
 bytes are written to segment files and synced, and each of their 100,004 frames is read; ten megabytes are written in calls of
@@ -15,7 +15,7 @@ from pathlib import Path
 from measure import compiled, cost, seconds
 from tool import ROOT, Fault, needs, room
 
-PROGRAM = ROOT / "crates/layer_measures/out/layer_measures"
+PROGRAM = ROOT / "crates/trial_layers/out/trial_layers"
 RUNS, OPENINGS, ENTRIES = 5, 20, 100_000
 BLOCKS, FRAMES, LENGTH = 2_174, 2_174 * 46, 1_408
 

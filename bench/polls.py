@@ -1,9 +1,9 @@
 #!/usr/bin/env python3
-"""Measures replays of a folder whose files are warm: polls of the engine, by the crate lock_trials, and `poll` lines of the
+"""Measures replays of a folder whose files are warm: polls of the engine, by the crate trial_lock, and `poll` lines of the
 program, both beside a plain read of the same file and the lines beside coreutils' `basenc --base16` of the same bytes.
 
 Usage: bench/polls.py [--runs N] [program], on the file system of TRIAL_ROOM, else that of TMPDIR. First
-`cd crates/lock_trials && rt run -- memory 1 1`.
+`cd crates/trial_lock && rt run -- memory 1 1`.
 
 Every number is processor time, the median of --runs runs (5 by default). A replay costs what six of them in one process take
 beside none, by six. The folder is written here, by docs/STORAGE.md. The calls that read it are counted by `strace`, if that is there.
@@ -21,7 +21,7 @@ from tool import Fault, bank, file_system, program, room, settle_entry, stop_ent
 
 SIZES = {64: 1_000_000, MTU: 142_046}  # bytes of a frame, and how many there are
 REPLAYS = 6
-CREW = HERE.parent / "crates/lock_trials/out/lock_trials"
+CREW = HERE.parent / "crates/trial_lock/out/trial_lock"
 
 
 def write_folder(folder: Path, length: int, count: int) -> None:

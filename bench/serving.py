@@ -2,7 +2,7 @@
 """Measures a served archive: frames of 1,408 bytes from a sender on this machine into a folder.
 
 Usage: bench/serving.py [--frames N] [--runs N] [program], on the file system of TRIAL_ROOM, else that of TMPDIR. First:
-cd crates/lock_trials && rt run -- memory 1 1
+cd crates/trial_lock && rt run -- memory 1 1
 
 Four kinds of run come in turn:
 - a sender with flow control (sender.rs --flow-control) to `serve --aeron`, with the system's default receive buffer;
@@ -30,7 +30,7 @@ from tool import ROOT, Fault, conclude, expect, file_system, program, room, run,
 sys.path.insert(0, str(ROOT / "trials"))
 from serving import Server, settles  # noqa: E402
 
-LIBRARY = ROOT / "crates/lock_trials/out/lock_trials"
+LIBRARY = ROOT / "crates/trial_lock/out/trial_lock"
 FRAME = 1_408
 BLOCK = 46 * FRAME
 BATCH = 16

@@ -1,7 +1,7 @@
 #!/usr/bin/env python3
-"""What calls of threads that share an archive cost, beside calls of the engine alone, by the program of crates/lock_trials.
+"""What calls of threads that share an archive cost, beside calls of the engine alone, by the program of crates/trial_lock.
 
-Usage: bench/threads.py [--runs N]. First: cd crates/lock_trials && rt run -- memory 1 1
+Usage: bench/threads.py [--runs N]. First: cd crates/trial_lock && rt run -- memory 1 1
 
 Blocks of nearly 64 KiB over a folder, on the file system of TRIAL_ROOM, else that of TMPDIR, and blocks of 64 bytes over
 memory and over a folder; each is written and settled, and its bytes are made before. Ways come in turn, each first now and then, and
@@ -19,7 +19,7 @@ from pathlib import Path
 from measure import most_memory
 from tool import ROOT, file_system, needs, room
 
-PROGRAM = ROOT / "crates/lock_trials/out/lock_trials"
+PROGRAM = ROOT / "crates/trial_lock/out/trial_lock"
 # Size, disk, blocks, and for each ratio what it has to be at least, if anything.
 LOADS = [
     ("large", "folder", 400, {"call": 0.9, "counted": None, "four": None}),

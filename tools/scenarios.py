@@ -4,7 +4,7 @@
 Usage: tools/scenarios.py           says whether docs/SCENARIOS.md is what --print prints, and how many tests have no comment;
                                     status 1 if it is not
        tools/scenarios.py --print   prints docs/SCENARIOS.md
-A crate of tests is one of `crates/*tests*`; a file's sentence is its `//!` comment, and a test's its `///` comment.
+A crate of tests is one of `crates/tests_*`; a file's sentence is its `//!` comment, and a test's its `///` comment.
 """
 import re
 import sys
@@ -19,7 +19,7 @@ HEAD_OF_PAGE = """\
 # Scenarios
 
 For those who check tests: what is tried. Expected values were typed from the rules, not taken from the program. Only the texts of
-help and usage are clap's. This page is printed by `tools/scenarios.py --print` from `crates/*tests*/src`, so change a comment there.
+help and usage are clap's. This page is printed by `tools/scenarios.py --print` from `crates/tests_*/src`, so change a comment there.
 
 {tests} tests in {crates} crates; {bare} of them are named without a sentence. The lines, calls and answers of a scenario are in its
 test. Frames that tests name are in docs/PROTOCOL.md, "Vectors". What is tried outside `rt ci`: [trials](../trials/README.md).
@@ -70,7 +70,7 @@ def files_of(crate: str) -> list[tuple[str, str, list[Test]]]:
 
 def page() -> tuple[str, int, int]:
     """docs/SCENARIOS.md, how many tests there are, and how many have no comment."""
-    crates = [(crate, files_of(crate)) for crate in dependencies() if "tests" in crate]
+    crates = [(crate, files_of(crate)) for crate in dependencies() if crate.startswith("tests_")]
     all_of = [test for _, files in crates for _, _, tests in files for test in tests]
     bare = sum(not it.sentence for it in all_of)
     lines = [HEAD_OF_PAGE.format(tests=len(all_of), crates=len(crates), bare=bare).rstrip()]

@@ -43,7 +43,7 @@ def tried(crate: str) -> Tried:
 
 
 def main() -> int:
-    crates = sys.argv[1:] or [it for it in dependencies() if "tests" in it]
+    crates = sys.argv[1:] or [it for it in dependencies() if it.startswith("tests_")]
     if unknown := [it for it in crates if it not in dependencies()]:
         sys.exit(f"there is no crate {', '.join(unknown)}" if not unknown[0].startswith("-") else __doc__)
     bad = []

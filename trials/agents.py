@@ -1,8 +1,8 @@
 #!/usr/bin/env python3
-"""Agents in threads: two scenarios of live_tests, a run without threads, and followed positions after a kill.
+"""Agents in threads: two scenarios of tests_live, a run without threads, and followed positions after a kill.
 
-Usage: trials/agents.py [--seed S] [--runs N] [--kills N] [program]. First: cd crates/agent_trials && rt run -- look 1, and
-cd crates/live_tests && rt test
+Usage: trials/agents.py [--seed S] [--runs N] [--kills N] [program]. First: cd crates/trial_agents && rt run -- look 1, and
+cd crates/tests_live && rt test
 
 Two recorders and two replayers, whose sources and sinks wait for each other, run again and again: agents on one thread would end
 a wait by its limit. So do six agents that their gate ends, each at a turn of its own. Then a receiver and a recorder run as a user
@@ -21,8 +21,8 @@ from pathlib import Path
 
 from tool import ROOT, Fault, KilledRounds, Stream, conclude, expect, file_system, go_round, needs, noted, program, replayed, room, run, stop_positions, trial_words
 
-AGENTS = ROOT / "crates/agent_trials/out/agent_trials"
-TESTS = ROOT / "crates/live_tests/out/live_tests_tests"
+AGENTS = ROOT / "crates/trial_agents/out/trial_agents"
+TESTS = ROOT / "crates/tests_live/out/tests_live_tests"
 SCENARIOS = ["agents::two_recorders_and_two_replayers", "agents::a_gate_ends_each_agent_at_its_turn"]
 STREAM = Stream(term_length=65_536, segment_length=65_536)
 HISTORY = 16_777_216

@@ -1,7 +1,7 @@
 #!/usr/bin/env python3
 """Asks that a folder answers as memory does, and that each command of the program ends as docs/CONTROL.md says.
 
-The worked scripts are read from tool_tests. Those over an empty disk are run over memory and over a folder, and
+The worked scripts are read from tests_tool. Those over an empty disk are run over memory and over a folder, and
 both have to give the test's text, byte for byte; those over another disk are run over a folder that was made to be like it.
 Then each command is run on archives that are whole, damaged, absent or in use: its status, what it prints, and the line of
 its refusal on standard error (what stands there beside that line is tried by standard_error.py). Then what docs/STORAGE.md tells an operator: retention to its end, and what `verify` and `frames` don't see.
@@ -149,7 +149,7 @@ UNOPENED = {make_no_catalogue: NOT_CATALOGUE}
 
 def try_scripts(trial: Trial) -> None:
     """Each script of the tests, over memory and a folder, or over a folder that is like its disk."""
-    source = "".join((CRATES / "tool_tests/src" / name).read_text() for name in ("scenarios.rt", "disks.rt", "compactions.rt"))
+    source = "".join((CRATES / "tests_tool/src" / name).read_text() for name in ("scenarios.rt", "disks.rt", "compactions.rt"))
     vectors = dict(VECTOR.findall(source))
     empty = [(name, text_of(lines, vectors), text_of(told, vectors)) for name, lines, told in OVER_EMPTY.findall(source)]
     empty.append(("stdin", (CRATES / "archive_tool/stdin").read_text(), (CRATES / "archive_tool/stdout").read_text()))

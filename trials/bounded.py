@@ -1,7 +1,7 @@
 #!/usr/bin/env python3
 """Data that is handed out no further than a log is durable, before and after kills.
 
-Usage: trials/bounded.py [--seed S] [--kills N] [program]. First: cd crates/agent_trials && rt run -- look 1
+Usage: trials/bounded.py [--seed S] [--kills N] [program]. First: cd crates/trial_agents && rt run -- look 1
 
 A process records a log into one folder and data into another, where it is ahead of the log. A bounded replayer hands out the
 data, and prints each frame with the position of the log that it saw. The process is killed (SIGKILL) at a random moment, again
@@ -16,7 +16,7 @@ from pathlib import Path
 
 from tool import ROOT, Fault, KilledRounds, Stream, conclude, expect, file_system, go_round, needs, noted, program, replayed, room, run, stop_positions, trial_words
 
-AGENTS = ROOT / "crates/agent_trials/out/agent_trials"
+AGENTS = ROOT / "crates/trial_agents/out/trial_agents"
 STREAM = Stream(term_length=65_536, segment_length=65_536)
 HISTORY = 16_777_216
 FRAME = 64  # bytes of a recorded frame

@@ -1,7 +1,7 @@
 #!/usr/bin/env python3
-"""Threads that share an archive, by the program of crates/lock_trials.
+"""Threads that share an archive, by the program of crates/trial_lock.
 
-Usage: trials/threads.py [--seed S] [--runs N] [--kills N] [--calls N] [program]. First: cd crates/lock_trials && rt run -- memory 1 1
+Usage: trials/threads.py [--seed S] [--runs N] [--kills N] [--calls N] [program]. First: cd crates/trial_lock && rt run -- memory 1 1
 
 Runs over memory: four threads record and stop and go on now and then, one truncates, lists and purges. One thread makes the
 calls of the history again: it is answered the same, frames included, and leaves the same state, which is the plain book's.
@@ -18,7 +18,7 @@ from pathlib import Path
 
 from tool import ROOT, Fault, Stream, conclude, expect, file_system, go_round, needs, noted, program, replayed, room, run, stop_positions, trial_words
 
-THREADS = ROOT / "crates/lock_trials/out/lock_trials"
+THREADS = ROOT / "crates/trial_lock/out/trial_lock"
 STREAM = Stream(term_length=65_536, segment_length=65_536)
 HISTORY = 16_777_216
 FRAME = 64  # bytes of a recorded frame

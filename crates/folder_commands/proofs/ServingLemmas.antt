@@ -4,7 +4,7 @@ use Rattle.command_line.specs.declared.serving.ServeWords.{ServeWords}
 use Rattle.disk_core.specs.Life.{Life}
 use Rattle.host_disk.specs.Events.{Given}
 use Rattle.host_disk.specs.Replay.{life_from}
-use Rattle.serve_core.specs.declared.options.ServeOptions.{ServeOptions}
+use Rattle.server.specs.declared.options.ServeOptions.{ServeOptions}
 use Rattle.folder_commands.specs.declared.status.Ending.{Ending}
 use Rattle.folder_commands.specs.declared.status.Ending.TheVariants.{Done, Cut, Refused, Stuck, Hidden, Unopened, FoundDamage, LineRefused, NoCommand, Failed}
 use Rattle.folder_commands.specs.Folders.{IsUnopenedFolder}

@@ -9,8 +9,8 @@ use Rattle.disk_core.specs.Life.{Life}
 use Rattle.host_disk.specs.Events.{Given}
 use Rattle.host_disk.specs.Replay.{life_from}
 use Rattle.command_line.specs.declared.serving.ServeWords.{ServeWords}
-use Rattle.serve_core.specs.declared.options.ServeOptions.{ServeOptions}
-use Rattle.serve_core.specs.Serving.{IsServedAs, IsServedUpTo}
+use Rattle.server.specs.declared.options.ServeOptions.{ServeOptions}
+use Rattle.server.specs.Serving.{IsServedAs, IsServedUpTo}
 use Rattle.folder_commands.specs.declared.why.Why.{Why}
 use Rattle.folder_commands.specs.declared.why.Why.TheVariants.{Address, Multicast, Window, NeedsAeron, RecordNeedsAeron, Streams, NeedsRecord, SegmentLength}
 use Rattle.folder_commands.specs.declared.status.Ending.{Ending}

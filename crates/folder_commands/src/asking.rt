@@ -66,7 +66,7 @@ pub(crate) fn ask<R: Wait + Clock + Net<Listener = TcpListener, Stream = TcpStre
 ) -> Result<(), Exit>
     ensures { AsksServer words.now (W.contents writer.old) (W.contents writer.new) (ending_in result) }
 {
-    let server = LocalServer {
+    let local = LocalServer {
         net,
         port: port_to_ask(words)?,
         patience: Duration::from_secs(u64::from(words.wait)),
@@ -75,7 +75,7 @@ pub(crate) fn ask<R: Wait + Clock + Net<Listener = TcpListener, Stream = TcpStre
         lines: words.lines.as_slice(),
         until: words.until,
     };
-    match control_client::ask(net, rt.alloc(), &server, &question, writer) {
+    match control_client::ask(net, rt.alloc(), &local, &question, writer) {
         Ok(verdict) => answered_by(verdict, words),
         Err(fault) => Err(unanswered_by(fault, words)),
     }

@@ -5,7 +5,7 @@ use crate::teller::is_same;
 use crate::why::{FaultLine, MetricsFault};
 use host_disk::{HostDisk, LastFault};
 use metrics_text::{Measures, print_metrics};
-use serve_core::{Happening, LineTeller, Teller};
+use server::{Happening, LineTeller, Teller};
 use std::alloc::Global;
 use std::fs;
 use std::io::{self, Eprint, ErrorKind};

@@ -23,7 +23,7 @@ use command_line::ServeWords;
 use disk_core::Disk;
 use flow_control::{INITIAL_WINDOW, LONGEST_WINDOW, SHORTEST_WINDOW};
 use frame_core::limits::{FRAME_ALIGNMENT, MAX_TERM_LENGTH, MIN_TERM_LENGTH};
-use serve_core::{SEGMENT_LENGTH, ServeOptions, Served, Teller, serve_with};
+use server::{SEGMENT_LENGTH, ServeOptions, Served, Teller, serve_with};
 use std::alloc::Global;
 use std::io::{self, Eprint};
 use std::net::{Ipv4Addr, Net, TcpListener, TcpStream, UdpSocket};

@@ -8,7 +8,7 @@ use crate::told_words::words_status;
 use clap::error::ErrorKind;
 use frame_core::Refusal;
 use host_disk::OpenFault;
-use serve_core::Stuck;
+use server::Stuck;
 use std::io;
 use tool_core::EarlyEnd;
 

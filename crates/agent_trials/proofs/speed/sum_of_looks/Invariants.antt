@@ -1,6 +1,0 @@
-use Rattle.std.proofs.Common.{◌≡◌}
-use Rattle.agent_trials.proofs.speed.sum_of_looks.Given as goal
-
--- the reader is of the board
-abbrev pub invariant-loop : goal.invariant-loop
-invariant-loop l = l.reader.table ≡ l.board

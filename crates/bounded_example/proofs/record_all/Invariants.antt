@@ -1,6 +1,0 @@
-use Rattle.std.proofs.Common.{◌≡◌}
-use Rattle.bounded_example.proofs.record_all.Given as goal
-
--- the pass is of the archive
-abbrev pub invariant-loop-position : goal.invariant-loop-position
-invariant-loop-position g l = l.pass.table ≡ g.A.Naming.table

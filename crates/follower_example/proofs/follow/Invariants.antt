@@ -1,6 +1,0 @@
-use Rattle.std.proofs.Common.{◌≡◌}
-use Rattle.follower_example.proofs.follow.Given as goal
-
--- the reader is of the board
-abbrev pub invariant-loop : goal.invariant-loop
-invariant-loop g l = l.reader.table ≡ l.board

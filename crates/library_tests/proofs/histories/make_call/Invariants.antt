@@ -1,4 +1,0 @@
-use Rattle.library_tests.proofs.histories.make_call.Given as goal
-
-abbrev pub ghost-note : goal.ghost-note
-ghost-note a = a.asked

@@ -1,4 +1,0 @@
-use Rattle.library_tests.proofs.histories.note.Given as goal
-
-abbrev pub ghost-note : goal.ghost-note
-ghost-note g a = g.call

@@ -1,7 +1,0 @@
-use Rattle.std.proofs.Common.{take}
-use Rattle.recording_thread.specs.Settling.{PassesFirst, later, some_overdue}
-use Rattle.recording_thread.proofs.settling.Settling.next_due.Given as goal
-
--- of the sessions so far
-abbrev pub invariant-loop-session : goal.invariant-loop-session
-invariant-loop-session l = PassesFirst (λ ms. some_overdue l.self.every (later ms l.self.time) (take l.session-index l.session-items)) l.next

@@ -1,0 +1,403 @@
+//! Images by their places, and what happens to a datagram. docs/ARCHITECTURE.md, "Serving".
+
+ghost use Rattle.std.specs.Prelude.{◌≡◌, ◌<◌, [], IfErr, IfOk, OnErr, OnOk, is_none, is_some, length, map, slice_get, true};
+ghost use Rattle.std.specs.List.{position};
+ghost use Rattle.std.specs.Option.{option_copied};
+ghost use Rattle.frame_core.specs.FrameEncoding.{frame_of};
+ghost use Rattle.frame_core.specs.Block.{AreEncodable, publication_of};
+ghost use Rattle.frame_core.specs.Setup.{IsUsable};
+ghost use Rattle.frame_core.specs.declared.refusal.Refusal.TheVariants.{NoMemory};
+ghost use Rattle.server_receiver.specs.Datagrams.{AsksAfter, AsksOf, BegunBy, GivesNext, HandledAt, HandlesFrames, HandlesIn, HasNext, IsPlaced, Joins, JoinsBy, LacksBlock, SendsRequest, Takes, TakesNext, TakesFrames, has_block_of, has_publication, image_at, image_of, image_with, is_full_image, is_full_of, join_point, place_for_next, publication_told, put_image, unknown_of, vacated_at};
+
+use agents_core::DatagramEnd;
+use frame_core::limits::MAX_BLOCK_LENGTH;
+use frame_core::{Block, FrameRef, Publication, Refusal, Setup, frames_of_datagram};
+use image_core::BoundedImage;
+use std::alloc::Global;
+use std::marker::Model;
+use stream_pairs::{MAX_IMAGES, StreamPoint};
+
+/// The images by their places, at most 64 at a time. To a contract they are what each received.
+#[derive(Drop)]
+pub struct Images {
+    alloc: Global,
+    images: Vec<Option<BoundedImage>>,
+}
+
+impl Model for Images {
+    ghost use Rattle.std.specs.Prelude.{List, Option};
+    ghost use Rattle.image_core.specs.Received.{Received};
+
+    ghost Value = { List (Option Received) };
+
+    ghost view = { λ i. i.images.items };
+}
+
+/// What a datagram was.
+#[derive(Clone, Copy)]
+pub enum Came {
+    /// Nothing that an image takes, and nothing of a publication that may join.
+    Nothing,
+    /// The setup frame of a new image, which joined at the point.
+    Joined {
+        /// The image's place.
+        image: usize,
+        /// Where it joined.
+        point: StreamPoint,
+    },
+    /// A setup frame of a publication that has an image.
+    SetUp {
+        /// The image's place.
+        image: usize,
+    },
+    /// Frames of an image.
+    Frames {
+        /// The image's place.
+        image: usize,
+        /// Whether they were lost past the stock.
+        is_lost: bool,
+    },
+    /// Frames of a publication that has no image, while there is a place for one.
+    Unknown(Publication),
+    /// No datagram of frames, or frames or the setup frame of an image for which there was no memory.
+    Refused(Refusal),
+}
+
+impl Images {
+    /// No image came.
+    pub fn new(alloc: Global) -> Images
+        ensures { result ≡ [] }
+    {
+        Images {
+            alloc,
+            images: Vec::new(alloc),
+        }
+    }
+
+    /// How many places had an image.
+    pub fn len(&self) -> usize
+        ensures { result ≡ length self.now }
+    {
+        self.images.len()
+    }
+
+    /// The image at a place.
+    pub fn get(&self, image: usize) -> Option<&BoundedImage>
+        ensures { option_copied result ≡ image_at image self.now }
+    {
+        match self.images.as_slice().get(image) {
+            Some(Some(image)) => Some(image),
+            _ => None,
+        }
+    }
+
+    /// The image at a place is given back. Its memory is freed.
+    pub fn remove(&mut self, image: usize)
+        ensures { self.new ≡ vacated_at image self.old }
+    {
+        if let Some(place) = self.images.get_mut(image) {
+            *place = None;
+        }
+    }
+
+    /// The place of the image of a publication.
+    fn index_of(&self, publication: &Publication) -> Option<usize>
+        ensures { result ≡ image_with publication.now self.now }
+    {
+        self.images
+            .iter()
+            .position(|image| has_publication(image, publication))
+    }
+
+    /// The place of one image more: the least without one, or the next one, of 64.
+    fn place_for_next(&self) -> Option<usize>
+        ensures { result ≡ place_for_next self.now }
+    {
+        match self.vacant() {
+            Some(place) => Some(place),
+            None if self.images.len() < MAX_IMAGES => Some(self.images.len()),
+            None => None,
+        }
+    }
+
+    /// The least place without an image.
+    fn vacant(&self) -> Option<usize>
+        ensures { result ≡ position is_none self.now }
+    {
+        self.images.iter().position(|image| image.is_none())
+    }
+
+    /// Takes a datagram, which is decoded here once. Its frames are offered to the image of the first one's publication.
+    /// The setup frame of a publication that has no image makes one, if there is a place and memory for it. For
+    /// everything else, and for a datagram that is refused, nothing changes.
+    pub fn take_datagram(&mut self, datagram: &[u8]) -> Came
+        ensures { Takes self.old datagram.now self.new result }
+    {
+        match frames_of_datagram(self.alloc, datagram) {
+            Ok(frames) => self.take_frames(frames.as_slice()),
+            Err(Refusal::BadFrame { offset: 0 }) => self.take_setup(datagram),
+            Err(refusal) => Came::Refused(refusal),
+        }
+    }
+
+    /// Asks once for what is missing of the image whose frames came, as far as the window and the stock have room for it.
+    /// Whether it did. After anything else nothing is sent.
+    pub fn ask_after<E: DatagramEnd>(&self, end: &mut E, came: &Came) -> bool
+        ensures { AsksAfter E.sends self.now came.now end.old end.new result }
+    {
+        match came {
+            Came::Frames { image, is_lost } => {
+                let _ = is_lost;
+                self.ask_of(end, *image)
+            }
+            _ => false,
+        }
+    }
+
+    fn ask_of<E: DatagramEnd>(&self, end: &mut E, image: usize) -> bool
+        ensures { AsksOf E.sends (image_at image self.now) end.old end.new result }
+    {
+        match self.get(image) {
+            Some(image) => request(end, image),
+            None => false,
+        }
+    }
+
+    #[tactic(auto, using(crate::proofs::ImageLemmas::is_placed_of))]
+    fn take_frames(&mut self, frames: &[FrameRef<'_>]) -> Came
+        requires { AreEncodable (map frame_of frames.now) }
+        ensures { let fs = map frame_of frames.now in
+            TakesFrames (image_of fs self.old) self.old fs self.new result }
+    {
+        match self.image_of(frames) {
+            Some(image) => self.offer_to(image, frames),
+            None => self.unknown(frames),
+        }
+    }
+
+    /// The place of the image of the first frame's publication.
+    fn image_of(&self, frames: &[FrameRef<'_>]) -> Option<usize>
+        ensures { result ≡ image_of (map frame_of frames.now) self.now }
+    {
+        match frames.first() {
+            Some(frame) => self.index_of(&publication_of(frame)),
+            None => None,
+        }
+    }
+
+    /// What frames are whose publication has no image.
+    fn unknown(&self, frames: &[FrameRef<'_>]) -> Came
+        ensures { result ≡ unknown_of (map frame_of frames.now) self.now }
+    {
+        if self.place_for_next().is_none() {
+            return Came::Nothing;
+        }
+        match frames.first() {
+            Some(frame) => Came::Unknown(publication_of(frame)),
+            None => Came::Nothing,
+        }
+    }
+
+    /// Offers frames to the image at a place.
+    fn offer_to(&mut self, image: usize, frames: &[FrameRef<'_>]) -> Came
+        requires there { IsPlaced (slice_get self.old image) }
+        requires encodable { AreEncodable (map frame_of frames.now) }
+        ensures { let fs = map frame_of frames.now in HandledAt image self.old fs self.new result }
+    {
+        let Some(place) = self.images.get_mut(image) else {
+            unreachable!();
+        };
+        match offer_in(place, frames) {
+            Ok(is_lost) => Came::Frames { image, is_lost },
+            Err(refusal) => Came::Refused(refusal),
+        }
+    }
+
+    fn take_setup(&mut self, datagram: &[u8]) -> Came
+        ensures { Joins datagram.now self.old self.new result }
+    {
+        match Setup::decode(datagram) {
+            Ok(setup) => self.join(&setup),
+            Err(_) => Came::Nothing,
+        }
+    }
+
+    /// Makes an image of a setup frame, if its publication has none, and there is a place and memory for it.
+    fn join(&mut self, setup: &Setup) -> Came
+        requires { IsUsable setup.now }
+        ensures { JoinsBy setup.now self.old self.new result }
+    {
+        match self.index_of(&publication_told(setup)) {
+            Some(image) => Came::SetUp { image },
+            None => self.begin(setup),
+        }
+    }
+
+    /// One image more, if there is a place. `NoMemory`.
+    fn begin(&mut self, setup: &Setup) -> Came
+        requires { IsUsable setup.now }
+        ensures { BegunBy setup.now self.old self.new result }
+    {
+        let Some(place) = self.place_for_next() else {
+            return Came::Nothing;
+        };
+        let Ok(image) = BoundedImage::from_setup(self.alloc, setup) else {
+            unreachable!();
+        };
+        let point = join_point(&image);
+        match self.put(image) {
+            Ok(()) => Came::Joined {
+                image: place,
+                point,
+            },
+            Err(refusal) => Came::Refused(refusal),
+        }
+    }
+
+    /// Puts an image at the least place without one, or at the next one. `NoMemory`; nothing changes then.
+    fn put(&mut self, image: BoundedImage) -> Result<(), Refusal>
+        ensures put { OnOk result (self.new ≡ put_image (position is_none self.old) image self.old) }
+        ensures memory { IfErr result (λ refusal. (refusal ≡ NoMemory) × (self.new ≡ self.old)) }
+    {
+        match self.vacant() {
+            Some(place) => {
+                self.images[place] = Some(image);
+                Ok(())
+            }
+            None => match self.images.push(Some(image)) {
+                Ok(()) => Ok(()),
+                Err(_) => Err(Refusal::NoMemory),
+            },
+        }
+    }
+
+    /// Whether an image has a block to take.
+    pub fn has_block(&self, image: usize) -> bool
+        ensures { result ≡ has_block_of (image_at image self.now) }
+    {
+        match self.get(image) {
+            Some(image) => image.has_block(),
+            None => false,
+        }
+    }
+
+    /// Whether so much was rebuilt of an image, and not taken, that a block of it is as long as it may be.
+    pub fn is_full(&self, image: usize) -> bool
+        ensures { result ≡ is_full_of (image_at image self.now) }
+    {
+        match self.get(image) {
+            Some(image) => is_full(image),
+            None => false,
+        }
+    }
+
+    /// Takes the next block of an image, if there is one. `NoMemory`; then it stays in the image.
+    pub fn take_block(&mut self, image: usize) -> Result<Option<Block>, Refusal>
+        ensures taken { IfOk result (λ found. TakesNext image self.old found self.new) }
+        ensures lacks { OnErr result (LacksBlock image self.old self.new) }
+        ensures memory { IfErr result (λ refusal. refusal ≡ NoMemory) }
+    {
+        match self.images.get_mut(image) {
+            Some(place) => take_next(place),
+            None => Ok(None),
+        }
+    }
+}
+
+/// The publication that a frame is of.
+fn publication_of(frame: &FrameRef<'_>) -> Publication
+    ensures { result ≡ publication_of (frame_of frame.now) }
+{
+    Publication {
+        session_id: frame.session_id,
+        stream_id: frame.stream_id,
+    }
+}
+
+/// The publication that a setup frame tells of.
+fn publication_told(setup: &Setup) -> Publication
+    ensures { result ≡ publication_told setup.now }
+{
+    Publication {
+        session_id: setup.session_id,
+        stream_id: setup.stream_id,
+    }
+}
+
+/// Whether a place has an image of a publication.
+fn has_publication(image: &Option<BoundedImage>, publication: &Publication) -> bool
+    ensures { result ≡ has_publication publication.now image.now }
+{
+    let Some(image) = image else {
+        return false;
+    };
+    let own = image.publication();
+    own.session_id == publication.session_id && own.stream_id == publication.stream_id
+}
+
+/// Whether so much was rebuilt of an image, and not taken, that a datagram's length more may pass a block's.
+fn is_full(image: &BoundedImage) -> bool
+    ensures { result ≡ is_full_image image.now }
+{
+    let most = MAX_BLOCK_LENGTH as i64 - i64::from(image.geometry().mtu);
+    image.rebuilt() - image.taken() > most
+}
+
+/// Where a new image joined.
+fn join_point(image: &BoundedImage) -> StreamPoint
+    ensures { result ≡ join_point image.now }
+{
+    StreamPoint {
+        publication: *image.publication(),
+        geometry: *image.geometry(),
+        position: image.taken(),
+    }
+}
+
+/// Takes the next block of the image at a place, if there is one. `NoMemory`; then it stays in the image.
+fn take_next(place: &mut Option<BoundedImage>) -> Result<Option<Block>, Refusal>
+    ensures taken { IfOk result (λ found. GivesNext place.old found place.new) }
+    ensures lacks { OnErr result (HasNext place.old × (place.new ≡ place.old)) }
+    ensures memory { IfErr result (λ refusal. refusal ≡ NoMemory) }
+{
+    match place {
+        Some(image) => image.take_block(),
+        None => Ok(None),
+    }
+}
+
+/// Offers frames to the image at a place.
+fn offer_in(place: &mut Option<BoundedImage>, frames: &[FrameRef<'_>]) -> Result<bool, Refusal>
+    requires there { is_some place.old ≡ true }
+    requires encodable { AreEncodable (map frame_of frames.now) }
+    ensures { HandlesIn place.old (map frame_of frames.now) place.new result }
+{
+    match place {
+        Some(image) => offer(image, frames),
+        None => unreachable!(),
+    }
+}
+
+/// Offers frames to an image. Whether they were lost past its stock. `NoMemory`; nothing changes then.
+fn offer(image: &mut BoundedImage, frames: &[FrameRef<'_>]) -> Result<bool, Refusal>
+    requires { AreEncodable (map frame_of frames.now) }
+    ensures { HandlesFrames image.old (map frame_of frames.now) image.new result }
+{
+    match image.offer(frames) {
+        Ok(inserted) => Ok(inserted.is_none()),
+        Err(refusal) => Err(refusal),
+    }
+}
+
+/// Asks once for what is missing first of an image, if something is. Whether it did.
+fn request<E: DatagramEnd>(end: &mut E, image: &BoundedImage) -> bool
+    ensures { SendsRequest E.sends image.now end.old end.new result }
+{
+    match image.request() {
+        Some(nak) => {
+            end.send(&nak.encode());
+            true
+        }
+        None => false,
+    }
+}

@@ -1,0 +1,132 @@
+//! What is measured of datagrams and images, each second. docs/SERVING.md, "Metrics".
+
+ghost use Rattle.std.specs.Prelude.{◌≡◌, ◌*◌, ◌<◌, ◌^◌};
+ghost use Rattle.server_receiver.specs.Metering.{image_measured};
+
+use crate::gaps::Gaps;
+use crate::images::{Came, Images};
+use crate::repeats::{Repeats, begins_at};
+use image_core::BoundedImage;
+use metrics_text::ImageMeasures;
+use server_state::{ReceivedMeasures, Shared, Teller};
+use std::alloc::{AllocError, Global};
+use std::sync::Wait;
+
+/// Milliseconds between two times that a server is measured.
+const MEASURING: u64 = 1_000;
+/// The longest time of a gap that is told, in milliseconds: more than a hundred years.
+const LONGEST: u64 = 1 << 42;
+
+/// What is measured of datagrams and images.
+#[derive(Clone, Copy)]
+pub(crate) struct Metering {
+    dropped: u64,
+    repeated: u64,
+    repeats: Repeats,
+    gaps: Gaps,
+    /// When the server is measured next.
+    measures_at: u64,
+}
+
+impl Metering {
+    /// Nothing came.
+    pub fn new() -> Metering {
+        Metering {
+            dropped: 0,
+            repeated: 0,
+            repeats: Repeats::new(),
+            gaps: Gaps::new(),
+            measures_at: 0,
+        }
+    }
+
+    /// Notes a datagram: one that changed nothing, or one that came late or again.
+    pub fn note(&mut self, came: &Came, datagram: &[u8], images: &Images) {
+        match came {
+            Came::Joined { image, .. } => self.repeats.forget(*image),
+            Came::SetUp { .. } => {}
+            Came::Frames { image, .. } => self.note_frames(*image, datagram, images),
+            _ => self.dropped = self.dropped.saturating_add(1),
+        }
+    }
+
+    fn note_frames(&mut self, image: usize, datagram: &[u8], images: &Images) {
+        let Some(known) = images.get(image) else {
+            return;
+        };
+        let begins = begins_at(datagram, known.geometry());
+        if self.repeats.note(image, begins) {
+            self.repeated = self.repeated.saturating_add(1);
+        }
+    }
+
+    /// Whether the server is to be measured now.
+    pub fn is_due(&self, now: u64) -> bool {
+        self.measures_at <= now
+    }
+
+    /// Measures the server, which sent so many status messages, and tells it. Without memory nothing is told.
+    pub fn measure<R: Wait, T: Teller>(
+        &mut self,
+        rt: &R,
+        alloc: Global,
+        shared: &Shared<T>,
+        images: &Images,
+        status_messages: u64,
+        now: u64,
+    ) {
+        self.measures_at = now.saturating_add(MEASURING);
+        let received = ReceivedMeasures {
+            dropped: self.dropped,
+            repeats: self.repeated,
+            status_messages,
+        };
+        if let Ok(measured) = self.measured(rt, alloc, shared, images, now) {
+            shared.tell_measures(rt, alloc, received, measured);
+        }
+    }
+
+    /// What is measured of each image.
+    fn measured<R: Wait, T: Teller>(
+        &mut self,
+        rt: &R,
+        alloc: Global,
+        shared: &Shared<T>,
+        images: &Images,
+        now: u64,
+    ) -> Result<Vec<ImageMeasures>, AllocError> {
+        let mut measured = Vec::new(alloc);
+        for place in 0..images.len() {
+            let known = (shared.key_at(rt, place), images.get(place));
+            if let (Some(key), Some(image)) = known {
+                let stood = self.gaps.follow(place, gap_of(image), now);
+                measured.push(image_measured(key.number, image, stood.min(LONGEST)))?;
+            }
+        }
+        Ok(measured)
+    }
+}
+
+/// Where the first gap of an image begins, in bytes of the stream, if it is asked for.
+fn gap_of(image: &BoundedImage) -> Option<i64> {
+    match image.request() {
+        Some(_) => Some(image.rebuilt()),
+        None => None,
+    }
+}
+
+/// What is measured of an image with this number, whose first gap has stood for so many milliseconds.
+fn image_measured(number: u64, image: &BoundedImage, millis: u64) -> ImageMeasures
+    requires { millis < 2 ^ 43 }
+    ensures { result ≡ image_measured number image.now millis }
+{
+    let publication = image.publication();
+    ImageMeasures {
+        image: number,
+        stream_id: publication.stream_id,
+        session_id: publication.session_id,
+        rebuilt: image.rebuilt(),
+        consumed: image.taken(),
+        gap_micros: millis * 1_000,
+    }
+}

@@ -1,0 +1,319 @@
+//! What the senders of images are sent, if the server is a receiver of the public standard. docs/PROTOCOL.md, "Status messages
+//! and NAKs of a receiver".
+
+ghost use Rattle.std.specs.Prelude.{◌≡◌, [], IfOk, slice_get};
+ghost use Rattle.flow_control.specs.Windows.{has_window};
+ghost use Rattle.server_receiver.specs.Senders.{AsksForSetup, AsksPublication, ChangesAt, Hears, Notes, SetsUp, TellsRequest, TellsStatus, Tends, TendsIf, TendsTo, is_gone, is_silent, is_status_due_to, new_sender, with_sender};
+
+use crate::images::Came;
+use flow_control::{Feedback, SetupRequests, setup_request, window_of};
+use frame_core::{Geometry, Publication};
+use image_core::BoundedImage;
+use std::alloc::{AllocError, Global};
+use std::marker::Model;
+use std::net::SocketAddr;
+use stream_pairs::MAX_IMAGES;
+
+/// Milliseconds without a datagram from an image's sender after which another address may take its place.
+const SILENCE: u64 = 10_000;
+
+/// The end that frames for senders go out by.
+pub trait SenderEnd {
+    ghost use Rattle.std.specs.Prelude.{ℕ, List};
+    ghost use Rattle.std.specs.declared.net.socket_addr.SocketAddr.{SocketAddr};
+
+    /// Which state follows once some bytes were sent to an address.
+    ghost puts: { Self → SocketAddr → List ℕ → Self → Type 0 };
+
+    /// Sends a frame to an address. A frame may be lost on the way, and so may one that can't be sent.
+    fn put(&mut self, frame: &[u8], to: SocketAddr)
+        ensures { Self.puts self.old to frame.now self.new };
+}
+
+/// What a receiver's status messages have: the greatest window, in bytes, and the receiver's number.
+#[derive(Clone, Copy)]
+pub struct Receiver {
+    /// The greatest receiver window, in bytes.
+    pub window: i32,
+    /// The receiver's number.
+    pub id: i64,
+}
+
+/// The sender of an image.
+#[derive(Clone, Copy, Drop)]
+pub(crate) struct ImageSender {
+    /// Where its setup frame came from.
+    pub address: Option<SocketAddr>,
+    /// When something of the publication came from there last.
+    pub seen: u64,
+    /// What it was sent, and when something of the publication came.
+    pub feedback: Feedback,
+}
+
+impl ImageSender {
+    /// The sender of a new image.
+    fn new(from: Option<SocketAddr>, now: u64) -> ImageSender
+        ensures { result ≡ new_sender from now }
+    {
+        ImageSender {
+            address: from,
+            seen: now,
+            feedback: Feedback::new(now),
+        }
+    }
+
+    /// A datagram of the publication came.
+    fn hear(&mut self, from: Option<SocketAddr>, now: u64)
+        ensures { Hears from now self.old self.new }
+    {
+        if self.address == from {
+            self.seen = now;
+        }
+        self.feedback.hear(now);
+    }
+
+    /// Whether nothing came from the address for 10,000 milliseconds.
+    fn is_silent(&self, now: u64) -> bool
+        ensures { result ≡ is_silent now self.now }
+    {
+        SILENCE <= now.saturating_sub(self.seen)
+    }
+
+    /// A setup frame of the publication came.
+    fn set_up(&mut self, from: Option<SocketAddr>, now: u64)
+        ensures { SetsUp from now self.old self.new }
+    {
+        if self.is_silent(now) {
+            self.address = from;
+            self.seen = now;
+            self.feedback.hear(now);
+        } else {
+            self.hear(from, now);
+        }
+    }
+
+    /// Sends what is due. Whether a NAK was.
+    fn tend<E: SenderEnd>(
+        &mut self,
+        end: &mut E,
+        image: &BoundedImage,
+        receiver: &Receiver,
+        is_recorded: bool,
+        now: u64,
+    ) -> bool
+        ensures { TendsIf E.puts is_recorded now receiver.now image.now self.old.address self.old end.old self.new end.new result }
+    {
+        let Some(to) = self.address else {
+            return false;
+        };
+        tell_status(
+            &mut self.feedback,
+            end,
+            to,
+            image,
+            receiver,
+            is_recorded,
+            now,
+        );
+        tell_request(&mut self.feedback, end, to, image, now)
+    }
+}
+
+/// Sends the status message that is due, if the image is recorded.
+fn tell_status<E: SenderEnd>(
+    feedback: &mut Feedback,
+    end: &mut E,
+    to: SocketAddr,
+    image: &BoundedImage,
+    receiver: &Receiver,
+    is_recorded: bool,
+    now: u64,
+)
+    ensures { TellsStatus E.puts is_recorded now receiver.now image.now to feedback.old end.old feedback.new end.new }
+{
+    if !is_recorded {
+        return;
+    }
+    if let Some(status) = feedback.status(now, image, receiver.window, receiver.id) {
+        end.put(&status.encode(), to);
+    }
+}
+
+/// Sends the NAK that is due. Whether there was one.
+fn tell_request<E: SenderEnd>(
+    feedback: &mut Feedback,
+    end: &mut E,
+    to: SocketAddr,
+    image: &BoundedImage,
+    now: u64,
+) -> bool
+    ensures { TellsRequest E.puts now image.now to feedback.old end.old feedback.new end.new result }
+{
+    match feedback.request(now, image) {
+        Some(nak) => {
+            end.put(&nak.encode(), to);
+            true
+        }
+        None => false,
+    }
+}
+
+/// The senders of all images, by the images' places, and the publications that were asked for a setup frame.
+#[derive(Drop)]
+pub struct Senders {
+    receiver: Receiver,
+    senders: Vec<ImageSender>,
+    setups: SetupRequests,
+}
+
+impl Model for Senders {
+    ghost use Rattle.std.specs.Prelude.{◌≤◌, vec_capacity, vec_len};
+    ghost use Rattle.server_receiver.specs.Senders.{SendersState};
+
+    ghost Value = { SendersState };
+
+    ghost view = { λ s. record { receiver = s.receiver; senders = s.senders.items; setups = s.setups } };
+
+    ghost invariant = { λ s. (vec_len s.senders ≤ 64) × (64 ≤ vec_capacity s.senders) };
+}
+
+impl Senders {
+    /// No image came. Costs memory for 64 senders, and for 64 publications.
+    pub fn new(alloc: Global, receiver: Receiver) -> Result<Senders, AllocError>
+        ensures { IfOk result (λ made. made ≡ record { receiver = receiver; senders = []; setups = [] }) }
+    {
+        Ok(Senders {
+            receiver,
+            senders: Vec::with_capacity(alloc, MAX_IMAGES)?,
+            setups: SetupRequests::new(alloc)?,
+        })
+    }
+
+    /// Whether the sender of an image with these terms is sent status messages: no frame is longer than the window.
+    pub fn has_window(&self, geometry: &Geometry) -> bool
+        ensures { result ≡ has_window geometry.now self.now.receiver.window }
+    {
+        window_of(geometry, self.receiver.window).is_some()
+    }
+
+    /// Notes a datagram, and where it came from. Does not allocate.
+    pub fn note(&mut self, came: &Came, from: Option<SocketAddr>, now: u64)
+        ensures senders { Notes came.now from now self.old.senders self.new.senders }
+        ensures same { self.new ≡ record self.old { senders = self.new.senders } }
+    {
+        match came {
+            Came::Joined { image, point } => {
+                let _ = point;
+                self.add(*image, from, now);
+            }
+            Came::SetUp { image } => self.set_up(*image, from, now),
+            Came::Frames { image, is_lost } => {
+                let _ = is_lost;
+                self.hear(*image, from, now);
+            }
+            _ => {}
+        }
+    }
+
+    /// The sender of a new image at a place.
+    fn add(&mut self, image: usize, from: Option<SocketAddr>, now: u64)
+        ensures { self.new ≡ record self.old { senders = with_sender image from now self.old.senders } }
+    {
+        let sender = ImageSender::new(from, now);
+        if image < self.senders.len() {
+            self.senders[image] = sender;
+        } else if self.senders.len() < MAX_IMAGES {
+            self.senders.push_reserved(sender);
+        }
+    }
+
+    /// Whether a status message is due to the sender of an image, if the image is recorded. If not, [`tend`](Senders::tend)
+    /// does the same for one that is recorded and one that is not.
+    pub fn is_status_due(&self, index: usize, image: &BoundedImage, now: u64) -> bool
+        ensures { result ≡ is_status_due_to (slice_get self.now.senders index) now self.now.receiver.window image.now }
+    {
+        match self.senders.as_slice().get(index) {
+            Some(sender) => sender
+                .feedback
+                .is_status_due(now, image, self.receiver.window),
+            None => false,
+        }
+    }
+
+    /// Whether the image at a place is not live: nothing of its publication came for 10,000 milliseconds.
+    pub fn is_gone(&self, image: usize, now: u64) -> bool
+        ensures { result ≡ is_gone now (slice_get self.now.senders image) }
+    {
+        match self.senders.as_slice().get(image) {
+            Some(sender) => !sender.feedback.is_live(now),
+            None => false,
+        }
+    }
+
+    fn set_up(&mut self, image: usize, from: Option<SocketAddr>, now: u64)
+        ensures senders { ChangesAt image (slice_get self.old.senders image) self.old.senders self.new.senders (SetsUp from now) }
+        ensures same { self.new ≡ record self.old { senders = self.new.senders } }
+    {
+        if let Some(sender) = self.senders.get_mut(image) {
+            sender.set_up(from, now);
+        }
+    }
+
+    fn hear(&mut self, image: usize, from: Option<SocketAddr>, now: u64)
+        ensures senders { ChangesAt image (slice_get self.old.senders image) self.old.senders self.new.senders (Hears from now) }
+        ensures same { self.new ≡ record self.old { senders = self.new.senders } }
+    {
+        if let Some(sender) = self.senders.get_mut(image) {
+            sender.hear(from, now);
+        }
+    }
+
+    /// Sends what is due to the sender of an image: a status message, if a session that is open has the image, and a NAK.
+    /// Whether a NAK was. Does not allocate.
+    pub fn tend<E: SenderEnd>(
+        &mut self,
+        end: &mut E,
+        index: usize,
+        image: &BoundedImage,
+        is_recorded: bool,
+        now: u64,
+    ) -> bool
+        ensures { Tends E.puts index is_recorded now image.now self.old end.old self.new end.new result }
+    {
+        match self.senders.get_mut(index) {
+            Some(sender) => sender.tend(end, image, &self.receiver, is_recorded, now),
+            None => false,
+        }
+    }
+
+    /// Asks the sender of frames for a setup frame, if their publication has no image and was not asked within the last 200
+    /// milliseconds. Does not allocate.
+    pub fn ask_for_setup<E: SenderEnd>(
+        &mut self,
+        end: &mut E,
+        came: &Came,
+        from: Option<SocketAddr>,
+        now: u64,
+    )
+        ensures { AsksForSetup E.puts came.now from now self.old end.old self.new end.new }
+    {
+        if let (Came::Unknown(publication), Some(to)) = (came, from) {
+            self.ask_publication(end, publication, to, now);
+        }
+    }
+
+    fn ask_publication<E: SenderEnd>(
+        &mut self,
+        end: &mut E,
+        publication: &Publication,
+        to: SocketAddr,
+        now: u64,
+    )
+        ensures { AsksPublication E.puts publication.now to now self.old end.old self.new end.new }
+    {
+        if self.setups.asks(publication, now) {
+            let status = setup_request(publication, self.receiver.id);
+            end.put(&status.encode(), to);
+        }
+    }
+}

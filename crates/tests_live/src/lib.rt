@@ -1,0 +1,46 @@
+//! Tests of the archive that threads share, of agents, and of the server, both ends in one process: what no clause says. They
+//! stand in one crate, since all of them need what archive_lock stands on.
+#![tactic(auto)]
+
+#[cfg(test)]
+mod agents;
+#[cfg(test)]
+mod archives;
+#[cfg(test)]
+mod client;
+#[cfg(test)]
+mod conversations;
+#[cfg(test)]
+mod crowds;
+#[cfg(test)]
+mod failing;
+#[cfg(test)]
+mod handed_on;
+#[cfg(test)]
+mod held_back;
+#[cfg(test)]
+mod leaving;
+#[cfg(test)]
+mod metrics;
+#[cfg(test)]
+mod misfits;
+#[cfg(test)]
+mod receivers;
+#[cfg(test)]
+mod recorded;
+#[cfg(test)]
+mod refused_turns;
+#[cfg(test)]
+mod scenarios;
+#[cfg(test)]
+mod seat;
+#[cfg(test)]
+mod serving;
+#[cfg(test)]
+mod settles;
+#[cfg(test)]
+mod sources;
+#[cfg(test)]
+mod strict;
+#[cfg(test)]
+mod vectors;

@@ -1,0 +1,135 @@
+//! A server and who talks to it, in one process.
+
+use crate::client::{Client, Ports};
+use crate::conversations::holds;
+use disk_core::Disk;
+use server::{Happening, SETTLE_EVERY, ServeOptions, Teller, serve_with};
+use std::alloc::Global;
+use std::net::{Net, TcpListener, TcpStream, UdpSocket};
+use std::rt::Clock;
+use std::sync::Wait;
+use std::sync::atomic::{AtomicU32, Ordering};
+use std::thread::{self, Threads};
+use std::time::Duration;
+
+/// How many images were lost by a server, and how many did not fit a session, as far as it was told.
+#[derive(Drop)]
+pub(crate) struct Told {
+    lost: AtomicU32,
+    misfits: AtomicU32,
+}
+
+impl Told {
+    /// Nothing was told.
+    pub(crate) fn new() -> Told {
+        Told {
+            lost: AtomicU32::new(0),
+            misfits: AtomicU32::new(0),
+        }
+    }
+
+    /// Counts what a server tells.
+    pub(crate) fn teller(&self) -> Counting<'_> {
+        Counting(self)
+    }
+
+    /// How many images did not fit a session.
+    pub(crate) fn misfits(&self) -> u32 {
+        self.misfits.load(Ordering::SeqCst)
+    }
+
+    /// Waits for 10 seconds at most until an image was lost. Whether one was.
+    pub(crate) fn awaits_loss<R: Clock>(&self, rt: &R) -> bool {
+        for _ in 0..1_000 {
+            if self.lost.load(Ordering::SeqCst) > 0 {
+                return true;
+            }
+            thread::sleep(rt, Duration::from_millis(10));
+        }
+        false
+    }
+}
+
+/// Counts lost images, and those that don't fit.
+#[derive(Clone, Copy, Drop)]
+pub(crate) struct Counting<'a>(&'a Told);
+
+impl Teller for Counting<'_> {
+    fn tell(&self, happening: &Happening<'_>) {
+        match happening {
+            Happening::Lost { .. } => {
+                self.0.lost.fetch_add(1, Ordering::SeqCst);
+            }
+            Happening::Misfit { .. } => {
+                self.0.misfits.fetch_add(1, Ordering::SeqCst);
+            }
+            _ => {}
+        }
+    }
+}
+
+/// Serves a disk as `served_with`: a block waits for its settling as long as it does if no option says otherwise.
+pub(crate) fn served<
+    R: Threads + Wait + Clock + Net<Listener = TcpListener, Stream = TcpStream> + Sync,
+    D: Disk + Drop + Send,
+>(rt: &R, alloc: Global, disk: D, idle_seconds: u64, conversation: &str) -> Option<D> {
+    let options = options(idle_seconds, SETTLE_EVERY);
+    served_with(rt, alloc, disk, options, conversation)
+}
+
+/// Options: for how many seconds a client may be idle, and for how many milliseconds a block waits for its settling at most.
+pub(crate) fn options(idle_seconds: u64, settle_every: u64) -> ServeOptions<'static> {
+    let mut options = ServeOptions::new();
+    options.idle_seconds = idle_seconds;
+    options.settle_every = settle_every;
+    options
+}
+
+/// Serves a disk while a conversation is held, and then quits. The disk, where all was answered as it has to be.
+pub(crate) fn served_with<
+    R: Threads + Wait + Clock + Net<Listener = TcpListener, Stream = TcpStream> + Sync,
+    D: Disk + Drop + Send,
+>(rt: &R, alloc: Global, disk: D, options: ServeOptions<'_>, conversation: &str) -> Option<D> {
+    let (listener, socket, ports) = bound(rt)?;
+    let told = Told::new();
+    let told = &told;
+    let (back, is_right) = thread::join(
+        rt,
+        move || {
+            match serve_with(rt, alloc, listener, socket, disk, &options, Counting(told)) {
+                Ok(served) => Some(served.disk),
+                Err(_) => None,
+            }
+        },
+        move || {
+            let is_right = holds(rt, alloc, ports, told, conversation);
+            quits(rt, alloc, ports) && is_right
+        },
+    );
+    if is_right { back } else { None }
+}
+
+/// Whether `quit` is answered by `bye`.
+fn quits<R: Net<Listener = TcpListener, Stream = TcpStream>>(
+    rt: &R,
+    alloc: Global,
+    ports: Ports,
+) -> bool {
+    match Client::new(rt, alloc, ports) {
+        Some(mut client) => client.asks(alloc, "quit", "bye"),
+        None => false,
+    }
+}
+
+/// A listener and a socket on free ports.
+pub(crate) fn bound<R: Net<Listener = TcpListener, Stream = TcpStream>>(
+    rt: &R,
+) -> Option<(TcpListener, UdpSocket, Ports)> {
+    let listener = TcpListener::bind(rt, "127.0.0.1:0").ok()?;
+    let socket = UdpSocket::bind(rt, "127.0.0.1:0").ok()?;
+    let ports = Ports {
+        control: listener.local_addr().ok()?,
+        receive: socket.local_addr().ok()?,
+    };
+    Some((listener, socket, ports))
+}

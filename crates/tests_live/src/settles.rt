@@ -1,0 +1,162 @@
+//! When a server settles what it wrote: docs/SCENARIOS.md, "Settlings of a server".
+
+use crate::conversations::{RECORDED, recorded};
+use crate::serving::{options, served_with};
+use disk_core::MemoryDisk;
+use engine_core::Engine;
+use std::alloc::Global;
+use std::net::{Net, TcpListener, TcpStream};
+use std::rt::Clock;
+use std::sync::Wait;
+use std::test::Fail;
+use std::thread::Threads;
+
+/// Milliseconds that no test lasts.
+const LONG: u64 = 600_000;
+
+/// Serves an archive in memory while a conversation is held; a block waits for so many milliseconds at most. The disk, where
+/// all was answered as it has to be.
+fn settled<R: Threads + Wait + Clock + Net<Listener = TcpListener, Stream = TcpStream> + Sync>(
+    rt: &R,
+    alloc: Global,
+    settle_every: u64,
+    conversation: &str,
+) -> Option<MemoryDisk> {
+    let disk = MemoryDisk::new(alloc);
+    served_with(rt, alloc, disk, options(60, settle_every), conversation)
+}
+
+/// How many entries the history of the archive of such a conversation has.
+fn entries<R: Threads + Wait + Clock + Net<Listener = TcpListener, Stream = TcpStream> + Sync>(
+    rt: &R,
+    alloc: Global,
+    settle_every: u64,
+    conversation: &str,
+) -> Option<u64> {
+    let disk = settled(rt, alloc, settle_every, conversation)?;
+    match Engine::open(alloc, disk) {
+        Ok((engine, _)) => Some(engine.desk().counted()),
+        Err(_) => None,
+    }
+}
+
+/// Each message is awaited, and asked for by that.
+const ONE_BY_ONE: &str = "\
+asks start 1001 7 42 65536 1408 65536 0 1000 c: started 0 0
+casts SETUP
+casts HELLO_AT_0
+awaits positions 0: positions 0 64 -1
+casts HELLO_AT_64
+awaits positions 0: positions 0 128 -1
+casts HELLO_AT_128
+awaits positions 0: positions 0 192 -1
+";
+
+#[test]
+fn each_batch_settles_at_0(rt: HostRuntime) -> Result<(), Fail> {
+    let entries = entries(&rt, rt.alloc(), 0, ONE_BY_ONE);
+    assert!(rt; entries == Some(4));
+    Ok(())
+}
+
+#[test]
+fn a_session_settles_when_a_client_asks(rt: HostRuntime) -> Result<(), Fail> {
+    let entries = entries(&rt, rt.alloc(), LONG, ONE_BY_ONE);
+    assert!(rt; entries == Some(4));
+    Ok(())
+}
+
+/// The first message settles at once, and the others by time.
+const TEN: &str = "\
+asks start 1001 7 42 65536 1408 65536 0 1000 c: started 0 0
+casts SETUP
+casts-ten
+rests
+asks positions 0: positions 0 640 -1
+";
+
+#[test]
+fn messages_settle_together_by_time(rt: HostRuntime) -> Result<(), Fail> {
+    let entries = entries(&rt, rt.alloc(), 1_000, TEN).ok_or("served")?;
+    assert!(rt; entries <= 6);
+    Ok(())
+}
+
+/// Positions show what settled before they were asked for.
+const ASKED_TWICE: &str = "\
+asks start 1001 7 42 65536 1408 65536 0 1000 c: started 0 0
+casts SETUP
+casts HELLO_AT_0
+awaits positions 0: positions 0 64 -1
+pauses
+casts HELLO_AT_64
+rests
+asks positions 0: positions 0 64 -1
+asks positions 0: positions 0 128 -1
+";
+
+#[test]
+fn the_next_positions_show_it(rt: HostRuntime) -> Result<(), Fail> {
+    let entries = entries(&rt, rt.alloc(), LONG, ASKED_TWICE);
+    assert!(rt; entries == Some(3));
+    Ok(())
+}
+
+/// A block of 65,536 bytes.
+const LARGE: &str = "\
+asks start 1001 7 42 131072 1408 131072 65472 1000 c: started 0 0
+casts SETUP_OF_LONG_TERM
+casts HELLO_AT_TERM_END
+awaits positions 0: positions 65472 65536 -1
+pauses
+casts PAD_OF_LONG_TERM
+rests
+asks positions 0: positions 65472 131072 -1
+";
+
+#[test]
+fn so_many_bytes_settle_at_once(rt: HostRuntime) -> Result<(), Fail> {
+    let entries = entries(&rt, rt.alloc(), LONG, LARGE);
+    assert!(rt; entries == Some(3));
+    Ok(())
+}
+
+/// What was written before a stop.
+const STOPPED: &str = "\
+asks start 1001 7 42 65536 1408 65536 0 1000 c: started 0 0
+casts SETUP
+casts HELLO_AT_0
+awaits positions 0: positions 0 64 -1
+pauses
+casts HELLO_AT_64
+casts HELLO_AT_128
+rests
+asks stop 0 2000: stopped 192
+asks stop 0 2000: error 3 NotActive
+";
+
+#[test]
+fn a_stop_keeps_what_was_written(rt: HostRuntime) -> Result<(), Fail> {
+    let entries = entries(&rt, rt.alloc(), LONG, STOPPED);
+    assert!(rt; entries == Some(4));
+    Ok(())
+}
+
+/// What was written before the server ends.
+const ENDED: &str = "\
+asks start 1001 7 42 65536 1408 65536 0 1000 c: started 0 0
+casts SETUP
+casts HELLO_AT_0
+awaits positions 0: positions 0 64 -1
+casts HELLO_AT_64
+casts HELLO_AT_128
+rests
+";
+
+#[test]
+fn all_sessions_settle_at_the_end(rt: HostRuntime) -> Result<(), Fail> {
+    let disk = settled(&rt, rt.alloc(), LONG, ENDED).ok_or("served")?;
+    let output = recorded(rt.alloc(), disk)?;
+    assert!(rt; output.as_slice() == RECORDED.as_bytes());
+    Ok(())
+}

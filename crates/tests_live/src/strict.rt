@@ -1,0 +1,224 @@
+//! Strict servers, which end by themselves once they can record nothing: docs/SERVING.md, "A server that ends by itself".
+
+use crate::client::{Client, Ports};
+use crate::conversations::holds;
+use crate::serving::{Told, bound, options};
+use disk_core::{Disk, FileId, MemoryDisk};
+use engine_core::Engine;
+use frame_core::Refusal;
+use server::{SETTLE_EVERY, Served, Stuck, serve_with};
+use std::alloc::Global;
+use std::net::{Net, TcpListener, TcpStream};
+use std::rt::Clock;
+use std::sync::Wait;
+use std::test::Fail;
+use std::thread::{self, Threads};
+
+/// Calls that write, cut, remove or sync after which a disk fails: those of an opening, and the first of an entry.
+const FAILS_AFTER: u64 = 3;
+/// Those of an opening, and the four of an entry.
+const FAILS_AFTER_AN_ENTRY: u64 = 6;
+
+/// What is said to a server.
+#[derive(Clone, Copy)]
+enum Said {
+    /// Nothing.
+    Nothing,
+    /// A conversation.
+    Conversation(&'static str),
+    /// A start and a quit at once, of which the first is answered by a device fault.
+    FaultAndQuit,
+}
+
+/// Serves a disk by a strict server, or by one that is not, until something that is said ends it, or it ends by itself. None if
+/// it ended early, or something was answered otherwise.
+fn served<R: Threads + Wait + Clock + Net<Listener = TcpListener, Stream = TcpStream> + Sync>(
+    rt: &R,
+    alloc: Global,
+    disk: MemoryDisk,
+    is_strict: bool,
+    said: Said,
+) -> Option<Served<MemoryDisk>> {
+    let (listener, socket, ports) = bound(rt)?;
+    let told = Told::new();
+    let told = &told;
+    let mut options = options(60, SETTLE_EVERY);
+    options.is_strict = is_strict;
+    let (served, is_right) = thread::join(
+        rt,
+        move || { serve_with(rt, alloc, listener, socket, disk, &options, told.teller()).ok() },
+        move || is_answered(rt, alloc, ports, told, said),
+    );
+    if is_right { served } else { None }
+}
+
+/// Whether what is said is answered as it has to be.
+fn is_answered<R: Clock + Net<Listener = TcpListener, Stream = TcpStream>>(
+    rt: &R,
+    alloc: Global,
+    ports: Ports,
+    told: &Told,
+    said: Said,
+) -> bool {
+    match said {
+        Said::Nothing => true,
+        Said::Conversation(lines) => holds(rt, alloc, ports, told, lines),
+        Said::FaultAndQuit => faults_and_quits(rt, alloc, ports),
+    }
+}
+
+fn faults_and_quits<R: Net<Listener = TcpListener, Stream = TcpStream>>(
+    rt: &R,
+    alloc: Global,
+    ports: Ports,
+) -> bool {
+    let Some(mut client) = Client::new(rt, alloc, ports) else {
+        return false;
+    };
+    client.send(b"start 1001 7 42 65536 1408 65536 0 1000 c\nquit\n")
+        && client.hears(alloc, "error 17 DeviceFault")
+        && client.hears(alloc, "bye")
+}
+
+/// Why a server could record nothing; None too if it ended early, or something was answered otherwise.
+fn stop_of<R: Threads + Wait + Clock + Net<Listener = TcpListener, Stream = TcpStream> + Sync>(
+    rt: &R,
+    alloc: Global,
+    disk: MemoryDisk,
+    is_strict: bool,
+    said: Said,
+) -> Option<Stuck> {
+    served(rt, alloc, disk, is_strict, said)?.stop
+}
+
+/// Whether a server ended well, and does not say that it could record nothing.
+fn says_nothing<R: Threads + Wait + Clock + Net<Listener = TcpListener, Stream = TcpStream> + Sync>(
+    rt: &R,
+    alloc: Global,
+    disk: MemoryDisk,
+    is_strict: bool,
+    said: Said,
+) -> bool {
+    match served(rt, alloc, disk, is_strict, said) {
+        Some(served) => served.stop.is_none(),
+        None => false,
+    }
+}
+
+/// A bank A that is not a catalogue.
+fn not_a_catalogue(alloc: Global) -> MemoryDisk {
+    let mut disk = MemoryDisk::new(alloc);
+    let _ = disk.write_at(FileId::BankA, 0, b"none");
+    disk
+}
+
+/// A new archive whose history has room for so many entries.
+fn of_limit(alloc: Global, limit: u32) -> Option<MemoryDisk> {
+    match Engine::create(alloc, MemoryDisk::new(alloc), limit) {
+        Ok(engine) => Some(engine.into_disk()),
+        Err(_) => None,
+    }
+}
+
+/// A new archive on a disk that fails once it was opened.
+pub(crate) fn failing(alloc: Global) -> Option<MemoryDisk> {
+    failing_after(alloc, FAILS_AFTER)
+}
+
+/// A new archive on a disk that fails after so many calls.
+fn failing_after(alloc: Global, calls: u64) -> Option<MemoryDisk> {
+    let mut disk = of_limit(alloc, 64)?;
+    disk.stop_after(calls);
+    Some(disk)
+}
+
+#[test]
+fn without_an_archive_it_ends(rt: HostRuntime) -> Result<(), Fail> {
+    let disk = not_a_catalogue(rt.alloc());
+    let stop = stop_of(&rt, rt.alloc(), disk, true, Said::Nothing);
+    assert!(rt; stop == Some(Stuck::Unopened(Refusal::NotCatalogue)));
+    Ok(())
+}
+
+/// A call is answered by a device fault, and the connection ends.
+const FAULT: &str = "\
+asks start 1001 7 42 65536 1408 65536 0 1000 c: error 17 DeviceFault
+ends
+";
+
+/// It does not without the option.
+const FAULTS: &str = "\
+asks start 1001 7 42 65536 1408 65536 0 1000 c: error 17 DeviceFault
+asks start 1001 7 42 65536 1408 65536 0 1000 c: error 16 Broken
+asks quit: bye
+";
+
+#[test]
+fn it_ends_by_a_device_fault(rt: HostRuntime) -> Result<(), Fail> {
+    let disk = failing(rt.alloc()).ok_or("disk")?;
+    let stop = stop_of(&rt, rt.alloc(), disk, true, Said::Conversation(FAULT));
+    assert!(rt; stop == Some(Stuck::Broken));
+    let disk = failing(rt.alloc()).ok_or("disk")?;
+    assert!(rt; says_nothing(&rt, rt.alloc(), disk, false, Said::Conversation(FAULTS)));
+    Ok(())
+}
+
+#[test]
+fn a_quit_says_that_it_is_broken(rt: HostRuntime) -> Result<(), Fail> {
+    let disk = failing(rt.alloc()).ok_or("disk")?;
+    let stop = stop_of(&rt, rt.alloc(), disk, true, Said::FaultAndQuit);
+    assert!(rt; stop == Some(Stuck::Broken));
+    Ok(())
+}
+
+/// The last entry of a history of two, and the connection ends.
+const FULL: &str = "\
+asks start 1001 7 42 65536 1408 65536 0 1000 c: started 0 0
+asks stop 0 5: stopped 0
+ends
+";
+
+/// It does not without the option.
+const FULL_ON: &str = "\
+asks start 1001 7 42 65536 1408 65536 0 1000 c: started 0 0
+asks stop 0 5: stopped 0
+asks start 1001 7 42 65536 1408 65536 0 1000 c: error 11 HistoryFull
+asks quit: bye
+";
+
+#[test]
+fn it_ends_by_a_full_history(rt: HostRuntime) -> Result<(), Fail> {
+    let disk = of_limit(rt.alloc(), 2).ok_or("disk")?;
+    let stop = stop_of(&rt, rt.alloc(), disk, true, Said::Conversation(FULL));
+    assert!(rt; stop == Some(Stuck::HistoryFull));
+    let disk = of_limit(rt.alloc(), 2).ok_or("disk")?;
+    let full = served(&rt, rt.alloc(), disk, false, Said::Conversation(FULL_ON)).ok_or("full")?;
+    assert!(rt; full.stop.is_none());
+    let stop = stop_of(&rt, rt.alloc(), full.disk, true, Said::Nothing);
+    assert!(rt; stop == Some(Stuck::HistoryFull));
+    Ok(())
+}
+
+/// A block comes, and the connection ends: its settling makes the last entry of a history of two, or the disk fails its write.
+const SETTLED: &str = "\
+asks start 1001 7 42 65536 1408 65536 0 1000 c: started 0 0
+casts SETUP
+casts HELLO_AT_0
+ends
+";
+
+#[test]
+fn it_ends_by_a_settling_too(rt: HostRuntime) -> Result<(), Fail> {
+    let disk = of_limit(rt.alloc(), 2).ok_or("disk")?;
+    let stop = stop_of(&rt, rt.alloc(), disk, true, Said::Conversation(SETTLED));
+    assert!(rt; stop == Some(Stuck::HistoryFull));
+    Ok(())
+}
+
+#[test]
+fn it_ends_by_a_block_that_the_disk_fails(rt: HostRuntime) -> Result<(), Fail> {
+    let disk = failing_after(rt.alloc(), FAILS_AFTER_AN_ENTRY).ok_or("disk")?;
+    let stop = stop_of(&rt, rt.alloc(), disk, true, Said::Conversation(SETTLED));
+    assert!(rt; stop == Some(Stuck::Broken));
+    Ok(())
+}
