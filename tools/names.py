@@ -18,6 +18,8 @@ PAGES = [ROOT / "docs/ARCHITECTURE.md", ROOT / "docs/GUARANTEES.md", *sorted((RO
 OTHERS = frozenset("HANDLES crates txt fdatasync fsync statx stdin".split())
 FENCED = re.compile(r"^```.*?^```", re.M | re.S)
 CODE = re.compile(r"(?<!`)`([^`\n]+)`(?!`)")
+PATH = re.compile(r"(?:crates|docs|tools|trials|bench|examples)/[\w./-]+")
+IN_PLACE = re.compile(r"\b[A-Z]+\b(?!\.md)")
 NAME = re.compile(r"[A-Za-z_]\w*(?:(?:::|\.)[A-Za-z_]\w*)*(?:\(\))?")
 
 
@@ -38,11 +40,17 @@ def known() -> set[str]:
 
 
 def cited(text: str) -> Iterator[tuple[int, str]]:
-    """The names of a page in backquotes, each with its line."""
+    """The names and paths of a page in backquotes, each with its line."""
     bare = FENCED.sub(lambda it: "\n" * it[0].count("\n"), text)
     for it in CODE.finditer(bare):
-        if NAME.fullmatch(it[1].strip()):
-            yield bare.count("\n", 0, it.start()) + 1, it[1].strip()
+        text = it[1].strip()
+        if NAME.fullmatch(text) or (PATH.fullmatch(text) and not IN_PLACE.search(text)):
+            yield bare.count("\n", 0, it.start()) + 1, text
+
+
+def is_there(name: str, words: set[str]) -> bool:
+    """Whether a name or a path is there."""
+    return (ROOT / name).exists() if PATH.fullmatch(name) else all(it in words for it in re.findall(r"\w+", name))
 
 
 def main() -> int:
@@ -52,7 +60,7 @@ def main() -> int:
     for page in PAGES:
         for line, name in cited(page.read_text()):
             count += 1
-            if any(it not in words for it in re.findall(r"\w+", name)):
+            if not is_there(name, words):
                 missing.append(f"{page.relative_to(ROOT)}:{line}: there is no {name}")
     print("".join(f"{it}\n" for it in missing), end="")
     print(f"{count} names in {len(PAGES)} pages, {len(missing)} are not there")
