@@ -15,7 +15,7 @@ from pathlib import Path
 from repository import ROOT, dependencies
 
 PAGES = [ROOT / "docs/ARCHITECTURE.md", ROOT / "docs/GUARANTEES.md", *sorted((ROOT / "crates").glob("*/README.md"))]
-OTHERS = frozenset("HANDLES crates txt fdatasync fsync statx stdin".split())
+OTHERS = frozenset("HANDLES KIND crates txt fdatasync fsync statx stdin".split())
 FENCED = re.compile(r"^```.*?^```", re.M | re.S)
 CODE = re.compile(r"(?<!`)`([^`\n]+)`(?!`)")
 PATH = re.compile(r"(?:crates|docs|tools|trials|bench|examples)/[\w./-]+")
