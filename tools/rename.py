@@ -29,6 +29,11 @@ class Row(NamedTuple):
     inside: frozenset[str] = frozenset()
     outside: frozenset[str] = frozenset()
 
+    @property
+    def items(self) -> frozenset[str]:
+        """The items that are another crate's now."""
+        return self.inside if self.kind == "items" else frozenset()
+
     def pattern(self) -> re.Pattern[str]:
         """Where the old name stands: as a whole word, of a crate also in the name of its built tests."""
         end = r"(?=(?:_tests)?\b)" if self.kind == "crate" else r"(?!\w)"
@@ -38,6 +43,8 @@ class Row(NamedTuple):
         """Whether a file's text is to be changed."""
         parts = path.split("/")
         crate = parts[1] if parts[0] == "crates" and len(parts) > 2 else ""
+        if self.items:
+            return crate not in ("", self.old, self.new) and path.endswith(".rt")
         if self.inside:
             return crate in self.inside and path.endswith(CODE)
         return crate not in self.outside
@@ -46,7 +53,7 @@ class Row(NamedTuple):
         """Where a file is to stand."""
         if self.kind == "move":
             return re.sub(rf"^{re.escape(self.old)}(?=/|$)", self.new, path)
-        return self.pattern().sub(self.new, path) if self.is_for(path) else path
+        return self.pattern().sub(self.new, path) if self.is_for(path) and not self.items else path
 
 
 def rows() -> list[Row]:
@@ -55,8 +62,9 @@ def rows() -> list[Row]:
     for line in TABLE.read_text().splitlines():
         if words := shlex.split(line, comments=True):
             kind, old, new, *rest = words
-            crates = frozenset(rest[1:])
-            found.append(Row(kind, old, new, crates if rest[:1] == ["in"] else frozenset(), crates if rest[:1] == ["but"] else frozenset()))
+            named = frozenset(rest if kind == "items" else rest[1:])
+            is_outside = rest[:1] == ["but"]
+            found.append(Row(kind, old, new, frozenset() if is_outside else named, named if is_outside else frozenset()))
     return found
 
 
@@ -64,6 +72,23 @@ def files() -> list[str]:
     """The files of the checkout that git knows, but the table and this script."""
     listed = subprocess.run(["git", "ls-files", "-z"], cwd=ROOT, check=True, capture_output=True, text=True).stdout
     return [it for it in listed.split("\0") if it and it not in OWN and (ROOT / it).is_file() and not (ROOT / it).is_symlink()]
+
+
+def with_items(row: Row, text: str) -> tuple[str, int]:
+    """A file's text with its items from the other crate, and how many `use` items and paths that changed."""
+
+    def of_list(match: re.Match[str]) -> str:
+        names = [it.strip() for it in match[2].split(",") if it.strip()]
+        moved = [it for it in names if it.split(" ")[0] in row.items]
+        kept = [it for it in names if it not in moved]
+        if not moved:
+            return match[0]
+        uses = [f"{match[1]}use {crate}::{{{', '.join(them)}}};" for crate, them in ((row.new, moved), (row.old, kept)) if them]
+        return "\n".join(re.sub(r"\{(\w+)\}", r"\1", it) for it in uses)
+
+    listed = re.sub(rf"^( *(?:pub )?)use {row.old}::\{{([^}}]*)\}};", of_list, text, flags=re.MULTILINE)
+    changed, count = re.subn(rf"(?<!\w){row.old}::({'|'.join(sorted(row.items))})\b", rf"{row.new}::\1", listed)
+    return changed, count + (listed != text)
 
 
 def change(row: Row, path: str) -> int:
@@ -74,7 +99,7 @@ def change(row: Row, path: str) -> int:
         text = (ROOT / path).read_bytes().decode()
     except UnicodeDecodeError:
         return 0
-    text, count = row.pattern().subn(row.new, text)
+    text, count = with_items(row, text) if row.items else row.pattern().subn(row.new, text)
     if count:
         (ROOT / path).write_bytes(text.encode())
     return count

@@ -23,7 +23,7 @@ use Rattle.agents_core.specs.declared.recorder.Recorder.{Recorder}
 use Rattle.agents_core.specs.Handoff.{TakerView}
 use Rattle.agents_core.specs.Receivers.{blocks_in}
 use Rattle.agents_core.specs.Recorders.{AreTurns, IsTurn, RecorderEnded, RecorderRan, raised_after, raised_by}
-use Rattle.agents_core.specs.Seat.{SeatView, raised_unless_below}
+use Rattle.recorder_seats.specs.Seat.{SeatView, raised_unless_below}
 
 -- ---- the calls of one turn
 

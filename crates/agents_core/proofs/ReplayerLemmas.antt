@@ -20,10 +20,11 @@ use Rattle.position_board.specs.Positions.{seen_at}
 use Rattle.archive_lock.specs.declared.history.Made.{Made}
 use Rattle.archive_lock.specs.History.{EndsWithAnswer, IsNoted}
 use Rattle.agents_core.specs.declared.replayer.Replayer.{Replayer}
-use Rattle.agents_core.specs.Replayers.{FeedsSink, ReplayerRan, RisesBetween, frames_of_reply, goes_on_after}
-use Rattle.agents_core.proofs.AnswerLemmas.{IsPolledReply}
+use Rattle.agents_core.specs.Replayers.{FeedsSink, ReplayerRan, RisesBetween, goes_on_after}
+use Rattle.recorder_seats.specs.Poll.{frames_of_reply}
+use Rattle.recorder_seats.proofs.AnswerLemmas.{IsPolledReply}
 use Rattle.agents_core.proofs.RecorderLemmas.{IsNotedCall, noted_call, refused_how}
-use Rattle.agents_core.proofs.SeatLemmas.{each_append}
+use Rattle.recorder_seats.proofs.SeatLemmas.{each_append}
 
 -- ---- lists
 

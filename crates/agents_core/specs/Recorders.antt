@@ -15,7 +15,7 @@ use Rattle.agents_core.specs.declared.item.Item.{Item}
 use Rattle.agents_core.specs.declared.recorder.Recorder.{Recorder}
 use Rattle.agents_core.specs.Handoff.{TakerView}
 use Rattle.agents_core.specs.Receivers.{blocks_in}
-use Rattle.agents_core.specs.Seat.{raised_unless_below}
+use Rattle.recorder_seats.specs.Seat.{raised_unless_below}
 
 -- The calls of one turn with a block, and what refused it, if something did: the block is written, and settled next. A call
 -- for which there was no memory is none of a history.

@@ -11,12 +11,8 @@ use Rattle.archive_model.specs.Keyed.{Each}
 use Rattle.control_core.specs.declared.event.Event.TheVariants.{ReplayPoll}
 use Rattle.position_board.specs.Positions.{seen_at}
 use Rattle.archive_lock.specs.declared.history.Made.{Made}
+use Rattle.recorder_seats.specs.Poll.{frames_of_reply}
 use Rattle.agents_core.specs.declared.replayer.Replayer.{Replayer}
-
--- the frames of a poll that was answered
-abbrev pub frames_of_reply : Reply → List PolledFrame
-frames_of_reply (Polled frames next) = frames
-frames_of_reply reply = []
 
 -- whether a replayer goes on after a poll: its replay is not done, and its sink wants more
 abbrev pub goes_on_after : Reply → Bool → Bool

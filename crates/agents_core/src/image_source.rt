@@ -6,10 +6,10 @@ ghost use Rattle.frame_core.specs.declared.refusal.Refusal.TheVariants.{NoMemory
 ghost use Rattle.agents_core.specs.ImageSource.{GivesFromImage, GivesNoBlock, HasNoBlock, SendsRequest, TakesDatagram};
 
 use crate::block_source::BlockSource;
-use crate::datagram_end::DatagramEnd;
 use frame_core::limits::LONGEST_DATAGRAM;
 use frame_core::{Block, Refusal};
 use image_core::Image;
+use recorder_seats::DatagramEnd;
 use std::alloc::Global;
 use std::marker::Model;
 use std::sync::Wait;

@@ -3,24 +3,18 @@
 
 mod agents;
 mod block_source;
-mod bounded;
-mod datagram_end;
 mod frame_sink;
 mod gate;
 mod handoff;
 mod image_source;
 mod item;
-pub mod laws;
 mod receiver;
 mod recorder;
 mod replayer;
 mod run;
-mod seat;
 
 pub use agents::Agents;
 pub use block_source::BlockSource;
-pub use bounded::{BoundedReplayer, Turn};
-pub use datagram_end::DatagramEnd;
 pub use frame_sink::FrameSink;
 pub use gate::Gate;
 pub use handoff::{Handoff, Putter, Taker};
@@ -28,6 +22,6 @@ pub use image_source::ImageSource;
 pub use item::Item;
 pub use receiver::Receiver;
 pub use recorder::Recorder;
+pub use recorder_seats::{BoundedReplayer, DatagramEnd, RecorderSeat, Turn};
 pub use replayer::Replayer;
 pub use run::run_agents;
-pub use seat::RecorderSeat;

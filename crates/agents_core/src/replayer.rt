@@ -1,20 +1,18 @@
 //! A replayer: looks at a slot, polls a replay, and hands on the frames. docs/ARCHITECTURE.md, "Agents".
 
-ghost use Rattle.std.specs.Prelude.{◌≡◌, ◌<◌, ℤ, List, Option, is_none};
+ghost use Rattle.std.specs.Prelude.{◌≡◌, ◌<◌, Option};
 ghost use Rattle.frame_core.specs.declared.refusal.Refusal.{Refusal};
-ghost use Rattle.archive_model.specs.declared.reply.PolledFrame.{PolledFrame};
-ghost use Rattle.archive_model.specs.declared.reply.Reply.TheVariants.{Polled};
-ghost use Rattle.agents_core.specs.Replayers.{MakesOnePoll, ReplayerEnded, ReplayerRan, frames_of_reply};
+ghost use Rattle.agents_core.specs.Replayers.{MakesOnePoll, ReplayerEnded, ReplayerRan};
 
 use crate::frame_sink::FrameSink;
 use crate::gate::{Gate, Signals};
 use archive_lock::{Made, Naming, SharedArchive};
-use archive_model::{PolledFrame, Reply};
 use call_history::Pass;
 use control_core::Event;
 use disk_core::Disk;
-use frame_core::{Items, Refusal};
+use frame_core::Refusal;
 use position_board::{Board, Reader};
+use recorder_seats::polled;
 use std::alloc::Global;
 use std::sync::Wait;
 
@@ -75,19 +73,6 @@ impl<K: FrameSink> Replayer<K> {
                 false
             }
         }
-    }
-}
-
-/// The frames of a poll, and whether its replay is done.
-pub(crate) fn polled(reply: Reply) -> (Items<PolledFrame>, bool)
-    requires { (frames : List PolledFrame) × (next : Option ℤ) × (reply ≡ Polled frames next) }
-    ensures frames { result.0 ≡ frames_of_reply reply }
-    ensures done { (frames : List PolledFrame) (next : Option ℤ) → reply ≡ Polled frames next →
-        result.1 ≡ is_none next }
-{
-    match reply {
-        Reply::Polled { frames, next } => (frames, next.is_none()),
-        _ => unreachable!(),
     }
 }
 

@@ -10,8 +10,8 @@ use Rattle.disk_core.specs.Life.{Life}
 use Rattle.segment_store.specs.Stale.{AreStale}
 use Rattle.archive_model.specs.Register.{RegisterState}
 use Rattle.engine_core.specs.Moves.{registered_keeps}
-use Rattle.tool_core.specs.declared.commands.Stop.{Stop}
-use Rattle.tool_core.specs.declared.commands.Stop.TheVariants as stops
+use Rattle.archive_commands.specs.declared.commands.Stop.{Stop}
+use Rattle.archive_commands.specs.declared.commands.Stop.TheVariants as stops
 use Rattle.archive_view.specs.declared.view.ArchiveView.{ArchiveView}
 use Rattle.archive_view.specs.ReadOnly.{IsOnlyRead}
 use Rattle.archive_view.specs.Viewed.{desk_of}

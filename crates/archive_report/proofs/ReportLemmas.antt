@@ -11,12 +11,12 @@ use Rattle.archive_model.specs.declared.reply.Reply.TheVariants.{Verified}
 use Rattle.archive_model.specs.Register.{registration_in}
 use Rattle.control_core.specs.Desk.{DeskState}
 use Rattle.recording_reads.specs.Reading.{RefusesCount}
-use Rattle.tool_core.specs.declared.commands.CommandFault.{CommandFault}
-use Rattle.tool_core.specs.declared.commands.Stop.{Stop}
-use Rattle.tool_core.specs.declared.commands.Stop.TheVariants as stops
+use Rattle.archive_commands.specs.declared.commands.CommandFault.{CommandFault}
+use Rattle.archive_commands.specs.declared.commands.Stop.{Stop}
+use Rattle.archive_commands.specs.declared.commands.Stop.TheVariants as stops
 use Rattle.tool_core.specs.declared.fault.EarlyEnd.{EarlyEnd}
-use Rattle.tool_core.specs.declared.reports.Verdict.{Verdict}
-use Rattle.tool_core.specs.Reports.{HasReported, HasReportedFirst, InTurn, InTurnAndOne}
+use Rattle.archive_commands.specs.declared.reports.Verdict.{Verdict}
+use Rattle.archive_commands.specs.Reports.{HasReported, HasReportedFirst, InTurn, InTurnAndOne}
 use Rattle.archive_view.specs.declared.read_only.ReadOnly.{ReadOnly}
 use Rattle.archive_view.specs.declared.view.ArchiveView.{ArchiveView}
 use Rattle.archive_view.specs.ReadOnly.{IsOnlyRead, Looks, Refuses, disk_of}

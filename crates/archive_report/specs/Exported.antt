@@ -2,8 +2,8 @@
 use Rattle.std.specs.Prelude.{◌≡◌, ◌⊎◌, ℕ, ℤ, List, Option}
 use Rattle.frame_core.specs.declared.refusal.Refusal.{Refusal}
 use Rattle.disk_core.specs.Life.{Life}
-use Rattle.tool_core.specs.declared.commands.Stop.{Stop}
-use Rattle.tool_core.specs.declared.commands.Stop.TheVariants.{Refused, Cut}
+use Rattle.archive_commands.specs.declared.commands.Stop.{Stop}
+use Rattle.archive_commands.specs.declared.commands.Stop.TheVariants.{Refused, Cut}
 use Rattle.tool_core.specs.declared.fault.EarlyEnd.TheVariants as ends
 use Rattle.archive_view.specs.declared.view.ArchiveView.{ArchiveView}
 use Rattle.archive_view.specs.Viewed.{desk_of}

@@ -11,11 +11,11 @@ use Rattle.archive_model.specs.declared.reply.Reply.TheVariants.{Verified}
 use Rattle.archive_model.specs.Register.{RegisterState, registration_in}
 use Rattle.control_core.specs.Desk.{DeskState}
 use Rattle.recording_reads.specs.Reading.{HasFrames, RefusesCount}
-use Rattle.tool_core.specs.declared.commands.Stop.{Stop}
-use Rattle.tool_core.specs.declared.commands.Stop.TheVariants.{Refused, Cut}
+use Rattle.archive_commands.specs.declared.commands.Stop.{Stop}
+use Rattle.archive_commands.specs.declared.commands.Stop.TheVariants.{Refused, Cut}
 use Rattle.tool_core.specs.declared.fault.EarlyEnd.{EarlyEnd}
-use Rattle.tool_core.specs.declared.reports.Verdict.{Verdict}
-use Rattle.tool_core.specs.Reports.{HasReported, HasReportedFirst, Verification, ids_in}
+use Rattle.archive_commands.specs.declared.reports.Verdict.{Verdict}
+use Rattle.archive_commands.specs.Reports.{HasReported, HasReportedFirst, Verification, ids_in}
 use Rattle.archive_view.specs.declared.view.ArchiveView.{ArchiveView}
 use Rattle.archive_view.specs.ReadOnly.{IsOnlyRead}
 use Rattle.archive_view.specs.Viewed.{desk_of}

@@ -9,8 +9,8 @@ use Rattle.catalogue_log.specs.LogState.{LogState}
 use Rattle.control_core.specs.Decisions.{listed}
 use Rattle.control_core.specs.Desk.{DeskState}
 use Rattle.control_lines.specs.ReplyText.{reply_text}
-use Rattle.tool_core.specs.declared.commands.Stop.{Stop}
-use Rattle.tool_core.specs.declared.commands.Stop.TheVariants.{Refused, Cut}
+use Rattle.archive_commands.specs.declared.commands.Stop.{Stop}
+use Rattle.archive_commands.specs.declared.commands.Stop.TheVariants.{Refused, Cut}
 use Rattle.tool_core.specs.declared.fault.EarlyEnd.{EarlyEnd}
 use Rattle.tool_core.specs.Answering.{FailsToAnswer}
 use Rattle.archive_view.specs.declared.view.ArchiveView.{ArchiveView}

@@ -2,7 +2,7 @@
 
 ghost use Rattle.std.specs.Prelude.{◌≡◌, IfErr, IfOk, IfSome, OnOk, string_bytes};
 ghost use Rattle.std.specs.Io.KnownBytes.{Appends};
-ghost use Rattle.tool_core.specs.declared.commands.Stop.TheVariants.{Cut};
+ghost use Rattle.archive_commands.specs.declared.commands.Stop.TheVariants.{Cut};
 ghost use Rattle.tool_core.specs.declared.fault.EarlyEnd.TheVariants as ends;
 ghost use Rattle.archive_report.specs.Describing.{DescribesView, FailsToDescribe, FailsView, HasDescribed, IsLookedOn, text_as};
 
@@ -11,12 +11,13 @@ use crate::form::Form;
 use crate::page::page_of;
 use crate::summary::Summary;
 use crate::viewing::viewed;
+use archive_commands::{CommandFault, Stop};
 use archive_view::ArchiveView;
 use control_core::Desk;
 use disk_core::Disk;
 use std::alloc::Global;
 use std::io::Write;
-use tool_core::{CommandFault, EarlyEnd, Observer, Stop};
+use tool_core::{EarlyEnd, Observer};
 
 /// Writes what is known of the archive of a disk as it stands: each recording with its files, totals, which files a sweep
 /// would remove and why, files that no recording knows, and how much of the history is used. The disk is only read, and

@@ -5,11 +5,12 @@ ghost use Rattle.archive_report.specs.Exported.{FailsToExportFrom, HasExportedFr
 
 use crate::progress::ExportObserver;
 use crate::viewing::viewed;
+use archive_commands::{CommandFault, Stop};
 use archive_export::{ExportFault, Span, export};
 use disk_core::Disk;
 use std::alloc::Global;
 use std::io::Write;
-use tool_core::{CommandFault, EarlyEnd, Stop};
+use tool_core::EarlyEnd;
 
 /// Writes the frames of a part of a recording as a capture file, of the archive of a disk as it stands. The disk is only
 /// read, and comes back. An observer is told whether the archive is there, and of the recording before anything is written.

@@ -4,10 +4,11 @@ ghost use Rattle.std.specs.Prelude.{IfErr, IfOk};
 ghost use Rattle.archive_report.specs.Viewing.{FailsToList, HasListed};
 
 use crate::viewing::viewed;
+use archive_commands::{CommandFault, Stop, list_recordings};
 use disk_core::Disk;
 use std::alloc::Global;
 use std::io::Write;
-use tool_core::{CommandFault, Observer, Stop, list_recordings};
+use tool_core::Observer;
 
 /// Writes the recordings of the archive of a disk as it stands, as `list_recordings`: an active one as active. The disk is
 /// only read, and comes back. An observer is told whether the archive is there.

@@ -1,14 +1,15 @@
 //! What a terminal shows of an export that lasts. docs/CONTROL.md, "Standard error".
 
 ghost use Rattle.std.specs.Prelude.{◌≡◌, ◌-◌};
-ghost use Rattle.tool_core.specs.Progress.{hundredths};
+ghost use Rattle.archive_commands.specs.Progress.{hundredths};
 
+use archive_commands::{Measure, Screen};
 use archive_export::Span;
 use archive_model::Registration;
 use disk_core::FileId;
 use std::cell::Cell;
 use std::io::Eprint;
-use tool_core::{Beginning, Measure, Observer, Screen, Unobserved};
+use tool_core::{Beginning, Observer, Unobserved};
 
 /// Is told of an export. Nothing that is written depends on it.
 pub trait ExportObserver: Observer {

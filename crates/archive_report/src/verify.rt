@@ -6,6 +6,7 @@ ghost use Rattle.archive_report.specs.Viewing.{inner};
 ghost use Rattle.archive_report.specs.Verifying.{FailsToVerify, HasVerified, desk_seen, seen_verifies};
 
 use crate::viewing::viewed;
+use archive_commands::{CommandFault, Stop, Verdict, Verifiable, verify_recordings};
 use archive_model::Reply;
 use archive_view::ArchiveView;
 use control_core::Desk;
@@ -13,7 +14,7 @@ use disk_core::Disk;
 use frame_core::Refusal;
 use std::alloc::Global;
 use std::io::Write;
-use tool_core::{CommandFault, EarlyEnd, Observer, Stop, Verdict, Verifiable, verify_recordings};
+use tool_core::{EarlyEnd, Observer};
 
 /// What the verifying of an archive found.
 #[derive(Clone, Copy, Debug, PartialEq, Eq)]

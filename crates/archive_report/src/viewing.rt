@@ -3,11 +3,12 @@
 ghost use Rattle.std.specs.Prelude.{IfErr, IfOk};
 ghost use Rattle.archive_report.specs.Viewing.{IsUnviewedBy, IsViewedBy};
 
+use archive_commands::{CommandFault, Stop};
 use archive_view::{ArchiveView, ReadOnly};
 use disk_core::Disk;
 use engine_core::OpenRefusal;
 use std::alloc::Global;
-use tool_core::{Beginning, CommandFault, Observer, Stop};
+use tool_core::{Beginning, Observer};
 
 /// The archive of a disk as it stands, of which an observer is told; else why it cannot be looked at, and the disk. The disk
 /// is only read.

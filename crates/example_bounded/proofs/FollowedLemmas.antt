@@ -16,9 +16,9 @@ use Rattle.archive_lock.specs.declared.history.Made.{Made}
 use Rattle.archive_lock.specs.Closing.{ClosesWith}
 use Rattle.archive_lock.specs.Durable.{SettlingsStay}
 use Rattle.archive_lock.specs.History.{Member}
-use Rattle.agents_core.specs.declared.bounded.Turn.{Turn}
-use Rattle.agents_core.specs.HandedOut.{IsDurableTo}
-use Rattle.agents_core.specs.Seat.{RaisedAreSettled}
+use Rattle.recorder_seats.specs.declared.bounded.Turn.{Turn}
+use Rattle.recorder_seats.specs.HandedOut.{IsDurableTo}
+use Rattle.recorder_seats.specs.Seat.{RaisedAreSettled}
 use Rattle.example_bounded.specs.Followed.{HandedOutBefore, IsDurablyFollowed}
 
 abbrev Before : ℤ → PolledFrame → Type 0
@@ -43,7 +43,7 @@ one_turn_more slot old new turns after turn first rises seen before below is =
     (All-weaker (GaveBefore low) (GaveBefore high) (λ (t : Turn) all. still_before low high t.frames higher all) turns below)
     (subst (λ (position : ℤ). Each (Before position) turn.frames) sees before))
 
--- the law of agents_core that is cited
+-- the law of recorder_seats that is cited
 abbrev pub Durable : Type 0
 Durable = (opening now : EngineState) (c : Content) (members : List Member) (pass : PassView Made) (writer : Published) (seen : ℤ) → SettlingsStay (archive_of opening c) members now → pass.own ≡ calls_by pass.number members
     → RaisedAreSettled pass writer → Contains writer.positions seen → position_at 0 writer.positions <ℤ seen → IsDurableTo (archive_of opening c) members now seen

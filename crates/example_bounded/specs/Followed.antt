@@ -5,8 +5,8 @@ use Rattle.engine_core.specs.Consistent.{IsCrashConsistent}
 use Rattle.engine_core.specs.Engine.{Content, EngineState, archive_of}
 use Rattle.position_board.specs.Positions.{Published, position_at}
 use Rattle.archive_lock.specs.History.{Member}
-use Rattle.agents_core.specs.declared.bounded.Turn.{Turn}
-use Rattle.agents_core.specs.HandedOut.{IsDurableTo}
+use Rattle.recorder_seats.specs.declared.bounded.Turn.{Turn}
+use Rattle.recorder_seats.specs.HandedOut.{IsDurableTo}
 
 -- each frame that these turns gave begins before a position
 abbrev pub HandedOutBefore : ℤ → List Turn → Type 0

@@ -8,8 +8,6 @@ ghost use Rattle.position_board.specs.Positions.{seen_at};
 ghost use Rattle.archive_lock.specs.Held.{engine_seen, view_of};
 ghost use Rattle.example_bounded.specs.Followed.{HandedOutBefore, IsDurablyFollowed};
 
-use agents_core::laws::{passes_keep_their_numbers, what_is_handed_out_is_durable};
-use agents_core::{BoundedReplayer, RecorderSeat, Turn};
 use anyhow::{Context, Result};
 use archive_lock::{Closed, Made, Naming, SharedArchive};
 use archive_model::Reply;
@@ -20,6 +18,8 @@ use disk_core::{Disk, MemoryDisk};
 use engine_core::Engine;
 use frame_core::{Block, Frame, FrameKind, Items};
 use position_board::{Board, Reader};
+use recorder_seats::laws::{passes_keep_their_numbers, what_is_handed_out_is_durable};
+use recorder_seats::{BoundedReplayer, RecorderSeat, Turn};
 use std::alloc::{AllocError, Global};
 use std::io::Print;
 use std::marker::Brand;

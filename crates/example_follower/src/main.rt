@@ -11,8 +11,6 @@ ghost use Rattle.archive_lock.specs.Closing.{ClosesWith};
 ghost use Rattle.archive_lock.specs.Held.{engine_seen, view_of};
 ghost use Rattle.archive_lock.specs.History.{Member};
 
-use agents_core::RecorderSeat;
-use agents_core::laws::passes_keep_their_numbers;
 use anyhow::{Context, Result};
 use archive_lock::{Closed, Made, Naming, SharedArchive};
 use archive_model::Reply;
@@ -22,6 +20,8 @@ use disk_core::{Disk, MemoryDisk};
 use engine_core::Engine;
 use frame_core::{Block, Frame, FrameKind, Items};
 use position_board::{Board, Reader};
+use recorder_seats::RecorderSeat;
+use recorder_seats::laws::passes_keep_their_numbers;
 use std::alloc::{AllocError, Global};
 use std::io::Print;
 use std::marker::Brand;

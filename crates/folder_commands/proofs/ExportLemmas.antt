@@ -9,8 +9,8 @@ use Rattle.disk_core.specs.Life.{Life}
 use Rattle.disk_core.proofs.CallerLemmas.{goes_on_part, now_leaves, started}
 use Rattle.host_disk.specs.Events.{Given}
 use Rattle.host_disk.specs.Replay.{life_from}
-use Rattle.tool_core.specs.declared.commands.Stop.{Stop}
-use Rattle.tool_core.specs.declared.commands.Stop.TheVariants as stops
+use Rattle.archive_commands.specs.declared.commands.Stop.{Stop}
+use Rattle.archive_commands.specs.declared.commands.Stop.TheVariants as stops
 use Rattle.tool_core.specs.declared.fault.EarlyEnd.TheVariants as ends
 use Rattle.archive_report.specs.ArchiveView.{ArchiveView}
 use Rattle.archive_report.specs.ReadOnly.{IsOnlyRead}

@@ -9,13 +9,13 @@ use Rattle.host_disk.specs.contracts.host_folder.HostFolderFolder.TheImpl as fol
 use Rattle.host_disk.specs.Events.{Given}
 use Rattle.host_disk.specs.HostDisk.{host_life}
 use Rattle.host_disk.specs.Replay.{life_from}
-use Rattle.tool_core.specs.declared.commands.Stop.{Stop}
-use Rattle.tool_core.specs.declared.commands.Stop.TheVariants as stops
-use Rattle.tool_core.specs.declared.reports.Verdict.{Verdict}
-use Rattle.tool_core.specs.declared.reports.Verdict.TheVariants as verdicts
-use Rattle.tool_core.specs.declared.watched.Watched.{Watched}
+use Rattle.archive_commands.specs.declared.commands.Stop.{Stop}
+use Rattle.archive_commands.specs.declared.commands.Stop.TheVariants as stops
+use Rattle.archive_commands.specs.declared.reports.Verdict.{Verdict}
+use Rattle.archive_commands.specs.declared.reports.Verdict.TheVariants as verdicts
+use Rattle.archive_commands.specs.declared.watched.Watched.{Watched}
 use Rattle.tool_core.specs.Archives.{HasCompacted}
-use Rattle.tool_core.specs.Commands.{FailsToCompact, FailsToCreate, FailsToList, FailsToVerify, HasListed, HasVerified, IsCreated}
+use Rattle.archive_commands.specs.Commands.{FailsToCompact, FailsToCreate, FailsToList, FailsToVerify, HasListed, HasVerified, IsCreated}
 use Rattle.folder_commands.specs.declared.status.Ending.{Ending}
 use Rattle.folder_commands.specs.declared.status.Ending.TheVariants.{Done}
 use Rattle.folder_commands.specs.Folders.{CompactsFolder, EndsAs, ListsFolder, MakesArchive, VerifiesFolder, ending_by}

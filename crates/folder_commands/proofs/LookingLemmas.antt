@@ -5,10 +5,10 @@ use Rattle.host_disk.specs.Events.{Given}
 use Rattle.host_disk.specs.declared.read_folder.ReadFolder.{ReadFolder}
 use Rattle.host_disk.specs.ReadFolder.{folder_life}
 use Rattle.host_disk.specs.Replay.{life_from}
-use Rattle.tool_core.specs.declared.commands.Stop.{Stop}
-use Rattle.tool_core.specs.declared.reports.Verdict.{Verdict}
-use Rattle.tool_core.specs.declared.reports.Verdict.TheVariants as verdicts
-use Rattle.tool_core.specs.declared.watched.Watched.{Watched}
+use Rattle.archive_commands.specs.declared.commands.Stop.{Stop}
+use Rattle.archive_commands.specs.declared.reports.Verdict.{Verdict}
+use Rattle.archive_commands.specs.declared.reports.Verdict.TheVariants as verdicts
+use Rattle.archive_commands.specs.declared.watched.Watched.{Watched}
 use Rattle.archive_report.specs.declared.form.Form.{Form}
 use Rattle.archive_report.specs.Describing.{FailsToDescribe, HasDescribed}
 use Rattle.archive_report.specs.Verifying.{FailsToVerify, HasVerified}

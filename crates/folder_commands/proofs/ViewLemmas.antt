@@ -3,9 +3,9 @@ use Rattle.std.proofs.Common.{ℕ, ℤ, List, Option, Result}
 use Rattle.disk_core.specs.Life.{Life}
 use Rattle.frame_core.specs.declared.refusal.Refusal.{Refusal}
 use Rattle.archive_model.specs.declared.reply.Reply.{Reply}
-use Rattle.tool_core.specs.declared.commands.Stop.{Stop}
-use Rattle.tool_core.specs.declared.commands.Stop.TheVariants as stops
-use Rattle.tool_core.specs.declared.reports.Verdict.{Verdict}
+use Rattle.archive_commands.specs.declared.commands.Stop.{Stop}
+use Rattle.archive_commands.specs.declared.commands.Stop.TheVariants as stops
+use Rattle.archive_commands.specs.declared.reports.Verdict.{Verdict}
 use Rattle.archive_report.specs.ArchiveView.{ArchiveView}
 use Rattle.archive_report.specs.Describing.{FailsToDescribe}
 use Rattle.archive_report.specs.Verifying.{FailsToVerify, HasVerified, VerifiesEach}

@@ -8,16 +8,16 @@ use Rattle.catalogue_log.specs.LogState.{Banks}
 use Rattle.host_disk.specs.declared.open_fault.OpenFault.{OpenFault}
 use Rattle.host_disk.specs.Events.{Given}
 use Rattle.host_disk.specs.Replay.{life_from}
-use Rattle.tool_core.specs.declared.commands.Stop.{Stop}
-use Rattle.tool_core.specs.declared.commands.Stop.TheVariants as stops
+use Rattle.archive_commands.specs.declared.commands.Stop.{Stop}
+use Rattle.archive_commands.specs.declared.commands.Stop.TheVariants as stops
 use Rattle.tool_core.specs.declared.fault.EarlyEnd.{EarlyEnd}
-use Rattle.tool_core.specs.declared.frames.Listing.TheVariants as listings
-use Rattle.tool_core.specs.declared.reports.Verdict.{Verdict}
-use Rattle.tool_core.specs.declared.reports.Verdict.TheVariants as verdicts
+use Rattle.archive_commands.specs.declared.frames.Listing.TheVariants as listings
+use Rattle.archive_commands.specs.declared.reports.Verdict.{Verdict}
+use Rattle.archive_commands.specs.declared.reports.Verdict.TheVariants as verdicts
 use Rattle.tool_core.specs.Answering.{EndsEarly}
 use Rattle.tool_core.specs.Archives.{HasCompacted, IsScript, IsScriptOfFirst, IsUnopened}
-use Rattle.tool_core.specs.Commands.{FailsToCompact, FailsToCreate, FailsToList, FailsToVerify, HasListed, HasVerified, IsCreated}
-use Rattle.tool_core.specs.FrameLines.{IsListing, Lists, ListsSome}
+use Rattle.archive_commands.specs.Commands.{FailsToCompact, FailsToCreate, FailsToList, FailsToVerify, HasListed, HasVerified, IsCreated}
+use Rattle.archive_commands.specs.FrameLines.{IsListing, Lists, ListsSome}
 use Rattle.tool_core.specs.Script.{Begins, IsTranscript, IsTranscriptOfFirst}
 use Rattle.tool_core.specs.ScriptLines.{Standing}
 use Rattle.tool_core.specs.Transcript.{WritesText}

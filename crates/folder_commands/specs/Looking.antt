@@ -5,10 +5,10 @@ use Rattle.frame_core.specs.declared.refusal.Refusal.TheVariants.{BadParameter, 
 use Rattle.disk_core.specs.Life.{IsQuiet, Life}
 use Rattle.host_disk.specs.Events.{Given}
 use Rattle.host_disk.specs.Replay.{life_from}
-use Rattle.tool_core.specs.declared.commands.Stop.{Stop}
-use Rattle.tool_core.specs.declared.commands.Stop.TheVariants as stops
+use Rattle.archive_commands.specs.declared.commands.Stop.{Stop}
+use Rattle.archive_commands.specs.declared.commands.Stop.TheVariants as stops
 use Rattle.tool_core.specs.declared.fault.EarlyEnd.TheVariants as ends
-use Rattle.tool_core.specs.declared.reports.Verdict.TheVariants as verdicts
+use Rattle.archive_commands.specs.declared.reports.Verdict.TheVariants as verdicts
 use Rattle.archive_export.specs.declared.span.Span.{Span}
 use Rattle.archive_report.specs.ReadOnly.{IsOnlyRead}
 use Rattle.archive_report.specs.declared.form.Form.{Form}

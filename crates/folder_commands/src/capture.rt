@@ -19,6 +19,7 @@ use crate::outcome::{Left, Outcome};
 use crate::outlet::Outlet;
 use crate::status::Ending;
 use crate::why::Why;
+use archive_commands::{CommandFault, Progress, Screen, Stop, Viewer, Watched};
 use archive_export::Span;
 use archive_report::{ExportTeller, Extent, export_view};
 use frame_core::Refusal;
@@ -26,7 +27,7 @@ use host_disk::ReadFolder;
 use std::fs::{self, File};
 use std::io::{self, BufWriter, ErrorKind, IsTerminal, Write};
 use std::path::Path;
-use tool_core::{CommandFault, EarlyEnd, Progress, Screen, Stop, Viewer, Watched};
+use tool_core::EarlyEnd;
 
 /// Bytes that are written at once.
 const BUFFER: usize = 65_536;

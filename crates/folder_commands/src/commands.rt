@@ -22,6 +22,10 @@ use crate::status::Ending;
 use crate::teller::{FaultTeller, OpeningTeller, ScriptTeller, StartTeller};
 use crate::verifying::verify;
 use crate::why::Why;
+use archive_commands::{
+    CommandFault, Listing, OpeningProgress, Screen, Stage, Stop, Watched, compact_archive,
+    create_archive, list_archive, list_frames,
+};
 use archive_export::Span;
 use command_line::ToolCommand;
 use disk_core::{Disk, MemoryDisk};
@@ -36,10 +40,7 @@ use std::path::Path;
 use std::rt::Clock;
 use std::sync::Wait;
 use std::thread::Threads;
-use tool_core::{
-    CommandFault, Listing, Observer, OpeningProgress, Screen, Stage, Stop, Watched,
-    compact_archive, create_archive, list_archive, list_frames, run_script,
-};
+use tool_core::{Observer, run_script};
 
 /// Does what a command asks for, hands on what it writes, and answers how that ended, and what it left of its folder. The control
 /// lines of `run` come from an input. Threads and sockets of `serve` are made by the handle, folders and files opened by the

@@ -7,10 +7,11 @@ ghost use Rattle.folder_commands.specs.Status.{ending_of, handed_on, why_with_ou
 
 use crate::status::Ending;
 use crate::why::Why;
+use archive_commands::Stop;
 use frame_core::Refusal;
 use host_disk::{LastFault, OpenFault};
 use std::{fmt, io};
-use tool_core::{EarlyEnd, ScriptFault, Stop};
+use tool_core::{EarlyEnd, ScriptFault};
 
 /// How a command ended, and why it did not do what it was asked for: its status, the refusal that is told, and the line behind that.
 #[derive(Clone, Copy)]

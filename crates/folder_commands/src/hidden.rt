@@ -4,13 +4,13 @@ ghost use Rattle.std.specs.Prelude.{IfSome, IsTrue};
 ghost use Rattle.host_disk.specs.Events.{Given};
 ghost use Rattle.folder_commands.specs.Hidden.{MayHideEntries};
 
+use archive_commands::Screen;
 use archive_view::{ArchiveView, ReadOnly};
 use catalogue_log::Bank;
 use host_disk::ReadFolder;
 use std::fmt;
 use std::io::Eprint;
 use std::path::Path;
-use tool_core::Screen;
 
 /// The bank behind whose closed gate entries may be hidden, and where the gate stands in its file.
 #[derive(Clone, Copy)]

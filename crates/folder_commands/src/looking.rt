@@ -14,11 +14,11 @@ use crate::hidden::{hidden_place, still_hidden_place};
 use crate::open_folder::{closed, stopped};
 use crate::outcome::{Left, Outcome};
 use crate::teller::OpeningTeller;
+use archive_commands::{Screen, Watched};
 use archive_report::{Form, describe_archive, list_view};
 use host_disk::ReadFolder;
 use std::io::Write;
 use std::path::Path;
-use tool_core::{Screen, Watched};
 
 /// Writes the recordings of the archive in a folder as it stands.
 pub(crate) fn list_read_only<W: Write>(

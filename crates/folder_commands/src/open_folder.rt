@@ -7,9 +7,9 @@ ghost use Rattle.folder_commands.specs.Status.{ending_of};
 
 use crate::exit::Exit;
 use crate::outcome::{Left, Outcome};
+use archive_commands::{CommandFault, Watched};
 use disk_core::Disk;
 use host_disk::{ClosedDisk, HostDisk, LastFault, ReadFolder};
-use tool_core::{CommandFault, Watched};
 
 /// A folder that a command has open, as a disk or to look at it alone.
 pub(crate) trait OpenFolder: Disk + Drop {

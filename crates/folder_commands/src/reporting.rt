@@ -3,6 +3,7 @@
 
 use crate::teller::is_same;
 use crate::why::{FaultLine, MetricsFault};
+use archive_commands::Viewer;
 use host_disk::{HostDisk, LastFault};
 use metrics_text::{Measures, print_metrics};
 use server::{Happening, LineTeller, Teller};
@@ -10,7 +11,6 @@ use std::alloc::Global;
 use std::fs;
 use std::io::{self, Eprint, ErrorKind};
 use std::sync::atomic::{AtomicI32, Ordering};
-use tool_core::Viewer;
 
 /// Causes of faults of a metrics file that are told at most.
 const TOLD_CAUSES: usize = 8;

@@ -18,6 +18,7 @@ use crate::outcome::{Left, Outcome};
 use crate::reporting::{MetricsFile, ServeFaults, ServeTeller};
 use crate::status::Ending;
 use crate::why::Why;
+use archive_commands::{Screen, Watched};
 use clap::error::ErrorKind;
 use command_line::ServeWords;
 use disk_core::Disk;
@@ -32,7 +33,6 @@ use std::random::RandomSource;
 use std::rt::Clock;
 use std::sync::Wait;
 use std::thread::Threads;
-use tool_core::{Screen, Watched};
 
 /// Streams that `--record` may name at most.
 const MOST_STREAMS: usize = 64;

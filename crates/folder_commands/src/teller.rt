@@ -2,6 +2,7 @@
 
 use crate::open_folder::OpenFolder;
 use crate::why::{FaultLine, file_of, word_of};
+use archive_commands::{Screen, Stage, Viewer};
 use archive_model::{Registration, Reply};
 use control_core::{Event, Request};
 use control_lines::{Line, parse_line};
@@ -11,7 +12,7 @@ use host_disk::LastFault;
 use start_faults::{StartWord, wrong_word};
 use std::alloc::Global;
 use std::io::Eprint;
-use tool_core::{Beginning, HistoryUse, Observer, Screen, Stage, Viewer};
+use tool_core::{Beginning, HistoryUse, Observer};
 
 /// Tells each call of a folder that fails, once for each file and cause.
 #[derive(Drop)]

@@ -16,13 +16,13 @@ use crate::outcome::{Left, Outcome};
 use crate::status::Ending;
 use crate::teller::{FaultTeller, VerifyTeller};
 use crate::why::Why;
+use archive_commands::{
+    ListedFiles, OpeningProgress, Progress, Screen, Stage, Verdict, Watched, verify_archive,
+};
 use archive_report::{Finding, verify_view};
 use disk_core::Disk;
 use std::io::{IsTerminal, Write};
 use std::path::Path;
-use tool_core::{
-    ListedFiles, OpeningProgress, Progress, Screen, Stage, Verdict, Watched, verify_archive,
-};
 
 /// Tells the calls that fail, and shows how far an opening and a verification have come.
 type VerifyViewer<'a> = (

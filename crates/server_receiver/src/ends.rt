@@ -1,8 +1,8 @@
 //! A socket as the end that datagrams come from, and requests go to.
 
 use crate::senders::SenderEnd;
-use agents_core::DatagramEnd;
 use frame_core::limits::STATUS_LENGTH;
+use recorder_seats::DatagramEnd;
 use std::io::ErrorKind;
 use std::net::{SocketAddr, UdpSocket};
 

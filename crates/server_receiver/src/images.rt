@@ -9,10 +9,10 @@ ghost use Rattle.frame_core.specs.Setup.{IsUsable};
 ghost use Rattle.frame_core.specs.declared.refusal.Refusal.TheVariants.{NoMemory};
 ghost use Rattle.server_receiver.specs.Datagrams.{AsksAfter, AsksOf, BegunBy, GivesNext, HandledAt, HandlesFrames, HandlesIn, HasNext, IsPlaced, Joins, JoinsBy, LacksBlock, SendsRequest, Takes, TakesNext, TakesFrames, has_block_of, has_publication, image_at, image_of, image_with, is_full_image, is_full_of, join_point, place_for_next, publication_told, put_image, unknown_of, vacated_at};
 
-use agents_core::DatagramEnd;
 use frame_core::limits::MAX_BLOCK_LENGTH;
 use frame_core::{Block, FrameRef, Publication, Refusal, Setup, frames_of_datagram};
 use image_core::BoundedImage;
+use recorder_seats::DatagramEnd;
 use std::alloc::Global;
 use std::marker::Model;
 use stream_pairs::{MAX_IMAGES, StreamPoint};

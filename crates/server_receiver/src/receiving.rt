@@ -7,7 +7,7 @@ use crate::leaving::Leaving;
 use crate::metering::Metering;
 use crate::recorded_streams::is_recorded_stream;
 use crate::senders::Senders;
-use agents_core::DatagramEnd;
+use recorder_seats::DatagramEnd;
 use server_state::{Happening, Shared, Stopwatch, Teller};
 use std::alloc::Global;
 use std::net::UdpSocket;

@@ -7,7 +7,7 @@ use native.Mathlib.Decide.{ℕ_discrete}
 use Rattle.std.proofs.lemmas.List.{length-append, reverse-append}
 use Rattle.atomic_table.specs.Seated.{TableId}
 use Rattle.position_board.specs.Positions.{Published, last_position, new_writers, with_position}
-use Rattle.agents_core.specs.Seat.{SeatView, raised_unless_below}
+use Rattle.recorder_seats.specs.Seat.{SeatView, raised_unless_below}
 use Rattle.frame_core.specs.declared.refusal.Refusal.{Refusal}
 use Rattle.call_history.specs.Passes.{AllOfTable, HasEach, has_number, new_pass, new_passes}
 use Rattle.call_history.specs.Values.{PassView}

@@ -16,7 +16,7 @@ use Rattle.archive_lock.specs.declared.history.Made.{Made}
 use Rattle.archive_lock.specs.declared.standing.Standing.{Standing}
 use Rattle.archive_lock.specs.History.{EndsWithAnswer, IsNoted, LeadsToDesk, SeesDesk}
 use Rattle.archive_lock.specs.Standing.{standing_of}
-use Rattle.agents_core.specs.Seat.{SeatView, raised_positions, raised_unless_below, settling_outcome}
+use Rattle.recorder_seats.specs.Seat.{SeatView, raised_positions, raised_unless_below, settling_outcome}
 
 -- ---- seats
 

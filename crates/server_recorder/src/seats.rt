@@ -2,12 +2,11 @@
 
 ghost use Rattle.std.specs.Prelude.{◌≡◌, ◌≤◌, ◌<◌, ◌+◌, [], Err, None, pos, slice_get, vec_capacity, vec_len};
 ghost use Rattle.frame_core.specs.declared.refusal.Refusal.TheVariants.{StaleSession};
-ghost use Rattle.agents_core.specs.Seat.{raised_positions};
+ghost use Rattle.recorder_seats.specs.Seat.{raised_positions};
 ghost use Rattle.call_history.specs.Passes.{AllOfTable, new_passes};
 ghost use Rattle.position_board.specs.Positions.{new_writers};
 ghost use Rattle.server_recorder.specs.Seats.{AreAllPasses, AreClientPasses, AreNewWriters, AreNumbered, CallsAt, HasFrom, MakesCall, SeesStanding, SettlesSession, WritesBlock, reseated};
 
-use agents_core::RecorderSeat;
 use archive_lock::{Made, Naming, SharedArchive, Standing};
 use archive_model::Reply;
 use call_history::Pass;
@@ -15,6 +14,7 @@ use control_core::Event;
 use disk_core::Disk;
 use frame_core::{Block, Refusal};
 use position_board::{Board, Writer};
+use recorder_seats::RecorderSeat;
 use std::alloc::Global;
 use std::marker::{Model, PhantomData};
 use std::sync::Wait;

@@ -3,13 +3,13 @@
 use crate::agents::block_at;
 use crate::archives::{Scenario, Seats, closed, played, played_again};
 use crate::held_back::{Pair, seated};
-use agents_core::Turn;
 use archive_lock::{Naming, SharedArchive};
 use control_core::Event;
 use control_lines::{Line, parse_line};
 use disk_core::{Disk, FileId, MemoryDisk};
 use engine_core::Engine;
 use frame_core::Refusal;
+use recorder_seats::Turn;
 use std::alloc::Global;
 use std::process::Abort;
 use std::sync::Wait;

@@ -2,6 +2,7 @@
 //! bytes are typed from pcap's savefile format, RFC 791, RFC 768 and the Aeron Transport Protocol Specification.
 
 use super::views::after;
+use archive_commands::{CommandFault, Stop};
 use archive_export::Span;
 use archive_export::capture::Destination;
 use archive_report::export_view;
@@ -9,7 +10,7 @@ use disk_core::{Disk, FileId, MemoryDisk};
 use std::alloc::Global;
 use std::net::Ipv4Addr;
 use std::test::*;
-use tool_core::{CommandFault, Stop, Unobserved};
+use tool_core::Unobserved;
 
 /// `hello` at 0, `world` at 64, and a pad of 65,408 bytes at 128, up to the term's end.
 const SCRIPT: &str =

@@ -3,11 +3,12 @@
 use super::disks::{recorded, with_short_history};
 use super::frames::FullWriter;
 use super::scenarios::{behind, check, check_on, expect, replies};
+use archive_commands::{CommandFault, Stop, compact_archive};
 use disk_core::{Disk, FileId, MemoryDisk};
 use std::alloc::Global;
 use std::io::Write;
 use std::test::*;
-use tool_core::{CommandFault, EarlyEnd, HistoryUse, Observer, Stop, Unobserved, compact_archive};
+use tool_core::{EarlyEnd, HistoryUse, Observer, Unobserved};
 
 // Bank B behind a full history that was compacted, and a truncation: the header of epoch 2, the next id 1, the recording
 // that stopped at 128, and that it was truncated to 64.

@@ -3,10 +3,10 @@
 
 use super::scenarios::check_on;
 use super::views::{check_listed, check_verified};
+use archive_commands::Verdict;
 use disk_core::{Disk, FileId, MemoryDisk};
 use std::alloc::Global;
 use std::test::*;
-use tool_core::Verdict;
 
 /// The disk of an archive with three recordings, each in one file: one of two terms, which was stopped; one of two frames; and
 /// one that begins in the middle of a term.

@@ -1,9 +1,10 @@
 //! Listings of files of frames: docs/STORAGE.md, "Segments", and what failing readers and writers lead to.
 
+use archive_commands::{Listing, list_frames};
 use std::alloc::Global;
 use std::io::{Error, ErrorKind, Read, Write};
 use std::test::*;
-use tool_core::{EarlyEnd, Listing, list_frames};
+use tool_core::EarlyEnd;
 
 /// `hello` of session 7 and stream 1001, in term 42 at offset 0.
 const HELLO: [u8; 37] =

@@ -1,6 +1,7 @@
 //! What is shown of a long verification, by a clock of the tests.
 
 use super::reports::{check_archive, opened, two_recordings};
+use archive_commands::{ListedFiles, OpeningProgress, Progress, Screen, Verdict, Viewer, Watched};
 use disk_core::{Disk, FileId, MemoryDisk};
 use engine_core::Engine;
 use std::alloc::Global;
@@ -9,7 +10,6 @@ use std::fmt::Display;
 use std::io::Eprint;
 use std::test::*;
 use std::time::{Clock, Duration};
-use tool_core::{ListedFiles, OpeningProgress, Progress, Screen, Verdict, Viewer, Watched};
 
 /// A clock that goes on by 150 milliseconds at each read, and a terminal that counts what is printed, and whether the text that
 /// is awaited was among it.

@@ -1,11 +1,12 @@
 //! What `list` and `verify` tell of the archives of disks: docs/CONTROL.md, "The program".
 
 use super::scenarios::{check_on, expect};
+use archive_commands::{Verdict, Verifiable, list_recordings, verify_recordings};
 use disk_core::{Disk, FileId, MemoryDisk};
 use engine_core::Engine;
 use std::alloc::Global;
 use std::test::*;
-use tool_core::{Unobserved, Verdict, Verifiable, list_recordings, verify_recordings};
+use tool_core::Unobserved;
 
 /// The disk of an archive with two recordings: one of two frames, which was stopped, and one of a frame, which was not.
 pub fn two_recordings(alloc: Global) -> Result<MemoryDisk, Fail> {

@@ -2,12 +2,13 @@
 
 use super::reports::damaged;
 use super::scenarios::{expect, replies};
+use archive_commands::Verdict;
 use archive_report::{list_view, verify_view};
 use archive_view::{ArchiveView, ReadOnly};
 use disk_core::{Disk, FileId, MemoryDisk};
 use std::alloc::Global;
 use std::test::*;
-use tool_core::{Unobserved, Verdict};
+use tool_core::Unobserved;
 
 /// A frame in a recording that was stopped, and one in another that is active.
 pub const SCRIPT: &str = "start 1001 7 42 65536 1408 131072 0 1000 c\n\

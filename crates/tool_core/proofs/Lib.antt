@@ -6,7 +6,7 @@ mod AnsweringLemmas
 mod EndLemmas
 mod GoesOnLemmas
 mod StandingLemmas
-mod CallLemmas
+pub mod CallLemmas
 mod RecordLemmas
 mod RefusedLemmas
 mod OpeningLemmas
@@ -14,16 +14,8 @@ mod BanksLemmas
 mod RestartLemmas
 mod CompactLemmas
 mod BeginLemmas
-mod CommandLemmas
 mod LineLemmas
 mod ScriptLemmas
 mod WholeLemmas
 mod GoingOnLemmas
-mod ReportLemmas
-mod VerifiedLemmas
-mod QuietLemmas
-mod StoredLemmas
-mod FrameLinesLemmas
-mod ListingLemmas
 mod QuitLemmas
-mod SumLemmas

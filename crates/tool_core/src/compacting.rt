@@ -14,7 +14,7 @@ use std::alloc::Global;
 /// back.
 ///
 /// Refused as `Engine::open` and `engine_core::compact` refuse. Costs what these cost.
-pub(crate) fn compact_disk<D: Disk>(alloc: Global, disk: D) -> Result<D, OpenRefusal<D>>
+pub fn compact_disk<D: Disk>(alloc: Global, disk: D) -> Result<D, OpenRefusal<D>>
     ensures { MatchResult result
         (λ back. HasCompacted (D.life disk) (D.life back))
         (λ refused. HasNotCompacted (D.life disk) (D.life refused.disk) refused.refusal) }

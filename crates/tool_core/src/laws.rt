@@ -1,15 +1,13 @@
 //! Laws of the definitions, each the contract of a function that does nothing.
 
-ghost use Rattle.std.specs.Prelude.{◌≡◌, ℕ, List, None};
+ghost use Rattle.std.specs.Prelude.{◌≡◌, None};
 ghost use Rattle.disk_core.specs.DiskImage.{DiskImage, MayLeave, begun, reads};
 ghost use Rattle.disk_core.specs.Life.{Life};
 ghost use Rattle.archive_model.specs.State.{State};
 ghost use Rattle.catalogue_log.specs.LogState.{Banks};
 ghost use Rattle.control_core.specs.Exact.{Archive};
-ghost use Rattle.tool_core.specs.FrameLines.{IsListing};
 ghost use Rattle.tool_core.specs.Script.{GoesOnFrom, GoesOnFromEither, LeavesBanks, LeavesStanding};
 ghost use Rattle.tool_core.specs.ScriptLines.{doubtful, opened};
-ghost use Rattle.tool_core.specs.declared.frames.Listing.{Listing};
 
 /// Another script begins where one ended, with the restart of its archive and with its banks, or with that of one of the
 /// states that were in doubt: on the disk that it left, and on what a crash left of that.
@@ -24,12 +22,4 @@ pub fn a_script_begins_where_one_ended()
     ensures crashed_in_doubt { (life left : Life) (s u : State) (image : DiskImage) →
         LeavesStanding life (doubtful s u) → MayLeave life.now image → left.now ≡ begun image →
         GoesOnFromEither s u left }
-{}
-
-/// The bytes of a file alone determine its listing.
-#[tactic(auto, using(crate::proofs::ListingLemmas::one_listing))]
-pub fn a_file_has_one_listing()
-    ensures { (bytes : List ℕ) (listing other : Listing) (text also : List ℕ)
-        → IsListing listing bytes text → IsListing other bytes also
-        → (listing ≡ other) × (text ≡ also) }
 {}

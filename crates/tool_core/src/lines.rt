@@ -93,7 +93,7 @@ pub(crate) enum Part {
 }
 
 /// Counts a read of an input. `Read` where as many as may be were made.
-pub(crate) fn count_read(reads: &mut u64) -> Result<(), EarlyEnd>
+pub fn count_read(reads: &mut u64) -> Result<(), EarlyEnd>
     ensures counted { OnOk result ((reads.old < MAX_READS) × (reads.new ≡ reads.old + 1)) }
     ensures spent { IfErr result (λ end. end ≡ EarlyEnd.Read) }
 {

@@ -28,7 +28,7 @@ use std::alloc::Global;
 use std::io::{BufReader, Read, Write};
 
 /// Bytes that are read at once at most.
-pub(crate) const READ_AHEAD: usize = 65_536;
+pub const READ_AHEAD: usize = 65_536;
 
 /// How the script stands behind a line, what that is answered, and whether no further line is read. A line that is too
 /// long is `BadLine`.

@@ -1,6 +1,6 @@
 -- What is seen, and what is verified behind it.
 use Rattle.std.proofs.Common.{rules}
-use Rattle.tool_core.specs.Reports.{HasReported, HasReportedFirst, InTurn, InTurnAndOne, ids_in}
+use Rattle.archive_commands.specs.Reports.{HasReported, HasReportedFirst, InTurn, InTurnAndOne, ids_in}
 use Rattle.archive_report.specs.declared.verify.Seen.{Seen}
 use Rattle.archive_report.specs.Verifying.{desk_seen, seen_verifies}
 use Rattle.archive_report.proofs.ReportLemmas.{verified, verified_first}

@@ -6,8 +6,8 @@ use Rattle.control_core.specs.declared.event.Event.{Event}
 use Rattle.control_core.specs.declared.event.Event.TheVariants.{ReplayPoll}
 use Rattle.position_board.specs.Positions.{Seen}
 use Rattle.archive_lock.specs.History.{EndsWithAnswer}
-use Rattle.agents_core.specs.Replayers.{frames_of_reply}
-use Rattle.agents_core.proofs.AnswerLemmas.{poll_told}
+use Rattle.recorder_seats.specs.Poll.{frames_of_reply}
+use Rattle.recorder_seats.proofs.AnswerLemmas.{poll_told}
 use Rattle.agents_core.proofs.ReplayerLemmas.{both_so, goes_so, neither_so, one_polled, one_refused, turn_polled, turn_refused}
 use Rattle.agents_core.proofs.replayer.Replayer.turn.Goals.{then-take, else-take}
 use Rattle.agents_core.proofs.replayer.Replayer.turn.Goals as goal

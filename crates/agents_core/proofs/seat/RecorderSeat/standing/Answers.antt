@@ -1,5 +1,0 @@
-use Rattle.agents_core.proofs.SeatLemmas.{settled_looking}
-use Rattle.agents_core.proofs.seat.RecorderSeat.standing.Goals as goal
-
-pub invariant_of-self : goal.invariant_of-self
-invariant_of-self g c = settled_looking c.self.inside.pass c.standing.new.pass c.self.inside.writer c.standing.new.pass.seen c.standing.ensures.pass c.self.invariant

@@ -1,0 +1,7 @@
+mod CommandLemmas
+mod ReportLemmas
+mod VerifiedLemmas
+mod StoredLemmas
+mod FrameLinesLemmas
+mod ListingLemmas
+mod SumLemmas

@@ -1,0 +1,5 @@
+pub mod AnswerLemmas
+pub mod SeatLemmas
+mod BoundedLemmas
+pub mod HandedOutLemmas
+pub mod PassLemmas
