@@ -15,7 +15,7 @@ from readers.blocks import BAD_POSITION
 from readers.catalogue import Recording, Refused, asks, asks_to_compact, damaged, read_banks
 from readers.closed_gate import shows_hidden
 from readers.segments import PAD, aligned
-from tool import Fault, expect, hides, is_calm
+from lib.tool import Fault, expect, hides, is_calm
 
 MOST_POLLS = 6  # of a replay
 HANGS = 300  # seconds after which a command counts as hung

@@ -1,8 +1,8 @@
 """Datagrams of a recording's stream, most of them mutated: docs/PROTOCOL.md, "Datagrams"."""
 from random import Random
 
-import random_lines
-from mutations import cut, grow, make_pad, move_bytes, set_field, turn_bytes
+from lib import random_lines
+from lib.mutations import cut, grow, make_pad, move_bytes, set_field, turn_bytes
 from readers.catalogue import Recording
 from readers.segments import DATA, aligned
 

@@ -1,5 +1,5 @@
 """A script that takes one recording through each change of an archive, and its replies. Its first block, a pad, fills a segment."""
-from tool import Stream
+from lib.tool import Stream
 
 STREAM = Stream(term_length=65_536, segment_length=65_536)
 HISTORY = 64  # entries

@@ -3,7 +3,7 @@ import re
 import threading
 from pathlib import Path
 
-from tool import Fault
+from lib.tool import Fault
 
 NAME = r"aeron_recorder_[a-z_]+"
 LABELS = r'\{(?:recording|image)="\d+",stream="-?\d+",session="-?\d+"\}'

@@ -3,7 +3,7 @@ from collections.abc import Iterator
 from random import Random
 
 from readers.lines import BEFORE, BYTES, LINE_LIMIT, LINES, REST, SHORT, Kind, form_of, is_reply
-from tool import Fault, Stream, expect
+from lib.tool import Fault, Stream, expect
 
 STREAM = Stream(term_length=65_536, segment_length=65_536)
 SHORTS = 0, 1, -1, 7, 42, 1_001, 1_408, 65_536, 2**31 - 1, -(2**31)

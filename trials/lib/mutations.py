@@ -3,7 +3,7 @@ import struct
 from collections.abc import Callable
 from random import Random
 
-from comparison import Files
+from lib.comparison import Files
 from readers.catalogue import BANKS, NEWEST, entry_at
 from readers.segments import HEADER, PAD, segment_of
 

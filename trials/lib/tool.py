@@ -16,7 +16,7 @@ from dataclasses import dataclass
 from pathlib import Path
 from typing import NoReturn, Protocol
 
-ROOT = Path(__file__).resolve().parent.parent
+ROOT = Path(__file__).resolve().parent.parent.parent
 MOST_AT_ONCE = 4_096  # frames of a poll
 HISTORY_LIMIT = 1_048_576  # entries, if none is asked for
 STREAM_ID, SESSION_ID, INITIAL_TERM, MTU, TIMESTAMP = 1_001, 7, 42, 1_408, 1_000

@@ -1,7 +1,7 @@
 """What a server prints while nothing fails: docs/SERVING.md, "What the server prints"."""
 import re
 
-from tool import expect
+from lib.tool import expect
 
 COUNTS = r"bytes recorded \d+, datagrams lost \d+, NAKs \d+"
 CALM = re.compile(

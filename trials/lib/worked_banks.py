@@ -1,7 +1,7 @@
 """The banks that docs/STORAGE.md shows byte for byte, of both versions, and their forms: cut to each length, with each bit turned, and each
 byte set to some values."""
 from readers.catalogue import BANKS
-from tool import Stream
+from lib.tool import Stream
 
 WORKED_BANKS = [
     bytes.fromhex(
