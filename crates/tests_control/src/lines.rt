@@ -111,7 +111,7 @@ fn lines_with_bytes(rt: HostRuntime) -> Result<(), Fail> {
 }
 
 /// A line, and what it asks the archive for.
-const ASKED: [(&'static str, &'static str); 15] = [
+const ASKED: [(&'static str, &'static str); 16] = [
     ("list 0 -1", "Event(Ask(List { from: 0, count: -1 }))"),
     (
         "extend 1 1001 7 42 65536 1408 128",
@@ -140,6 +140,7 @@ const ASKED: [(&'static str, &'static str); 15] = [
     ),
     ("close 4", "Event(ReplayClose { replay: 4 })"),
     ("sweep", "Event(Sweep)"),
+    ("checkpoint", "Event(Checkpoint)"),
     ("verify 1", "Event(Verify { recording: 1 })"),
     ("reopen", "Reopen"),
     ("compact", "Compact"),
@@ -224,6 +225,8 @@ poll-to 0 10
 poll-to 0 10 1 2
 poll-to 0 10 +1
 sweep 1
+checkpoint 1
+checkpoints
 compact 1";
 
 fn is_malformed(alloc: Global, line: &[u8]) -> bool {
@@ -317,7 +320,24 @@ fn check_archive(alloc: Global) -> Result<(), Fail> {
     check_printed(alloc, Reply::Swept { removed: false }, "swept 0\n")?;
     check_printed(alloc, Reply::Verified { frames: 2 }, "verified 2\n")?;
     check_printed(alloc, Reply::Reopened { recordings: 1 }, "reopened 1\n")?;
-    check_printed(alloc, Reply::Compacted, "compacted\n")
+    check_printed(alloc, Reply::Compacted, "compacted\n")?;
+    check_printed(alloc, Reply::Checkpointed, "checkpointed\n")
+}
+
+/// What is told of several sessions that are settled together, which no line asks for.
+fn check_settled_all(alloc: Global) -> Result<(), Fail> {
+    let none = Items::new(alloc);
+    check_printed(
+        alloc,
+        Reply::SettledAll { positions: none },
+        "settled-all\n",
+    )?;
+    let positions = Items::from_vec([Some(128), None, Some(0)].to_vec(alloc)?);
+    check_printed(
+        alloc,
+        Reply::SettledAll { positions },
+        "settled-all 128 - 0\n",
+    )
 }
 
 fn check_state(alloc: Global, is_merged: bool, cursor: i64, text: &str) -> Result<(), Fail> {
@@ -342,6 +362,7 @@ fn replies_of_one_word_and_numbers(rt: HostRuntime) -> Result<(), Fail> {
     check_recordings(rt.alloc())?;
     check_sources(rt.alloc())?;
     check_archive(rt.alloc())?;
+    check_settled_all(rt.alloc())?;
     check_merges(rt.alloc())
 }
 
