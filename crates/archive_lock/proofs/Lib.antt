@@ -9,3 +9,4 @@ mod SpanLemmas
 mod HeldLemmas
 mod KeptLemmas
 mod DurableLemmas
+mod ProtectedLemmas
