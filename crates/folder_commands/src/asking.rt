@@ -113,7 +113,7 @@ fn answered_by(verdict: Verdict, words: &AskWords<'_>) -> Result<(), Exit>
 {
     match verdict {
         Verdict::Answered => Ok(()),
-        Verdict::Refused => Err(Exit::told(Ending::LineRefused)),
+        Verdict::Refused => Err(Exit::reported(Ending::LineRefused)),
         Verdict::Unanswered(left) => {
             let lines = words.lines.len();
             Err(Exit {
@@ -129,8 +129,8 @@ fn unanswered_by(fault: AskFault, words: &AskWords<'_>) -> Exit
     ensures { FailsAsking fault result.ending }
 {
     match fault {
-        AskFault::Output => Exit::cut(EarlyEnd::Write, Why::Told),
-        AskFault::Memory => Exit::cut(EarlyEnd::Memory, Why::Told),
+        AskFault::Output => Exit::cut(EarlyEnd::Write, Why::Reported),
+        AskFault::Memory => Exit::cut(EarlyEnd::Memory, Why::Reported),
         AskFault::Connection(ConnectionFault::Unreachable(error)) => Exit {
             ending: Ending::Failed(error.kind()),
             why: Why::Unreachable(words.port, error),

@@ -15,7 +15,7 @@ use crate::exit::Exit;
 use crate::hidden::warns_of_hidden;
 use crate::open_folder::closed;
 use crate::outcome::{Left, Outcome};
-use crate::reporting::{MetricsFile, ServeFaults, ServeTeller};
+use crate::reporting::{MetricsFile, ServeFaults, ServeReporter};
 use crate::status::Ending;
 use crate::why::Why;
 use archive_commands::{Screen, Watched};
@@ -24,7 +24,7 @@ use command_line::ServeWords;
 use disk_core::Disk;
 use flow_control::{INITIAL_WINDOW, LONGEST_WINDOW, SHORTEST_WINDOW};
 use frame_core::limits::{FRAME_ALIGNMENT, MAX_TERM_LENGTH, MIN_TERM_LENGTH};
-use server::{SEGMENT_LENGTH, ServeOptions, Served, Teller, serve_with};
+use server::{Reporter, SEGMENT_LENGTH, ServeOptions, Served, serve_with};
 use std::alloc::Global;
 use std::io::{self, Eprint};
 use std::net::{Ipv4Addr, Net, TcpListener, TcpStream, UdpSocket};
@@ -59,14 +59,14 @@ pub(crate) fn serve<
     let disk = disk_of(rt, folder)?;
     if warns_of_hidden(rt, folder, &Screen::new(net)) && words.is_strict {
         return Err(Outcome {
-            exit: Exit::told(Ending::Hidden),
+            exit: Exit::reported(Ending::Hidden),
             left: Some(disk.close()),
         });
     }
     let disk = Watched::new(disk, ServeFaults::new(rt.alloc(), net));
     let metrics = metrics_of(rt, words);
-    let teller = ServeTeller::new(net, words.is_quiet, metrics);
-    let (disk, done) = serve_disk(net, rt.alloc(), ports, disk, &options, teller);
+    let reporter = ServeReporter::new(net, words.is_quiet, metrics);
+    let (disk, done) = serve_disk(net, rt.alloc(), ports, disk, &options, reporter);
     Outcome::leaving(done, closed(disk))
 }
 
@@ -219,7 +219,7 @@ pub(crate) fn port_of(port: u32) -> Result<u16, Exit>
 {
     match u16::try_from(port) {
         Ok(port) => Ok(port),
-        Err(_) => Err(Exit::told(Ending::NoCommand(ErrorKind::ValueValidation))),
+        Err(_) => Err(Exit::reported(Ending::NoCommand(ErrorKind::ValueValidation))),
     }
 }
 
@@ -243,22 +243,22 @@ fn metrics_of<'a>(rt: HostRuntime, words: &ServeWords<'a>) -> Option<MetricsFile
 fn serve_disk<
     R: Threads + Wait + Clock + Sync,
     D: Disk + Drop + Send,
-    T: Teller + Drop + Send + Sync,
+    T: Reporter + Drop + Send + Sync,
 >(
     net: &R,
     alloc: Global,
     ports: Ports,
     disk: D,
     options: &ServeOptions<'_>,
-    teller: T,
+    reporter: T,
 ) -> (D, Result<(), Exit>)
     ensures { ServesOver options.now.is_strict (D.life disk) (D.life result.0) (ending_in result.1) }
 {
     let Ports { listener, socket } = ports;
-    match serve_with(net, alloc, listener, socket, disk, options, teller) {
+    match serve_with(net, alloc, listener, socket, disk, options, reporter) {
         Ok(Served { disk, stop }) => match stop {
             None => (disk, Ok(())),
-            Some(stop) => (disk, Err(Exit::told(Ending::Stuck(stop)))),
+            Some(stop) => (disk, Err(Exit::reported(Ending::Stuck(stop)))),
         },
         Err(fault) => {
             let (disk, exit) = Exit::cut_off(fault, Why::Ends);

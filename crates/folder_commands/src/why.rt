@@ -8,7 +8,7 @@ use std::io::{self, Cursor, ErrorKind, Write};
 /// Why a command ended as it did.
 #[derive(Clone, Copy, Drop)]
 pub enum Why {
-    /// Nothing more is known than what was told.
+    /// Nothing more is known than what was reported.
     Told,
     /// Its folder was not made.
     NewFolder(io::Error),
@@ -24,7 +24,7 @@ pub enum Why {
     File(io::Error),
     /// Its file could not be read on.
     FileRead,
-    /// The capture file could not be written; what the system told of it, if that is known.
+    /// The capture file could not be written; what the system says of it, if that is known.
     Capture(Option<io::Error>),
     /// The capture file would lie in the archive's folder.
     CaptureInside,
@@ -64,14 +64,14 @@ pub enum Why {
     Ends,
     /// Standard input could not be read on.
     Input,
-    /// Standard output took no more; what the system told of it, if it told anything.
+    /// Standard output took no more; what the system says of it, if it says anything.
     Output(Option<io::Error>),
 }
 
 impl fmt::Display for Why {
     fn fmt<W: fmt::Write>(&self, f: &mut fmt::Formatter<W>) -> fmt::Result {
         match self {
-            Why::Told => Ok(()),
+            Why::Reported => Ok(()),
             Why::NewFolder(error) => write!(f, "the folder cannot be made: {}", SystemText(*error)),
             Why::HasFiles => write!(f, "the folder has an archive, or files of one"),
             Why::History(entries) => {
@@ -159,7 +159,7 @@ impl fmt::Display for SystemText {
     }
 }
 
-/// A metrics file was not written, as the system told.
+/// A metrics file was not written, as the system says.
 #[derive(Clone, Copy, Drop)]
 pub(crate) struct MetricsFault(pub io::Error);
 
