@@ -10,7 +10,7 @@ use crate::exit::Exit;
 use crate::serving::{misworded, port_of};
 use crate::status::Ending;
 use crate::why::Why;
-use command_line::AskWords;
+use command_line::{AskWords, UsageError};
 use control_client::{AskFault, ConnectionFault, Question, Server, Verdict, are_sendable, is_line};
 use std::io::{self, ErrorKind, Write};
 use std::net::{Ipv4Addr, Net, Shutdown, SocketAddr, TcpListener, TcpStream};
@@ -89,10 +89,10 @@ fn port_to_ask(words: &AskWords<'_>) -> Result<u16, Exit>
         (λ exit. IsUnaskable words.now × (exit.ending ≡ NoCommand ValueValidation)) }
 {
     if !are_sendable(words.lines.as_slice()) {
-        return Err(misworded(Why::Lines));
+        return Err(misworded(UsageError::Lines));
     }
     if !is_one_line(words.until) {
-        return Err(misworded(Why::Until));
+        return Err(misworded(UsageError::Until));
     }
     port_of(words.port)
 }
