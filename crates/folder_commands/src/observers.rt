@@ -1,4 +1,4 @@
-//! What is told on standard error while a command runs. docs/CONTROL.md, "Standard error".
+//! What is reported on standard error while a command runs. docs/CONTROL.md, "Standard error".
 
 use crate::open_folder::OpenFolder;
 use crate::why::{FaultLine, file_of, word_of};
@@ -14,46 +14,54 @@ use std::alloc::Global;
 use std::io::Eprint;
 use tool_core::{Beginning, HistoryUse, Observer};
 
-/// Tells each call of a folder that fails, once for each file and cause.
+/// Reports each call of a folder that fails, once for each file and cause.
 #[derive(Drop)]
-pub(crate) struct FaultTeller<'a, R> {
+pub(crate) struct FaultReporter<'a, R> {
     screen: &'a Screen<'a, R>,
     from: Stage,
-    told: Vec<LastFault>,
+    reported: Vec<LastFault>,
 }
 
-impl<'a, R: Eprint> FaultTeller<'a, R> {
-    /// Tells the calls that fail from this stage of the command on.
-    pub(crate) fn new(alloc: Global, screen: &'a Screen<'a, R>, from: Stage) -> FaultTeller<'a, R> {
-        FaultTeller {
+impl<'a, R: Eprint> FaultReporter<'a, R> {
+    /// Reports the calls that fail from this stage of the command on.
+    pub(crate) fn new(
+        alloc: Global,
+        screen: &'a Screen<'a, R>,
+        from: Stage,
+    ) -> FaultReporter<'a, R> {
+        FaultReporter {
             screen,
             from,
-            told: Vec::new(alloc),
+            reported: Vec::new(alloc),
         }
     }
 }
 
-impl<R: Eprint> FaultTeller<'_, R> {
-    /// Tells a call that failed, unless it was told.
-    fn tell(&mut self, fault: Option<LastFault>) {
+impl<R: Eprint> FaultReporter<'_, R> {
+    /// Reports a call that failed, unless it was reported.
+    fn report(&mut self, fault: Option<LastFault>) {
         if self.from == Stage::Working && self.screen.stage() == Stage::Opening {
             return;
         }
         let Some(fault) = fault else {
             return;
         };
-        if self.told.iter().any(|told| is_same(told, &fault)) {
+        if self
+            .reported
+            .iter()
+            .any(|reported| is_same(reported, &fault))
+        {
             return;
         }
-        // Where there is no memory for it, it may be told again.
-        let _ = self.told.push(fault);
-        self.screen.tell(FaultLine(fault));
+        // Where there is no memory for it, it may be reported again.
+        let _ = self.reported.push(fault);
+        self.screen.report(FaultLine(fault));
     }
 }
 
-impl<F: OpenFolder, R: Eprint> Viewer<F> for FaultTeller<'_, R> {
+impl<F: OpenFolder, R: Eprint> Viewer<F> for FaultReporter<'_, R> {
     fn failed(&mut self, folder: &F) {
-        self.tell(folder.fault());
+        self.report(folder.fault());
     }
 }
 
@@ -65,44 +73,44 @@ pub(crate) fn is_same(first: &LastFault, second: &LastFault) -> bool {
         && first.error.kind() == second.error.kind()
 }
 
-/// Tells nothing, but takes away the line that shows an opening.
+/// Reports nothing, but takes away the line that shows an opening.
 #[derive(Drop)]
-pub(crate) struct OpeningTeller<'a, R> {
+pub(crate) struct OpeningReporter<'a, R> {
     screen: &'a Screen<'a, R>,
 }
 
-impl<'a, R: Eprint> OpeningTeller<'a, R> {
-    pub(crate) fn new(screen: &'a Screen<'a, R>) -> OpeningTeller<'a, R> {
-        OpeningTeller { screen }
+impl<'a, R: Eprint> OpeningReporter<'a, R> {
+    pub(crate) fn new(screen: &'a Screen<'a, R>) -> OpeningReporter<'a, R> {
+        OpeningReporter { screen }
     }
 }
 
-impl<R: Eprint> Observer for OpeningTeller<'_, R> {
+impl<R: Eprint> Observer for OpeningReporter<'_, R> {
     fn began(&mut self, _beginning: &Beginning) {
         self.screen.work();
     }
 }
 
-/// Tells which word of a script's start is wrong.
+/// Reports which word of a script's start is wrong.
 #[derive(Drop)]
-pub(crate) struct StartTeller<'a, R> {
+pub(crate) struct StartReporter<'a, R> {
     alloc: Global,
     screen: &'a Screen<'a, R>,
 }
 
-impl<'a, R: Eprint> StartTeller<'a, R> {
-    pub(crate) fn new(alloc: Global, screen: &'a Screen<'a, R>) -> StartTeller<'a, R> {
-        StartTeller { alloc, screen }
+impl<'a, R: Eprint> StartReporter<'a, R> {
+    pub(crate) fn new(alloc: Global, screen: &'a Screen<'a, R>) -> StartReporter<'a, R> {
+        StartReporter { alloc, screen }
     }
 }
 
-impl<R: Eprint> Observer for StartTeller<'_, R> {
+impl<R: Eprint> Observer for StartReporter<'_, R> {
     fn answered(&mut self, line: Option<&[u8]>, outcome: &Result<Reply, Refusal>) {
         let (Some(line), Err(Refusal::BadParameter)) = (line, outcome) else {
             return;
         };
         if let Some(word) = word_of_line(self.alloc, line) {
-            self.screen.tell(word);
+            self.screen.report(word);
         }
     }
 }
@@ -115,38 +123,38 @@ fn word_of_line(alloc: Global, line: &[u8]) -> Option<StartWord> {
     }
 }
 
-/// Tells how a script's archive began, that its history fills up, that it is full, and which word of a start is wrong.
+/// Reports how a script's archive began, that its history fills up, that it is full, and which word of a start is wrong.
 #[derive(Drop)]
-pub(crate) struct ScriptTeller<'a, R> {
+pub(crate) struct ScriptReporter<'a, R> {
     screen: &'a Screen<'a, R>,
-    starts: StartTeller<'a, R>,
-    /// The hundredths of the history's limit that were told last.
-    told_level: u8,
-    has_told_full: bool,
+    starts: StartReporter<'a, R>,
+    /// The hundredths of the history's limit that were reported last.
+    reported_level: u8,
+    has_reported_full: bool,
 }
 
-impl<'a, R: Eprint> ScriptTeller<'a, R> {
-    pub(crate) fn new(alloc: Global, screen: &'a Screen<'a, R>) -> ScriptTeller<'a, R> {
-        ScriptTeller {
+impl<'a, R: Eprint> ScriptReporter<'a, R> {
+    pub(crate) fn new(alloc: Global, screen: &'a Screen<'a, R>) -> ScriptReporter<'a, R> {
+        ScriptReporter {
             screen,
-            starts: StartTeller::new(alloc, screen),
-            told_level: 0,
-            has_told_full: false,
+            starts: StartReporter::new(alloc, screen),
+            reported_level: 0,
+            has_reported_full: false,
         }
     }
 }
 
-impl<R: Eprint> Observer for ScriptTeller<'_, R> {
+impl<R: Eprint> Observer for ScriptReporter<'_, R> {
     fn began(&mut self, beginning: &Beginning) {
         self.screen.work();
         match beginning {
             Beginning::Made => self
                 .screen
-                .tell("a new archive was made, as the folder had none"),
+                .report("a new archive was made, as the folder had none"),
             Beginning::Opened => {}
             Beginning::Refused(refusal) => {
-                self.screen.tell_refusal(refusal);
-                self.screen.tell(
+                self.screen.report_refusal(refusal);
+                self.screen.report(
                     "the archive is not open: lines that need it are Broken until reopen opens it",
                 );
             }
@@ -156,9 +164,9 @@ impl<R: Eprint> Observer for ScriptTeller<'_, R> {
     fn answered(&mut self, line: Option<&[u8]>, outcome: &Result<Reply, Refusal>) {
         self.starts.answered(line, outcome);
         if let Err(Refusal::HistoryFull) = outcome {
-            if !self.has_told_full {
-                self.has_told_full = true;
-                self.screen.tell(
+            if !self.has_reported_full {
+                self.has_reported_full = true;
+                self.screen.report(
                     "the history is full: nothing is recorded until compact makes room, which stops all recordings",
                 );
             }
@@ -167,16 +175,16 @@ impl<R: Eprint> Observer for ScriptTeller<'_, R> {
 
     fn used(&mut self, history: &HistoryUse) {
         let level = history.level();
-        if level > self.told_level {
-            self.told_level = level;
-            self.screen.tell(*history);
+        if level > self.reported_level {
+            self.reported_level = level;
+            self.screen.report(*history);
         }
     }
 }
 
-/// Tells what a verification found of each damaged recording, and at its end of all.
+/// Reports what a verification found of each damaged recording, and at its end of all.
 #[derive(Drop)]
-pub(crate) struct VerifyTeller<'a, R> {
+pub(crate) struct VerifyReporter<'a, R> {
     screen: &'a Screen<'a, R>,
     recordings: u64,
     frames: u64,
@@ -185,9 +193,9 @@ pub(crate) struct VerifyTeller<'a, R> {
     unread: u64,
 }
 
-impl<'a, R: Eprint> VerifyTeller<'a, R> {
-    pub(crate) fn new(screen: &'a Screen<'a, R>) -> VerifyTeller<'a, R> {
-        VerifyTeller {
+impl<'a, R: Eprint> VerifyReporter<'a, R> {
+    pub(crate) fn new(screen: &'a Screen<'a, R>) -> VerifyReporter<'a, R> {
+        VerifyReporter {
             screen,
             recordings: 0,
             frames: 0,
@@ -197,10 +205,10 @@ impl<'a, R: Eprint> VerifyTeller<'a, R> {
         }
     }
 
-    /// Tells how many recordings there are, how many frames and bytes those have that were verified, and how many are
+    /// Reports how many recordings there are, how many frames and bytes those have that were verified, and how many are
     /// damaged or could not be read.
     pub(crate) fn finish(self) {
-        let VerifyTeller {
+        let VerifyReporter {
             screen,
             recordings,
             frames,
@@ -208,13 +216,13 @@ impl<'a, R: Eprint> VerifyTeller<'a, R> {
             damaged,
             unread,
         } = self;
-        screen.tell(format_args!(
+        screen.report(format_args!(
             "recordings {recordings}, frames {frames}, bytes {bytes}, damaged {damaged}, not read {unread}"
         ));
     }
 }
 
-impl<R: Eprint> Observer for VerifyTeller<'_, R> {
+impl<R: Eprint> Observer for VerifyReporter<'_, R> {
     fn began(&mut self, _beginning: &Beginning) {
         self.screen.work();
     }
@@ -233,7 +241,7 @@ impl<R: Eprint> Observer for VerifyTeller<'_, R> {
                 self.damaged = self.damaged.saturating_add(1);
                 if let Some((file, offset)) = stored_at(known, *position) {
                     self.screen
-                        .tell(format_args!("{file}: damaged at offset {offset}"));
+                        .report(format_args!("{file}: damaged at offset {offset}"));
                 }
             }
             _ => self.unread = self.unread.saturating_add(1),

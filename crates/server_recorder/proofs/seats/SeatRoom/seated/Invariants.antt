@@ -3,7 +3,7 @@ use Rattle.std.specs.Prelude.{length, vec_capacity, vec_len}
 use mathlib.Core.List.{reverse}
 use Rattle.call_history.specs.Passes.{new_passes}
 use Rattle.server_recorder.specs.Seats.{AreNewWriters, AreSeats}
-use Rattle.server_recorder.proofs.seats.Benches.seated.Given as goal
+use Rattle.server_recorder.proofs.seats.SeatRoom.seated.Given as goal
 
 -- writers and passes of the sessions below the last seat are left, and the seats have room for the rest
 abbrev pub invariant-loop-writer : goal.invariant-loop-writer

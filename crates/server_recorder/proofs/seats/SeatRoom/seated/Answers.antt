@@ -4,7 +4,7 @@ use Rattle.std.specs.Prelude.{vec_len}
 use mathlib.Core.List.{reverse}
 use Rattle.server_recorder.specs.Seats.{AreNewWriters, AreSeats}
 use Rattle.server_recorder.proofs.SeatLemmas.{new_seat, one_longer, passes_front, passes_last, seats_push, some_passes, writers_end, writers_front}
-use Rattle.server_recorder.proofs.seats.Benches.seated.Goals as goal
+use Rattle.server_recorder.proofs.seats.SeatRoom.seated.Goals as goal
 
 pub unreachable-requires : goal.unreachable-requires
 unreachable-requires g c =

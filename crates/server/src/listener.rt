@@ -1,7 +1,7 @@
 //! The listener, the connections that wait there, and the end of serving.
 
 use crate::place::Places;
-use server_state::{Shared, Teller};
+use server_state::{Reporter, Shared};
 use std::io::{self, ErrorKind};
 use std::net::{SocketAddr, TcpListener, TcpStream};
 use std::rt::Clock;
@@ -16,7 +16,7 @@ const LOOK: u64 = 10;
 
 /// A listener that does not wait, which the threads that serve clients share.
 #[derive(Drop)]
-pub(crate) struct Door {
+pub(crate) struct SharedListener {
     listener: TcpListener,
     /// How many more clients can be served now.
     free: AtomicU64,
@@ -30,16 +30,16 @@ pub(crate) struct Door {
 /// What a look for a connection found.
 #[derive(Drop)]
 enum Found {
-    Came(TcpStream),
+    Connection(TcpStream),
     Nobody,
     Failed,
 }
 
-impl Door {
-    /// A door of this listener for so many clients. It is closed by `Read` if the listener can't be asked without waiting.
-    pub fn new<R: Wait>(rt: &R, listener: TcpListener, places: &Places) -> Door {
+impl SharedListener {
+    /// The listener for so many clients. It is closed by `Read` if it can't be asked without waiting.
+    pub fn new<R: Wait>(rt: &R, listener: TcpListener, places: &Places) -> SharedListener {
         let is_ready = listener.set_nonblocking(true).is_ok();
-        let door = Door {
+        let shared = SharedListener {
             listener,
             free: AtomicU64::new(places.count as u64),
             turn: Mutex::new(()),
@@ -47,9 +47,9 @@ impl Door {
             end: Mutex::new(None),
         };
         if !is_ready {
-            door.close(rt, Err(EarlyEnd::Read));
+            shared.close(rt, Err(EarlyEnd::Read));
         }
-        door
+        shared
     }
 
     /// Where connections come to.
@@ -58,7 +58,7 @@ impl Door {
     }
 
     /// The next connection, which takes a place: `waiting` if there is one, whose place is taken. None if the server ends.
-    pub fn next<R: Wait + Clock, T: Teller>(
+    pub fn next<R: Wait + Clock, T: Reporter>(
         &self,
         rt: &R,
         shared: &Shared<T>,
@@ -83,7 +83,7 @@ impl Door {
             return None;
         }
         match self.look() {
-            Found::Came(stream) => Some(stream),
+            Found::Connection(stream) => Some(stream),
             _ => None,
         }
     }
@@ -100,7 +100,7 @@ impl Door {
     }
 
     /// How serving ended: `Read` if the server ended otherwise, and did not stop.
-    pub fn end<R: Wait, T: Teller>(&self, rt: &R, shared: &Shared<T>) -> Result<(), EarlyEnd> {
+    pub fn end<R: Wait, T: Reporter>(&self, rt: &R, shared: &Shared<T>) -> Result<(), EarlyEnd> {
         let end = *self.end.lock(rt);
         match end {
             Some(end) => end,
@@ -109,19 +109,19 @@ impl Door {
         }
     }
 
-    fn has_ended<T: Teller>(&self, shared: &Shared<T>) -> bool {
+    fn has_ended<T: Reporter>(&self, shared: &Shared<T>) -> bool {
         self.is_closed() || shared.has_stopped() || shared.has_ended()
     }
 
     /// Looks for a connection until one comes. None if the server ends, or the listener fails, which ends it.
-    fn watch<R: Wait + Clock, T: Teller>(&self, rt: &R, shared: &Shared<T>) -> Option<TcpStream> {
+    fn watch<R: Wait + Clock, T: Reporter>(&self, rt: &R, shared: &Shared<T>) -> Option<TcpStream> {
         let _turn = self.turn.lock(rt);
         for _ in rt.forever() {
             if self.has_ended(shared) {
                 return None;
             }
             match self.look() {
-                Found::Came(stream) => return Some(stream),
+                Found::Connection(stream) => return Some(stream),
                 Found::Nobody => thread::sleep(rt, Duration::from_millis(LOOK)),
                 Found::Failed => {
                     self.close(rt, Err(EarlyEnd::Read));
@@ -134,7 +134,7 @@ impl Door {
 
     fn look(&self) -> Found {
         match self.listener.accept() {
-            Ok((stream, _)) => Found::Came(stream),
+            Ok((stream, _)) => Found::Connection(stream),
             Err(error) => match error.kind() {
                 ErrorKind::WouldBlock | ErrorKind::ConnectionAborted | ErrorKind::Interrupted => {
                     Found::Nobody
