@@ -62,7 +62,7 @@ impl Model for SeatRoom {
 }
 
 impl SeatRoom {
-    /// SeatRoom for the sessions of the numbers 0 to 63, with slots that start at 0, and no reader.
+    /// Room for the sessions of the numbers 0 to 63, with slots that start at 0, and no reader.
     #[tactic(auto, using(crate::proofs::SeatLemmas::count_new))]
     pub fn new(alloc: Global) -> Result<SeatRoom, Refusal> {
         let starts = [0; FED_SESSIONS];
@@ -71,7 +71,7 @@ impl SeatRoom {
         Ok(SeatRoom::of_board(board, writers, seats, &starts))
     }
 
-    /// SeatRoom of a new board with these starts.
+    /// Room with a new board with these starts.
     fn of_board(
         board: Board,
         writers: Vec<Writer>,
