@@ -1,3 +1,5 @@
 mod BytesLemmas
+mod CopyLemmas
 mod DatagramLemmas
+mod HoldLemmas
 mod PositionLemmas

@@ -1,0 +1,38 @@
+//! Laws of the definitions, each the contract of a function that does nothing.
+
+ghost use Rattle.std.specs.Prelude.{◌≡◌, ℕ, List, map};
+ghost use Rattle.frame_core.specs.declared.block.Publication.{Publication};
+ghost use Rattle.frame_core.specs.declared.frame.Frame.{Frame};
+ghost use Rattle.frame_core.specs.declared.geometry.Geometry.{Geometry};
+ghost use Rattle.image_core.specs.Received.{begun, received_all};
+ghost use Rattle.publication_core.specs.Copies.{AreFirst, AreInReach, AreRecorded, AreWithinLimits, BeginsWith, HaveCome, HoldsAlone, IsStream};
+
+/// An image that gets frames of a stream and heartbeats holds frames of the stream alone, wherever it joined: any of them, in any
+/// order, any number of times.
+pub fn an_image_holds_recorded_frames_alone()
+    ensures { (g : Geometry) (publication : Publication) (from to join : ℕ) (stream : List (ℕ × Frame)) (fs : List Frame)
+        → IsStream g publication from stream to → AreRecorded stream fs
+        → HoldsAlone stream (received_all (begun g publication join) fs) }
+{}
+
+/// An image that joined where a stream begins, and got each frame up to a position, has these frames first, and has rebuilt the
+/// stream up to there. Other frames of the stream and heartbeats may come between, in any order, any number of times. No frame
+/// ends more than half a term past what the image has rebuilt as it comes.
+pub fn an_image_that_got_all_frames_is_a_copy()
+    ensures { (g : Geometry) (publication : Publication) (from to front : ℕ) (stream firsts : List (ℕ × Frame)) (fs : List Frame)
+        → IsStream g publication from stream to → AreFirst from stream firsts front
+        → AreRecorded stream fs → AreInReach stream (begun g publication from) fs → HaveCome fs firsts
+        → BeginsWith firsts front (received_all (begun g publication from) fs) }
+{}
+
+/// As [`an_image_that_got_all_frames_is_a_copy`], in a sender's words: each frame that comes has with it how far the receiver had
+/// consumed the stream, as its sender had heard. If that is never more than the image has rebuilt, and each frame ends at most half
+/// a term past it, then nothing is lost for want of room.
+pub fn a_sender_within_its_limit_makes_a_copy()
+    ensures { (g : Geometry) (publication : Publication) (from to front : ℕ) (stream firsts : List (ℕ × Frame))
+        (sent : List (ℕ × Frame))
+        → IsStream g publication from stream to → AreFirst from stream firsts front
+        → AreRecorded stream (map (λ it. it.1) sent) → AreWithinLimits stream (begun g publication from) sent
+        → HaveCome (map (λ it. it.1) sent) firsts
+        → BeginsWith firsts front (received_all (begun g publication from) (map (λ it. it.1) sent)) }
+{}
