@@ -3,3 +3,4 @@ mod CopyLemmas
 mod DatagramLemmas
 mod HoldLemmas
 mod PositionLemmas
+mod ReachLemmas

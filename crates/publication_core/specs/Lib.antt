@@ -4,3 +4,4 @@ pub mod Flows
 pub mod Signs
 pub mod Sending
 pub mod Copies
+pub mod Runs

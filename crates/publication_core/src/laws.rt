@@ -1,10 +1,12 @@
 //! Laws of the definitions, each the contract of a function that does nothing.
 
-ghost use Rattle.std.specs.Prelude.{◌≡◌, ℕ, List, map};
+ghost use Rattle.std.specs.Prelude.{◌≡◌, ℕ, List, Option, map};
 ghost use Rattle.frame_core.specs.declared.block.Publication.{Publication};
 ghost use Rattle.frame_core.specs.declared.frame.Frame.{Frame};
 ghost use Rattle.frame_core.specs.declared.geometry.Geometry.{Geometry};
 ghost use Rattle.image_core.specs.Received.{begun, received_all};
+ghost use Rattle.publication_core.specs.Runs.{Call, IsWithinReach, after_calls, after_sending};
+ghost use Rattle.publication_core.specs.Sending.{Sending, Sends, new_sending};
 ghost use Rattle.publication_core.specs.Copies.{AreFirst, AreInReach, AreRecorded, AreWithinLimits, BeginsWith, HaveCome, HoldsAlone, IsStream};
 
 /// An image that gets frames of a stream and heartbeats holds frames of the stream alone, wherever it joined: any of them, in any
@@ -35,4 +37,13 @@ pub fn a_sender_within_its_limit_makes_a_copy()
         → AreRecorded stream (map (λ it. it.1) sent) → AreWithinLimits stream (begun g publication from) sent
         → HaveCome (map (λ it. it.1) sent) firsts
         → BeginsWith firsts front (received_all (begun g publication from) (map (λ it. it.1) sent)) }
+{}
+
+/// After any calls of a sender its limit is at most half a term and 1,048,576 bytes past what was consumed. What was sent and is not
+/// consumed ends at most half a term past that, and so does the sender position. `next` says that a send is one of these calls.
+pub fn nothing_is_sent_further_than_half_a_term_past_what_was_consumed()
+    ensures within { (g : Geometry) (publication : Publication) (from : ℕ) (calls : List Call)
+        → IsWithinReach (after_calls calls (new_sending g publication from)) }
+    ensures next { (now : ℕ) (old new : Sending) (found : Option ℕ)
+        → Sends now old found new → new ≡ after_sending now old }
 {}
