@@ -1,5 +1,5 @@
 -- What any calls of a sender leave, and what its datagrams are made of: docs/PROTOCOL.md, "Publications of recordings".
-use Rattle.std.specs.Prelude.{◌≡◌, ◌≤◌, ◌<◌, ◌+◌, ◌++◌, ℕ, Bool, true, false, if◌then◌else◌, List, [], ◌∷◌, map}
+use Rattle.std.specs.Prelude.{◌≡◌, ◌≤◌, ◌<◌, ◌+◌, ◌++◌, ℕ, Bool, true, false, if◌then◌else◌, List, [], ◌∷◌, length}
 use Rattle.frame_core.specs.declared.frame.Frame.{Frame}
 use Rattle.frame_core.specs.declared.frame.FrameKind.TheVariants.{Message, Pad}
 use Rattle.frame_core.specs.declared.nak.Nak.{Nak}
@@ -97,6 +97,7 @@ pub record IsMadeOf (stream : List (ℕ × Frame)) (d : Datagram) : Type 0 where
   pub kinds : AreMessages messages × IsPadIf d.is_closed pad
   pub follows : IsChain d.position (messages ++ pad) d.end
   pub bytes : d.bytes ≡ stored_all messages ++ stored_all pad
+  pub some : 0 < length d.bytes
 
 abbrev pub AreMadeOf : List (ℕ × Frame) → List Datagram → Type 0
 AreMadeOf stream [] = Unit {0}

@@ -4,8 +4,10 @@ ghost use Rattle.std.specs.Prelude.{◌≡◌, ℕ, List, Option, map};
 ghost use Rattle.frame_core.specs.declared.block.Publication.{Publication};
 ghost use Rattle.frame_core.specs.declared.frame.Frame.{Frame};
 ghost use Rattle.frame_core.specs.declared.geometry.Geometry.{Geometry};
+ghost use Rattle.frame_core.specs.Datagram.{IsDatagram};
 ghost use Rattle.image_core.specs.Received.{begun, received_all};
-ghost use Rattle.publication_core.specs.Runs.{Call, IsWithinReach, after_calls, after_sending};
+ghost use Rattle.publication_core.specs.declared.datagram.Datagram.{Datagram};
+ghost use Rattle.publication_core.specs.Runs.{AreMadeOf, AreOfStream, Call, IsMadeOf, IsWithinReach, after_calls, after_sending};
 ghost use Rattle.publication_core.specs.Sending.{Sending, Sends, new_sending};
 ghost use Rattle.publication_core.specs.Copies.{AreFirst, AreInReach, AreRecorded, AreWithinLimits, BeginsWith, HaveCome, HoldsAlone, IsStream};
 
@@ -46,4 +48,17 @@ pub fn nothing_is_sent_further_than_half_a_term_past_what_was_consumed()
         → IsWithinReach (after_calls calls (new_sending g publication from)) }
     ensures next { (now : ℕ) (old new : Sending) (found : Option ℕ)
         → Sends now old found new → new ≡ after_sending now old }
+{}
+
+/// If the frames that are laid into a sender are those of a stream, then after any calls each datagram that was sent or waits is made
+/// of frames of the stream that follow one another. It is a datagram, and whoever reads it gets frames of the stream alone.
+pub fn a_publication_sends_recorded_frames_alone()
+    ensures sent { (g : Geometry) (publication : Publication) (from to : ℕ) (stream : List (ℕ × Frame)) (calls : List Call)
+        → IsStream g publication from stream to → AreOfStream stream calls
+        → AreMadeOf stream (after_calls calls (new_sending g publication from)).sent }
+    ensures waiting { (g : Geometry) (publication : Publication) (from to : ℕ) (stream : List (ℕ × Frame)) (calls : List Call)
+        → IsStream g publication from stream to → AreOfStream stream calls
+        → AreMadeOf stream (after_calls calls (new_sending g publication from)).waiting }
+    ensures alone { (g : Geometry) (publication : Publication) (from to : ℕ) (stream : List (ℕ × Frame)) (d : Datagram) (fs : List Frame)
+        → IsStream g publication from stream to → IsMadeOf stream d → IsDatagram d.bytes fs → AreRecorded stream fs }
 {}
