@@ -29,7 +29,7 @@ among_low p q m (x ∷ ms) chain (inl is) = omega (arith, chain.0, ap (λ (y : �
 among_low p q m (x ∷ ms) chain (inr among) = let low = among_low (end_of x) q m ms chain.2 among in omega (arith, chain.0)
 
 -- what is among some frames, which are among others, is among these
-among_all : (all ms : List (ℕ × Frame)) (m : ℕ × Frame) → AreAmong all ms → IsAmong m ms → IsAmong m all
+pub among_all : (all ms : List (ℕ × Frame)) (m : ℕ × Frame) → AreAmong all ms → IsAmong m ms → IsAmong m all
 among_all all [] m among here = elim here [ ]
 among_all all (x ∷ ms) m among (inl is) = rw is among.0
 among_all all (x ∷ ms) m among (inr here) = among_all all ms m among.1 here

@@ -3,6 +3,7 @@ mod CopyLemmas
 mod DatagramLemmas
 mod HoldLemmas
 mod MadeLemmas
+mod MeetingLemmas
 mod PositionLemmas
 mod ReachLemmas
 mod ReadLemmas

@@ -1,7 +1,6 @@
 -- Datagrams are made of frames of a stream.
-use Rattle.std.proofs.Common.{◌≡◌, ◌∙◌, inl, inr, sym, ap, refl, ◌+◌, ◌-◌, ◌*◌, ◌/◌, ◌≤◌, ◌<◌, ℕ, ℤ, pos, List, [], ◌∷◌, ◌++◌, length, drop, Bool, true, false, Option, Some, None, append_assoc, append-nil, length-append, arith}
+use Rattle.std.proofs.Common.{◌≡◌, ◌∙◌, sym, ap, refl, ◌+◌, ◌-◌, ◌<◌, ℕ, List, [], ◌∷◌, ◌++◌, length, Bool, true, false, Option, Some, None, append_assoc, append-nil, length-append, arith}
 use Rattle.std.specs.Prelude.{◌&&◌, map, nat_le, replicate, if◌then◌else◌, unsigned_abs}
-use Rattle.std.proofs.lemmas.Int.{ints}
 use Rattle.std.proofs.lemmas.Bool.{cond_both}
 use Rattle.std.proofs.lemmas.Bool.Decides.{nat_tests}
 use Rattle.std.proofs.lemmas.List.{length-replicate}
@@ -10,11 +9,10 @@ use Rattle.frame_core.specs.declared.frame.Frame.{Frame}
 use Rattle.frame_core.specs.declared.frame.FrameKind.{FrameKind}
 use Rattle.frame_core.specs.declared.frame.FrameKind.TheVariants.{Heartbeat, Message, Pad}
 use Rattle.frame_core.specs.declared.geometry.Geometry.{Geometry}
-use Rattle.frame_core.specs.FrameEncoding.{HasLength, IsEncodable, aligned, aligned_length, encoded, stored, stored_as}
+use Rattle.frame_core.specs.FrameEncoding.{HasLength, IsEncodable, aligned_length, encoded, stored, stored_as}
 use Rattle.frame_core.proofs.FrontLemmas.{length-encoded}
 use Rattle.image_core.specs.Kept.{AreMembers}
-use Rattle.image_core.specs.Rebuild.{end_of}
-use Rattle.image_core.specs.Received.{IsChain, joining_position}
+use Rattle.image_core.specs.Received.{IsChain}
 use Rattle.image_core.proofs.ChainLemmas.{chain_append}
 use Rattle.publication_core.specs.declared.datagram.Datagram.{Datagram}
 use Rattle.frame_core.specs.declared.nak.Nak.{Nak}
@@ -162,8 +160,8 @@ made_marked : (stream : List (ℕ × Frame)) (now from to : ℕ) (ds : List Data
 made_marked stream now from to [] made = tt
 made_marked stream now from to (d ∷ ds) made = (
   cond_both (meets from to d && may_repeat now d.again_at) (record d { is_asked = true }) d (λ (it : Datagram). IsMadeOf stream it)
-  (λ asked. made_with stream true d.again_at d made.0)
-  (λ other. made.0),
+      (λ asked. made_with stream true d.again_at d made.0)
+      (λ other. made.0),
   made_marked stream now from to ds made.1,
 )
 
@@ -192,7 +190,7 @@ made_first stream now (d ∷ ds) s waiting made =
     (λ may. record { sent = made_end stream d s.sent made.sent waiting.0; waiting = waiting.1 })
     (λ held. made)
 
-made_call : (g : Geometry) (publication : Publication) (stream : List (ℕ × Frame)) (c : Call) (s : Sending) → AreMembers g publication stream → IsOfStream stream c
+pub made_call : (g : Geometry) (publication : Publication) (stream : List (ℕ × Frame)) (c : Call) (s : Sending) → AreMembers g publication stream → IsOfStream stream c
     → IsMadeSending stream s → IsMadeSending stream (after_call c s)
 made_call g publication stream (Lay p f) s members of made =
     record { sent = made.sent; waiting = made_laid g s.geometry publication stream p f s.waiting (placed g publication stream p f members of) made.waiting }

@@ -1,6 +1,6 @@
 -- Nothing is sent further than half a term past what was consumed.
-use Rattle.std.proofs.Common.{◌≡◌, ◌∙◌, refl, ◌+◌, ◌≤◌, ℕ, List, [], ◌∷◌, ◌++◌, Bool, true, false, Option, Some, None, arith}
-use Rattle.std.specs.Prelude.{map, max, min, if◌then◌else◌, not, unsigned_abs}
+use Rattle.std.proofs.Common.{◌≡◌, ◌∙◌, refl, ◌+◌, ◌≤◌, ℕ, List, [], ◌∷◌, ◌++◌, true, false, Option, Some, None, arith}
+use Rattle.std.specs.Prelude.{map, max, not, unsigned_abs}
 use Rattle.std.proofs.lemmas.Bool.Decides.{nat_tests}
 use Rattle.std.proofs.lemmas.Bool.{cond_both}
 use Rattle.frame_core.specs.declared.block.Publication.{Publication}
@@ -11,10 +11,10 @@ use Rattle.frame_core.specs.Position.{position_of}
 use Rattle.image_core.specs.Received.{window}
 use Rattle.publication_core.specs.declared.datagram.Datagram.{Datagram}
 use Rattle.publication_core.specs.declared.flow.Flow.{Flow}
-use Rattle.publication_core.specs.Datagrams.{after_repeat, marked, meets, may_repeat, reach, unconsumed}
-use Rattle.publication_core.specs.Flows.{after_consumption, after_datagram, admitted, asks_for_setup, flow_after_hearing, is_status_of, may_go}
+use Rattle.publication_core.specs.Datagrams.{after_repeat, marked, reach, unconsumed}
+use Rattle.publication_core.specs.Flows.{after_consumption, after_datagram, asks_for_setup, flow_after_hearing, is_status_of, may_go}
 use Rattle.publication_core.specs.Runs.{AreWithin, Call, IsWithinReach, after_call, after_calls, after_first, after_sending, Lay, Hear, Ask, Send, Repeat, NoteSetup, NoteHeartbeat, End}
-use Rattle.publication_core.specs.Sending.{Sending, Sends, first_passes, after_again, after_hearing, after_nak, after_request, is_nak_of, new_sending}
+use Rattle.publication_core.specs.Sending.{Sending, Sends, first_passes, after_hearing, after_nak, after_request, is_nak_of, new_sending}
 
 within_further : (most more : ℕ) (ds : List Datagram) → most ≤ more → AreWithin most ds → AreWithin more ds
 within_further most more [] further within = tt
@@ -37,22 +37,22 @@ within_repeat most now [] within = tt
 within_repeat most now (d ∷ ds) within = grind (arith, within_repeat most now ds within.1)
 
 -- what is consumed does not fall, and the limit is not further past it than before or than the reach
-record IsHeard (g : Geometry) (old new : Flow) : Type 0 where
-  consumed : old.consumed ≤ new.consumed
-  limit : new.limit ≤ max old.limit (new.consumed + reach g)
-  position : new.position ≡ old.position
+pub record IsHeard (g : Geometry) (old new : Flow) : Type 0 where
+  pub consumed : old.consumed ≤ new.consumed
+  pub limit : new.limit ≤ max old.limit (new.consumed + reach g)
+  pub position : new.position ≡ old.position
 
 consumption : (g : Geometry) (now : ℕ) (status : StatusMessage) (named : Option ℕ) (f : Flow) → IsHeard g f (after_consumption g now status named f)
 consumption g now status None f = record { consumed = omega arith; limit = omega arith; position = refl }
 consumption g now status (Some p) f = record { consumed = omega arith; limit = omega arith; position = refl }
 
-heard : (g : Geometry) (publication : Publication) (now : ℕ) (status : StatusMessage) (f : Flow) → IsHeard g f (flow_after_hearing g publication now status f)
+pub heard : (g : Geometry) (publication : Publication) (now : ℕ) (status : StatusMessage) (f : Flow) → IsHeard g f (flow_after_hearing g publication now status f)
 heard g publication now status f =
     cond_both (not (is_status_of publication status)) f _ (λ (it : Flow). IsHeard g f it)
     (λ other. record { consumed = omega arith; limit = omega arith; position = refl })
     (λ ours. cond_both (asks_for_setup status) (record f { is_setup_asked = true }) _ (λ (it : Flow). IsHeard g f it)
-      (λ asks. record { consumed = omega arith; limit = omega arith; position = refl })
-      (λ tells. consumption g now status (position_of g status.consumption_term_id status.consumption_term_offset) f))
+    (λ asks. record { consumed = omega arith; limit = omega arith; position = refl })
+    (λ tells. consumption g now status (position_of g status.consumption_term_id status.consumption_term_offset) f))
 
 hearing : (now : ℕ) (status : StatusMessage) (s : Sending) → IsWithinReach s → IsWithinReach (after_hearing now status s)
 hearing now status s so =
@@ -88,7 +88,7 @@ sending now (d ∷ ds) s so =
     })
     (λ held. so)
 
-call_within : (c : Call) (s : Sending) → IsWithinReach s → IsWithinReach (after_call c s)
+pub call_within : (c : Call) (s : Sending) → IsWithinReach s → IsWithinReach (after_call c s)
 call_within (Lay p f) s so = record { limit = so.limit; sent = so.sent; position = so.position }
 call_within (Hear now status) s so = hearing now status s so
 call_within (Ask now nak) s so = asking now nak s so
@@ -114,3 +114,18 @@ held_back now (d ∷ ds) s held = rw held refl
 pub is_send : (now : ℕ) (old new : Sending) (found : Option ℕ) → Sends now old found new → new ≡ after_sending now old
 is_send now old new None sends = sends.1 ∙ held_back now old.waiting old sends.0
 is_send now old new (Some at) sends = sends.same ∙ rw (sends.waited, sends.may) refl
+
+-- what is consumed after a status message is no more than before, or than the position that it names
+pub hearing_consumes : (g : Geometry) (publication : Publication) (now : ℕ) (status : StatusMessage) (f : Flow) (limit : ℕ)
+    → ((p : ℕ) → position_of g status.consumption_term_id status.consumption_term_offset ≡ Some p → p ≤ limit)
+    → (flow_after_hearing g publication now status f).consumed ≤ max f.consumed limit
+hearing_consumes g publication now status f limit is =
+    cond_both (not (is_status_of publication status)) f _ (λ (it : Flow). it.consumed ≤ max f.consumed limit)
+    (λ other. omega arith)
+    (λ ours. cond_both (asks_for_setup status) (record f { is_setup_asked = true }) _ (λ (it : Flow). it.consumed ≤ max f.consumed limit)
+    (λ asks. omega arith)
+    (λ tells. by_position (position_of g status.consumption_term_id status.consumption_term_offset) is))
+  where
+    by_position : (found : Option ℕ) → ((p : ℕ) → found ≡ Some p → p ≤ limit) → (after_consumption g now status found f).consumed ≤ max f.consumed limit
+    by_position None low = omega arith
+    by_position (Some p) low = let within = low p refl in omega (arith, within)

@@ -1,6 +1,5 @@
 -- A datagram is read as the frames that it is made of.
-use Rattle.std.proofs.Common.{◌≡◌, ◌∙◌, inl, inr, sym, ap, refl, ◌+◌, ◌<◌, ◌⊎◌, ℕ, List, [], ◌∷◌, ◌++◌, length, drop, Bool, true, false, append_assoc, append-nil, length-append, subst, arith}
-use Rattle.std.specs.Prelude.{◌≢◌, map}
+use Rattle.std.proofs.Common.{◌≡◌, ◌∙◌, inl, inr, sym, ap, refl, ℕ, List, [], ◌∷◌, ◌++◌, length, drop, Bool, true, false, append_assoc, append-nil, length-append, subst, arith}
 use Rattle.frame_core.specs.declared.block.Publication.{Publication}
 use Rattle.frame_core.specs.declared.frame.Frame.{Frame}
 use Rattle.frame_core.specs.declared.frame.FrameKind.{FrameKind}
@@ -13,7 +12,7 @@ use Rattle.frame_core.proofs.DatagramLemmas.{one_list}
 use Rattle.frame_core.proofs.FrontLemmas.{stored_in_front}
 use Rattle.image_core.specs.Kept.{AreMembers}
 use Rattle.publication_core.specs.declared.datagram.Datagram.{Datagram}
-use Rattle.publication_core.specs.Copies.{AreAmong, AreRecorded, IsAmong, IsRecorded, IsStream}
+use Rattle.publication_core.specs.Copies.{AreAmong, AreRecorded, IsStream}
 use Rattle.publication_core.specs.Runs.{AreMessages, IsMadeOf, IsPadIf, stored_all}
 use Rattle.publication_core.proofs.HoldLemmas.{member_of}
 use Rattle.publication_core.proofs.MadeLemmas.{length_message}
@@ -81,14 +80,14 @@ is_datagram g publication stream d members made =
     inl (
       made.some,
       subst (λ (bytes : List ℕ). Leads bytes (frames_of (made.messages ++ made.pad)) (length bytes)) (sym made.bytes)
-      (leads_all g publication stream made.messages made.pad members made.among.0 made.kinds.0 (leads_pad g publication stream d.is_closed made.pad members made.among.1 made.kinds.1)),
+          (leads_all g publication stream made.messages made.pad members made.among.0 made.kinds.0 (leads_pad g publication stream d.is_closed made.pad members made.among.1 made.kinds.1)),
     )
 
 recorded : (stream ms : List (ℕ × Frame)) → AreAmong stream ms → AreRecorded stream (frames_of ms)
 recorded stream [] among = tt
 recorded stream (m ∷ ms) among = (inr (m.0, among.0), recorded stream ms among.1)
 
-among_both : (stream ms ns : List (ℕ × Frame)) → AreAmong stream ms → AreAmong stream ns → AreAmong stream (ms ++ ns)
+pub among_both : (stream ms ns : List (ℕ × Frame)) → AreAmong stream ms → AreAmong stream ns → AreAmong stream (ms ++ ns)
 among_both stream [] ns here there = there
 among_both stream (m ∷ ms) ns here there = (here.0, among_both stream ms ns here.1 there)
 

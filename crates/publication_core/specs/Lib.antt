@@ -5,3 +5,4 @@ pub mod Signs
 pub mod Sending
 pub mod Copies
 pub mod Runs
+pub mod Meeting

@@ -1,6 +1,6 @@
 //! Laws of the definitions, each the contract of a function that does nothing.
 
-ghost use Rattle.std.specs.Prelude.{◌≡◌, ℕ, List, Option, map};
+ghost use Rattle.std.specs.Prelude.{◌≡◌, ℕ, List, [], Option, map};
 ghost use Rattle.frame_core.specs.declared.block.Publication.{Publication};
 ghost use Rattle.frame_core.specs.declared.frame.Frame.{Frame};
 ghost use Rattle.frame_core.specs.declared.geometry.Geometry.{Geometry};
@@ -8,6 +8,7 @@ ghost use Rattle.frame_core.specs.Datagram.{IsDatagram};
 ghost use Rattle.image_core.specs.Received.{begun, received_all};
 ghost use Rattle.publication_core.specs.declared.datagram.Datagram.{Datagram};
 ghost use Rattle.publication_core.specs.Runs.{AreMadeOf, AreOfStream, Call, IsMadeOf, IsWithinReach, after_calls, after_sending};
+ghost use Rattle.publication_core.specs.Meeting.{Meet, Turn, came};
 ghost use Rattle.publication_core.specs.Sending.{Sending, Sends, new_sending};
 ghost use Rattle.publication_core.specs.Copies.{AreFirst, AreInReach, AreRecorded, AreWithinLimits, BeginsWith, HaveCome, HoldsAlone, IsStream};
 
@@ -61,4 +62,20 @@ pub fn a_publication_sends_recorded_frames_alone()
         → AreMadeOf stream (after_calls calls (new_sending g publication from)).waiting }
     ensures alone { (g : Geometry) (publication : Publication) (from to : ℕ) (stream : List (ℕ × Frame)) (d : Datagram) (fs : List Frame)
         → IsStream g publication from stream to → IsMadeOf stream d → IsDatagram d.bytes fs → AreRecorded stream fs }
+{}
+
+/// A sender into which the frames of a stream are laid, and an image that joined where it begins. Between them datagrams are lost,
+/// repeated, reordered and delayed, and status messages name no more than the image has rebuilt. Whenever one looks, the image holds
+/// frames of the stream alone. Once each frame up to a position has come, the image has these frames first, and has rebuilt the
+/// stream up to there.
+pub fn a_sender_and_an_image_make_a_copy()
+    ensures alone { (g : Geometry) (publication : Publication) (from to : ℕ) (stream : List (ℕ × Frame)) (ts : List Turn)
+        → IsStream g publication from stream to
+        → Meet stream ts [] (new_sending g publication from) (begun g publication from)
+        → HoldsAlone stream (received_all (begun g publication from) (came ts)) }
+    ensures copy { (g : Geometry) (publication : Publication) (from to front : ℕ) (stream firsts : List (ℕ × Frame)) (ts : List Turn)
+        → IsStream g publication from stream to
+        → Meet stream ts [] (new_sending g publication from) (begun g publication from)
+        → AreFirst from stream firsts front → HaveCome (came ts) firsts
+        → BeginsWith firsts front (received_all (begun g publication from) (came ts)) }
 {}
