@@ -5,6 +5,7 @@ mod bytes;
 mod datagram;
 mod due;
 mod flow;
+pub mod laws;
 mod lists;
 mod sender;
 mod signs;
