@@ -45,6 +45,8 @@ mod replays;
 #[cfg(test)]
 mod segments;
 #[cfg(test)]
+mod settled;
+#[cfg(test)]
 mod sparse;
 #[cfg(test)]
 mod vectors;
