@@ -4,7 +4,7 @@ use Rattle.std.proofs.lemmas.Int.{ints}
 use Rattle.std.proofs.lemmas.Bool.Decides.{nat_tests, Decides-int_eq}
 use Rattle.std.specs.Prelude.{◌^◌, ◌==◌}
 use Rattle.std.specs.Ordering.{int_eq}
-use Rattle.engine_core.proofs.Words.{Allows, Append, Command, DeskState, IsLaid, IsRequested, KeepsDesk, RecorderSession, RegisterState, Registration, Restart, Written, base_of, both, change, desk_after, find, is_later_base, is_power, layout_of, registration_in, session_in, settled}
+use Rattle.engine_core.proofs.Words.{Allows, Append, Command, DeskState, IsLaid, IsRequested, KeepsDesk, RecorderSession, RegisterState, Registration, Restart, Written, base_of, both, change, desk_after, find, found_number, is_later_base, is_power, layout_of, registration_in, session_in, session_number, settled}
 use Rattle.frame_core.specs.Segment.{segment_base}
 use Rattle.frame_core.proofs.LimitsLemmas.{exponent_le}
 use Rattle.archive_model.specs.declared.command.Command.TheVariants.{Start, Stop, Extend, Truncate, PurgeSegments, PurgeRecording}
@@ -16,8 +16,9 @@ use Rattle.archive_model.specs.Register.{changed, changed_by, id_of, registered,
 use Rattle.archive_model.proofs.CopyLemmas.{rise_le}
 use Rattle.archive_model.proofs.RegisterLemmas.{id_kept}
 use Rattle.archive_model.proofs.WellLemmas.{base_is_term}
-use Rattle.control_core.specs.Changes.{settled_by}
+use Rattle.control_core.specs.Changes.{settled_by, settled_each}
 use Rattle.control_core.proofs.AllowedLemmas.{purge_base}
+use Rattle.control_core.proofs.KeptLemmas.{kept_settled}
 use Rattle.engine_core.proofs.calls.KnownLemmas.{laid_found, test_of, written_behind}
 use Rattle.engine_core.proofs.files.StayLemmas.{later_bases}
 
@@ -130,6 +131,26 @@ follows_same g = record { next = omega (arith, ints); each = λ id s given found
 
 pub follows_equal : (g h : RegisterState) → h ≡ g → Follows g h
 follows_equal g h same = subst (Follows g) (sym same) (follows_same g)
+
+-- over one call and then another
+goes_then : (r s t : Registration) → GoesOn r s → GoesOn s t → GoesOn r t
+goes_then r s t one two =
+    let low = one.recorded in let high = two.recorded in let first = one.start in let second = two.start in record {
+      id = two.id ∙ one.id;
+      recorded = omega (arith, ints, low, high);
+      start = omega (arith, first, second);
+      bases = λ q from. two.bases q from ∙ one.bases q (omega (arith, second, from));
+    }
+
+follows_then : (g h k : RegisterState) → Follows g h → Follows h k → Follows g k
+follows_then g h k one two =
+    let low = one.next in let high = two.next in record {
+      next = omega (arith, ints, low, high);
+      each = λ id t given found.
+          let mid = two.each id t (omega (arith, ints, low, given)) found in
+          let first = one.each id mid.0 given mid.1 in
+          (first.0, first.1, goes_then first.0 mid.0 t first.2 mid.2);
+    }
 
 -- one recording more
 follows_more : (g : RegisterState) (r : Registration) → id_of r ≡ g.next → Follows g (with_one r g)
@@ -248,3 +269,19 @@ settled_follows d number (Some s) is keeps = by s.written refl
     by (Some w) has =
         follows_changed d.register s.recording (changes.Settle w.last)
         (λ r there. (let lies = written_behind d number s r w keeps is there has in settled_on w.last r (omega (arith, ints, lies.behind, lies.forward))))
+
+-- the desk keeps itself once that is recorded
+settled_desk : (d : DeskState) (number : ℤ) (found : Option RecorderSession) → session_in d number ≡ found → KeepsDesk d.register d.callers → KeepsDesk (settled found d).register (settled found d).callers
+settled_desk d number None is keeps = keeps
+settled_desk d number (Some s) is keeps = by s.written refl
+  where
+    by : (o : Option Written) → s.written ≡ o → KeepsDesk (settled_by s o d).register (settled_by s o d).callers
+    by None none = keeps
+    by (Some w) has = kept_settled d.register d.callers s.number s w (subst (λ (n : ℤ). session_in d n ≡ Some s) (sym (found_number session_number number d.callers.sessions s is)) is) has keeps
+
+-- what several sessions wrote lies so, too
+pub settled_each_follows : (d : DeskState) (numbers : List ℤ) → KeepsDesk d.register d.callers → Follows d.register (settled_each numbers d).register
+settled_each_follows d [] keeps = follows_same d.register
+settled_each_follows d (n ∷ ns) keeps =
+    let mid : DeskState = settled (session_in d n) d in
+    follows_then d.register mid.register (settled_each ns mid).register (settled_follows d n (session_in d n) refl keeps) (settled_each_follows mid ns (settled_desk d n (session_in d n) refl keeps))
