@@ -197,7 +197,7 @@ module _ (a : Archive) (sure : a.doubt ≡ None) where
 
   fault_stays : (b : Archive) → LeftByFault a events.Checkpoint b → Stays a b
   fault_stays b (inl (reads, is)) = as_it_was b is
-  fault_stays b (inr (writes, (u, (reply, x, ends, made), is))) =
+  fault_stays b (inr (writes, (u, (reply, (x, ends, made)), is))) =
       let same : u ≡ a.state = sym made ∙ (answered_stays (sweep_decision a.desk) reply x ends).state in
       subst (Stays a) (sym is) (record { state = refl; doubt = λ v some. (let one : v ≡ u = cc in one ∙ same) })
 
