@@ -19,3 +19,4 @@ pub mod FollowLemmas
 pub mod PageLemmas
 pub mod PageCallLemmas
 pub mod AskLemmas
+pub mod CheckpointCallLemmas

@@ -8,3 +8,4 @@ pub mod SettleLemmas
 pub mod BlockLemmas
 pub mod SweepLemmas
 pub mod AnewLemmas
+pub mod CheckpointLemmas
