@@ -1,8 +1,8 @@
 //! Several recorder sessions that are settled together: docs/CONTROL.md, "Recorder sessions", by example.
 
 use crate::desk_calls::{note, recording};
-use control_core::{Desk, copy_reply, decide_settle_all};
 use archive_model::Reply;
+use control_core::{Desk, copy_reply, decide_settle_all};
 use frame_core::{Items, Refusal};
 use std::alloc::Global;
 use std::test::*;
