@@ -4,6 +4,7 @@ mod DatagramLemmas
 mod HoldLemmas
 mod MadeLemmas
 mod MeetingLemmas
+mod OrderLemmas
 mod PositionLemmas
 mod ReachLemmas
 mod ReadLemmas

@@ -65,7 +65,7 @@ messages_end : (m : ℕ × Frame) (ms : List (ℕ × Frame)) → AreMessages ms 
 messages_end m [] kinds is = (is, tt)
 messages_end m (x ∷ ms) kinds is = (kinds.0, messages_end m ms kinds.1 is)
 
-stored_end : (m : ℕ × Frame) (ms : List (ℕ × Frame)) → stored_all (ms ++ m ∷ []) ≡ stored_all ms ++ stored m.1
+pub stored_end : (m : ℕ × Frame) (ms : List (ℕ × Frame)) → stored_all (ms ++ m ∷ []) ≡ stored_all ms ++ stored m.1
 stored_end m [] = append-nil (stored m.1)
 stored_end m (x ∷ ms) = ap (λ (xs : List ℕ). stored x.1 ++ xs) (stored_end m ms) ∙ sym (append_assoc (stored x.1) (stored_all ms) (stored m.1))
 

@@ -6,3 +6,4 @@ pub mod Sending
 pub mod Copies
 pub mod Runs
 pub mod Meeting
+pub mod Order

@@ -5,10 +5,11 @@ ghost use Rattle.frame_core.specs.declared.block.Publication.{Publication};
 ghost use Rattle.frame_core.specs.declared.frame.Frame.{Frame};
 ghost use Rattle.frame_core.specs.declared.geometry.Geometry.{Geometry};
 ghost use Rattle.frame_core.specs.Datagram.{IsDatagram};
-ghost use Rattle.image_core.specs.Received.{begun, received_all};
+ghost use Rattle.image_core.specs.Received.{IsChain, begun, received_all};
 ghost use Rattle.publication_core.specs.declared.datagram.Datagram.{Datagram};
 ghost use Rattle.publication_core.specs.Runs.{AreMadeOf, AreOfStream, Call, IsMadeOf, IsWithinReach, after_calls, after_sending};
 ghost use Rattle.publication_core.specs.Meeting.{Meet, Turn, came};
+ghost use Rattle.publication_core.specs.Order.{SendsInOrder, firsts, laid_by};
 ghost use Rattle.publication_core.specs.Sending.{Sending, Sends, new_sending};
 ghost use Rattle.publication_core.specs.Copies.{AreFirst, AreInReach, AreRecorded, AreWithinLimits, BeginsWith, HaveCome, HoldsAlone, IsStream};
 
@@ -78,4 +79,14 @@ pub fn a_sender_and_an_image_make_a_copy()
         → Meet stream ts [] (new_sending g publication from) (begun g publication from)
         → AreFirst from stream firsts front → HaveCome (came ts) firsts
         → BeginsWith firsts front (received_all (begun g publication from) (came ts)) }
+{}
+
+/// If the frames that are laid into a sender follow one another, they are sent in this order, each for the first time once, in
+/// datagrams of which each begins where the one before it ends, from where the publication begins up to the sender position. The
+/// others wait, in order.
+pub fn a_publication_sends_its_frames_in_order()
+    ensures { (g : Geometry) (publication : Publication) (from to : ℕ) (calls : List Call)
+        → IsChain from (laid_by calls) to
+        → SendsInOrder from (laid_by calls) (firsts calls (new_sending g publication from))
+        (after_calls calls (new_sending g publication from)) to }
 {}
