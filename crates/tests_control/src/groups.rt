@@ -21,7 +21,7 @@ fn settle_all(
 
 /// Two active recordings, of which session 0 wrote 64 bytes; the history has room for so many entries more.
 fn with_two(alloc: Global, room: u32) -> Result<Desk, Refusal> {
-    let mut desk = recording(alloc, 2, 2 + room)?;
+    let mut desk = recording(alloc, 2, room.saturating_add(2))?;
     note(&mut desk, 64).and(Ok(desk))
 }
 
