@@ -14,7 +14,11 @@ impl<D: Disk> StoredArchive<D> {
     ghost use Rattle.engine_core.specs.Seen.{HasEnded, state_of};
 
     /// A stub that lets the crate compile: another helper writes it.
-    pub(crate) fn settle_all(&mut self, _alloc: Global, _sessions: &Items<i64>) -> Result<Reply, Refusal>
+    pub(crate) fn settle_all(
+        &mut self,
+        _alloc: Global,
+        _sessions: &Items<i64>,
+    ) -> Result<Reply, Refusal>
         ensures ends { HasEnded D.life self.old self.new (events.SettleAll _sessions.now) result }
         ensures touches { SettlesEach (state_of D.life self.old) _sessions.now (D.life self.new.storage.disk) }
         ensures memory { WantsMemory self.old.desk.state (events.SettleAll _sessions.now) result }
