@@ -15,12 +15,14 @@ use Rattle.control_core.specs.declared.request.Request.TheVariants.{Truncate}
 use Rattle.control_core.specs.Exact.{Archive, ArchiveEnd, CallEnds, asked_of, broken, reads_files, told_of, with_desk}
 use Rattle.control_core.specs.Machine.{Stepped}
 use Rattle.control_core.specs.Runs.{Leave, StoodAmong, last_left}
+use Rattle.catalogue_log.specs.Checkpointing.{RefusesCheckpoint, log_on}
+use Rattle.catalogue_log.specs.LogState.{LogState}
 use Rattle.recording_reads.specs.Handing.{BeginBy}
 use Rattle.engine_core.specs.Recovery.{Recovers, RecoversTo}
 use Rattle.engine_core.specs.Engine.{Content, EngineState, DiskGoesOn, IsSpared, KeepsBank, archive_of}
 use Rattle.engine_core.specs.Consistent.{IsCrashConsistent, MayStandIn}
 use Rattle.engine_core.specs.Moves.{registered_keeps}
-use Rattle.engine_core.specs.Catalogued.{IsCatalogued, KeepsFound, MakesRegister, register_made}
+use Rattle.engine_core.specs.Catalogued.{IsCatalogued, KeepsFoundBy, MakesLater, register_made}
 use Rattle.engine_core.specs.Shown.{Shows}
 use Rattle.engine_core.specs.Touching.{Touches}
 
@@ -56,13 +58,20 @@ Keeps _ a b = Unit {0}
 abbrev pub EndsAs : Life → Life → Event → Archive → Result Reply Refusal → Archive → Type 0
 EndsAs old new event a outcome b = IfRead (reads_files a.desk event) new (CallEnds a event (HasFailed old new) outcome b) × Keeps event a b
 
+-- What a call changes of what a compaction asks of the banks. A checkpoint that is answered goes on in the other bank, and it is
+-- refused exactly so; each other call changes nothing.
+abbrev pub TellsBank : Event → EngineState → LogState → Result Reply Refusal → Type 0
+TellsBank events.Checkpoint old log (Ok reply) = log ≡ log_on old.log old.desk.register
+TellsBank events.Checkpoint old log (Err refusal) = KeepsBank old.log log × RefusesCheckpoint (record old.log { is_broken = old.desk.is_broken }) refusal
+TellsBank event old log result = KeepsBank old.log log
+
 -- How a call ends: of any archive by its desk, of a crash-consistent one exactly.
 pub record EndsEvent (old new : EngineState) (event : Event) (result : Result Reply Refusal) : Type 0 where
   -- Whatever the archive is: the disk's calls went on, and a fault has its cause.
   pub goes_on : DiskGoesOn old.life new.life
   pub cause : IsErrOf result DeviceFault → HasFailed old.life new.life
-  -- No call but a compaction, which needs a closed archive, changes what such a one asks of the banks.
-  pub bank : KeepsBank old.log new.log
+  -- No call but a checkpoint changes what a compaction asks of the banks.
+  pub bank : TellsBank event old new.log result
   -- The desk made a step of its machine.
   pub machine : Stepped old.desk (asked_of event) (told_of old.desk event result) new.desk
   -- Refused, it has changed nothing, unless a fault of the disk came in a sweep, or broke the archive.
@@ -87,7 +96,7 @@ pub record AnswersEvent (old new : EngineState) (event : Event) (result : Result
   pub touches : Touches old event new.life
   pub held : IsHeldBack event result
   -- And a catalogue that was found whole is so at every moment, with what was recorded before the call or behind it.
-  pub catalogue : KeepsFound old new (register_made old.desk event)
+  pub catalogue : KeepsFoundBy event old new
 
 -- every image that a crash now may leave recovers to this state
 abbrev pub LeavesAlone : Life → State → Type 0
@@ -137,10 +146,10 @@ StoodIn old (event ∷ events) (outcome ∷ outcomes) new run g = (g ≡ old.des
 StoodIn old [] (outcome ∷ outcomes) new run g = ⊥
 StoodIn old (event ∷ events) [] new run g = ⊥
 
--- A crash at any moment of calls leaves a catalogue of the same header that makes recordings which stood then; behind them,
--- while no write has failed, the log is at rest with what makes the desk's.
+-- A crash at any moment of calls leaves a catalogue of the same header, or of a later one that a checkpoint wrote, which makes
+-- recordings that stood then; behind them, while no write has failed, the log is at rest with what makes the desk's.
 pub record KeepsStanding (old new : EngineState) (Stood : RegisterState → Type 0) : Type 0 where
-  pub any_moment : LeavesOnly old.life new.life (λ image. (g : RegisterState) × Stood g × MakesRegister old.log.header g image)
+  pub any_moment : LeavesOnly old.life new.life (λ image. (g : RegisterState) × Stood g × MakesLater old.log.header g image)
   pub rests : IsFalse new.desk.is_broken → IsCatalogued new
 
 -- ---- faults

@@ -76,5 +76,7 @@ Shows image d (events.ReplayPollTo number most limit) outcome = PollsDecided ima
 Shows image d (events.Verify id) outcome = IfSome (registration_in d.register id) (λ g. CountsShown image g outcome)
 Shows image d (events.Write session block) outcome = Unit {0}
 Shows image d (events.Settle session) outcome = Unit {0}
+Shows image d (events.SettleAll sessions) outcome = Unit {0}
 Shows image d (events.ReplayClose number) outcome = Unit {0}
+Shows image d events.Checkpoint outcome = Unit {0}
 Shows image d events.Sweep outcome = Unit {0}

@@ -1,5 +1,5 @@
 -- Which files a call may change, what of them, and by how many calls of the disk: docs/ARCHITECTURE.md, "The engine".
-use Rattle.std.specs.Prelude.{◌≡◌, ◌≢◌, ◌⊎◌, ◌+◌, ◌≤◌, ◌≤ℤ◌, ℤ, IfSome, IsSomeAnd, IsErrOf, Bool, true, false, Option, Some, None, is_some, Result, ◌||◌, MatchOption, unsigned_abs}
+use Rattle.std.specs.Prelude.{◌≡◌, ◌≢◌, ◌⊎◌, ◌+◌, ◌≤◌, ◌≤ℤ◌, ℤ, Contains, IfSome, IsSomeAnd, IsErrOf, Bool, true, false, List, length, Option, Some, None, is_some, Result, ◌||◌, MatchOption, unsigned_abs}
 use Rattle.disk_core.specs.declared.file_id.FileId.{FileId}
 use Rattle.disk_core.specs.declared.file_id.FileId.TheVariants.{BankA, BankB}
 use Rattle.disk_core.specs.DiskImage.{reads}
@@ -13,7 +13,7 @@ use Rattle.segment_store.specs.Stale.{SweepsAtMost}
 use Rattle.archive_model.specs.declared.registration.Registration.{Registration}
 use Rattle.archive_model.specs.declared.reply.Reply.{Reply}
 use Rattle.archive_model.specs.Register.{registration_in}
-use Rattle.catalogue_log.specs.Banks.{bank_file}
+use Rattle.catalogue_log.specs.Banks.{bank_file, other_of}
 use Rattle.recording_reads.specs.Recording.{layout_of}
 use Rattle.control_core.specs.declared.callers.RecorderSession.{RecorderSession}
 use Rattle.control_core.specs.declared.callers.Written.{Written}
@@ -56,13 +56,24 @@ pub record SettlesBlocks (e : EngineState) (session : ℤ) (new : Life) : Type 0
   pub changes : ChangesThese (λ file. IsSettledFile e.desk session file ⊎ (file ≡ bank_file e.log.bank)) 5 e.life new
   pub segments : (file : FileId) → file ≢ BankA → file ≢ BankB → reads new.now file ≡ reads e.life.now file
 
+-- what one of these sessions wrote begins in this file
+abbrev pub IsSettledAmong : DeskState → List ℤ → FileId → Type 0
+IsSettledAmong d sessions file = (session : ℤ) × Contains sessions session × IsSettledFile d session file
+
+-- Blocks of these sessions were recorded, or nothing: each segment file reads as before.
+pub record SettlesEach (e : EngineState) (sessions : List ℤ) (new : Life) : Type 0 where
+  pub changes : ChangesThese (λ file. IsSettledAmong e.desk sessions file ⊎ (file ≡ bank_file e.log.bank)) (length sessions + 4) e.life new
+  pub segments : (file : FileId) → file ≢ BankA → file ≢ BankB → reads new.now file ≡ reads e.life.now file
+
 -- A request changes the bank in use, where it leads to a command; a write its file, a settling that and the bank; a sweep at
--- most the first stale file; each other call nothing.
+-- most the first stale file; a checkpoint the bank that is not in use; each other call nothing.
 abbrev pub Touches : EngineState → Event → Life → Type 0
 Touches e (events.Ask request) new =
     MatchOption (command_in (decision_of e.desk request)) (IsQuiet e.life new) (λ c. ChangesThese (λ file. file ≡ bank_file e.log.bank) 4 e.life new)
 Touches e (events.Write session block) new = WritesBlock e.desk session block e.life new
 Touches e (events.Settle session) new = SettlesBlocks e session new
+Touches e (events.SettleAll sessions) new = SettlesEach e sessions new
+Touches e events.Checkpoint new = ChangesThese (λ file. file ≡ bank_file (other_of e.log.bank)) 7 e.life new
 Touches e events.Sweep new =
     IsQuiet e.life new ⊎ ((file : FileId) × SweepsAtMost (registered_keeps e.desk.register) file e.life new × (moment new ≤ moment e.life + 2))
 Touches e (events.ReplayOpen id position size) new = IsQuiet e.life new
@@ -73,12 +84,14 @@ Touches e (events.Verify id) new = IsQuiet e.life new
 
 -- ---- memory
 
--- a call that takes memory, if it comes that far: a start, a list, an entry, a replay, frames that are read, a listing of
--- files; a write and the closing of a replay take none
+-- a call that takes memory, if it comes that far: a start, a list, an entry, several sessions' positions, a replay, frames that
+-- are read, a listing of files, a checkpoint; a write and the closing of a replay take none
 abbrev pub takes : DeskState → Event → Bool
 takes d (events.Ask request) = takes_memory request || is_some (command_in (decision_of d request))
 takes d (events.Write session block) = false
 takes d (events.Settle session) = has_blocks (settle_decision d session)
+takes d (events.SettleAll sessions) = true
+takes d events.Checkpoint = true
 takes d (events.ReplayOpen id position size) = true
 takes d (events.ReplayPoll number most) = true
 takes d (events.ReplayPollTo number most limit) = true

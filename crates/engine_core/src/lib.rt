@@ -2,6 +2,7 @@
 #![tactic(auto)]
 
 mod ask;
+mod checkpoint;
 mod compacting;
 mod engine;
 pub mod laws;
@@ -11,6 +12,7 @@ mod replay_close;
 mod replay_open;
 mod replay_poll;
 mod settle;
+mod settle_all;
 mod start;
 mod step;
 mod storage;

@@ -42,6 +42,7 @@ impl<D: Disk> StoredArchive<D> {
             Event::Ask(request) => self.ask(alloc, request),
             Event::Write { session, block } => self.write(session, block),
             Event::Settle { session } => self.settle(session),
+            Event::SettleAll { sessions } => self.settle_all(alloc, sessions),
             Event::ReplayOpen {
                 recording,
                 position,
@@ -66,6 +67,7 @@ impl<D: Disk> StoredArchive<D> {
             Event::ReplayClose { replay } => self.close(replay),
             Event::Sweep => self.sweep(alloc),
             Event::Verify { recording } => self.verify(alloc, recording),
+            Event::Checkpoint => self.checkpoint(alloc),
         }
     }
 }

@@ -295,13 +295,13 @@ no_sweep request is = cc
 -- a refusal
 pub ask_refused : (old : EngineState) (request : Request) (refusal : Refusal) → Decides (takes_memory request) (decisions.Refused refusal) (decision_of old.desk request) → EndsEvent old old (events.Ask request) (Err refusal)
 ask_refused old request refusal decides =
-    unmoved old (events.Ask request) (Err refusal) (λ fault. refused_other (takes_memory request) old.desk request refusal decides (one_refusal (Err refusal) refusal DeviceFault refl fault)) (λ removed sweep is. no_sweep request sweep)
+    unmoved old (events.Ask request) (Err refusal) refl (λ fault. refused_other (takes_memory request) old.desk request refusal decides (one_refusal (Err refusal) refusal DeviceFault refl fault)) (λ removed sweep is. no_sweep request sweep)
     (refused_step old.desk request refusal decides) (λ c was. ((λ reads. refused_ends (archive_of old c) request refusal (HasFailed old.life old.life) decides), tt))
 
 -- a reply
 pub ask_answered : (old : EngineState) (request : Request) (reply : Reply) → Decides (takes_memory request) (decisions.Answered reply) (decision_of old.desk request) → EndsEvent old old (events.Ask request) (Ok reply)
 ask_answered old request reply decides =
-    unmoved old (events.Ask request) (Ok reply) (λ fault. let clash = fault in cc) (λ removed sweep is. no_sweep request sweep)
+    unmoved old (events.Ask request) (Ok reply) refl (λ fault. let clash = fault in cc) (λ removed sweep is. no_sweep request sweep)
     (step_by old.desk old.desk request (decisions.Answered reply) (Ok (told.Reply reply)) (sym decides) (refl, refl)) (λ c was. ((λ reads. answered_ends (archive_of old c) request reply (HasFailed old.life old.life) decides), tt))
 
 -- a command

@@ -1,10 +1,12 @@
 -- How a call of an archive ends: nothing has changed, or an operation on its files has succeeded, or has failed.
-use Rattle.std.proofs.Common.{◌≡◌, ◌∙◌, sym, ap, subst, refl, IsTrue, true≢false, false, Option, Some, None, inl, inr, arith}
+use Rattle.std.proofs.Common.{◌≡◌, ◌∙◌, sym, ap, subst, refl, IsTrue, true≢false, Bool, true, false, Option, Some, None, inl, inr, arith}
 use Rattle.std.specs.Prelude.{◌≢◌, ◌⊎◌, IsFalse, Result, Ok, Err, is_some}
-use Rattle.engine_core.proofs.Words.{Archive, CallEnded, DeskState, DeviceFault, DiskGoesOn, DiskImage, Each, EngineState, Files, IsConsistent, IsCrashConsistent, IsDurable, IsEither, IsQuiet, IsSound, KeepsBank, LeavesOnly, Life, LogState, MayLeave, MayStandIn, NoMemory, RecoversTo, Refusal, Reply, StandsBehind, State, after_failure, broken, broken_desk, content_of, goes_quiet, now_leaves, reads, started, weaker}
+use Rattle.engine_core.proofs.Words.{Archive, CallEnded, DeskState, DeviceFault, DiskGoesOn, DiskImage, Each, EngineState, Event, Files, IsConsistent, IsCrashConsistent, IsDurable, IsEither, IsQuiet, IsSound, KeepsBank, LeavesOnly, Life, LogState, MayLeave, MayStandIn, NoMemory, RecoversTo, Refusal, Reply, StandsBehind, State, after_failure, broken, broken_desk, content_of, goes_quiet, now_leaves, reads, started, weaker}
 use Rattle.control_core.specs.Consistent.{AreAtBoundaries}
+use Rattle.control_core.specs.declared.event.Event.TheVariants as events
 use Rattle.control_core.specs.Runs.{MayStand}
 use Rattle.control_core.proofs.ConsistentLemmas.{breaks}
+use Rattle.engine_core.specs.Calls.{TellsBank}
 use Rattle.engine_core.specs.Engine.{IsAsBefore, IsSpared}
 use Rattle.engine_core.proofs.files.RecoveryLemmas.{sound_recovers}
 
@@ -47,6 +49,15 @@ goes_on_here life = record { obeyed = λ obeys. obeys; faults = omega arith }
 
 pub same_bank : (old new : LogState) → new ≡ old → KeepsBank old new
 same_bank old new same = record { bank = ap (λ (log : LogState). log.bank) same; header = ap (λ (log : LogState). log.header) same; spare = ap (λ (log : LogState). log.spare) same }
+
+-- a checkpoint alone changes the banks
+abbrev pub renews : Event → Bool
+renews events.Checkpoint = true
+renews _ = false
+
+pub bank_told : (event : Event) (old : EngineState) (log : LogState) (result : Result Reply Refusal) → renews event ≡ false → KeepsBank old.log log → TellsBank event old log result
+bank_told events.Checkpoint old log result other keeps = absurd (true≢false other)
+bank_told event old log result other keeps = keeps
 
 -- ---- what a refusal left
 

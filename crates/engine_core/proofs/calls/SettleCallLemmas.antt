@@ -20,7 +20,7 @@ use Rattle.control_core.specs.Turns.{has_written, settle_tests, settling_of}
 use Rattle.control_core.proofs.ConsistentLemmas.{consistent_call, settling_sessions}
 use Rattle.control_core.proofs.DecidedLemmas.{IsSettled, settling_accepted, settling_session}
 use Rattle.control_core.proofs.FaultLemmas.{other_cause}
-use Rattle.engine_core.specs.Calls.{Keeps}
+use Rattle.engine_core.specs.Calls.{Keeps, TellsBank}
 use Rattle.engine_core.proofs.calls.CommitCallLemmas.{commit_done, commit_refused, exact_commit, tied_behind}
 use Rattle.engine_core.proofs.calls.EndedLemmas.{as_before, ended_as, goes_on_here, no_doubt, quiet_life, same_bank, spared, spared_by, spared_unbroken, still}
 use Rattle.engine_core.proofs.files.FrameLemmas.{each_then}
@@ -301,11 +301,11 @@ abbrev pub blank : Content
 blank = content_of (opened_archive empty 0 0 Two)
 
 -- an event that is answered by the desk alone, and changes nothing
-pub answered_still : (e : EngineState) (event : Event) (outcome : Result Reply Refusal) (some : Content) → is_poll event ≡ false → event ≢ events.Sweep → outcome ≢ Err DeviceFault → ArchiveEnds (archive_of e some) event outcome (archive_of e some)
+pub answered_still : (e : EngineState) (event : Event) (outcome : Result Reply Refusal) (some : Content) → TellsBank event e e.log outcome → is_poll event ≡ false → event ≢ events.Sweep → outcome ≢ Err DeviceFault → ArchiveEnds (archive_of e some) event outcome (archive_of e some)
     → ((c : Content) → IsCrashConsistent e.life e.log (archive_of e c) → ArchiveEnds (archive_of e c) event outcome (archive_of e c)) → ((a : Archive) → Keeps event a a) → EndsEvent e e event outcome
-answered_still e event outcome some no_poll no_sweep no_fault here ends keeps = record {
+answered_still e event outcome some bank no_poll no_sweep no_fault here ends keeps = record {
   goes_on = goes_on_here e.life;
-  bank = same_bank e.log e.log refl;
+  bank = bank;
   cause = λ fault. absurd (no_fault fault);
   machine = call_is_allowed (archive_of e some) event outcome (archive_of e some) (λ poll. absurd (true≢false (sym poll ∙ no_poll))) (ends_exactly (archive_of e some) event (Unit {0}) outcome (archive_of e some) here);
   kept = spared _ e e outcome (as_before e);
@@ -323,7 +323,7 @@ commit_call a event reply b faulted (Err NoMemory) after writes ends is = inr is
 commit_call a event reply b faulted (Err DeviceFault) after writes ends is = inr (is.0, inr (writes, (b.state, (reply, (b, ends, refl)), is.1)))
 commit_call a event reply b faulted (Err refusal) after writes ends is = absurd is
 
-commit_cause : (a : Archive) (reply : Reply) (b : Archive) (faulted : Type 0) (outcome : Result Reply Refusal) (after : Archive) → CommitEnds a reply b faulted outcome after → outcome ≡ Err DeviceFault → faulted
+pub commit_cause : (a : Archive) (reply : Reply) (b : Archive) (faulted : Type 0) (outcome : Result Reply Refusal) (after : Archive) → CommitEnds a reply b faulted outcome after → outcome ≡ Err DeviceFault → faulted
 commit_cause a reply b faulted outcome after ends is = (subst (λ (o : Result Reply Refusal). CommitEnds a reply b faulted o after) is ends).0
 
 -- it is refused
@@ -331,7 +331,7 @@ pub settle_refuses : (e : EngineState) (n : ℤ) (refusal : Refusal)
     → settle_decision e.desk n ≡ Err refusal → EndsEvent e e (events.Settle n) (Err refusal)
 settle_refuses e n refusal is =
     let outcome : Result Settling Refusal = Err refusal in
-    answered_still e (events.Settle n) (Err refusal) blank refl (λ sweep. absurd cc)
+    answered_still e (events.Settle n) (Err refusal) blank (same_bank e.log e.log refl) refl (λ sweep. absurd cc)
     (λ fault. let same : outcome ≡ Err DeviceFault = cc in no_fault (settle_tests e.desk n) (settling_of e.desk (session_in e.desk n)) (is ∙ same)) (ends blank) (λ c was. ends c) (λ a. tt)
   where
     ends : (c : Content) → ArchiveEnds (archive_of e c) (events.Settle n) (Err refusal) (archive_of e c)
@@ -339,7 +339,7 @@ settle_refuses e n refusal is =
 
 -- there is nothing to settle
 pub settle_nothing : (e : EngineState) (n position : ℤ) → settle_decision e.desk n ≡ Ok (settling.Nothing position) → EndsEvent e e (events.Settle n) (Ok (replies.Settled position))
-settle_nothing e n position is = answered_still e (events.Settle n) (Ok (replies.Settled position)) blank refl (λ sweep. absurd cc) (λ fault. absurd cc) (ends blank) (λ c was. ends c) (λ a. tt)
+settle_nothing e n position is = answered_still e (events.Settle n) (Ok (replies.Settled position)) blank (same_bank e.log e.log refl) refl (λ sweep. absurd cc) (λ fault. absurd cc) (ends blank) (λ c was. ends c) (λ a. tt)
   where
     ends : (c : Content) → ArchiveEnds (archive_of e c) (events.Settle n) (Ok (replies.Settled position)) (archive_of e c)
     ends c = subst (λ (o : Result Settling Refusal). SettlingEnds (archive_of e c) n o (Ok (replies.Settled position)) (archive_of e c)) (sym is) (refl, refl)

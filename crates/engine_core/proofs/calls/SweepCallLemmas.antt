@@ -14,7 +14,7 @@ use Rattle.control_core.specs.Exact.{SweepEnds}
 use Rattle.control_core.specs.Turns.{sweep_tests}
 use Rattle.control_core.proofs.StepLemmas.{sweep_step}
 use Rattle.engine_core.specs.Moves.{SparesKept, StaysSound}
-use Rattle.engine_core.proofs.calls.EndedLemmas.{as_before, done, no_doubt, quiet_goes_on, quiet_life, recovers_as, same_bank, sound_consistent, spared, still}
+use Rattle.engine_core.proofs.calls.EndedLemmas.{as_before, bank_told, done, no_doubt, quiet_goes_on, quiet_life, recovers_as, renews, same_bank, sound_consistent, spared, still}
 use Rattle.engine_core.proofs.files.FrameLemmas.{each_both, each_then}
 use Rattle.engine_core.proofs.calls.KnownLemmas.{keeps_same, registered_of}
 use Rattle.engine_core.proofs.calls.StandLemmas.{frames_behind}
@@ -26,11 +26,11 @@ pub one_refusal : (answer : Result Reply Refusal) (x y : Refusal) → answer ≡
     → x ≡ y
 one_refusal answer x y this that = cc
 
-pub unmoved : (old : EngineState) (event : Event) (outcome : Result Reply Refusal) → (IsErrOf outcome DeviceFault → ⊥) → ((removed : Bool) → event ≡ events.Sweep → outcome ≡ Ok (replies.Swept removed) → ⊥) → Stepped old.desk (asked_of event) (told_of old.desk event outcome) old.desk
+pub unmoved : (old : EngineState) (event : Event) (outcome : Result Reply Refusal) → renews event ≡ false → (IsErrOf outcome DeviceFault → ⊥) → ((removed : Bool) → event ≡ events.Sweep → outcome ≡ Ok (replies.Swept removed) → ⊥) → Stepped old.desk (asked_of event) (told_of old.desk event outcome) old.desk
     → ((c : Content) → IsCrashConsistent old.life old.log (archive_of old c) → EndsAs old.life old.life event (archive_of old c) outcome (archive_of old c)) → EndsEvent old old event outcome
-unmoved old event outcome no_fault no_sweep step ends = record {
+unmoved old event outcome beside no_fault no_sweep step ends = record {
   goes_on = quiet_goes_on old.life old.life (quiet_life old.life);
-  bank = same_bank old.log old.log refl;
+  bank = bank_told event old old.log outcome beside (same_bank old.log old.log refl);
   cause = λ fault. absurd (no_fault fault);
   machine = step;
   kept = spared _ old old outcome (as_before old);
@@ -194,7 +194,7 @@ unswept_answers old new keeps outcome refusal is did how = subst (EndsEvent old 
 -- for want of memory
 pub unkept_answers : (old : EngineState) (outcome : Result Reply Refusal) (refusal : Refusal)
     → outcome ≡ Err refusal → refusal ≡ NoMemory → EndsEvent old old events.Sweep outcome
-unkept_answers old outcome refusal is memory = subst (EndsEvent old old events.Sweep) (sym (is ∙ ap Err memory)) (unmoved old events.Sweep (Err NoMemory)
+unkept_answers old outcome refusal is memory = subst (EndsEvent old old events.Sweep) (sym (is ∙ ap Err memory)) (unmoved old events.Sweep (Err NoMemory) refl
     (λ fault. memory_other (let same = fault in cc)) (λ removed sweep told. let clash = told in cc) (inr refl) (λ c was. ((λ reads. inr refl), refl)))
 
 -- refused where a write has failed
@@ -206,7 +206,7 @@ sweep_fault d is = by d.is_broken is
     by false is = let clash = is in cc
 
 pub sweep_refused : (old : EngineState) (outcome : Result Reply Refusal) (refusal : Refusal) → outcome ≡ Err refusal → Err refusal ≡ sweep_decision old.desk → EndsEvent old old events.Sweep outcome
-sweep_refused old outcome refusal is decided = subst (EndsEvent old old events.Sweep) (sym is) (unmoved old events.Sweep (Err refusal)
+sweep_refused old outcome refusal is decided = subst (EndsEvent old old events.Sweep) (sym is) (unmoved old events.Sweep (Err refusal) refl
     (λ fault. sweep_fault old.desk (ap Err (sym (one_refusal _ refusal DeviceFault refl fault)) ∙ decided)) (λ removed sweep told. let clash = told in cc)
     (inl (sweep_step old.desk (Err refusal) old.desk (subst (λ (o : Result (Unit {0}) Refusal). SweepsBy old.desk o (Err refusal) old.desk) decided (refl, refl))))
     (λ c was. ((λ reads. inl (subst (λ (o : Result (Unit {0}) Refusal). SweepEnds (archive_of old c) o (Err refusal) (archive_of old c)) decided (refl, refl))), refl)))

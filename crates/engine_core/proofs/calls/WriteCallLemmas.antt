@@ -47,7 +47,7 @@ write_untargeted e n block w outcome without is =
     let refused = is_refused e.desk n w (span_of block) in
     let told : Result Reply Refusal = Err refused.0 in
     subst (λ (o : Result Reply Refusal). EndsEvent e e (events.Write n block) o) (sym (is ∙ refused.1))
-    (answered_still e (events.Write n block) told blank refl (λ sweep. absurd cc) (λ fault. no_fault (write_tests e.desk n w false) (WrittenReply w.last) (refused.1 ∙ fault))
+    (answered_still e (events.Write n block) told blank (same_bank e.log e.log refl) refl (λ sweep. absurd cc) (λ fault. no_fault (write_tests e.desk n w false) (WrittenReply w.last) (refused.1 ∙ fault))
     (ends blank (no_blank e (session_in e.desk n) block) refused.0 refused.2) (λ c was. ends c (no_block e c n block was without) refused.0 refused.2) (λ a. tt))
   where
     ends : (c : Content) → (IsBlockOf (archive_of e c) (session_in e.desk n) block → ⊥) → (refusal : Refusal) → write_decision e.desk n (span_of block) false ≡ Err refusal → ArchiveEnds (archive_of e c) (events.Write n block) (Err refusal) (archive_of e c)
@@ -254,7 +254,7 @@ module _ (old : EngineState) (n : ℤ) (block : Block) (layout : Layout) (end : 
 
   pub write_refuses : (refusal : Refusal) → Err refusal ≡ write_decision old.desk n (span_to block end) true → EndsEvent old old event (Err refusal)
   write_refuses refusal is =
-      answered_still old event (Err refusal) alone refl (λ sweep. absurd cc) (λ fault. no_fault (write_tests old.desk n (span_to block end) true) (WrittenReply end) (sym is ∙ fault)) (refused_ends alone refusal of_alone is)
+      answered_still old event (Err refusal) alone (same_bank old.log old.log refl) refl (λ sweep. absurd cc) (λ fault. no_fault (write_tests old.desk n (span_to block end) true) (WrittenReply end) (sym is ∙ fault)) (refused_ends alone refusal of_alone is)
       (λ c was. refused_ends c refusal (block_of c was) is) (λ a. tt)
 
   module _ (new : EngineState) (reply : Reply) (is : Ok reply ≡ write_decision old.desk n (span_to block end) true) (result : Result (Unit {0}) Refusal) (changes : ChangesFile (file_of layout (unsigned_abs block.position)) old.life new.life)

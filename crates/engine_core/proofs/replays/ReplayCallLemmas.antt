@@ -20,21 +20,21 @@ use Rattle.control_core.proofs.DeskLemmas.{keeps_closed, keeps_moved}
 use Rattle.control_core.proofs.StepLemmas.{poll_step, verify_step}
 use Rattle.engine_core.proofs.calls.EndedLemmas.{quiet_life}
 use Rattle.engine_core.proofs.calls.KnownLemmas.{laid_found, one_known, read_known, replay_recording}
-use Rattle.engine_core.proofs.replays.ReplayLemmas.{answer_no_fault, keeps_poll, leaves_refused, leaves_told, moved_at, no_content, open_at, outside_read, poll_no_fault, poll_passes, poll_sweeps_nothing, polled_ends, polling_refused, reads_on, reads_only, reads_poll, steps_poll, checked_err, checked_ok}
+use Rattle.engine_core.proofs.replays.ReplayLemmas.{answer_no_fault, checked_err, checked_ok, keeps_poll, leaves_refused, leaves_told, moved_at, no_content, open_at, outside_read, poll_no_fault, poll_passes, poll_renews_nothing, poll_sweeps_nothing, polled_ends, polling_refused, reads_on, reads_only, reads_poll, steps_poll}
 
 -- ---- a replay is closed
 
 pub close_refused : (old : EngineState) (number : ℤ) (refusal : Refusal) → close_decision old.desk number ≡ Err refusal → EndsEvent old old (events.ReplayClose number) (Err refusal)
 close_refused old number refusal decided =
     let left = λ (c : Content). leaves_refused (archive_of old c) (with_desk (after_close number old.desk) (archive_of old c)) (close_decision old.desk number) refusal decided in
-    reads_only old old (events.ReplayClose number) (Err refusal) (quiet_life old.life) refl refl (λ is. absurd cc) (λ fault. absurd (answer_no_fault (close_tests old.desk number) replies.Closed refusal decided fault))
+    reads_only old old (events.ReplayClose number) (Err refusal) (quiet_life old.life) refl refl (λ is. absurd cc) refl (λ fault. absurd (answer_no_fault (close_tests old.desk number) replies.Closed refusal decided fault))
     (call_is_allowed (archive_of old no_content) (events.ReplayClose number) (Err refusal) (archive_of old no_content) (λ poll. absurd cc) (inl (left no_content)))
     (λ c was. ((λ reading. inl (left c)), tt))
 
 pub closed : (old new : EngineState) (number : ℤ) → IsQuiet old.life new.life → new.log ≡ old.log → new.desk ≡ after_close number old.desk → close_decision old.desk number ≡ Ok replies.Closed → EndsEvent old new (events.ReplayClose number) (Ok replies.Closed)
 closed old new number quiet log desk decided =
     let left = λ (c : Content). leaves_told (archive_of old c) (with_desk (after_close number old.desk) (archive_of old c)) (close_decision old.desk number) replies.Closed decided in
-    reads_on old new (events.ReplayClose number) replies.Closed (without replay_number number old.desk.callers.replays) old.desk.callers.next_replay quiet log desk (λ is. absurd cc)
+    reads_on old new (events.ReplayClose number) replies.Closed (without replay_number number old.desk.callers.replays) old.desk.callers.next_replay quiet log desk (λ is. absurd cc) refl
     (call_is_allowed (archive_of old no_content) (events.ReplayClose number) (Ok replies.Closed) (with_desk (after_close number old.desk) (archive_of old no_content)) (λ poll. absurd cc) (left no_content))
     (keeps_closed old.desk.register old.desk.callers number)
     (λ c was obeys. each_without replay_number (IsAtBoundary c.state) number old.desk.callers.replays (was.boundaries (quiet.obeyed obeys)))
@@ -47,7 +47,7 @@ decided_verify d id = checked (verify_tests d id) checks (Ok tt)
 
 pub verify_refused : (old : EngineState) (id : ℤ) (refusal : Refusal) → decided_verify old.desk id ≡ Err refusal → EndsEvent old old (events.Verify id) (Err refusal)
 verify_refused old id refusal decided =
-    reads_only old old (events.Verify id) (Err refusal) (quiet_life old.life) refl refl (λ is. absurd cc) (λ fault. absurd (answer_no_fault (verify_tests old.desk id) tt refusal decided fault))
+    reads_only old old (events.Verify id) (Err refusal) (quiet_life old.life) refl refl (λ is. absurd cc) refl (λ fault. absurd (answer_no_fault (verify_tests old.desk id) tt refusal decided fault))
     (inl (verify_step old.desk id (Err refusal) old.desk (subst (λ (x : Result (Unit {0}) Refusal). VerifiesBy old.desk x (Err refusal) old.desk) (sym decided) (refl, refl))))
     (λ c was.
     let a = archive_of old c in
@@ -72,7 +72,7 @@ pub verify_unread : (old new : EngineState) (id : ℤ) (g : Registration) (refus
     → EndsEvent old new (events.Verify id) (Err refusal)
 verify_unread old new id g refusal quiet log desk stays decided known cause refuses outside =
     let passed : passes (verify_tests old.desk id) checks ≡ true = (held (verify_tests old.desk id) checks tt tt decided).0 in
-    reads_only old new (events.Verify id) (Err refusal) quiet log desk (λ is. absurd cc) cause (verify_stepped old.desk id new.life.obeys (reads old.life.now) g refusal decided refuses)
+    reads_only old new (events.Verify id) (Err refusal) quiet log desk (λ is. absurd cc) refl cause (verify_stepped old.desk id new.life.obeys (reads old.life.now) g refusal decided refuses)
     (λ c was. (
       (λ reading.
           let read = read_known old.life new.life old.log (archive_of old c) id g stays was known (reading passed) in
@@ -85,7 +85,7 @@ pub verified : (old new : EngineState) (id : ℤ) (g : Registration) (count : �
 verified old new id g count quiet log desk stays decided known counts =
     let reply = replies.Verified count in
     let passed : passes (verify_tests old.desk id) checks ≡ true = (held (verify_tests old.desk id) checks tt tt decided).0 in
-    reads_only old new (events.Verify id) (Ok reply) quiet log desk (λ is. absurd cc) (λ fault. absurd cc)
+    reads_only old new (events.Verify id) (Ok reply) quiet log desk (λ is. absurd cc) refl (λ fault. absurd cc)
     (verify_step old.desk id (Ok (told.Reply reply)) old.desk (subst (λ (x : Result (Unit {0}) Refusal). VerifiesBy old.desk x (Ok (told.Reply reply)) old.desk) (sym decided) (inl (count, (refl, refl)))))
     (λ c was. (
       (λ reading.
@@ -106,7 +106,7 @@ none_where false next = refl
 module _ (number most : ℤ) (limit : Option ℤ) where
   pub poll_refused : (old : EngineState) (refusal : Refusal) → poll_decision old.desk number most limit ≡ Err refusal → EndsEvent old old (poll_event number most limit) (Err refusal)
   poll_refused old refusal decided =
-      reads_only old old (poll_event number most limit) (Err refusal) (quiet_life old.life) refl refl (poll_sweeps_nothing number most limit) (λ fault. absurd (poll_no_fault old.desk number most limit refusal decided fault))
+      reads_only old old (poll_event number most limit) (Err refusal) (quiet_life old.life) refl refl (poll_sweeps_nothing number most limit) (poll_renews_nothing number most limit) (λ fault. absurd (poll_no_fault old.desk number most limit refusal decided fault))
       (steps_poll old.desk number most limit (Err refusal) old.desk
       (inl (poll_step old.desk number most limit (Err refusal) old.desk (subst (λ (x : Result OpenReplay Refusal). PollsBy old.desk limit x (Err refusal) old.desk) (sym decided) (refl, refl)))))
       (λ c was. ((λ reading. inl (polling_refused (archive_of old c) number most limit refusal decided)), keeps_poll number most limit _ _ refl))
@@ -133,7 +133,7 @@ module _ (number most : ℤ) (limit : Option ℤ) where
       let passed = poll_passes old.desk number most limit replay decided in
       let opened = polled_open old.desk number most limit replay decided in
       let reads_it = reads_poll old.desk number most limit passed in
-      reads_only old new (poll_event number most limit) (Err refusal) quiet log desk (poll_sweeps_nothing number most limit) cause
+      reads_only old new (poll_event number most limit) (Err refusal) quiet log desk (poll_sweeps_nothing number most limit) (poll_renews_nothing number most limit) cause
       (steps_poll old.desk number most limit (Err refusal) old.desk (poll_stepped old.desk replay new.life.obeys (reads old.life.now) l geometry recorded bound asked from refusal decided refuses))
       (λ c was. (
         (λ reading.
@@ -194,7 +194,7 @@ module _ (number most : ℤ) (limit : Option ℤ) where
       let passed = poll_passes old.desk number most limit replay decided in
       let opened = polled_open old.desk number most limit replay decided in
       let reads_it = reads_poll old.desk number most limit passed in
-      reads_on old new (poll_event number most limit) (replies.Polled frames goes) (change replay_number number (moved_to next) old.desk.callers.replays) old.desk.callers.next_replay quiet log desk (poll_sweeps_nothing number most limit)
+      reads_on old new (poll_event number most limit) (replies.Polled frames goes) (change replay_number number (moved_to next) old.desk.callers.replays) old.desk.callers.next_replay quiet log desk (poll_sweeps_nothing number most limit) (poll_renews_nothing number most limit)
       (steps_poll old.desk number most limit (Ok (replies.Polled frames goes)) (after_poll number next old.desk) (poll_gives old.desk next replay g frames goes decided (sym known) ends (moves (asks_some old.desk replay decided)) on))
       (keeps_moved old.desk.register old.desk.callers number next)
       (λ c was obeys.

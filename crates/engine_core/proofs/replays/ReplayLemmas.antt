@@ -17,7 +17,7 @@ use Rattle.control_core.proofs.PollEventLemmas.{asked_of_poll, ends_of_poll, pol
 use Rattle.control_core.proofs.StayLemmas.{blocks_stay, same_recording}
 use Rattle.engine_core.specs.Calls.{Keeps, is_fault}
 use Rattle.engine_core.proofs.files.CommitLemmas.{memory_is_no_fault}
-use Rattle.engine_core.proofs.calls.EndedLemmas.{quiet_goes_on, reread, same_bank, spared, still}
+use Rattle.engine_core.proofs.calls.EndedLemmas.{bank_told, quiet_goes_on, renews, reread, same_bank, spared, still}
 
 -- ---- a desk with other replays
 
@@ -58,11 +58,11 @@ pub no_content : Content
 no_content = record { state = empty; blocks = λ number. []; doubt = None }
 
 -- nothing but the count of faults has changed
-pub reads_only : (old new : EngineState) (event : Event) (result : Result Reply Refusal) → IsQuiet old.life new.life → new.log ≡ old.log → new.desk ≡ old.desk → event ≢ events.Sweep → (IsErrOf result DeviceFault → HasFailed old.life new.life)
+pub reads_only : (old new : EngineState) (event : Event) (result : Result Reply Refusal) → IsQuiet old.life new.life → new.log ≡ old.log → new.desk ≡ old.desk → event ≢ events.Sweep → renews event ≡ false → (IsErrOf result DeviceFault → HasFailed old.life new.life)
     → Stepped old.desk (asked_of event) (told_of old.desk event result) old.desk → ((c : Content) → IsCrashConsistent old.life old.log (archive_of old c) → EndsAs old.life new.life event (archive_of old c) result (archive_of old c)) → EndsEvent old new event result
-reads_only old new event result quiet log desk other cause step ends = record {
+reads_only old new event result quiet log desk other beside cause step ends = record {
   goes_on = quiet_goes_on old.life new.life quiet;
-  bank = same_bank old.log new.log log;
+  bank = bank_told event old new.log result beside (same_bank old.log new.log log);
   cause = cause;
   machine = subst (λ (d : DeskState). Stepped old.desk (asked_of event) (told_of old.desk event result) d) (sym desk) step;
   kept = spared _ old new result (record { files = quiet; log = log; desk = desk });
@@ -71,13 +71,13 @@ reads_only old new event result quiet log desk other cause step ends = record {
 }
 
 -- other replays are open
-pub reads_on : (old new : EngineState) (event : Event) (reply : Reply) (rs : List OpenReplay) (next : ℤ) → IsQuiet old.life new.life → new.log ≡ old.log → new.desk ≡ with_replays rs next old.desk → event ≢ events.Sweep
+pub reads_on : (old new : EngineState) (event : Event) (reply : Reply) (rs : List OpenReplay) (next : ℤ) → IsQuiet old.life new.life → new.log ≡ old.log → new.desk ≡ with_replays rs next old.desk → event ≢ events.Sweep → renews event ≡ false
     → Stepped old.desk (asked_of event) (told_of old.desk event (Ok reply)) (with_replays rs next old.desk) → (KeepsSeats old.desk.register old.desk.callers → KeepsSeats old.desk.register (calls_with rs next old.desk.callers))
     → ((c : Content) → IsCrashConsistent old.life old.log (archive_of old c) → IsTrue new.life.obeys → Each (IsAtBoundary c.state) rs)
     → ((c : Content) → IsCrashConsistent old.life old.log (archive_of old c) → EndsAs old.life new.life event (archive_of old c) (Ok reply) (with_desk (with_replays rs next old.desk) (archive_of old c))) → EndsEvent old new event (Ok reply)
-reads_on old new event reply rs next quiet log desk other step seats at ends = record {
+reads_on old new event reply rs next quiet log desk other beside step seats at ends = record {
   goes_on = quiet_goes_on old.life new.life quiet;
-  bank = same_bank old.log new.log log;
+  bank = bank_told event old new.log (Ok reply) beside (same_bank old.log new.log log);
   cause = λ fault. absurd (no_error fault);
   machine = subst (λ (d : DeskState). Stepped old.desk (asked_of event) (told_of old.desk event (Ok reply)) d) (sym desk) step;
   kept = tt;
@@ -182,6 +182,10 @@ keeps_poll number most (Some limit) a b same = same
 pub poll_sweeps_nothing : (number most : ℤ) (limit : Option ℤ) → poll_event number most limit ≢ events.Sweep
 poll_sweeps_nothing number most None is = absurd cc
 poll_sweeps_nothing number most (Some limit) is = absurd cc
+
+pub poll_renews_nothing : (number most : ℤ) (limit : Option ℤ) → renews (poll_event number most limit) ≡ false
+poll_renews_nothing number most None = refl
+poll_renews_nothing number most (Some limit) = refl
 
 -- each test of it holds
 pub poll_passes : (d : DeskState) (number most : ℤ) (limit : Option ℤ) (replay : OpenReplay)

@@ -207,14 +207,14 @@ IsDecidedOf old new id position size result = (log : LogState) (a : Archive) →
 pub open_refused : (old new : EngineState) (id position size : ℤ) (refusal : Refusal) → IsQuiet old.life new.life → new.log ≡ old.log → new.desk ≡ old.desk → (IsErrOf {T = Opening} (Err refusal) DeviceFault → HasFailed old.life new.life)
     → Allowed old.desk (open_decision old.desk id position size) refusal → IsDecidedOf old new id position size (Err refusal) → EndsEvent old new (events.ReplayOpen id position size) (Err refusal)
 open_refused old new id position size refusal quiet log desk cause allowed decided =
-    reads_only old new (events.ReplayOpen id position size) (Err refusal) quiet log desk (λ is. absurd cc) (λ fault. cause (let same : refusal ≡ DeviceFault = cc in ap Err same))
+    reads_only old new (events.ReplayOpen id position size) (Err refusal) quiet log desk (λ is. absurd cc) refl (λ fault. cause (let same : refusal ≡ DeviceFault = cc in ap Err same))
     (inl (open_step old.desk id position size (Err refusal) old.desk allowed))
     (λ c was. ((λ reading. opening_refused (archive_of old c) id position size (HasFailed old.life new.life) refusal (decided old.log (archive_of old c) refl was reading)), refl))
 
 -- memory was refused
 pub open_unkept : (old new : EngineState) (id position size : ℤ) → IsQuiet old.life new.life → new.log ≡ old.log → new.desk ≡ old.desk → EndsEvent old new (events.ReplayOpen id position size) (Err NoMemory)
 open_unkept old new id position size quiet log desk =
-    reads_only old new (events.ReplayOpen id position size) (Err NoMemory) quiet log desk (λ is. absurd cc) (λ fault. absurd cc) (inr refl)
+    reads_only old new (events.ReplayOpen id position size) (Err NoMemory) quiet log desk (λ is. absurd cc) refl (λ fault. absurd cc) (inr refl)
     (λ c was. ((λ reading. unkept (archive_of old c) (events.ReplayOpen id position size) (HasFailed old.life new.life) NoMemory refl), refl))
 
 pub open_done : (old new : EngineState) (id position size number : ℤ) (o : Opening) → number ≡ old.desk.callers.next_replay → IsQuiet old.life new.life → new.log ≡ old.log → new.desk ≡ after_open o.recording o.next o.bound old.desk → opening_in (open_decision old.desk id position size) ≡ Some o
@@ -226,7 +226,7 @@ open_done old new id position size number o numbered quiet log desk leads decide
     let opens = λ (c : Content) (was : IsCrashConsistent old.life old.log (archive_of old c)) (reading : IsTrue (opens_by_frames (open_decision old.desk id position size)) → IsTrue new.life.obeys).
     is_opened (asked_opening (archive_of old c) id (open_decision old.desk id position size)) (HasFailed old.life new.life × IsTrue (opens_by_frames (open_decision old.desk id position size))) o (decided old.log (archive_of old c) refl was reading) in
     subst (λ (n : ℤ). EndsEvent old new (events.ReplayOpen id position size) (Ok (replies.ReplayOpened n))) (sym numbered)
-    (reads_on old new (events.ReplayOpen id position size) (replies.ReplayOpened next) (old.desk.callers.replays ++ replay ∷ []) (next +ℤ pos 1) quiet log desk (λ is. absurd cc)
+    (reads_on old new (events.ReplayOpen id position size) (replies.ReplayOpened next) (old.desk.callers.replays ++ replay ∷ []) (next +ℤ pos 1) quiet log desk (λ is. absurd cc) refl
     (open_step old.desk id position size (Ok (told.Reply (replies.ReplayOpened next))) (after_open o.recording o.next o.bound old.desk) (opens_by old.desk (open_decision old.desk id position size) o leads))
     (λ seats. keeps_opened old.desk.register old.desk.callers replay refl may.few may.there seats)
     (λ c was obeys. each_push (IsAtBoundary c.state) old.desk.callers.replays replay (was.boundaries (quiet.obeyed obeys)) (opened_at_boundary (archive_of old c) id position size o was.archive.agrees (opens c was (λ asks. obeys))))
