@@ -7,3 +7,4 @@ mod SpanLemmas
 mod HeldLemmas
 mod KeptLemmas
 mod DurableLemmas
+mod ProtectedLemmas

@@ -1,9 +1,10 @@
 -- What a reader has to believe: legal histories and where they lead, where a desk stands, what stays of what was settled,
--- what is stored of a call, and what a closed archive gives.
+-- what stays in place while a replay is open, what is stored of a call, and what a closed archive gives.
 pub mod History
 pub mod Standing
 pub mod Leading
 pub mod Durable
+pub mod Protected
 pub mod Records
 pub mod Closing
 -- What lies under the lock, and the name of no archive.

@@ -1,6 +1,7 @@
 pub mod FromLemmas
 pub mod CommandLemmas
-pub mod CallLemmas
 pub mod OpenLemmas
+pub mod StepLemmas
+pub mod CallLemmas
 pub mod StretchLemmas
 pub mod TieLemmas

@@ -4,11 +4,13 @@ use Rattle.engine_core.proofs.Words.{Archive, ArchiveEnds, CallEnds, DeviceFault
 use Rattle.archive_model.specs.Acceptance.{BookState}
 use Rattle.control_core.specs.Exact.{LeftByFault}
 use Rattle.control_core.specs.Runs.{MayStand}
-use Rattle.control_core.proofs.CallLemmas.{at_most_one, refused_unchanged}
+use Rattle.control_core.proofs.CallLemmas.{refused_unchanged}
+use Rattle.control_core.proofs.MadeLemmas.{makes_asked}
 use Rattle.control_core.proofs.RunLemmas.{same_doubt}
 use Rattle.engine_core.specs.Protected.{HasFrom}
-use Rattle.engine_core.proofs.protected.CommandLemmas.{KeptIn, kept_after}
+use Rattle.engine_core.proofs.protected.CommandLemmas.{KeptIn}
 use Rattle.engine_core.proofs.protected.FromLemmas.{keeps_itself, keeps_later}
+use Rattle.engine_core.proofs.protected.StepLemmas.{asked_has}
 
 -- the archive's state keeps the frames of a recording from a position on, and so does the one in doubt
 pub record Protects (p id : ℤ) (r : Recording) (a : Archive) : Type 0 where
@@ -48,12 +50,10 @@ module _ (n : ℤ) (replay : OpenReplay) (r : Recording) where
   -- what an answered call makes of the state
   answered_has : (a : Archive) (event : Event) (reply : Reply) (b : Archive) → IsConsistent a → open_replay_in a.desk n ≡ Some replay → ArchiveEnds a event (Ok reply) b → HasFrom replay.next replay.recording r a.state
       → HasFrom replay.next replay.recording r b.state
-  answered_has a event reply b consistent found ends has = elim (at_most_one a event reply b consistent ends) [
-    | inl same ↦ subst (HasFrom replay.next replay.recording r) (sym (ap (λ (k : BookState). k.state) same)) has
-    | inr made ↦
-        subst (HasFrom replay.next replay.recording r) (sym (ap (λ (k : BookState). k.state) made.book))
-        (kept_after (book_of a) a.desk made.command n replay r consistent.well made.acceptable.accepted made.acceptable.allowed found has)
-  ]
+  answered_has a event reply b consistent found ends has =
+      let made = makes_asked a event reply b consistent ends in
+      subst (HasFrom replay.next replay.recording r) (sym (ap (λ (k : BookState). k.state) made.book))
+      (asked_has a event a.desk (book_of a) n replay r consistent.well made.accepted made.allowed found has)
 
   fault_reads : (a : Archive) (event : Event) (b : Archive) → IsConsistent a → open_replay_in a.desk n ≡ Some replay → LeftByFault a event b → Reads a → Reads b
   fault_reads a event b consistent found (inl (read, same)) reads = same_reads a b same reads

@@ -15,11 +15,11 @@ use Rattle.control_core.specs.declared.turns.Opening.{Opening}
 use Rattle.control_core.specs.declared.turns.Settling.{Settling}
 use Rattle.control_core.specs.declared.turns.Settling.TheVariants as settling
 use Rattle.control_core.specs.Callers.{moved_to}
-use Rattle.control_core.specs.Changes.{after_close, settled_by}
+use Rattle.control_core.specs.Changes.{after_close, settled_by, writer_in}
 use Rattle.control_core.specs.Consistent.{IsAcceptable, is_asked}
 use Rattle.control_core.specs.Decided as decisions
 use Rattle.control_core.specs.Desk.{is_replay_of}
-use Rattle.control_core.specs.Exact.{DecisionEnds, Leaves, LeftByFault, OpeningEnds, PolledEnds, PollingEnds, SettlingEnds, SweepEnds, asked_frames, asked_opening, frames_end, span_of}
+use Rattle.control_core.specs.Exact.{CheckpointEnds, DecisionEnds, Leaves, LeftByFault, OpeningEnds, PolledEnds, PollingEnds, SettlingEnds, SweepEnds, asked_frames, asked_opening, frames_end, settled_archives, settled_by_number, settling_in, span_of}
 use Rattle.control_core.specs.Turns.{close_decision, held_to, sweep_tests}
 use Rattle.control_core.proofs.CallLemmas.{refused_unchanged}
 use Rattle.control_core.proofs.DecidedLemmas.{decided_accepted}
@@ -103,6 +103,16 @@ poll_past next bound most r =
 
 -- ---- desks
 
+-- an opening makes this command alone
+abbrev pub is_restart : Command → Bool
+is_restart Restart = true
+is_restart c = false
+
+asked_live : (c : Command) → IsTrue (is_asked c) → is_restart c ≡ false
+asked_live (Append id blocks) asked = refl
+asked_live Restart asked = absurd (true≢false (sym asked))
+asked_live c asked = refl
+
 not_given : (id : ℤ) (replay : OpenReplay) → int_eq replay.recording id ≡ false → not (is_replay_of id replay) ≡ true
 unfolding is_replay_of
 not_given id replay other = rw other refl
@@ -123,21 +133,26 @@ module _ (n : ℤ) (replay : OpenReplay) where
       by None = refl
       by (Some w) = refl
 
-  -- nor does a command that is let through, but one that removes another recording
-  command_goes : (d : DeskState) (c : Command) → IsTrue (is_asked c) → Allows d c → open_replay_in d n ≡ Some replay → GoesOn (desk_after d c) n replay
-  command_goes d (commands.Start f) asked allows found = same_replay d (desk_after d (commands.Start f)) refl found
-  command_goes d (Append id blocks) asked allows found = absurd (true≢false (sym asked))
-  command_goes d (commands.Stop id timestamp) asked allows found = same_replay d (desk_after d (commands.Stop id timestamp)) refl found
-  command_goes d (commands.Extend f) asked allows found = same_replay d (desk_after d (commands.Extend f)) refl found
-  command_goes d (commands.Truncate id position) asked allows found = same_replay d (desk_after d (commands.Truncate id position)) refl found
-  command_goes d (commands.PurgeSegments id position) asked allows found = same_replay d (desk_after d (commands.PurgeSegments id position)) refl found
-  command_goes d (commands.PurgeRecording id) asked allows found = record {
-    later = replay;
-    found = found_passing n (λ (r : OpenReplay). not (is_replay_of id r)) d.callers.replays replay found (not_given id replay (other_recording d id n replay (removal_unread d id allows) found));
-    recording = refl;
-    on = omega (arith, ints);
-  }
-  command_goes d Restart asked allows found = absurd (true≢false (sym asked))
+  -- nor do those of several sessions
+  all_replays : (ns : List ℤ) (a : Archive) → (settled_archives ns a).desk.callers.replays ≡ a.desk.callers.replays
+  all_replays [] a = refl
+  all_replays (m ∷ ns) a = all_replays ns (settled_by_number a m (settling_in a m)) ∙ one_replays a m (settling_in a m)
+    where
+      one_replays : (a : Archive) (m : ℤ) (s : Settling) → (settled_by_number a m s).desk.callers.replays ≡ a.desk.callers.replays
+      one_replays a m (settling.Nothing position) = refl
+      one_replays a m (settling.Blocks id w) = settled_replays a.desk (session_in a.desk m)
+
+  -- a command that the desk allows, but a restart, leaves it open
+  pub command_open : (d : DeskState) (c : Command) → is_restart c ≡ false → Allows d c → open_replay_in d n ≡ Some replay → open_replay_in (desk_after d c) n ≡ Some replay
+  command_open d (commands.Start f) live allows found = found
+  command_open d (Append id blocks) live allows found = ap (find replay_number n) (settled_replays d (writer_in d id)) ∙ found
+  command_open d (commands.Stop id timestamp) live allows found = found
+  command_open d (commands.Extend f) live allows found = found
+  command_open d (commands.Truncate id position) live allows found = found
+  command_open d (commands.PurgeSegments id position) live allows found = found
+  command_open d (commands.PurgeRecording id) live allows found =
+      found_passing n (λ (r : OpenReplay). not (is_replay_of id r)) d.callers.replays replay found (not_given id replay (other_recording d id n replay (removal_unread d id allows) found))
+  command_open d Restart live allows found = absurd (true≢false live)
 
   moved_goes : (d : DeskState) (number next : ℤ) (polls : OpenReplay) → open_replay_in d number ≡ Some polls → polls.next ≤ℤ next → open_replay_in d n ≡ Some replay
       → (e : DeskState) → e.callers.replays ≡ change replay_number polls.number (moved_to next) d.callers.replays → GoesOn e n replay
@@ -163,7 +178,7 @@ module _ (n : ℤ) (replay : OpenReplay) where
   asked_goes a (decisions.Answered answer) reply b accepts found h = still a b h.1 found
   asked_goes a (decisions.Accepted c) reply b accepts found h =
       let is = accepts c refl in
-      subst (λ (d : DeskState). GoesOn d n replay) (sym (ap (λ (x : Archive). x.desk) h.1)) (command_goes a.desk c is.1 is.0.allowed found)
+      subst (λ (d : DeskState). GoesOn d n replay) (sym (ap (λ (x : Archive). x.desk) h.1)) (record { later = replay; found = command_open a.desk c (asked_live c is.1) is.0.allowed found; recording = refl; on = omega (arith, ints) })
   asked_goes a (decisions.IfBoundary id position decided) reply b accepts found h = absurd h
 
   settled_goes : (a : Archive) (session : ℤ) (decision : Result Settling Refusal) (reply : Reply) (b : Archive) → open_replay_in a.desk n ≡ Some replay → SettlingEnds a session decision (Ok reply) b → GoesOn b.desk n replay
@@ -204,6 +219,12 @@ module _ (n : ℤ) (replay : OpenReplay) where
     on = omega (arith, ints);
   }
 
+  anew_goes : (a : Archive) (decision : Result (Unit {0}) Refusal) (reply : Reply) (b : Archive) → open_replay_in a.desk n ≡ Some replay → CheckpointEnds a decision (Ok reply) b → GoesOn b.desk n replay
+  anew_goes a (Err r) reply b found h = absurd (let clash = h.0 in cc)
+  anew_goes a (Ok done) reply b found (inl h) = same_replay a.desk b.desk (ap (λ (x : Archive). x.desk.callers.replays) h.1) found
+  anew_goes a (Ok done) reply b found (inr (inl h)) = absurd (let clash = h.0 in cc)
+  anew_goes a (Ok done) reply b found (inr (inr h)) = absurd (let clash = h.0 in cc)
+
   swept_goes : (a : Archive) (decision : Result (Unit {0}) Refusal) (reply : Reply) (b : Archive) → open_replay_in a.desk n ≡ Some replay → SweepEnds a decision (Ok reply) b → GoesOn b.desk n replay
   swept_goes a (Err r) reply b found h = absurd (let clash = h.0 in cc)
   swept_goes a (Ok done) reply b found h = still a b h.1.1 found
@@ -212,10 +233,12 @@ module _ (n : ℤ) (replay : OpenReplay) where
   answered_goes a (events.Ask request) reply b consistent found unclosed h = asked_goes a (asked_frames a (decision_of a.desk request)) reply b (λ c is. decided_accepted a request c consistent.agrees is) found h
   answered_goes a (events.Write session block) reply b consistent found unclosed (fits, says, h) = left_goes a _ (write_decision a.desk session (span_of block) fits) reply b refl found h
   answered_goes a (events.Settle session) reply b consistent found unclosed h = settled_goes a session (settle_decision a.desk session) reply b found h
+  answered_goes a (events.SettleAll sessions) reply b consistent found unclosed h = left_goes a (settled_archives sessions a) _ reply b (all_replays sessions a) found h
   answered_goes a (events.ReplayOpen id position size) reply b consistent found unclosed h = opened_goes a (asked_opening a id (open_decision a.desk id position size)) reply b found h
   answered_goes a (events.ReplayPoll number most) reply b consistent found unclosed h = polling_goes a number most None (poll_decision a.desk number most None) reply b refl found h
   answered_goes a (events.ReplayPollTo number most limit) reply b consistent found unclosed h = polling_goes a number most (Some limit) (poll_decision a.desk number most (Some limit)) reply b refl found h
   answered_goes a (events.ReplayClose number) reply b consistent found unclosed h = closed_goes a number (close_decision a.desk number) reply b unclosed found h
+  answered_goes a events.Checkpoint reply b consistent found unclosed h = anew_goes a (checked (sweep_tests a.desk) checks (Ok tt)) reply b found h
   answered_goes a events.Sweep reply b consistent found unclosed h = swept_goes a (checked (sweep_tests a.desk) checks (Ok tt)) reply b found h
   answered_goes a (events.Verify id) reply b consistent found unclosed h = left_goes a a _ reply b refl found h
 
