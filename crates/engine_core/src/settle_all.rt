@@ -1,11 +1,10 @@
 //! What several recorder sessions wrote is recorded together. docs/CONTROL.md, "Recorder sessions"; docs/STORAGE.md, "Segments".
 
-ghost use Rattle.std.specs.Prelude.{◌≡◌, ◌⊎◌, ◌+◌, ◌++◌, ◌≤◌, true, Contains, IfErr, IfOk, IsTrue, length, OnOk, Some, unsigned_abs};
+ghost use Rattle.std.specs.Prelude.{◌≡◌, ◌++◌, IfErr, IfOk, IsTrue, OnOk, Some, unsigned_abs};
 ghost use Rattle.frame_core.specs.declared.refusal.Refusal.TheVariants.{NoMemory};
-ghost use Rattle.segment_store.specs.Layout.{file_of};
+ghost use Rattle.segment_store.specs.Layout.{IsFromStart, IsLayout, file_of};
+ghost use Rattle.archive_model.specs.declared.reply.Reply.TheVariants as replies;
 ghost use Rattle.archive_model.specs.Checks.{checks, passes};
-ghost use Rattle.archive_model.specs.Register.{registration_in};
-ghost use Rattle.catalogue_log.specs.Banks.{bank_file};
 ghost use Rattle.control_core.specs.declared.event.Event.TheVariants as events;
 ghost use Rattle.control_core.specs.Changes.{settled_each};
 ghost use Rattle.control_core.specs.Exact.{settled_archives};
@@ -25,7 +24,7 @@ use control_core::{Desk, Writer, Written, decide_settle_all};
 use disk_core::{Disk, FileId};
 use frame_core::{Items, Refusal};
 use recording_reads::layout_of;
-use segment_store::spot_of;
+use segment_store::{Layout, spot_of};
 use std::alloc::Global;
 
 // What recorder sessions wrote, as it is to be recorded.
@@ -57,20 +56,24 @@ impl<D: Disk> StoredArchive<D> {
         decide_settle_all(&self.desk, numbers)?;
         let positions = self.desk.settled_positions(alloc, numbers)?;
         let group = group_of(alloc, &self.desk, numbers)?;
-        let reply = Reply::SettledAll { positions };
         if group.entries.is_empty() {
-            return Ok(reply);
+            return Ok(Reply::SettledAll { positions });
         }
-        self.settle_group(numbers, &group, reply)
+        self.settle_group(numbers, &group, positions)
     }
 
-    /// Records what sessions wrote, once it is decided; then the desk follows, and this is answered. `NoMemory`; `DeviceFault`
-    /// where the disk fails: the archive is then broken.
-    fn settle_group(&mut self, sessions: &[i64], group: &Group, reply: Reply) -> Result<Reply, Refusal>
+    /// Records what sessions wrote, once it is decided; then the desk follows, and these positions are answered. `NoMemory`;
+    /// `DeviceFault` where the disk fails: the archive is then broken.
+    fn settle_group(
+        &mut self,
+        sessions: &[i64],
+        group: &Group,
+        positions: Items<Option<i64>>,
+    ) -> Result<Reply, Refusal>
         requires { MayRecord self.old.desk.state sessions.now group.now }
         ensures settles { CommitsEntry (state_of D.life self.old) (state_of D.life self.new)
             (λ a. IsTrue (passes (settle_all_tests a.desk sessions.now) checks))
-            reply (settled_archives sessions.now) result }
+            (replies.SettledAll positions) (settled_archives sessions.now) result }
         ensures touches { SettlesEach (state_of D.life self.old) sessions.now (D.life self.new.storage.disk) }
         ensures catalogue { KeepsFound (state_of D.life self.old) (state_of D.life self.new)
             (settled_each sessions.now self.old.desk.state).register }
@@ -78,7 +81,7 @@ impl<D: Disk> StoredArchive<D> {
         match self.storage.settle_all(&group.segments, &group.entries) {
             Ok(()) => {
                 self.desk.settle_each(sessions);
-                Ok(reply)
+                Ok(Reply::SettledAll { positions })
             }
             Err(refusal) => Err(failed(&mut self.desk, refusal)),
         }
@@ -133,5 +136,14 @@ fn segment_of(desk: &Desk, session: &i64, writer: &Writer, written: &Written) ->
 {
     let _orderly = desk.is_broken();
     let layout = layout_of(&writer.known.descriptor);
-    spot_of(&layout, written.first.unsigned_abs()).file
+    file_at(&layout, written.first)
+}
+
+/// The segment file of a position.
+fn file_at(layout: &Layout, position: i64) -> FileId
+    requires layout { IsLayout layout.now }
+    requires recorded { IsFromStart layout.now position }
+    ensures { result ≡ file_of layout.now (unsigned_abs position) }
+{
+    spot_of(layout, position.unsigned_abs()).file
 }
