@@ -7,6 +7,7 @@ pub mod EntryLemmas
 pub mod RunLemmas
 pub mod KeptRunLemmas
 pub mod SettleCallLemmas
+pub mod GroupCallLemmas
 pub mod Targets
 pub mod WritingLemmas
 pub mod WriteCallLemmas
@@ -14,6 +15,7 @@ pub mod SweepCallLemmas
 pub mod ShownLemmas
 pub mod TouchLemmas
 pub mod KeepLemmas
+pub mod GroupEndLemmas
 pub mod InsideLemmas
 pub mod FollowLemmas
 pub mod PageLemmas

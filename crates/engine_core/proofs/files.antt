@@ -5,6 +5,7 @@ pub mod CatalogueLemmas
 pub mod StayLemmas
 pub mod WriteLemmas
 pub mod SettleLemmas
+pub mod GroupLemmas
 pub mod BlockLemmas
 pub mod SweepLemmas
 pub mod AnewLemmas

@@ -19,3 +19,4 @@ pub mod KeptPages
 pub mod Making
 pub mod Replaying
 pub mod Settling
+pub mod Grouping

@@ -5,6 +5,7 @@ mod ask;
 mod checkpoint;
 mod compacting;
 mod engine;
+mod grouping;
 pub mod laws;
 mod making;
 mod opening;

@@ -143,7 +143,7 @@ module _ (log : LogState) (d : DeskState) (n id : ℤ) (w : Written) (layout : L
 -- ---- of a crash-consistent archive
 
 -- what its sessions wrote stands on
-stands_settled : (image : DiskImage) (a : Archive) (n id : ℤ) (w : Written) → IsConsistent a → Each (StandsBehind image a) a.desk.callers.sessions → settle_decision a.desk n ≡ Ok (settling.Blocks id w) → Each (StandsBehind image (settled_archive a n id)) (settled_archive a n id).desk.callers.sessions
+pub stands_settled : (image : DiskImage) (a : Archive) (n id : ℤ) (w : Written) → IsConsistent a → Each (StandsBehind image a) a.desk.callers.sessions → settle_decision a.desk n ≡ Ok (settling.Blocks id w) → Each (StandsBehind image (settled_archive a n id)) (settled_archive a n id).desk.callers.sessions
 stands_settled image a n id w was stand told =
     let b = settled_archive a n id in
     each_then (λ s. WroteNothing b s ⊎ (StaysOpen a b.state s × (b.blocks s.number ≡ a.blocks s.number))) (StandsBehind image b) b.desk.callers.sessions (settling_sessions a n id w was told)
