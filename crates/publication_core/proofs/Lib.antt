@@ -8,3 +8,4 @@ mod OrderLemmas
 mod PositionLemmas
 mod ReachLemmas
 mod ReadLemmas
+mod ShortLemmas

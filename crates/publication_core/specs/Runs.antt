@@ -1,7 +1,8 @@
 -- What any calls of a sender leave, and what its datagrams are made of: docs/PROTOCOL.md, "Publications of recordings".
-use Rattle.std.specs.Prelude.{◌≡◌, ◌≤◌, ◌<◌, ◌+◌, ◌++◌, ℕ, Bool, true, false, if◌then◌else◌, List, [], ◌∷◌, length}
+use Rattle.std.specs.Prelude.{◌≡◌, ◌≤◌, ◌<◌, ◌+◌, ◌++◌, ℕ, Bool, true, false, if◌then◌else◌, List, [], ◌∷◌, length, unsigned_abs}
 use Rattle.frame_core.specs.declared.frame.Frame.{Frame}
 use Rattle.frame_core.specs.declared.frame.FrameKind.TheVariants.{Message, Pad}
+use Rattle.frame_core.specs.declared.geometry.Geometry.{Geometry}
 use Rattle.frame_core.specs.declared.nak.Nak.{Nak}
 use Rattle.frame_core.specs.declared.status.StatusMessage.{StatusMessage}
 use Rattle.frame_core.specs.FrameEncoding.{stored}
@@ -60,6 +61,11 @@ pub record IsWithinReach (s : Sending) : Type 0 where
   pub limit : s.flow.limit ≤ s.flow.consumed + reach s.geometry
   pub sent : AreWithin (s.flow.consumed + window s.geometry) s.sent
   pub position : s.flow.position ≤ s.flow.consumed + window s.geometry
+
+-- each datagram has at most as many bytes as the MTU allows
+abbrev pub AreShort : Geometry → List Datagram → Type 0
+AreShort g [] = Unit {0}
+AreShort g (d ∷ ds) = (length d.bytes ≤ unsigned_abs g.mtu) × AreShort g ds
 
 -- ---- recorded frames
 

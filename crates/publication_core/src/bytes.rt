@@ -53,8 +53,8 @@ impl Bytes {
         self.kept.clear();
     }
 
-    /// Writes what a segment file holds of a frame, after the other bytes. AllocError if there is no memory; then the bytes stay
-    /// as they were.
+    /// Writes what a segment file holds of a frame, after the other bytes. AllocError if there is no memory; then the
+    /// bytes stay as they were.
     pub(crate) fn write(&mut self, frame: &FrameRef<'_>) -> Result<(), AllocError>
         ensures ok { OnOk result (self.new ≡ self.old ++ stored (frame_of frame.now)) }
         ensures err { OnErr result (self.new ≡ self.old) }

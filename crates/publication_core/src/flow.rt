@@ -14,7 +14,8 @@ const PAUSE: u64 = 100;
 // The flag of a status message that asks for a setup frame.
 const SETUP_FLAG: u8 = 0x80;
 
-/// How far a publication has come. Positions are bytes of the stream, times milliseconds of a clock that does not go back.
+/// How far a publication has come. Positions are bytes of the stream, times milliseconds of a clock that does not go
+/// back.
 #[derive(Clone, Copy, Debug, PartialEq, Eq)]
 pub struct Flow {
     /// The sender position: where what was not sent yet begins.

@@ -12,8 +12,8 @@ use frame_core::{FrameRef, Geometry};
 use std::alloc::{AllocError, Global};
 use std::collections::VecDeque;
 
-/// Lays a frame at a position into the last of the datagrams, or into one of its own after them, with spare memory if there is
-/// some. AllocError if there is no memory; then the datagrams stay as they were.
+/// Lays a frame at a position into the last of the datagrams, or into one of its own after them, with spare memory if
+/// there is some. AllocError if there is no memory; then the datagrams stay as they were.
 pub(crate) fn lay_into(
     alloc: Global,
     geometry: &Geometry,

@@ -26,8 +26,8 @@ const LAST_HEARTBEATS: u64 = 3;
 // Bytes that wait at most when more frames are wanted.
 const WAITING: u64 = 65_536;
 
-/// One publication: what was sent of it and is not consumed, and what waits. To a contract it is a sending. The memory of
-/// datagrams that were consumed is used again.
+/// One publication: what was sent of it and is not consumed, and what waits. To a contract it is a sending. The
+/// memory of datagrams that were consumed is used again.
 #[derive(Drop)]
 pub struct Sender {
     alloc: Global,
@@ -69,8 +69,8 @@ impl Sender {
         }
     }
 
-    /// Lays a frame that begins at a position, in bytes of the stream: it waits to be sent. AllocError if there is no memory;
-    /// then nothing changes. Costs a copy of the frame.
+    /// Lays a frame that begins at a position, in bytes of the stream: it waits to be sent. AllocError if there is no
+    /// memory; then nothing changes. Costs a copy of the frame.
     pub fn lay(&mut self, position: u64, frame: &FrameRef<'_>) -> Result<(), AllocError>
         requires { position ≤ 2 ^ 63 }
         ensures laid { OnOk result
@@ -87,8 +87,8 @@ impl Sender {
         )
     }
 
-    /// Hears a status message. One of another publication, or without a position, changes nothing. Costs a step for each
-    /// datagram that is consumed.
+    /// Hears a status message. One of another publication, or without a position, changes nothing. Costs a step for
+    /// each datagram that is consumed.
     pub fn hear(&mut self, now: u64, status: &StatusMessage)
         ensures { self.new ≡ after_hearing now status.now self.old }
     {
@@ -97,8 +97,8 @@ impl Sender {
         drop_consumed(&mut self.sent, &mut self.spare, self.flow.consumed);
     }
 
-    /// Hears a NAK: datagrams in its range are repeated. One of another publication, or without a position, changes nothing.
-    /// Costs a step for each datagram that is kept; does not allocate.
+    /// Hears a NAK: datagrams in its range are repeated. One of another publication, or without a position, changes
+    /// nothing. Costs a step for each datagram that is kept; does not allocate.
     pub fn ask(&mut self, now: u64, nak: &Nak)
         ensures { self.new ≡ after_nak now nak.now self.old }
     {
@@ -159,8 +159,8 @@ impl Sender {
         Due::Nothing
     }
 
-    /// Sends the first datagram that waits, if it may go: its index among those that were sent. None if it may not, and nothing
-    /// changes then. AllocError if there is no memory; then nothing changes either.
+    /// Sends the first datagram that waits, if it may go: its index among those that were sent. None if it may not,
+    /// and nothing changes then. AllocError if there is no memory; then nothing changes either.
     pub fn send(&mut self, now: u64) -> Result<Option<usize>, AllocError>
         ensures sent { IfOk result (λ found. Sends now self.old found self.new) }
         ensures same { OnErr result (self.new ≡ self.old) }
@@ -177,8 +177,8 @@ impl Sender {
         Ok(Some(index))
     }
 
-    /// Repeats the first datagram that is asked for: its index among those that were sent. None if none is, and nothing changes
-    /// then. Costs a step for each datagram before it; does not allocate.
+    /// Repeats the first datagram that is asked for: its index among those that were sent. None if none is, and
+    /// nothing changes then. Costs a step for each datagram before it; does not allocate.
     pub fn again(&mut self, now: u64) -> Option<usize>
         ensures first { result ≡ asked_first self.old }
         ensures repeated { self.new ≡ after_again now self.old }
@@ -200,8 +200,8 @@ impl Sender {
         &self.flow
     }
 
-    /// The heartbeat at the sender position, with the end-of-stream flag if the stream ends. None if the position is not before
-    /// the end of the last term. Does not allocate.
+    /// The heartbeat at the sender position, with the end-of-stream flag if the stream ends. None if the position is
+    /// not before the end of the last term. Does not allocate.
     pub fn heartbeat(&self) -> Option<FrameRef<'static>>
         ensures { let flow = self.now.flow in MatchOption result
             (has_term self.now.geometry flow.position ≡ false)
@@ -212,8 +212,8 @@ impl Sender {
         heartbeat_at(&self.geometry, &self.publication, self.flow.position, flags)
     }
 
-    /// The setup frame, by which an image joins at the sender position. None if the position is not before the end of the last
-    /// term. Does not allocate.
+    /// The setup frame, by which an image joins at the sender position. None if the position is not before the end of
+    /// the last term. Does not allocate.
     pub fn setup(&self) -> Option<Setup>
         ensures { MatchOption result (has_term self.now.geometry self.now.flow.position ≡ false)
             (IsSetupOf self.now.geometry self.now.publication self.now.flow.position) }

@@ -47,7 +47,8 @@ pub(crate) fn heartbeat_flags(ends_left: &Option<u64>) -> u8
     }
 }
 
-/// A setup frame of a publication, which an image joins at a position, in bytes of the stream. None if the position has no term.
+/// A setup frame of a publication, which an image joins at a position, in bytes of the stream. None if the position
+/// has no term.
 pub(crate) fn setup_at(
     geometry: &Geometry,
     publication: &Publication,
