@@ -81,7 +81,7 @@ pub(crate) fn played_again<R: Threads + Wait + Abort + Sync + Eprint>(
     match played(rt, alloc, keeps, scenario) {
         Ok(()) => Ok(()),
         first => {
-            first.tell(rt);
+            first.report(rt);
             played(rt, alloc, keeps, scenario)
         }
     }
