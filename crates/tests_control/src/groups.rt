@@ -64,7 +64,8 @@ fn sixty_five_sessions_are_refused(rt: HostRuntime) -> Result<(), Fail> {
     }
     let many = decide_settle_all(&desk, numbers.as_slice());
     assert!(rt; many.is_err());
-    let few = settle_all(rt.alloc(), &mut desk, &numbers[..64])?;
+    let _ = numbers.pop();
+    let few = settle_all(rt.alloc(), &mut desk, numbers.as_slice())?;
     assert!(rt; few.len() == 64);
     Ok(())
 }
