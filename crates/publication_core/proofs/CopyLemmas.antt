@@ -91,9 +91,9 @@ not_free p end (m ∷ ms) shut = by_test (nat_le (end_of m) p || nat_le end m.0)
 already : (g : Geometry) (publication : Publication) (from to p : ℕ) (stream : List (ℕ × Frame)) (r : Received) (f : Frame) → IsChain from stream to
     → IsImageOf g publication stream from r → IsAmong (p, f) stream → 0 < aligned_length f → p + aligned_length f ≤ rebuilt r + window r.geometry
     → is_open r p (p + aligned_length f) ≡ false → IsAmong (p, f) r.joined
-already g publication from to p stream r f chain so here some reach shut = by_rebuilt (nat_le (rebuilt r) p) refl where
+already g publication from to p stream r f chain so here some furthest shut = by_rebuilt (nat_le (rebuilt r) p) refl where
   by_free : rebuilt r ≤ p → (b : Bool) → is_free p (p + aligned_length f) r.joined ≡ b → IsAmong (p, f) r.joined
-  by_free beyond true free = absurd (grind (arith, nat_tests, shut, free, beyond, reach))
+  by_free beyond true free = absurd (grind (arith, nat_tests, shut, free, beyond, furthest))
   by_free beyond false taken =
       let it = not_free p (p + aligned_length f) r.joined taken in
       let same = one_place from to (p, f) it.over stream chain here (among_all stream r.joined it.over so.alone it.among) it.above it.below in
@@ -137,7 +137,7 @@ stays_all g publication stream from m r (f ∷ fs) members recorded so here =
 -- a frame of the stream that comes in reach is there then
 got : (g : Geometry) (publication : Publication) (from to p : ℕ) (stream : List (ℕ × Frame)) (r : Received) (f : Frame) → IsStream g publication from stream to
     → IsImageOf g publication stream from r → IsAmong (p, f) stream → p + aligned_length f ≤ rebuilt r + window r.geometry → IsAmong (p, f) (received r f).joined
-got g publication from to p stream r f is so here reach = by_its_kind f.kind refl where
+got g publication from to p stream r f is so here furthest = by_its_kind f.kind refl where
   member : IsMember g publication p f
   member = member_of g publication p f stream is.members here
 
@@ -146,7 +146,7 @@ got g publication from to p stream r f is so here reach = by_its_kind f.kind ref
 
   by_opening : (b : Bool) → is_open r p (p + aligned_length f) ≡ b → IsAmong (p, f) (after_frame r f (if b then Joins p else Drops)).joined
   by_opening true opens = among_inserted p f r.joined
-  by_opening false shut = already g publication from to p stream r f is.follows so here (has_size g publication p f member) reach shut
+  by_opening false shut = already g publication from to p stream r f is.follows so here (has_size g publication p f member) furthest shut
 
   placed : IsAmong (p, f) (after_frame r f (frame_fate r f (joining_position r.geometry r.publication f))).joined
   placed = rw lies (by_opening (is_open r p (p + aligned_length f)) refl)
@@ -158,20 +158,20 @@ got g publication from to p stream r f is so here reach = by_its_kind f.kind ref
 
 got_all : (g : Geometry) (publication : Publication) (from to p : ℕ) (stream : List (ℕ × Frame)) (r : Received) (f : Frame) (fs : List Frame) → IsStream g publication from stream to
     → IsImageOf g publication stream from r → AreRecorded stream fs → AreInReach stream r fs → IsAmong (p, f) stream → HasCome fs f → IsAmong (p, f) (received_all r fs).joined
-got_all g publication from to p stream r f [] is so recorded reach here came = elim came [ ]
-got_all g publication from to p stream r f (x ∷ fs) is so recorded reach here (inl same) =
+got_all g publication from to p stream r f [] is so recorded furthest here came = elim came [ ]
+got_all g publication from to p stream r f (x ∷ fs) is so recorded furthest here (inl same) =
     stays_all g publication stream from (p, f) (received r x) fs is.members recorded.1 (image_received g publication stream from r x is.members recorded.0 so)
-    (rw (sym same) (got g publication from to p stream r f is so here (rw same (reach.0 p (rw (sym same) here)))))
-got_all g publication from to p stream r f (x ∷ fs) is so recorded reach here (inr came) =
-    got_all g publication from to p stream (received r x) f fs is (image_received g publication stream from r x is.members recorded.0 so) recorded.1 reach.1 here came
+    (rw (sym same) (got g publication from to p stream r f is so here (rw same (furthest.0 p (rw (sym same) here)))))
+got_all g publication from to p stream r f (x ∷ fs) is so recorded furthest here (inr came) =
+    got_all g publication from to p stream (received r x) f fs is (image_received g publication stream from r x is.members recorded.0 so) recorded.1 furthest.1 here came
 
 have_all : (g : Geometry) (publication : Publication) (from to : ℕ) (stream firsts : List (ℕ × Frame)) (r : Received) (fs : List Frame) → IsStream g publication from stream to
     → IsImageOf g publication stream from r → AreRecorded stream fs → AreInReach stream r fs → AreAmong stream firsts → HaveCome fs firsts
     → AreAmong (received_all r fs).joined firsts
-have_all g publication from to stream [] r fs is so recorded reach among came = tt
-have_all g publication from to stream (m ∷ ms) r fs is so recorded reach among came = (
-  got_all g publication from to m.0 stream r m.1 fs is so recorded reach among.0 came.0,
-  have_all g publication from to stream ms r fs is so recorded reach among.1 came.1,
+have_all g publication from to stream [] r fs is so recorded furthest among came = tt
+have_all g publication from to stream (m ∷ ms) r fs is so recorded furthest among came = (
+  got_all g publication from to m.0 stream r m.1 fs is so recorded furthest among.0 came.0,
+  have_all g publication from to stream ms r fs is so recorded furthest among.1 came.1,
 )
 
 -- ---- the first frames
@@ -215,7 +215,7 @@ begins from high front (m ∷ ms) (x ∷ joined) chain spaced (inr here, among) 
 pub copied : (g : Geometry) (publication : Publication) (from to front : ℕ) (stream firsts : List (ℕ × Frame)) (fs : List Frame) → IsStream g publication from stream to
     → AreFirst from stream firsts front → AreRecorded stream fs → AreInReach stream (begun g publication from) fs → HaveCome fs firsts
     → BeginsWith firsts front (received_all (begun g publication from) fs)
-copied g publication from to front stream firsts fs is first recorded reach came = record { more = rest.more; joined = rest.is; reaches = up } where
+copied g publication from to front stream firsts fs is first recorded furthest came = record { more = rest.more; joined = rest.is; reaches = up } where
   start : Received
   start = begun g publication from
 
@@ -228,7 +228,7 @@ copied g publication from to front stream firsts fs is first recorded reach came
   rest : HasRest firsts (received_all start fs).joined
   rest =
       begins from (received_all start fs).high front firsts (received_all start fs).joined first.follows so.spaced
-      (have_all g publication from to stream firsts start fs is begun_so recorded reach (rw first.split (first_among firsts first.rest)) came)
+      (have_all g publication from to stream firsts start fs is begun_so recorded furthest (rw first.split (first_among firsts first.rest)) came)
 
   up : front ≤ rebuilt (received_all start fs)
   up =
@@ -240,7 +240,7 @@ copied g publication from to front stream firsts fs is first recorded reach came
 in_reach : (stream : List (ℕ × Frame)) (r : Received) (sent : List (ℕ × Frame)) → AreWithinLimits stream r sent → AreInReach stream r (map (λ it. it.1) sent)
 in_reach stream r [] within = tt
 in_reach stream r (h ∷ hs) within =
-    ((λ p among. let reach = within.1 p among in let low = within.0 in omega arith), in_reach stream (received r h.1) hs within.2)
+    ((λ p among. let furthest = within.1 p among in let low = within.0 in omega arith), in_reach stream (received r h.1) hs within.2)
 
 pub copied_within : (g : Geometry) (publication : Publication) (from to front : ℕ) (stream firsts sent : List (ℕ × Frame)) → IsStream g publication from stream to
     → AreFirst from stream firsts front → AreRecorded stream (map (λ it. it.1) sent) → AreWithinLimits stream (begun g publication from) sent

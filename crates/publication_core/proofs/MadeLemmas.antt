@@ -18,10 +18,10 @@ use Rattle.publication_core.specs.declared.datagram.Datagram.{Datagram}
 use Rattle.frame_core.specs.declared.nak.Nak.{Nak}
 use Rattle.frame_core.specs.Position.{position_of}
 use Rattle.publication_core.specs.Copies.{AreAmong, IsAmong, IsStream}
-use Rattle.publication_core.specs.Datagrams.{after_repeat, alone, has_room, is_pad, laid, marked, may_repeat, meets, repeated, unconsumed, with_frame}
+use Rattle.publication_core.specs.Datagrams.{after_repeat, alone, has_room, is_pad, laid, marked, may_repeat, meets, repeated, unconsumed, with_next_frame}
 use Rattle.publication_core.specs.Flows.{after_datagram, may_go}
 use Rattle.publication_core.specs.Runs.{AreMadeOf, AreMessages, AreOfStream, Call, IsMadeOf, IsOfStream, IsPadIf, after_call, after_calls, after_first, stored_all, Lay, Hear, Ask, Send, Repeat, NoteSetup, NoteHeartbeat, End}
-use Rattle.publication_core.specs.Sending.{Sending, after_request, is_nak_of, new_sending}
+use Rattle.publication_core.specs.Sending.{Sending, after_asking, is_nak_of, new_sending}
 use Rattle.publication_core.proofs.BytesLemmas.{length_pad}
 use Rattle.publication_core.proofs.HoldLemmas.{IsMember, has_size, member_of, no_heartbeat}
 
@@ -112,14 +112,14 @@ no_pad false (m ∷ ms) unclosed is = elim is [ ]
 no_pad true pad unclosed is = absurd (cc)
 
 made_more : (g geometry : Geometry) (publication : Publication) (stream : List (ℕ × Frame)) (p : ℕ) (f : Frame) (d : Datagram) → IsPlaced g publication stream p f
-    → IsMadeOf stream d → has_room geometry d p f ≡ true → IsMadeOf stream (with_frame d p f)
+    → IsMadeOf stream d → has_room geometry d p f ≡ true → IsMadeOf stream (with_next_frame d p f)
 made_more g geometry publication stream p f d at made room =
     let unclosed : d.is_closed ≡ false = grind (arith, room) in
     let here : d.end ≡ p = grind (arith, nat_tests, room) in
     let none : made.pad ≡ [] = no_pad d.is_closed made.pad unclosed made.kinds.1 in
     let chain : IsChain d.position made.messages p = rw (none, append-nil made.messages, here) at made.follows in
     let bytes : d.bytes ≡ stored_all made.messages = made.bytes ∙ ap (λ (ms : List (ℕ × Frame)). stored_all made.messages ++ stored_all ms) none ∙ append-nil (stored_all made.messages) in
-    added g publication stream p f made.messages (with_frame d p f) at made.among.0 made.kinds.0 chain refl refl (ap (λ (xs : List ℕ). xs ++ stored f) bytes)
+    added g publication stream p f made.messages (with_next_frame d p f) at made.among.0 made.kinds.0 chain refl refl (ap (λ (xs : List ℕ). xs ++ stored f) bytes)
 
 -- ---- lists of them
 
@@ -127,7 +127,7 @@ made_laid : (g geometry : Geometry) (publication : Publication) (stream : List (
     → AreMadeOf stream ds → AreMadeOf stream (laid geometry p f ds)
 made_laid g geometry publication stream p f [] at made = (made_alone g publication stream p f at, tt)
 made_laid g geometry publication stream p f (d ∷ []) at made = by_room (has_room geometry d p f) refl where
-  by_room : (b : Bool) → has_room geometry d p f ≡ b → AreMadeOf stream (if b then with_frame d p f ∷ [] else d ∷ alone p f ∷ [])
+  by_room : (b : Bool) → has_room geometry d p f ≡ b → AreMadeOf stream (if b then with_next_frame d p f ∷ [] else d ∷ alone p f ∷ [])
   by_room true room = (made_more g geometry publication stream p f d at made.0 room, tt)
   by_room false room = (made.0, (made_alone g publication stream p f at, tt))
 made_laid g geometry publication stream p f (d ∷ e ∷ ds) at made = (made.0, made_laid g geometry publication stream p f (e ∷ ds) at made.1)
@@ -144,9 +144,9 @@ made_unconsumed stream consumed (d ∷ ds) made =
     (λ kept. made)
 
 -- marks do not matter
-made_with : (stream : List (ℕ × Frame)) (is_asked : Bool) (again_at : Option ℕ) (d : Datagram) → IsMadeOf stream d
-    → IsMadeOf stream (record d { is_asked = is_asked; again_at = again_at })
-made_with stream is_asked again_at d made = record {
+made_with : (stream : List (ℕ × Frame)) (is_repeat_asked : Bool) (again_at : Option ℕ) (d : Datagram) → IsMadeOf stream d
+    → IsMadeOf stream (record d { is_repeat_asked = is_repeat_asked; again_at = again_at })
+made_with stream is_repeat_asked again_at d made = record {
   messages = made.messages;
   pad = made.pad;
   among = made.among;
@@ -159,7 +159,7 @@ made_with stream is_asked again_at d made = record {
 made_marked : (stream : List (ℕ × Frame)) (now from to : ℕ) (ds : List Datagram) → AreMadeOf stream ds → AreMadeOf stream (map (marked now from to) ds)
 made_marked stream now from to [] made = tt
 made_marked stream now from to (d ∷ ds) made = (
-  cond_both (meets from to d && may_repeat now d.again_at) (record d { is_asked = true }) d (λ (it : Datagram). IsMadeOf stream it)
+  cond_both (meets from to d && may_repeat now d.again_at) (record d { is_repeat_asked = true }) d (λ (it : Datagram). IsMadeOf stream it)
       (λ asked. made_with stream true d.again_at d made.0)
       (λ other. made.0),
   made_marked stream now from to ds made.1,
@@ -168,7 +168,7 @@ made_marked stream now from to (d ∷ ds) made = (
 made_repeat : (stream : List (ℕ × Frame)) (now : ℕ) (ds : List Datagram) → AreMadeOf stream ds → AreMadeOf stream (after_repeat now ds)
 made_repeat stream now [] made = tt
 made_repeat stream now (d ∷ ds) made =
-    cond_both d.is_asked (repeated now d ∷ ds) (d ∷ after_repeat now ds) (λ (it : List Datagram). AreMadeOf stream it)
+    cond_both d.is_repeat_asked (repeated now d ∷ ds) (d ∷ after_repeat now ds) (λ (it : List Datagram). AreMadeOf stream it)
     (λ asked. (made_with stream false (Some now) d made.0, made.1))
     (λ other. (made.0, made_repeat stream now ds made.1))
 
@@ -179,7 +179,7 @@ pub record IsMadeSending (stream : List (ℕ × Frame)) (s : Sending) : Type 0 w
   pub sent : AreMadeOf stream s.sent
   pub waiting : AreMadeOf stream s.waiting
 
-made_request : (stream : List (ℕ × Frame)) (now : ℕ) (nak : Nak) (found : Option ℕ) (s : Sending) → IsMadeSending stream s → IsMadeSending stream (after_request now nak found s)
+made_request : (stream : List (ℕ × Frame)) (now : ℕ) (nak : Nak) (found : Option ℕ) (s : Sending) → IsMadeSending stream s → IsMadeSending stream (after_asking now nak found s)
 made_request stream now nak None s made = made
 made_request stream now nak (Some p) s made = record { sent = made_marked stream now p (p + unsigned_abs nak.length) s.sent made.sent; waiting = made.waiting }
 
@@ -196,7 +196,7 @@ made_call g publication stream (Lay p f) s members of made =
     record { sent = made.sent; waiting = made_laid g s.geometry publication stream p f s.waiting (placed g publication stream p f members of) made.waiting }
 made_call g publication stream (Hear now status) s members of made = record { sent = made_unconsumed stream _ s.sent made.sent; waiting = made.waiting }
 made_call g publication stream (Ask now nak) s members of made =
-    cond_both (is_nak_of s.publication nak) (after_request now nak (position_of s.geometry nak.term_id nak.term_offset) s) s (λ (it : Sending). IsMadeSending stream it)
+    cond_both (is_nak_of s.publication nak) (after_asking now nak (position_of s.geometry nak.term_id nak.term_offset) s) s (λ (it : Sending). IsMadeSending stream it)
     (λ ours. made_request stream now nak (position_of s.geometry nak.term_id nak.term_offset) s made)
     (λ other. made)
 made_call g publication stream (Send now) s members of made = made_first stream now s.waiting s made.waiting made

@@ -20,7 +20,7 @@ use Rattle.publication_core.specs.Copies.{AreFirst, AreInReach, AreRecorded, Beg
 use Rattle.publication_core.specs.Flows.{may_go}
 use Rattle.publication_core.specs.Meeting.{Called, Came, HasGone, IsRead, IsTrueOf, MayCome, Meet, Turn, asked_of, came, first_of, goes_out}
 use Rattle.publication_core.specs.Runs.{AreMadeOf, AreWithin, Call, IsMadeOf, IsOfStream, IsWithinReach, after_call, after_first, Lay, Hear, Ask, Send, Repeat, NoteSetup, NoteHeartbeat, End}
-use Rattle.publication_core.specs.Sending.{Sending, after_request, is_nak_of, new_sending}
+use Rattle.publication_core.specs.Sending.{Sending, after_asking, is_nak_of, new_sending}
 use Rattle.publication_core.proofs.CopyLemmas.{among_all, copied}
 use Rattle.publication_core.proofs.HoldLemmas.{IsImageOf, holds_alone, image_begun, image_received, member_of, no_heartbeat}
 use Rattle.publication_core.proofs.MadeLemmas.{IsMadeSending, made_call}
@@ -81,7 +81,7 @@ first_gone stream s (d ∷ ds) so made =
 asked_gone : (stream : List (ℕ × Frame)) (most : ℕ) (ds : List Datagram) → HaveGone stream most ds → HaveGone stream most (asked_of ds)
 asked_gone stream most [] here = here
 asked_gone stream most (d ∷ ds) here =
-    cond_both d.is_asked (d ∷ []) (asked_of ds) (λ (it : List Datagram). HaveGone stream most it)
+    cond_both d.is_repeat_asked (d ∷ []) (asked_of ds) (λ (it : List Datagram). HaveGone stream most it)
     (λ asked. record { made = (here.made.0, tt); within = (here.within.0, tt) })
     (λ other. asked_gone stream most ds (record { made = here.made.1; within = here.within.1 }))
 
@@ -115,11 +115,11 @@ called r (Hear now status) s is =
     let it = heard s.geometry s.publication now status s.flow in
     record { geometry = refl; up = it.consumed; true_of = hearing_consumes s.geometry s.publication now status s.flow (rebuilt r) is }
 called r (Ask now nak) s is =
-    cond_both (is_nak_of s.publication nak) (after_request now nak (position_of s.geometry nak.term_id nak.term_offset) s) s (λ (it : Sending). IsCalled (rebuilt r) s it)
+    cond_both (is_nak_of s.publication nak) (after_asking now nak (position_of s.geometry nak.term_id nak.term_offset) s) s (λ (it : Sending). IsCalled (rebuilt r) s it)
     (λ ours. requests (position_of s.geometry nak.term_id nak.term_offset))
     (λ other. kept (rebuilt r) s s refl refl)
   where
-    requests : (found : Option ℕ) → IsCalled (rebuilt r) s (after_request now nak found s)
+    requests : (found : Option ℕ) → IsCalled (rebuilt r) s (after_asking now nak found s)
     requests None = kept (rebuilt r) s s refl refl
     requests (Some p) = kept (rebuilt r) s _ refl refl
 called r (Send now) s is = sends s.waiting where
@@ -200,11 +200,11 @@ read_below g publication from to most p stream out f is gone read here = ends wh
 
 comes_in_reach : (g : Geometry) (publication : Publication) (from to most : ℕ) (stream : List (ℕ × Frame)) (out : List Datagram) (r : Received) (f : Frame) → IsStream g publication from stream to
     → HaveGone stream most out → most ≤ rebuilt r + window r.geometry → MayCome out f → IsInReach r.geometry stream (rebuilt r) f
-comes_in_reach g publication from to most stream out r f is gone reach (inl heartbeat) p here =
+comes_in_reach g publication from to most stream out r f is gone furthest (inl heartbeat) p here =
     absurd (no_heartbeat g publication p f (member_of g publication p f stream is.members here).lies heartbeat)
-comes_in_reach g publication from to most stream out r f is gone reach (inr read) p here =
+comes_in_reach g publication from to most stream out r f is gone furthest (inr read) p here =
     let below = read_below g publication from to most p stream out f is gone read here in
-    omega (arith, below, reach)
+    omega (arith, below, furthest)
 
 -- ---- the meeting
 
@@ -245,20 +245,20 @@ meeting_came g publication from to stream out s r f is recorded so = record {
 -- what comes is of the stream, and in reach
 record IsReceived (stream : List (ℕ × Frame)) (r : Received) (fs : List Frame) : Type 0 where
   recorded : AreRecorded stream fs
-  reach : AreInReach stream r fs
+  furthest : AreInReach stream r fs
 
 meets : (g : Geometry) (publication : Publication) (from to : ℕ) (stream : List (ℕ × Frame)) (ts : List Turn) (out : List Datagram) (s : Sending) (r : Received) → IsStream g publication from stream to
     → IsMeeting g publication from stream out s r → Meet stream ts out s r → IsReceived stream r (came ts)
-meets g publication from to stream [] out s r is so meet = record { recorded = tt; reach = tt }
+meets g publication from to stream [] out s r is so meet = record { recorded = tt; furthest = tt }
 meets g publication from to stream (Called c ∷ ts) out s r is so meet =
     meets g publication from to stream ts (out ++ goes_out c s) (after_call c s) r is (meeting_called g publication from to stream out s r c is meet.0 meet.1 so) meet.2
 meets g publication from to stream (Came f ∷ ts) out s r is so meet =
     let recorded = comes_recorded g publication from to stream out f is so.gone.made meet.0 in
     let same : window r.geometry ≡ window s.geometry = ap window (so.image.geometry ∙ sym so.geometry) in
     let low = so.true_of in
-    let reach = comes_in_reach g publication from to (s.flow.consumed + window s.geometry) stream out r f is so.gone (omega (arith, same, low)) meet.0 in
+    let furthest = comes_in_reach g publication from to (s.flow.consumed + window s.geometry) stream out r f is so.gone (omega (arith, same, low)) meet.0 in
     let rest = meets g publication from to stream ts out s (received r f) is (meeting_came g publication from to stream out s r f is recorded so) meet.1 in
-    record { recorded = (recorded, rest.recorded); reach = (reach, rest.reach) }
+    record { recorded = (recorded, rest.recorded); furthest = (furthest, rest.furthest) }
 
 starts : (g : Geometry) (publication : Publication) (from : ℕ) (stream : List (ℕ × Frame)) → IsMeeting g publication from stream [] (new_sending g publication from) (begun g publication from)
 starts g publication from stream = record {
@@ -281,4 +281,4 @@ pub meeting_copies : (g : Geometry) (publication : Publication) (from to front :
     → BeginsWith firsts front (received_all (begun g publication from) (came ts))
 meeting_copies g publication from to front stream firsts ts is meet first all =
     let it = meets g publication from to stream ts [] (new_sending g publication from) (begun g publication from) is (starts g publication from stream) meet in
-    copied g publication from to front stream firsts (came ts) is first it.recorded it.reach all
+    copied g publication from to front stream firsts (came ts) is first it.recorded it.furthest all

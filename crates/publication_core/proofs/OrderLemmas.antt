@@ -11,12 +11,12 @@ use Rattle.frame_core.specs.Position.{position_of}
 use Rattle.image_core.specs.Received.{IsChain}
 use Rattle.image_core.proofs.ChainLemmas.{chain_append}
 use Rattle.publication_core.specs.declared.datagram.Datagram.{Datagram}
-use Rattle.publication_core.specs.Datagrams.{alone, has_room, laid, with_frame}
+use Rattle.publication_core.specs.Datagrams.{alone, has_room, laid, with_next_frame}
 use Rattle.publication_core.specs.Flows.{after_datagram, may_go}
 use Rattle.publication_core.specs.Meeting.{first_of}
 use Rattle.publication_core.specs.Order.{AreRunsOf, SendsInOrder, firsts, laid_by}
 use Rattle.publication_core.specs.Runs.{Call, after_call, after_calls, after_first, Lay, Hear, Ask, Send, Repeat, NoteSetup, NoteHeartbeat, End}
-use Rattle.publication_core.specs.Sending.{Sending, after_request, is_nak_of, new_sending}
+use Rattle.publication_core.specs.Sending.{Sending, after_asking, is_nak_of, new_sending}
 use Rattle.publication_core.proofs.MadeLemmas.{stored_end}
 use Rattle.publication_core.proofs.ReachLemmas.{heard}
 
@@ -32,7 +32,7 @@ runs_laid g q p f (d ∷ []) frames some (run, rest, split, at, chain, bytes, (n
   all : frames ≡ run
   all = split ∙ ap (λ (ms : List (ℕ × Frame)). run ++ ms) none ∙ append-nil run
 
-  by_room : (b : Bool) → AreRunsOf q (if b then with_frame d p f ∷ [] else d ∷ alone p f ∷ []) (frames ++ (p, f) ∷ []) (p + aligned_length f)
+  by_room : (b : Bool) → AreRunsOf q (if b then with_next_frame d p f ∷ [] else d ∷ alone p f ∷ []) (frames ++ (p, f) ∷ []) (p + aligned_length f)
   by_room true = (
     run ++ (p, f) ∷ [],
     [],
@@ -95,9 +95,9 @@ send_in_order now cs last next s (d ∷ ds) rest on held (run, others, split, at
 
 ask_in_order : (now : ℕ) (nak : Nak) (found : Option ℕ) (cs : List Call) (last next : ℕ) (s : Sending) (rest : List (ℕ × Frame)) → GoesOn cs last
     → AreRunsOf s.flow.position s.waiting rest next → IsChain next (laid_by cs) last
-    → SendsInOrder s.flow.position (rest ++ laid_by cs) (firsts cs (after_request now nak found s)) (after_calls cs (after_request now nak found s)) last
+    → SendsInOrder s.flow.position (rest ++ laid_by cs) (firsts cs (after_asking now nak found s)) (after_calls cs (after_asking now nak found s)) last
 ask_in_order now nak None cs last next s rest on runs chain = on s rest next runs chain
-ask_in_order now nak (Some p) cs last next s rest on runs chain = on (after_request now nak (Some p) s) rest next runs chain
+ask_in_order now nak (Some p) cs last next s rest on runs chain = on (after_asking now nak (Some p) s) rest next runs chain
 
 in_order : (cs : List Call) (last : ℕ) → GoesOn cs last
 in_order [] last s rest next runs chain = record {
@@ -118,7 +118,7 @@ in_order (Hear now status ∷ cs) last s rest next runs chain =
     subst (λ (p : ℕ). SendsInOrder p (rest ++ laid_by cs) (firsts cs (after_call (Hear now status) s)) (after_calls cs (after_call (Hear now status) s)) last) same
     (in_order cs last (after_call (Hear now status) s) rest next (subst (λ (p : ℕ). AreRunsOf p s.waiting rest next) (sym same) runs) chain)
 in_order (Ask now nak ∷ cs) last s rest next runs chain =
-    cond_both (is_nak_of s.publication nak) (after_request now nak (position_of s.geometry nak.term_id nak.term_offset) s) s
+    cond_both (is_nak_of s.publication nak) (after_asking now nak (position_of s.geometry nak.term_id nak.term_offset) s) s
     (λ (it : Sending). SendsInOrder s.flow.position (rest ++ laid_by cs) (firsts cs it) (after_calls cs it) last)
     (λ ours. ask_in_order now nak (position_of s.geometry nak.term_id nak.term_offset) cs last next s rest (in_order cs last) runs chain)
     (λ other. in_order cs last s rest next runs chain)

@@ -11,10 +11,10 @@ use Rattle.frame_core.specs.Position.{position_of}
 use Rattle.image_core.specs.Received.{window}
 use Rattle.publication_core.specs.declared.datagram.Datagram.{Datagram}
 use Rattle.publication_core.specs.declared.flow.Flow.{Flow}
-use Rattle.publication_core.specs.Datagrams.{after_repeat, marked, reach, unconsumed}
+use Rattle.publication_core.specs.Datagrams.{after_repeat, marked, furthest, unconsumed}
 use Rattle.publication_core.specs.Flows.{after_consumption, after_datagram, asks_for_setup, flow_after_hearing, is_status_of, may_go}
 use Rattle.publication_core.specs.Runs.{AreWithin, Call, IsWithinReach, after_call, after_calls, after_first, after_sending, Lay, Hear, Ask, Send, Repeat, NoteSetup, NoteHeartbeat, End}
-use Rattle.publication_core.specs.Sending.{Sending, Sends, first_passes, after_hearing, after_nak, after_request, is_nak_of, new_sending}
+use Rattle.publication_core.specs.Sending.{Sending, Sends, first_passes, after_hearing, after_nak, after_asking, is_nak_of, new_sending}
 
 within_further : (most more : ℕ) (ds : List Datagram) → most ≤ more → AreWithin most ds → AreWithin more ds
 within_further most more [] further within = tt
@@ -39,7 +39,7 @@ within_repeat most now (d ∷ ds) within = grind (arith, within_repeat most now 
 -- what is consumed does not fall, and the limit is not further past it than before or than the reach
 pub record IsHeard (g : Geometry) (old new : Flow) : Type 0 where
   pub consumed : old.consumed ≤ new.consumed
-  pub limit : new.limit ≤ max old.limit (new.consumed + reach g)
+  pub limit : new.limit ≤ max old.limit (new.consumed + furthest g)
   pub position : new.position ≡ old.position
 
 consumption : (g : Geometry) (now : ℕ) (status : StatusMessage) (named : Option ℕ) (f : Flow) → IsHeard g f (after_consumption g now status named f)
@@ -63,13 +63,13 @@ hearing now status s so =
       position = let position = so.position in omega (arith, it.consumed, it.position);
     }
 
-requested : (now : ℕ) (nak : Nak) (found : Option ℕ) (s : Sending) → IsWithinReach s → IsWithinReach (after_request now nak found s)
+requested : (now : ℕ) (nak : Nak) (found : Option ℕ) (s : Sending) → IsWithinReach s → IsWithinReach (after_asking now nak found s)
 requested now nak None s so = so
 requested now nak (Some p) s so = record { limit = so.limit; sent = within_marked _ now p (p + unsigned_abs nak.length) s.sent so.sent; position = so.position }
 
 asking : (now : ℕ) (nak : Nak) (s : Sending) → IsWithinReach s → IsWithinReach (after_nak now nak s)
 asking now nak s so =
-    cond_both (is_nak_of s.publication nak) (after_request now nak (position_of s.geometry nak.term_id nak.term_offset) s) s (λ (it : Sending). IsWithinReach it)
+    cond_both (is_nak_of s.publication nak) (after_asking now nak (position_of s.geometry nak.term_id nak.term_offset) s) s (λ (it : Sending). IsWithinReach it)
     (λ ours. requested now nak (position_of s.geometry nak.term_id nak.term_offset) s so)
     (λ other. so)
 

@@ -17,10 +17,10 @@ use Rattle.image_core.specs.Kept.{AreMembers}
 use Rattle.image_core.specs.Received.{is_within, joining_position}
 use Rattle.publication_core.specs.declared.datagram.Datagram.{Datagram}
 use Rattle.publication_core.specs.Copies.{IsStream}
-use Rattle.publication_core.specs.Datagrams.{after_repeat, alone, has_room, laid, marked, may_repeat, meets, repeated, unconsumed, with_frame}
+use Rattle.publication_core.specs.Datagrams.{after_repeat, alone, has_room, laid, marked, may_repeat, meets, repeated, unconsumed, with_next_frame}
 use Rattle.publication_core.specs.Flows.{after_datagram, may_go}
 use Rattle.publication_core.specs.Runs.{AreOfStream, AreShort, Call, IsOfStream, after_call, after_calls, after_first, Lay, Hear, Ask, Send, Repeat, NoteSetup, NoteHeartbeat, End}
-use Rattle.publication_core.specs.Sending.{Sending, after_request, is_nak_of, new_sending}
+use Rattle.publication_core.specs.Sending.{Sending, after_asking, is_nak_of, new_sending}
 use Rattle.publication_core.proofs.BytesLemmas.{length_pad}
 use Rattle.publication_core.proofs.HoldLemmas.{IsMember, no_heartbeat}
 use Rattle.publication_core.proofs.MadeLemmas.{length_message, placed}
@@ -63,7 +63,7 @@ frame_short g publication p f Heartbeat is room member = absurd (no_heartbeat g 
 short_laid : (g geometry : Geometry) (p : ℕ) (f : Frame) (ds : List Datagram) → geometry ≡ g → length (stored f) ≤ unsigned_abs g.mtu → AreShort g ds → AreShort g (laid geometry p f ds)
 short_laid g geometry p f [] same one short = (one, tt)
 short_laid g geometry p f (d ∷ []) same one short = by_room (has_room geometry d p f) refl where
-  by_room : (b : Bool) → has_room geometry d p f ≡ b → AreShort g (if b then with_frame d p f ∷ [] else d ∷ alone p f ∷ [])
+  by_room : (b : Bool) → has_room geometry d p f ≡ b → AreShort g (if b then with_next_frame d p f ∷ [] else d ∷ alone p f ∷ [])
   by_room true room =
       let few : length d.bytes + length (stored f) ≤ unsigned_abs geometry.mtu = grind (arith, nat_tests, room) in
       (rw (← same) (omega (arith, few, length-append d.bytes (stored f))), tt)
@@ -82,14 +82,14 @@ short_unconsumed g consumed (d ∷ ds) short =
 short_marked : (g : Geometry) (now from to : ℕ) (ds : List Datagram) → AreShort g ds → AreShort g (map (marked now from to) ds)
 short_marked g now from to [] short = tt
 short_marked g now from to (d ∷ ds) short = (
-  cond_both (meets from to d && may_repeat now d.again_at) (record d { is_asked = true }) d (λ (it : Datagram). length it.bytes ≤ unsigned_abs g.mtu) (λ asked. short.0) (λ other. short.0),
+  cond_both (meets from to d && may_repeat now d.again_at) (record d { is_repeat_asked = true }) d (λ (it : Datagram). length it.bytes ≤ unsigned_abs g.mtu) (λ asked. short.0) (λ other. short.0),
   short_marked g now from to ds short.1,
 )
 
 short_repeat : (g : Geometry) (now : ℕ) (ds : List Datagram) → AreShort g ds → AreShort g (after_repeat now ds)
 short_repeat g now [] short = tt
 short_repeat g now (d ∷ ds) short =
-    cond_both d.is_asked (repeated now d ∷ ds) (d ∷ after_repeat now ds) (λ (it : List Datagram). AreShort g it) (λ asked. short) (λ other. (short.0, short_repeat g now ds short.1))
+    cond_both d.is_repeat_asked (repeated now d ∷ ds) (d ∷ after_repeat now ds) (λ (it : List Datagram). AreShort g it) (λ asked. short) (λ other. (short.0, short_repeat g now ds short.1))
 
 -- ---- calls
 
@@ -98,7 +98,7 @@ pub record IsShort (g : Geometry) (s : Sending) : Type 0 where
   pub sent : AreShort g s.sent
   pub waiting : AreShort g s.waiting
 
-short_request : (g : Geometry) (now : ℕ) (nak : Nak) (found : Option ℕ) (s : Sending) → IsShort g s → IsShort g (after_request now nak found s)
+short_request : (g : Geometry) (now : ℕ) (nak : Nak) (found : Option ℕ) (s : Sending) → IsShort g s → IsShort g (after_asking now nak found s)
 short_request g now nak None s short = short
 short_request g now nak (Some p) s short = record { geometry = short.geometry; sent = short_marked g now p (p + unsigned_abs nak.length) s.sent short.sent; waiting = short.waiting }
 
@@ -118,7 +118,7 @@ short_call g publication stream (Lay p f) s members room of short = record {
 }
 short_call g publication stream (Hear now status) s members room of short = record { geometry = short.geometry; sent = short_unconsumed g _ s.sent short.sent; waiting = short.waiting }
 short_call g publication stream (Ask now nak) s members room of short =
-    cond_both (is_nak_of s.publication nak) (after_request now nak (position_of s.geometry nak.term_id nak.term_offset) s) s (λ (it : Sending). IsShort g it)
+    cond_both (is_nak_of s.publication nak) (after_asking now nak (position_of s.geometry nak.term_id nak.term_offset) s) s (λ (it : Sending). IsShort g it)
     (λ ours. short_request g now nak (position_of s.geometry nak.term_id nak.term_offset) s short)
     (λ other. short)
 short_call g publication stream (Send now) s members room of short = short_first g now s.waiting s short.waiting short

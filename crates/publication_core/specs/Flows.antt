@@ -10,7 +10,7 @@ use Rattle.image_core.specs.Received.{window}
 use Rattle.flow_control.specs.Feedback.{has_passed}
 use Rattle.publication_core.specs.declared.datagram.Datagram.{Datagram}
 use Rattle.publication_core.specs.declared.flow.Flow.{Flow}
-use Rattle.publication_core.specs.Datagrams.{reach}
+use Rattle.publication_core.specs.Datagrams.{furthest}
 
 -- a publication begins at a position, of which nothing was sent or heard
 abbrev pub new_flow : ℕ → Flow
@@ -37,7 +37,7 @@ asks_for_setup s = nat_le 128 s.flags
 
 -- how far past its consumption position a status message admits frames: its window, or the sender's reach if that is less
 abbrev pub admitted : Geometry → StatusMessage → ℕ
-admitted g s = min (unsigned_abs s.receiver_window) (reach g)
+admitted g s = min (unsigned_abs s.receiver_window) (furthest g)
 
 -- the receiver has consumed the stream up to a position, of which what was sent counts: what it admits and what it has consumed never fall
 abbrev pub after_consumption : Geometry → ℕ → StatusMessage → Option ℕ → Flow → Flow
@@ -71,21 +71,21 @@ never_goes g f d = is_some f.heard_at && is_all_consumed f && not (nat_le d.end 
 -- ---- times
 
 -- so many milliseconds have passed since a time, if there was one
-abbrev pub is_over : ℕ → Option ℕ → ℕ → Bool
-is_over pause None now = true
-is_over pause (Some at) now = has_passed pause at now
+abbrev pub pause_is_over : ℕ → Option ℕ → ℕ → Bool
+pause_is_over pause None now = true
+pause_is_over pause (Some at) now = has_passed pause at now
 
 -- a receiver was heard, and not in the last 5,000 milliseconds
-abbrev pub is_gone : ℕ → Flow → Bool
-is_gone now f = is_some f.heard_at && is_over 5000 f.heard_at now
+abbrev pub is_receiver_gone : ℕ → Flow → Bool
+is_receiver_gone now f = is_some f.heard_at && pause_is_over 5000 f.heard_at now
 
 -- no receiver was heard yet, or one asks, and no setup frame was sent in the last 100 milliseconds
 abbrev pub is_setup_due : ℕ → Flow → Bool
-is_setup_due now f = (not (is_some f.heard_at) || f.is_setup_asked) && is_over 100 f.setup_at now
+is_setup_due now f = (not (is_some f.heard_at) || f.is_setup_asked) && pause_is_over 100 f.setup_at now
 
 -- a receiver was heard, and nothing was sent in the last 100 milliseconds
 abbrev pub is_heartbeat_due : ℕ → Flow → Bool
-is_heartbeat_due now f = is_some f.heard_at && is_over 100 f.sent_at now
+is_heartbeat_due now f = is_some f.heard_at && pause_is_over 100 f.sent_at now
 
 -- after a setup frame
 abbrev pub after_setup : ℕ → Flow → Flow

@@ -27,7 +27,7 @@ first_of s (d ∷ ds) = if may_go s.geometry s.flow d then d ∷ [] else []
 -- the first that is asked for
 abbrev pub asked_of : List Datagram → List Datagram
 asked_of [] = []
-asked_of (d ∷ ds) = if d.is_asked then d ∷ [] else asked_of ds
+asked_of (d ∷ ds) = if d.is_repeat_asked then d ∷ [] else asked_of ds
 
 -- the datagrams that a call sends: at most one
 abbrev pub goes_out : Call → Sending → List Datagram

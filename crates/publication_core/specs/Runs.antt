@@ -9,7 +9,7 @@ use Rattle.frame_core.specs.FrameEncoding.{stored}
 use Rattle.image_core.specs.Received.{IsChain, window}
 use Rattle.publication_core.specs.declared.datagram.Datagram.{Datagram}
 use Rattle.publication_core.specs.Copies.{AreAmong, IsAmong}
-use Rattle.publication_core.specs.Datagrams.{reach}
+use Rattle.publication_core.specs.Datagrams.{furthest}
 use Rattle.publication_core.specs.Flows.{after_datagram, after_heartbeat, after_setup, may_go}
 use Rattle.publication_core.specs.Sending.{Sending, after_again, after_end, after_hearing, after_laying, after_nak}
 
@@ -58,7 +58,7 @@ AreWithin most (d ∷ ds) = (d.end ≤ most) × AreWithin most ds
 
 -- the limit, and what was sent and is not consumed, are no further past what was consumed than a sender may ever go
 pub record IsWithinReach (s : Sending) : Type 0 where
-  pub limit : s.flow.limit ≤ s.flow.consumed + reach s.geometry
+  pub limit : s.flow.limit ≤ s.flow.consumed + furthest s.geometry
   pub sent : AreWithin (s.flow.consumed + window s.geometry) s.sent
   pub position : s.flow.position ≤ s.flow.consumed + window s.geometry
 

@@ -12,8 +12,8 @@ use Rattle.publication_core.specs.declared.datagram.Datagram.{Datagram}
 use Rattle.publication_core.specs.declared.due.Due.{Due}
 use Rattle.publication_core.specs.declared.due.Due.TheVariants.{Gone, Setup, Again, First, Refused, Heartbeat, Done, Nothing}
 use Rattle.publication_core.specs.declared.flow.Flow.{Flow}
-use Rattle.publication_core.specs.Datagrams.{after_repeat, is_asked, laid, laid_to, marked, unconsumed}
-use Rattle.publication_core.specs.Flows.{after_datagram, flow_after_hearing, is_gone, is_heartbeat_due, is_setup_due, may_go, never_goes, new_flow}
+use Rattle.publication_core.specs.Datagrams.{after_repeat, is_repeat_asked, laid, laid_to, marked, unconsumed}
+use Rattle.publication_core.specs.Flows.{after_datagram, flow_after_hearing, is_receiver_gone, is_heartbeat_due, is_setup_due, may_go, never_goes, new_flow}
 
 -- one publication: its terms, how far it has come, the datagrams that were sent and are not consumed, and those that wait
 pub record Sending : Type 0 where
@@ -44,13 +44,13 @@ abbrev pub is_nak_of : Publication → Nak → Bool
 is_nak_of publication n = int_eq n.session_id publication.session_id && int_eq n.stream_id publication.stream_id
 
 -- each datagram is asked for that was sent, is not consumed, meets a range that begins at a position, and was not repeated in the last 60 milliseconds
-abbrev pub after_request : ℕ → Nak → Option ℕ → Sending → Sending
-after_request now n None s = s
-after_request now n (Some p) s = record s { sent = map (marked now p (p + unsigned_abs n.length)) s.sent }
+abbrev pub after_asking : ℕ → Nak → Option ℕ → Sending → Sending
+after_asking now n None s = s
+after_asking now n (Some p) s = record s { sent = map (marked now p (p + unsigned_abs n.length)) s.sent }
 
 -- a NAK of another publication, or without a position, changes nothing
 abbrev pub after_nak : ℕ → Nak → Sending → Sending
-after_nak now n s = if is_nak_of s.publication n then after_request now n (position_of s.geometry n.term_id n.term_offset) s else s
+after_nak now n s = if is_nak_of s.publication n then after_asking now n (position_of s.geometry n.term_id n.term_offset) s else s
 
 -- ---- what goes
 
@@ -74,7 +74,7 @@ Sends now old (Some index) new = SendsFirst now old index new
 
 -- the first datagram that is asked for, if there is one
 abbrev pub asked_first : Sending → Option ℕ
-asked_first s = position is_asked s.sent
+asked_first s = position is_repeat_asked s.sent
 
 -- it is repeated
 abbrev pub after_again : ℕ → Sending → Sending
@@ -89,9 +89,9 @@ due_at_end now f left = if left == 0 || not (is_some f.heard_at) then Done else 
 -- before that: the receiver is gone, or a setup frame, a repeat, a datagram for the first time, a refusal or a heartbeat, in this order
 abbrev pub due_before_end : ℕ → Sending → Due
 due_before_end now s =
-    if is_gone now s.flow then Gone
+    if is_receiver_gone now s.flow then Gone
     else (if is_setup_due now s.flow then Setup
-    else (if list_any is_asked s.sent then Again
+    else (if list_any is_repeat_asked s.sent then Again
     else (if first_passes (may_go s.geometry s.flow) s.waiting then First
     else (if first_passes (never_goes s.geometry s.flow) s.waiting then Refused
     else (if is_heartbeat_due now s.flow then Heartbeat else Nothing)))))
@@ -110,19 +110,19 @@ abbrev pub is_finished : ℕ → Sending → Bool
 is_finished end s = nat_le end s.flow.position && nat_le end s.flow.consumed
 
 -- where the next frame is laid
-abbrev pub next_position : Sending → ℕ
-next_position s = laid_to s.flow.position s.waiting
+abbrev pub lay_position : Sending → ℕ
+lay_position s = laid_to s.flow.position s.waiting
 
 -- how many bytes of the stream wait, and how many are kept for repeats
 abbrev pub waiting_bytes : Sending → ℕ
-waiting_bytes s = next_position s - s.flow.position
+waiting_bytes s = lay_position s - s.flow.position
 
-abbrev pub kept_bytes : Sending → ℕ
-kept_bytes s = s.flow.position - s.flow.consumed
+abbrev pub retained_bytes : Sending → ℕ
+retained_bytes s = s.flow.position - s.flow.consumed
 
 -- more frames are wanted: fewer than 65,536 bytes wait, and the limit is past them
 abbrev pub wants_frames : Sending → Bool
-wants_frames s = nat_lt (waiting_bytes s) 65536 && nat_lt (next_position s) s.flow.limit
+wants_frames s = nat_lt (waiting_bytes s) 65536 && nat_lt (lay_position s) s.flow.limit
 
 -- the stream ends: three heartbeats are left to send
 abbrev pub after_end : Sending → Sending

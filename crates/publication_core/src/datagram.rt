@@ -3,7 +3,7 @@
 ghost use Rattle.std.specs.Prelude.{◌≡◌, ◌≤◌, ◌+◌, ◌^◌, OnOk, OnErr};
 ghost use Rattle.frame_core.specs.FrameEncoding.{frame_of};
 ghost use Rattle.image_core.specs.Received.{window};
-ghost use Rattle.publication_core.specs.Datagrams.{empty, has_room, is_pad, marked, may_repeat, meets, reach, repeated, with_frame};
+ghost use Rattle.publication_core.specs.Datagrams.{empty_datagram, has_room, is_pad, marked, may_repeat, meets, furthest, repeated, with_next_frame};
 
 use crate::bytes::{Bytes, stored_length};
 use frame_core::{FrameKind, FrameRef, Geometry};
@@ -25,15 +25,15 @@ pub struct Datagram {
     /// Whether its last frame is a pad, which no frame may follow.
     pub is_closed: bool,
     /// Whether it was asked for again.
-    pub is_asked: bool,
+    pub is_repeat_asked: bool,
     /// When it was repeated last, in milliseconds.
     pub again_at: Option<u64>,
 }
 
 impl Datagram {
     /// A datagram without a frame, at a position. The bytes lend their memory.
-    pub(crate) fn empty(position: u64, mut bytes: Bytes) -> Datagram
-        ensures { result ≡ empty position }
+    pub(crate) fn empty_datagram(position: u64, mut bytes: Bytes) -> Datagram
+        ensures { result ≡ empty_datagram position }
     {
         bytes.clear();
         Datagram {
@@ -41,7 +41,7 @@ impl Datagram {
             end: position,
             bytes,
             is_closed: false,
-            is_asked: false,
+            is_repeat_asked: false,
             again_at: None,
         }
     }
@@ -57,13 +57,13 @@ impl Datagram {
             && self.end == position
             && frame.term_offset != 0
             && bytes <= u64::from(geometry.mtu.unsigned_abs())
-            && end <= self.position.saturating_add(reach(geometry))
+            && end <= self.position.saturating_add(furthest(geometry))
     }
 
     /// Adds a frame at a position, after the others. AllocError if there is no memory; then nothing changes.
     pub(crate) fn add(&mut self, position: u64, frame: &FrameRef<'_>) -> Result<(), AllocError>
         requires { position ≤ 2 ^ 63 }
-        ensures added { OnOk result (self.new ≡ with_frame self.old position (frame_of frame.now)) }
+        ensures added { OnOk result (self.new ≡ with_next_frame self.old position (frame_of frame.now)) }
         ensures same { OnErr result (self.new ≡ self.old) }
     {
         self.bytes.write(frame)?;
@@ -77,7 +77,7 @@ impl Datagram {
         ensures { self.new ≡ marked now from to self.old }
     {
         if self.meets(from, to) && may_repeat(now, &self.again_at) {
-            self.is_asked = true;
+            self.is_repeat_asked = true;
         }
     }
 
@@ -85,7 +85,7 @@ impl Datagram {
     pub(crate) fn repeat(&mut self, now: u64)
         ensures { self.new ≡ repeated now self.old }
     {
-        self.is_asked = false;
+        self.is_repeat_asked = false;
         self.again_at = Some(now);
     }
 
@@ -98,8 +98,8 @@ impl Datagram {
 }
 
 /// How far past a consumption position a sender may ever go: half a term or the stock of an image, whichever is less.
-pub(crate) fn reach(geometry: &Geometry) -> u64
-    ensures reach { result ≡ reach geometry.now }
+pub(crate) fn furthest(geometry: &Geometry) -> u64
+    ensures furthest { result ≡ furthest geometry.now }
     ensures small { result ≤ 1048576 }
 {
     half_a_term(geometry).min(STOCK)

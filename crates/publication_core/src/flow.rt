@@ -2,9 +2,9 @@
 
 ghost use Rattle.std.specs.Prelude.{◌≡◌, ◌<◌, ◌≤◌, ◌^◌, IfSome};
 ghost use Rattle.frame_core.specs.Position.{position_of};
-ghost use Rattle.publication_core.specs.Flows.{admitted, after_consumption, after_datagram, after_heartbeat, after_setup, asks_for_setup, flow_after_hearing, is_all_consumed, is_gone, is_heartbeat_due, is_over, is_setup_due, is_status_of, may_go, never_goes, new_flow};
+ghost use Rattle.publication_core.specs.Flows.{admitted, after_consumption, after_datagram, after_heartbeat, after_setup, asks_for_setup, flow_after_hearing, is_all_consumed, is_receiver_gone, is_heartbeat_due, pause_is_over, is_setup_due, is_status_of, may_go, never_goes, new_flow};
 
-use crate::datagram::{Datagram, half_a_term, reach};
+use crate::datagram::{Datagram, furthest, half_a_term};
 use frame_core::{Geometry, Publication, StatusMessage, position};
 
 // Milliseconds without a status message after which a receiver is gone.
@@ -119,24 +119,25 @@ impl Flow {
     }
 
     /// Whether the receiver is gone.
-    pub(crate) fn is_gone(&self, now: u64) -> bool
-        ensures { result ≡ is_gone now self.now }
+    pub(crate) fn is_receiver_gone(&self, now: u64) -> bool
+        ensures { result ≡ is_receiver_gone now self.now }
     {
-        self.heard_at.is_some() && is_over(SILENCE, &self.heard_at, now)
+        self.heard_at.is_some() && pause_is_over(SILENCE, &self.heard_at, now)
     }
 
     /// Whether a setup frame is due.
     pub(crate) fn is_setup_due(&self, now: u64) -> bool
         ensures { result ≡ is_setup_due now self.now }
     {
-        (self.heard_at.is_none() || self.is_setup_asked) && is_over(PAUSE, &self.setup_at, now)
+        (self.heard_at.is_none() || self.is_setup_asked)
+            && pause_is_over(PAUSE, &self.setup_at, now)
     }
 
     /// Whether a heartbeat is due.
     pub(crate) fn is_heartbeat_due(&self, now: u64) -> bool
         ensures { result ≡ is_heartbeat_due now self.now }
     {
-        self.heard_at.is_some() && is_over(PAUSE, &self.sent_at, now)
+        self.heard_at.is_some() && pause_is_over(PAUSE, &self.sent_at, now)
     }
 
     /// Notes a setup frame.
@@ -167,8 +168,8 @@ impl Flow {
 }
 
 /// Whether so many milliseconds have passed since a time, if there was one.
-fn is_over(pause: u64, at: &Option<u64>, now: u64) -> bool
-    ensures { result ≡ is_over pause at.now now }
+fn pause_is_over(pause: u64, at: &Option<u64>, now: u64) -> bool
+    ensures { result ≡ pause_is_over pause at.now now }
 {
     match at {
         Some(at) => pause <= now.saturating_sub(*at),
@@ -188,7 +189,7 @@ fn admitted(geometry: &Geometry, status: &StatusMessage) -> u64
     ensures admitted { result ≡ admitted geometry.now status.now }
     ensures small { result ≤ 1048576 }
 {
-    u64::from(status.receiver_window.unsigned_abs()).min(reach(geometry))
+    u64::from(status.receiver_window.unsigned_abs()).min(furthest(geometry))
 }
 
 /// The position of an offset in a term, in bytes of the stream.

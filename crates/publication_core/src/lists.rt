@@ -4,7 +4,7 @@ ghost use Rattle.std.specs.Prelude.{◌≡◌, ◌≤◌, ◌^◌, map, nat_le, 
 ghost use Rattle.publication_core.specs.Sending.{first_passes};
 ghost use Rattle.std.specs.List.{position};
 ghost use Rattle.frame_core.specs.FrameEncoding.{frame_of};
-ghost use Rattle.publication_core.specs.Datagrams.{after_repeat, alone, is_asked, laid, marked, unconsumed};
+ghost use Rattle.publication_core.specs.Datagrams.{after_repeat, alone, is_repeat_asked, laid, marked, unconsumed};
 
 use crate::bytes::Bytes;
 use crate::datagram::Datagram;
@@ -48,7 +48,7 @@ fn datagram_of(
     ensures { IfOk result (λ datagram. datagram ≡ alone position (frame_of frame.now)) }
 {
     let bytes = spare.pop().unwrap_or(Bytes::new(alloc));
-    let mut datagram = Datagram::empty(position, bytes);
+    let mut datagram = Datagram::empty_datagram(position, bytes);
     datagram.add(position, frame)?;
     Ok(datagram)
 }
@@ -87,7 +87,7 @@ pub(crate) fn mark_each(sent: &mut VecDeque<Datagram>, now: u64, from: u64, to: 
 
 /// Notes in the first datagram that is asked for that it is repeated: its index.
 pub(crate) fn repeat_first(sent: &mut VecDeque<Datagram>, now: u64) -> Option<usize>
-    ensures first { result ≡ position is_asked sent.old.items }
+    ensures first { result ≡ position is_repeat_asked sent.old.items }
     ensures repeated { sent.new.items ≡ after_repeat now sent.old.items }
 {
     let index = first_asked(sent)?;
@@ -99,7 +99,7 @@ pub(crate) fn repeat_first(sent: &mut VecDeque<Datagram>, now: u64) -> Option<us
 
 /// The index of the first datagram that is asked for.
 fn first_asked(sent: &VecDeque<Datagram>) -> Option<usize>
-    ensures { result ≡ position is_asked sent.now.items }
+    ensures { result ≡ position is_repeat_asked sent.now.items }
 {
-    sent.iter().position(|datagram| datagram.is_asked)
+    sent.iter().position(|datagram| datagram.is_repeat_asked)
 }

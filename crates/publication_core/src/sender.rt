@@ -5,9 +5,9 @@ ghost use Rattle.std.specs.Slice.{IsItemAt};
 ghost use Rattle.frame_core.specs.FrameEncoding.{frame_of};
 ghost use Rattle.flow_control.specs.Feedback.{has_term};
 ghost use Rattle.publication_core.specs.Flows.{after_heartbeat, after_setup, may_go, never_goes};
-ghost use Rattle.publication_core.specs.Datagrams.{is_asked};
+ghost use Rattle.publication_core.specs.Datagrams.{is_repeat_asked};
 ghost use Rattle.std.specs.List.{list_any};
-ghost use Rattle.publication_core.specs.Sending.{Sends, after_again, after_end, after_hearing, after_laying, after_nak, asked_first, due, due_at_end, due_before_end, first_passes, is_finished, is_nak_of, kept_bytes, new_sending, next_position, waiting_bytes, wants_frames};
+ghost use Rattle.publication_core.specs.Sending.{Sends, after_again, after_end, after_hearing, after_laying, after_nak, asked_first, due, due_at_end, due_before_end, first_passes, is_finished, is_nak_of, retained_bytes, new_sending, lay_position, waiting_bytes, wants_frames};
 ghost use Rattle.publication_core.specs.Signs.{IsHeartbeatOf, IsSetupOf, heartbeat_flags};
 
 use crate::bytes::Bytes;
@@ -138,13 +138,13 @@ impl Sender {
     fn due_before_end(&self, now: u64) -> Due
         ensures { result ≡ due_before_end now self.now }
     {
-        if self.flow.is_gone(now) {
+        if self.flow.is_receiver_gone(now) {
             return Due::Gone;
         }
         if self.flow.is_setup_due(now) {
             return Due::Setup;
         }
-        if self.is_asked() {
+        if self.is_repeat_asked() {
             return Due::Again;
         }
         if self.may_send() {
@@ -250,8 +250,8 @@ impl Sender {
     }
 
     /// Where the next frame is laid, in bytes of the stream.
-    pub fn next_position(&self) -> u64
-        ensures { result ≡ next_position self.now }
+    pub fn lay_position(&self) -> u64
+        ensures { result ≡ lay_position self.now }
     {
         match self.waiting.back() {
             Some(last) => last.end,
@@ -263,12 +263,12 @@ impl Sender {
     pub fn waiting_bytes(&self) -> u64
         ensures { result ≡ waiting_bytes self.now }
     {
-        self.next_position().saturating_sub(self.flow.position)
+        self.lay_position().saturating_sub(self.flow.position)
     }
 
     /// How many bytes of the stream were sent and are not consumed: they are kept for repeats.
-    pub fn kept_bytes(&self) -> u64
-        ensures { result ≡ kept_bytes self.now }
+    pub fn retained_bytes(&self) -> u64
+        ensures { result ≡ retained_bytes self.now }
     {
         self.flow.position.saturating_sub(self.flow.consumed)
     }
@@ -277,14 +277,14 @@ impl Sender {
     pub fn wants_frames(&self) -> bool
         ensures { result ≡ wants_frames self.now }
     {
-        self.waiting_bytes() < WAITING && self.next_position() < self.flow.limit
+        self.waiting_bytes() < WAITING && self.lay_position() < self.flow.limit
     }
 
     /// Whether a datagram is asked for.
-    fn is_asked(&self) -> bool
-        ensures { result ≡ list_any is_asked self.now.sent }
+    fn is_repeat_asked(&self) -> bool
+        ensures { result ≡ list_any is_repeat_asked self.now.sent }
     {
-        self.sent.iter().any(|datagram| datagram.is_asked)
+        self.sent.iter().any(|datagram| datagram.is_repeat_asked)
     }
 
     /// Whether the first datagram that waits may go.

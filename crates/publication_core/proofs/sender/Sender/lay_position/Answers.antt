@@ -1,6 +1,6 @@
 use Rattle.std.proofs.Common.{refl, arith, ◌-◌}
 use Rattle.publication_core.proofs.DatagramLemmas.{laid_to_last}
-use Rattle.publication_core.proofs.sender.Sender.next_position.Goals as goal
+use Rattle.publication_core.proofs.sender.Sender.lay_position.Goals as goal
 
 pub returns-in-Some : goal.returns-in-Some
 returns-in-Some c =
