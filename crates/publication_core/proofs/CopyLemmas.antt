@@ -16,7 +16,7 @@ use Rattle.image_core.specs.Rebuild.{chain_end, end_of}
 use Rattle.image_core.specs.Received.{IsChain, Received, after_frame, begun, fate_of, frame_fate, is_free, is_open, joining_position, rebuilt, received, received_all, window}
 use Rattle.image_core.proofs.ChainLemmas.{chain_below, chain_low, chain_over}
 use Rattle.image_core.proofs.FateLemmas.{by_kind}
-use Rattle.publication_core.specs.Copies.{AreAmong, AreFirst, AreInReach, AreRecorded, AreWithinLimits, BeginsWith, HasCome, HaveCome, IsAmong, IsRecorded, IsStream}
+use Rattle.publication_core.specs.Copies.{AreAmong, AreFirst, AreInReach, AreRecorded, AreWithinLimits, BeginsWith, HasCome, HaveCome, IsAmong, IsRecorded, IsRecordedStream}
 use Rattle.std.specs.Prelude.{◌||◌, map, nat_le, if◌then◌else◌}
 use Rattle.publication_core.proofs.HoldLemmas.{IsImageOf, IsMember, has_size, image_begun, image_received, image_received_all, joins_recorded, member_of, no_heartbeat}
 
@@ -135,7 +135,7 @@ stays_all g publication stream from m r (f ∷ fs) members recorded so here =
 -- ---- what came
 
 -- a frame of the stream that comes in reach is there then
-got : (g : Geometry) (publication : Publication) (from to p : ℕ) (stream : List (ℕ × Frame)) (r : Received) (f : Frame) → IsStream g publication from stream to
+got : (g : Geometry) (publication : Publication) (from to p : ℕ) (stream : List (ℕ × Frame)) (r : Received) (f : Frame) → IsRecordedStream g publication from stream to
     → IsImageOf g publication stream from r → IsAmong (p, f) stream → p + aligned_length f ≤ rebuilt r + window r.geometry → IsAmong (p, f) (received r f).joined
 got g publication from to p stream r f is so here furthest = by_its_kind f.kind refl where
   member : IsMember g publication p f
@@ -156,7 +156,7 @@ got g publication from to p stream r f is so here furthest = by_its_kind f.kind 
   by_its_kind Message kind = placed
   by_its_kind Heartbeat kind = absurd (no_heartbeat g publication p f member.lies kind)
 
-got_all : (g : Geometry) (publication : Publication) (from to p : ℕ) (stream : List (ℕ × Frame)) (r : Received) (f : Frame) (fs : List Frame) → IsStream g publication from stream to
+got_all : (g : Geometry) (publication : Publication) (from to p : ℕ) (stream : List (ℕ × Frame)) (r : Received) (f : Frame) (fs : List Frame) → IsRecordedStream g publication from stream to
     → IsImageOf g publication stream from r → AreRecorded stream fs → AreInReach stream r fs → IsAmong (p, f) stream → HasCome fs f → IsAmong (p, f) (received_all r fs).joined
 got_all g publication from to p stream r f [] is so recorded furthest here came = elim came [ ]
 got_all g publication from to p stream r f (x ∷ fs) is so recorded furthest here (inl same) =
@@ -165,7 +165,7 @@ got_all g publication from to p stream r f (x ∷ fs) is so recorded furthest he
 got_all g publication from to p stream r f (x ∷ fs) is so recorded furthest here (inr came) =
     got_all g publication from to p stream (received r x) f fs is (image_received g publication stream from r x is.members recorded.0 so) recorded.1 furthest.1 here came
 
-have_all : (g : Geometry) (publication : Publication) (from to : ℕ) (stream firsts : List (ℕ × Frame)) (r : Received) (fs : List Frame) → IsStream g publication from stream to
+have_all : (g : Geometry) (publication : Publication) (from to : ℕ) (stream firsts : List (ℕ × Frame)) (r : Received) (fs : List Frame) → IsRecordedStream g publication from stream to
     → IsImageOf g publication stream from r → AreRecorded stream fs → AreInReach stream r fs → AreAmong stream firsts → HaveCome fs firsts
     → AreAmong (received_all r fs).joined firsts
 have_all g publication from to stream [] r fs is so recorded furthest among came = tt
@@ -212,7 +212,7 @@ begins from high front (m ∷ ms) (x ∷ joined) chain spaced (inr here, among) 
     absurd (let low = low_of (end_of x) high m joined spaced.3 here in omega (arith, low, spaced.0, spaced.1, chain.0))
 
 -- an image that got each frame up to a position begins with them
-pub copied : (g : Geometry) (publication : Publication) (from to front : ℕ) (stream firsts : List (ℕ × Frame)) (fs : List Frame) → IsStream g publication from stream to
+pub copied : (g : Geometry) (publication : Publication) (from to front : ℕ) (stream firsts : List (ℕ × Frame)) (fs : List Frame) → IsRecordedStream g publication from stream to
     → AreFirst from stream firsts front → AreRecorded stream fs → AreInReach stream (begun g publication from) fs → HaveCome fs firsts
     → BeginsWith firsts front (received_all (begun g publication from) fs)
 copied g publication from to front stream firsts fs is first recorded furthest came = record { more = rest.more; joined = rest.is; reaches = up } where
@@ -242,7 +242,7 @@ in_reach stream r [] within = tt
 in_reach stream r (h ∷ hs) within =
     ((λ p among. let furthest = within.1 p among in let low = within.0 in omega arith), in_reach stream (received r h.1) hs within.2)
 
-pub copied_within : (g : Geometry) (publication : Publication) (from to front : ℕ) (stream firsts sent : List (ℕ × Frame)) → IsStream g publication from stream to
+pub copied_within : (g : Geometry) (publication : Publication) (from to front : ℕ) (stream firsts sent : List (ℕ × Frame)) → IsRecordedStream g publication from stream to
     → AreFirst from stream firsts front → AreRecorded stream (map (λ it. it.1) sent) → AreWithinLimits stream (begun g publication from) sent
     → HaveCome (map (λ it. it.1) sent) firsts → BeginsWith firsts front (received_all (begun g publication from) (map (λ it. it.1) sent))
 copied_within g publication from to front stream firsts sent is first recorded within came =

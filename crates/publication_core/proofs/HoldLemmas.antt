@@ -18,7 +18,7 @@ use Rattle.image_core.specs.Received.{Received, after_frame, begun, is_free, is_
 use Rattle.image_core.proofs.ChainLemmas.{chain_low, spaced_wider}
 use Rattle.image_core.proofs.FateLemmas.{by_kind}
 use Rattle.image_core.proofs.JoinLemmas.{spaced_insert}
-use Rattle.publication_core.specs.Copies.{AreAmong, AreRecorded, HoldsAlone, IsAmong, IsRecorded, IsStream}
+use Rattle.publication_core.specs.Copies.{AreAmong, AreRecorded, HoldsAlone, IsAmong, IsRecorded, IsRecordedStream}
 
 -- a frame of the stream, as an image sees it
 pub record IsMember (g : Geometry) (publication : Publication) (p : ℕ) (f : Frame) : Type 0 where
@@ -113,7 +113,7 @@ image_received_all g publication stream join r (f ∷ fs) members recorded so =
     image_received_all g publication stream join (received r f) fs members recorded.1 (image_received g publication stream join r f members recorded.0 so)
 
 -- an image holds recorded frames alone
-pub holds_alone : (g : Geometry) (publication : Publication) (from to join : ℕ) (stream : List (ℕ × Frame)) (fs : List Frame) → IsStream g publication from stream to
+pub holds_alone : (g : Geometry) (publication : Publication) (from to join : ℕ) (stream : List (ℕ × Frame)) (fs : List Frame) → IsRecordedStream g publication from stream to
     → AreRecorded stream fs → HoldsAlone stream (received_all (begun g publication join) fs)
 holds_alone g publication from to join stream fs is recorded =
     (image_received_all g publication stream join (begun g publication join) fs is.members recorded (image_begun g publication stream join)).alone

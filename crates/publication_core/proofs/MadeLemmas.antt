@@ -17,11 +17,11 @@ use Rattle.image_core.proofs.ChainLemmas.{chain_append}
 use Rattle.publication_core.specs.declared.datagram.Datagram.{Datagram}
 use Rattle.frame_core.specs.declared.nak.Nak.{Nak}
 use Rattle.frame_core.specs.Position.{position_of}
-use Rattle.publication_core.specs.Copies.{AreAmong, IsAmong, IsStream}
+use Rattle.publication_core.specs.Copies.{AreAmong, IsAmong, IsRecordedStream}
 use Rattle.publication_core.specs.Datagrams.{after_repeat, alone, has_room, is_pad, laid, marked, may_repeat, meets, repeated, unconsumed, with_next_frame}
 use Rattle.publication_core.specs.Flows.{after_datagram, may_go}
-use Rattle.publication_core.specs.Runs.{AreMadeOf, AreMessages, AreOfStream, Call, IsMadeOf, IsOfStream, IsPadIf, after_call, after_calls, after_first, stored_all, Lay, Hear, Ask, Send, Repeat, NoteSetup, NoteHeartbeat, End}
-use Rattle.publication_core.specs.Sending.{Sending, after_asking, is_nak_of, new_sending}
+use Rattle.publication_core.specs.Runs.{AreMadeOf, AreMessages, AreOfStream, Call, IsMadeOf, LaysOfStream, IsPadIf, sending_after, after_calls, after_first, stored_all, Lay, Hear, Ask, Send, Repeat, NoteSetup, NoteHeartbeat, End}
+use Rattle.publication_core.specs.Sending.{Sending, after_repeat_request, is_nak_of, new_sending}
 use Rattle.publication_core.proofs.BytesLemmas.{length_pad}
 use Rattle.publication_core.proofs.HoldLemmas.{IsMember, has_size, member_of, no_heartbeat}
 
@@ -179,7 +179,7 @@ pub record IsMadeSending (stream : List (ℕ × Frame)) (s : Sending) : Type 0 w
   pub sent : AreMadeOf stream s.sent
   pub waiting : AreMadeOf stream s.waiting
 
-made_request : (stream : List (ℕ × Frame)) (now : ℕ) (nak : Nak) (found : Option ℕ) (s : Sending) → IsMadeSending stream s → IsMadeSending stream (after_asking now nak found s)
+made_request : (stream : List (ℕ × Frame)) (now : ℕ) (nak : Nak) (found : Option ℕ) (s : Sending) → IsMadeSending stream s → IsMadeSending stream (after_repeat_request now nak found s)
 made_request stream now nak None s made = made
 made_request stream now nak (Some p) s made = record { sent = made_marked stream now p (p + unsigned_abs nak.length) s.sent made.sent; waiting = made.waiting }
 
@@ -190,13 +190,13 @@ made_first stream now (d ∷ ds) s waiting made =
     (λ may. record { sent = made_end stream d s.sent made.sent waiting.0; waiting = waiting.1 })
     (λ held. made)
 
-pub made_call : (g : Geometry) (publication : Publication) (stream : List (ℕ × Frame)) (c : Call) (s : Sending) → AreMembers g publication stream → IsOfStream stream c
-    → IsMadeSending stream s → IsMadeSending stream (after_call c s)
+pub made_call : (g : Geometry) (publication : Publication) (stream : List (ℕ × Frame)) (c : Call) (s : Sending) → AreMembers g publication stream → LaysOfStream stream c
+    → IsMadeSending stream s → IsMadeSending stream (sending_after c s)
 made_call g publication stream (Lay p f) s members of made =
     record { sent = made.sent; waiting = made_laid g s.geometry publication stream p f s.waiting (placed g publication stream p f members of) made.waiting }
 made_call g publication stream (Hear now status) s members of made = record { sent = made_unconsumed stream _ s.sent made.sent; waiting = made.waiting }
 made_call g publication stream (Ask now nak) s members of made =
-    cond_both (is_nak_of s.publication nak) (after_asking now nak (position_of s.geometry nak.term_id nak.term_offset) s) s (λ (it : Sending). IsMadeSending stream it)
+    cond_both (is_nak_of s.publication nak) (after_repeat_request now nak (position_of s.geometry nak.term_id nak.term_offset) s) s (λ (it : Sending). IsMadeSending stream it)
     (λ ours. made_request stream now nak (position_of s.geometry nak.term_id nak.term_offset) s made)
     (λ other. made)
 made_call g publication stream (Send now) s members of made = made_first stream now s.waiting s made.waiting made
@@ -209,8 +209,8 @@ pub made_calls : (g : Geometry) (publication : Publication) (stream : List (ℕ 
     → IsMadeSending stream s → IsMadeSending stream (after_calls cs s)
 made_calls g publication stream [] s members of made = made
 made_calls g publication stream (c ∷ cs) s members of made =
-    made_calls g publication stream cs (after_call c s) members of.1 (made_call g publication stream c s members of.0 made)
+    made_calls g publication stream cs (sending_after c s) members of.1 (made_call g publication stream c s members of.0 made)
 
-pub made_all : (g : Geometry) (publication : Publication) (from to : ℕ) (stream : List (ℕ × Frame)) (cs : List Call) → IsStream g publication from stream to → AreOfStream stream cs
+pub made_all : (g : Geometry) (publication : Publication) (from to : ℕ) (stream : List (ℕ × Frame)) (cs : List Call) → IsRecordedStream g publication from stream to → AreOfStream stream cs
     → IsMadeSending stream (after_calls cs (new_sending g publication from))
 made_all g publication from to stream cs is of = made_calls g publication stream cs (new_sending g publication from) is.members of (record { sent = tt; waiting = tt })

@@ -16,11 +16,11 @@ use Rattle.image_core.specs.Received.{IsChain, Received, after_frame, begun, reb
 use Rattle.image_core.proofs.ChainLemmas.{chain_low, chain_more, chain_up}
 use Rattle.image_core.proofs.FateLemmas.{by_kind}
 use Rattle.publication_core.specs.declared.datagram.Datagram.{Datagram}
-use Rattle.publication_core.specs.Copies.{AreFirst, AreInReach, AreRecorded, BeginsWith, HasCome, HaveCome, HoldsAlone, IsAmong, IsInReach, IsRecorded, IsStream}
+use Rattle.publication_core.specs.Copies.{AreFirst, AreInReach, AreRecorded, BeginsWith, HasCome, HaveCome, HoldsAlone, IsAmong, IsInReach, IsRecorded, IsRecordedStream}
 use Rattle.publication_core.specs.Flows.{may_go}
-use Rattle.publication_core.specs.Meeting.{Called, Came, HasGone, IsRead, IsTrueOf, MayCome, Meet, Turn, asked_of, came, first_of, goes_out}
-use Rattle.publication_core.specs.Runs.{AreMadeOf, AreWithin, Call, IsMadeOf, IsOfStream, IsWithinReach, after_call, after_first, Lay, Hear, Ask, Send, Repeat, NoteSetup, NoteHeartbeat, End}
-use Rattle.publication_core.specs.Sending.{Sending, after_asking, is_nak_of, new_sending}
+use Rattle.publication_core.specs.Meeting.{Called, Came, HasGone, IsReadBack, IsTrueOf, MayCome, Meet, Turn, first_asked_of, came, first_waiting_of, goes_out}
+use Rattle.publication_core.specs.Runs.{AreMadeOf, AreWithin, Call, IsMadeOf, LaysOfStream, IsWithinReach, sending_after, after_first, Lay, Hear, Ask, Send, Repeat, NoteSetup, NoteHeartbeat, End}
+use Rattle.publication_core.specs.Sending.{Sending, after_repeat_request, is_nak_of, new_sending}
 use Rattle.publication_core.proofs.CopyLemmas.{among_all, copied}
 use Rattle.publication_core.proofs.HoldLemmas.{IsImageOf, holds_alone, image_begun, image_received, member_of, no_heartbeat}
 use Rattle.publication_core.proofs.MadeLemmas.{IsMadeSending, made_call}
@@ -71,17 +71,17 @@ gone_further stream most further (d ∷ out) up here =
     let rest = gone_further stream most further out up (record { made = here.made.1; within = here.within.1 }) in
     record { made = here.made; within = (let end = here.within.0 in omega arith, rest.within) }
 
-first_gone : (stream : List (ℕ × Frame)) (s : Sending) (ds : List Datagram) → IsWithinReach s → AreMadeOf stream ds → HaveGone stream (s.flow.consumed + window s.geometry) (first_of s ds)
+first_gone : (stream : List (ℕ × Frame)) (s : Sending) (ds : List Datagram) → IsWithinReach s → AreMadeOf stream ds → HaveGone stream (s.flow.consumed + window s.geometry) (first_waiting_of s ds)
 first_gone stream s [] so made = record { made = tt; within = tt }
 first_gone stream s (d ∷ ds) so made =
     cond_both (may_go s.geometry s.flow d) (d ∷ []) [] (λ (it : List Datagram). HaveGone stream (s.flow.consumed + window s.geometry) it)
     (λ may. record { made = (made.0, tt); within = (goes_within s d so may, tt) })
     (λ held. record { made = tt; within = tt })
 
-asked_gone : (stream : List (ℕ × Frame)) (most : ℕ) (ds : List Datagram) → HaveGone stream most ds → HaveGone stream most (asked_of ds)
+asked_gone : (stream : List (ℕ × Frame)) (most : ℕ) (ds : List Datagram) → HaveGone stream most ds → HaveGone stream most (first_asked_of ds)
 asked_gone stream most [] here = here
 asked_gone stream most (d ∷ ds) here =
-    cond_both d.is_repeat_asked (d ∷ []) (asked_of ds) (λ (it : List Datagram). HaveGone stream most it)
+    cond_both d.is_repeat_asked (d ∷ []) (first_asked_of ds) (λ (it : List Datagram). HaveGone stream most it)
     (λ asked. record { made = (here.made.0, tt); within = (here.within.0, tt) })
     (λ other. asked_gone stream most ds (record { made = here.made.1; within = here.within.1 }))
 
@@ -109,17 +109,17 @@ record IsCalled (limit : ℕ) (old new : Sending) : Type 0 where
 kept : (limit : ℕ) (old new : Sending) → new.geometry ≡ old.geometry → new.flow.consumed ≡ old.flow.consumed → IsCalled limit old new
 kept limit old new geometry consumed = record { geometry = geometry; up = omega (arith, consumed); true_of = omega (arith, consumed) }
 
-called : (r : Received) (c : Call) (s : Sending) → IsTrueOf s.geometry r c → IsCalled (rebuilt r) s (after_call c s)
+called : (r : Received) (c : Call) (s : Sending) → IsTrueOf s.geometry r c → IsCalled (rebuilt r) s (sending_after c s)
 called r (Lay p f) s is = kept (rebuilt r) s _ refl refl
 called r (Hear now status) s is =
     let it = heard s.geometry s.publication now status s.flow in
     record { geometry = refl; up = it.consumed; true_of = hearing_consumes s.geometry s.publication now status s.flow (rebuilt r) is }
 called r (Ask now nak) s is =
-    cond_both (is_nak_of s.publication nak) (after_asking now nak (position_of s.geometry nak.term_id nak.term_offset) s) s (λ (it : Sending). IsCalled (rebuilt r) s it)
+    cond_both (is_nak_of s.publication nak) (after_repeat_request now nak (position_of s.geometry nak.term_id nak.term_offset) s) s (λ (it : Sending). IsCalled (rebuilt r) s it)
     (λ ours. requests (position_of s.geometry nak.term_id nak.term_offset))
     (λ other. kept (rebuilt r) s s refl refl)
   where
-    requests : (found : Option ℕ) → IsCalled (rebuilt r) s (after_asking now nak found s)
+    requests : (found : Option ℕ) → IsCalled (rebuilt r) s (after_repeat_request now nak found s)
     requests None = kept (rebuilt r) s s refl refl
     requests (Some p) = kept (rebuilt r) s _ refl refl
 called r (Send now) s is = sends s.waiting where
@@ -157,7 +157,7 @@ recorded_has stream f [] recorded has = elim has [ ]
 recorded_has stream f (x ∷ fs) recorded (inl is) = rw is recorded.0
 recorded_has stream f (x ∷ fs) recorded (inr has) = recorded_has stream f fs recorded.1 has
 
-comes_recorded : (g : Geometry) (publication : Publication) (from to : ℕ) (stream : List (ℕ × Frame)) (out : List Datagram) (f : Frame) → IsStream g publication from stream to
+comes_recorded : (g : Geometry) (publication : Publication) (from to : ℕ) (stream : List (ℕ × Frame)) (out : List Datagram) (f : Frame) → IsRecordedStream g publication from stream to
     → AreMadeOf stream out → MayCome out f → IsRecorded stream f
 comes_recorded g publication from to stream out f is made (inl heartbeat) = inl heartbeat
 comes_recorded g publication from to stream out f is made (inr read) =
@@ -166,8 +166,8 @@ comes_recorded g publication from to stream out f is made (inr read) =
     read.has
 
 -- where a frame of a datagram ends
-read_below : (g : Geometry) (publication : Publication) (from to most p : ℕ) (stream : List (ℕ × Frame)) (out : List Datagram) (f : Frame) → IsStream g publication from stream to
-    → HaveGone stream most out → IsRead out f → IsAmong (p, f) stream → p + aligned_length f ≤ most
+read_below : (g : Geometry) (publication : Publication) (from to most p : ℕ) (stream : List (ℕ × Frame)) (out : List Datagram) (f : Frame) → IsRecordedStream g publication from stream to
+    → HaveGone stream most out → IsReadBack out f → IsAmong (p, f) stream → p + aligned_length f ≤ most
 read_below g publication from to most p stream out f is gone read here = ends where
   d : Datagram
   d = read.datagram
@@ -198,7 +198,7 @@ read_below g publication from to most p stream out f is gone read here = ends wh
       let size : aligned_length f ≡ aligned_length found.at.1 = ap aligned_length found.is in
       omega (arith, low, high, at, size)
 
-comes_in_reach : (g : Geometry) (publication : Publication) (from to most : ℕ) (stream : List (ℕ × Frame)) (out : List Datagram) (r : Received) (f : Frame) → IsStream g publication from stream to
+comes_in_reach : (g : Geometry) (publication : Publication) (from to most : ℕ) (stream : List (ℕ × Frame)) (out : List Datagram) (r : Received) (f : Frame) → IsRecordedStream g publication from stream to
     → HaveGone stream most out → most ≤ rebuilt r + window r.geometry → MayCome out f → IsInReach r.geometry stream (rebuilt r) f
 comes_in_reach g publication from to most stream out r f is gone furthest (inl heartbeat) p here =
     absurd (no_heartbeat g publication p f (member_of g publication p f stream is.members here).lies heartbeat)
@@ -216,12 +216,12 @@ record IsMeeting (g : Geometry) (publication : Publication) (from : ℕ) (stream
   true_of : s.flow.consumed ≤ rebuilt r
   image : IsImageOf g publication stream from r
 
-meeting_called : (g : Geometry) (publication : Publication) (from to : ℕ) (stream : List (ℕ × Frame)) (out : List Datagram) (s : Sending) (r : Received) (c : Call) → IsStream g publication from stream to
-    → IsOfStream stream c → IsTrueOf s.geometry r c → IsMeeting g publication from stream out s r → IsMeeting g publication from stream (out ++ goes_out c s) (after_call c s) r
+meeting_called : (g : Geometry) (publication : Publication) (from to : ℕ) (stream : List (ℕ × Frame)) (out : List Datagram) (s : Sending) (r : Received) (c : Call) → IsRecordedStream g publication from stream to
+    → LaysOfStream stream c → IsTrueOf s.geometry r c → IsMeeting g publication from stream out s r → IsMeeting g publication from stream (out ++ goes_out c s) (sending_after c s) r
 meeting_called g publication from to stream out s r c is of truth so =
     let it = called r c s truth in
-    let same : window (after_call c s).geometry ≡ window s.geometry = ap window it.geometry in
-    let up : s.flow.consumed + window s.geometry ≤ (after_call c s).flow.consumed + window (after_call c s).geometry = omega (arith, it.up, same) in
+    let same : window (sending_after c s).geometry ≡ window s.geometry = ap window it.geometry in
+    let up : s.flow.consumed + window s.geometry ≤ (sending_after c s).flow.consumed + window (sending_after c s).geometry = omega (arith, it.up, same) in
     record {
       sender = call_within c s so.sender;
       made = made_call g publication stream c s is.members of so.made;
@@ -231,7 +231,7 @@ meeting_called g publication from to stream out s r c is of truth so =
       image = so.image;
     }
 
-meeting_came : (g : Geometry) (publication : Publication) (from to : ℕ) (stream : List (ℕ × Frame)) (out : List Datagram) (s : Sending) (r : Received) (f : Frame) → IsStream g publication from stream to
+meeting_came : (g : Geometry) (publication : Publication) (from to : ℕ) (stream : List (ℕ × Frame)) (out : List Datagram) (s : Sending) (r : Received) (f : Frame) → IsRecordedStream g publication from stream to
     → IsRecorded stream f → IsMeeting g publication from stream out s r → IsMeeting g publication from stream out s (received r f)
 meeting_came g publication from to stream out s r f is recorded so = record {
   sender = so.sender;
@@ -247,11 +247,11 @@ record IsReceived (stream : List (ℕ × Frame)) (r : Received) (fs : List Frame
   recorded : AreRecorded stream fs
   furthest : AreInReach stream r fs
 
-meets : (g : Geometry) (publication : Publication) (from to : ℕ) (stream : List (ℕ × Frame)) (ts : List Turn) (out : List Datagram) (s : Sending) (r : Received) → IsStream g publication from stream to
+meets : (g : Geometry) (publication : Publication) (from to : ℕ) (stream : List (ℕ × Frame)) (ts : List Turn) (out : List Datagram) (s : Sending) (r : Received) → IsRecordedStream g publication from stream to
     → IsMeeting g publication from stream out s r → Meet stream ts out s r → IsReceived stream r (came ts)
 meets g publication from to stream [] out s r is so meet = record { recorded = tt; furthest = tt }
 meets g publication from to stream (Called c ∷ ts) out s r is so meet =
-    meets g publication from to stream ts (out ++ goes_out c s) (after_call c s) r is (meeting_called g publication from to stream out s r c is meet.0 meet.1 so) meet.2
+    meets g publication from to stream ts (out ++ goes_out c s) (sending_after c s) r is (meeting_called g publication from to stream out s r c is meet.0 meet.1 so) meet.2
 meets g publication from to stream (Came f ∷ ts) out s r is so meet =
     let recorded = comes_recorded g publication from to stream out f is so.gone.made meet.0 in
     let same : window r.geometry ≡ window s.geometry = ap window (so.image.geometry ∙ sym so.geometry) in
@@ -270,13 +270,13 @@ starts g publication from stream = record {
   image = image_begun g publication stream from;
 }
 
-pub meeting_alone : (g : Geometry) (publication : Publication) (from to : ℕ) (stream : List (ℕ × Frame)) (ts : List Turn) → IsStream g publication from stream to
+pub meeting_alone : (g : Geometry) (publication : Publication) (from to : ℕ) (stream : List (ℕ × Frame)) (ts : List Turn) → IsRecordedStream g publication from stream to
     → Meet stream ts [] (new_sending g publication from) (begun g publication from) → HoldsAlone stream (received_all (begun g publication from) (came ts))
 meeting_alone g publication from to stream ts is meet =
     holds_alone g publication from to from stream (came ts) is
     (meets g publication from to stream ts [] (new_sending g publication from) (begun g publication from) is (starts g publication from stream) meet).recorded
 
-pub meeting_copies : (g : Geometry) (publication : Publication) (from to front : ℕ) (stream firsts : List (ℕ × Frame)) (ts : List Turn) → IsStream g publication from stream to
+pub meeting_copies : (g : Geometry) (publication : Publication) (from to front : ℕ) (stream firsts : List (ℕ × Frame)) (ts : List Turn) → IsRecordedStream g publication from stream to
     → Meet stream ts [] (new_sending g publication from) (begun g publication from) → AreFirst from stream firsts front → HaveCome (came ts) firsts
     → BeginsWith firsts front (received_all (begun g publication from) (came ts))
 meeting_copies g publication from to front stream firsts ts is meet first all =

@@ -13,10 +13,10 @@ use Rattle.image_core.proofs.ChainLemmas.{chain_append}
 use Rattle.publication_core.specs.declared.datagram.Datagram.{Datagram}
 use Rattle.publication_core.specs.Datagrams.{alone, has_room, laid, with_next_frame}
 use Rattle.publication_core.specs.Flows.{after_datagram, may_go}
-use Rattle.publication_core.specs.Meeting.{first_of}
+use Rattle.publication_core.specs.Meeting.{first_waiting_of}
 use Rattle.publication_core.specs.Order.{AreRunsOf, SendsInOrder, firsts, laid_by}
-use Rattle.publication_core.specs.Runs.{Call, after_call, after_calls, after_first, Lay, Hear, Ask, Send, Repeat, NoteSetup, NoteHeartbeat, End}
-use Rattle.publication_core.specs.Sending.{Sending, after_asking, is_nak_of, new_sending}
+use Rattle.publication_core.specs.Runs.{Call, sending_after, after_calls, after_first, Lay, Hear, Ask, Send, Repeat, NoteSetup, NoteHeartbeat, End}
+use Rattle.publication_core.specs.Sending.{Sending, after_repeat_request, is_nak_of, new_sending}
 use Rattle.publication_core.proofs.MadeLemmas.{stored_end}
 use Rattle.publication_core.proofs.ReachLemmas.{heard}
 
@@ -71,7 +71,7 @@ GoesOn cs last =
 
 send_in_order : (now : ℕ) (cs : List Call) (last next : ℕ) (s : Sending) (ds : List Datagram) (rest : List (ℕ × Frame)) → GoesOn cs last
     → AreRunsOf s.flow.position s.waiting rest next → AreRunsOf s.flow.position ds rest next → IsChain next (laid_by cs) last
-    → SendsInOrder s.flow.position (rest ++ laid_by cs) (first_of s ds ++ firsts cs (after_first now ds s)) (after_calls cs (after_first now ds s)) last
+    → SendsInOrder s.flow.position (rest ++ laid_by cs) (first_waiting_of s ds ++ firsts cs (after_first now ds s)) (after_calls cs (after_first now ds s)) last
 send_in_order now cs last next s [] rest on held runs chain = on s rest next held chain
 send_in_order now cs last next s (d ∷ ds) rest on held (run, others, split, at, chained, bytes, tail) chain = by_may (may_go s.geometry s.flow d) where
   new : Sending
@@ -95,9 +95,9 @@ send_in_order now cs last next s (d ∷ ds) rest on held (run, others, split, at
 
 ask_in_order : (now : ℕ) (nak : Nak) (found : Option ℕ) (cs : List Call) (last next : ℕ) (s : Sending) (rest : List (ℕ × Frame)) → GoesOn cs last
     → AreRunsOf s.flow.position s.waiting rest next → IsChain next (laid_by cs) last
-    → SendsInOrder s.flow.position (rest ++ laid_by cs) (firsts cs (after_asking now nak found s)) (after_calls cs (after_asking now nak found s)) last
+    → SendsInOrder s.flow.position (rest ++ laid_by cs) (firsts cs (after_repeat_request now nak found s)) (after_calls cs (after_repeat_request now nak found s)) last
 ask_in_order now nak None cs last next s rest on runs chain = on s rest next runs chain
-ask_in_order now nak (Some p) cs last next s rest on runs chain = on (after_asking now nak (Some p) s) rest next runs chain
+ask_in_order now nak (Some p) cs last next s rest on runs chain = on (after_repeat_request now nak (Some p) s) rest next runs chain
 
 in_order : (cs : List Call) (last : ℕ) → GoesOn cs last
 in_order [] last s rest next runs chain = record {
@@ -108,25 +108,25 @@ in_order [] last s rest next runs chain = record {
   waits = subst (λ (to : ℕ). AreRunsOf s.flow.position s.waiting rest to) chain runs;
 }
 in_order (Lay p f ∷ cs) last s rest next runs (at, some, chain) =
-    subst (λ (frames : List (ℕ × Frame)). SendsInOrder s.flow.position frames (firsts cs (after_call (Lay p f) s)) (after_calls cs (after_call (Lay p f) s)) last)
+    subst (λ (frames : List (ℕ × Frame)). SendsInOrder s.flow.position frames (firsts cs (sending_after (Lay p f) s)) (after_calls cs (sending_after (Lay p f) s)) last)
     (append_assoc rest ((p, f) ∷ []) (laid_by cs))
-    (in_order cs last (after_call (Lay p f) s) (rest ++ (p, f) ∷ []) (p + aligned_length f)
+    (in_order cs last (sending_after (Lay p f) s) (rest ++ (p, f) ∷ []) (p + aligned_length f)
     (runs_laid s.geometry s.flow.position p f s.waiting rest some (subst (λ (to : ℕ). AreRunsOf s.flow.position s.waiting rest to) at runs))
     chain)
 in_order (Hear now status ∷ cs) last s rest next runs chain =
     let same = (heard s.geometry s.publication now status s.flow).position in
-    subst (λ (p : ℕ). SendsInOrder p (rest ++ laid_by cs) (firsts cs (after_call (Hear now status) s)) (after_calls cs (after_call (Hear now status) s)) last) same
-    (in_order cs last (after_call (Hear now status) s) rest next (subst (λ (p : ℕ). AreRunsOf p s.waiting rest next) (sym same) runs) chain)
+    subst (λ (p : ℕ). SendsInOrder p (rest ++ laid_by cs) (firsts cs (sending_after (Hear now status) s)) (after_calls cs (sending_after (Hear now status) s)) last) same
+    (in_order cs last (sending_after (Hear now status) s) rest next (subst (λ (p : ℕ). AreRunsOf p s.waiting rest next) (sym same) runs) chain)
 in_order (Ask now nak ∷ cs) last s rest next runs chain =
-    cond_both (is_nak_of s.publication nak) (after_asking now nak (position_of s.geometry nak.term_id nak.term_offset) s) s
+    cond_both (is_nak_of s.publication nak) (after_repeat_request now nak (position_of s.geometry nak.term_id nak.term_offset) s) s
     (λ (it : Sending). SendsInOrder s.flow.position (rest ++ laid_by cs) (firsts cs it) (after_calls cs it) last)
     (λ ours. ask_in_order now nak (position_of s.geometry nak.term_id nak.term_offset) cs last next s rest (in_order cs last) runs chain)
     (λ other. in_order cs last s rest next runs chain)
 in_order (Send now ∷ cs) last s rest next runs chain = send_in_order now cs last next s s.waiting rest (in_order cs last) runs runs chain
-in_order (Repeat now ∷ cs) last s rest next runs chain = in_order cs last (after_call (Repeat now) s) rest next runs chain
-in_order (NoteSetup now ∷ cs) last s rest next runs chain = in_order cs last (after_call (NoteSetup now) s) rest next runs chain
-in_order (NoteHeartbeat now ∷ cs) last s rest next runs chain = in_order cs last (after_call (NoteHeartbeat now) s) rest next runs chain
-in_order (End ∷ cs) last s rest next runs chain = in_order cs last (after_call End s) rest next runs chain
+in_order (Repeat now ∷ cs) last s rest next runs chain = in_order cs last (sending_after (Repeat now) s) rest next runs chain
+in_order (NoteSetup now ∷ cs) last s rest next runs chain = in_order cs last (sending_after (NoteSetup now) s) rest next runs chain
+in_order (NoteHeartbeat now ∷ cs) last s rest next runs chain = in_order cs last (sending_after (NoteHeartbeat now) s) rest next runs chain
+in_order (End ∷ cs) last s rest next runs chain = in_order cs last (sending_after End s) rest next runs chain
 
 pub all_in_order : (g : Geometry) (publication : Publication) (from to : ℕ) (cs : List Call) → IsChain from (laid_by cs) to
     → SendsInOrder from (laid_by cs) (firsts cs (new_sending g publication from)) (after_calls cs (new_sending g publication from)) to

@@ -13,8 +13,8 @@ use Rattle.publication_core.specs.declared.datagram.Datagram.{Datagram}
 use Rattle.publication_core.specs.declared.flow.Flow.{Flow}
 use Rattle.publication_core.specs.Datagrams.{after_repeat, marked, furthest, unconsumed}
 use Rattle.publication_core.specs.Flows.{after_consumption, after_datagram, asks_for_setup, flow_after_hearing, is_status_of, may_go}
-use Rattle.publication_core.specs.Runs.{AreWithin, Call, IsWithinReach, after_call, after_calls, after_first, after_sending, Lay, Hear, Ask, Send, Repeat, NoteSetup, NoteHeartbeat, End}
-use Rattle.publication_core.specs.Sending.{Sending, Sends, first_passes, after_hearing, after_nak, after_asking, is_nak_of, new_sending}
+use Rattle.publication_core.specs.Runs.{AreWithin, Call, IsWithinReach, sending_after, after_calls, after_first, after_sending, Lay, Hear, Ask, Send, Repeat, NoteSetup, NoteHeartbeat, End}
+use Rattle.publication_core.specs.Sending.{Sending, Sends, first_passes, after_hearing, after_nak, after_repeat_request, is_nak_of, new_sending}
 
 within_further : (most more : ℕ) (ds : List Datagram) → most ≤ more → AreWithin most ds → AreWithin more ds
 within_further most more [] further within = tt
@@ -63,13 +63,13 @@ hearing now status s so =
       position = let position = so.position in omega (arith, it.consumed, it.position);
     }
 
-requested : (now : ℕ) (nak : Nak) (found : Option ℕ) (s : Sending) → IsWithinReach s → IsWithinReach (after_asking now nak found s)
+requested : (now : ℕ) (nak : Nak) (found : Option ℕ) (s : Sending) → IsWithinReach s → IsWithinReach (after_repeat_request now nak found s)
 requested now nak None s so = so
 requested now nak (Some p) s so = record { limit = so.limit; sent = within_marked _ now p (p + unsigned_abs nak.length) s.sent so.sent; position = so.position }
 
 asking : (now : ℕ) (nak : Nak) (s : Sending) → IsWithinReach s → IsWithinReach (after_nak now nak s)
 asking now nak s so =
-    cond_both (is_nak_of s.publication nak) (after_asking now nak (position_of s.geometry nak.term_id nak.term_offset) s) s (λ (it : Sending). IsWithinReach it)
+    cond_both (is_nak_of s.publication nak) (after_repeat_request now nak (position_of s.geometry nak.term_id nak.term_offset) s) s (λ (it : Sending). IsWithinReach it)
     (λ ours. requested now nak (position_of s.geometry nak.term_id nak.term_offset) s so)
     (λ other. so)
 
@@ -88,7 +88,7 @@ sending now (d ∷ ds) s so =
     })
     (λ held. so)
 
-pub call_within : (c : Call) (s : Sending) → IsWithinReach s → IsWithinReach (after_call c s)
+pub call_within : (c : Call) (s : Sending) → IsWithinReach s → IsWithinReach (sending_after c s)
 call_within (Lay p f) s so = record { limit = so.limit; sent = so.sent; position = so.position }
 call_within (Hear now status) s so = hearing now status s so
 call_within (Ask now nak) s so = asking now nak s so
@@ -100,7 +100,7 @@ call_within End s so = record { limit = so.limit; sent = so.sent; position = so.
 
 calls_within : (cs : List Call) (s : Sending) → IsWithinReach s → IsWithinReach (after_calls cs s)
 calls_within [] s so = so
-calls_within (c ∷ cs) s so = calls_within cs (after_call c s) (call_within c s so)
+calls_within (c ∷ cs) s so = calls_within cs (sending_after c s) (call_within c s so)
 
 -- after any calls nothing is sent further
 pub all_within : (g : Geometry) (publication : Publication) (from : ℕ) (cs : List Call) → IsWithinReach (after_calls cs (new_sending g publication from))

@@ -12,7 +12,7 @@ use Rattle.frame_core.proofs.DatagramLemmas.{one_list}
 use Rattle.frame_core.proofs.FrontLemmas.{stored_in_front}
 use Rattle.image_core.specs.Kept.{AreMembers}
 use Rattle.publication_core.specs.declared.datagram.Datagram.{Datagram}
-use Rattle.publication_core.specs.Copies.{AreAmong, AreRecorded, IsStream}
+use Rattle.publication_core.specs.Copies.{AreAmong, AreRecorded, IsRecordedStream}
 use Rattle.publication_core.specs.Runs.{AreMessages, IsMadeOf, IsPadIf, stored_all}
 use Rattle.publication_core.proofs.HoldLemmas.{member_of}
 use Rattle.publication_core.proofs.MadeLemmas.{length_message}
@@ -92,7 +92,7 @@ among_both stream [] ns here there = there
 among_both stream (m ∷ ms) ns here there = (here.0, among_both stream ms ns here.1 there)
 
 -- whoever reads a datagram of a stream gets frames of the stream alone
-pub read_alone : (g : Geometry) (publication : Publication) (from to : ℕ) (stream : List (ℕ × Frame)) (d : Datagram) (fs : List Frame) → IsStream g publication from stream to
+pub read_alone : (g : Geometry) (publication : Publication) (from to : ℕ) (stream : List (ℕ × Frame)) (d : Datagram) (fs : List Frame) → IsRecordedStream g publication from stream to
     → IsMadeOf stream d → IsDatagram d.bytes fs → AreRecorded stream fs
 read_alone g publication from to stream d fs is made datagram =
     subst (λ (gs : List Frame). AreRecorded stream gs) (one_list d.bytes (frames_of (made.messages ++ made.pad)) fs (is_datagram g publication stream d is.members made) datagram)

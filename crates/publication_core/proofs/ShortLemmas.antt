@@ -16,11 +16,11 @@ use Rattle.frame_core.specs.Position.{position_of}
 use Rattle.image_core.specs.Kept.{AreMembers}
 use Rattle.image_core.specs.Received.{is_within, joining_position}
 use Rattle.publication_core.specs.declared.datagram.Datagram.{Datagram}
-use Rattle.publication_core.specs.Copies.{IsStream}
+use Rattle.publication_core.specs.Copies.{IsRecordedStream}
 use Rattle.publication_core.specs.Datagrams.{after_repeat, alone, has_room, laid, marked, may_repeat, meets, repeated, unconsumed, with_next_frame}
 use Rattle.publication_core.specs.Flows.{after_datagram, may_go}
-use Rattle.publication_core.specs.Runs.{AreOfStream, AreShort, Call, IsOfStream, after_call, after_calls, after_first, Lay, Hear, Ask, Send, Repeat, NoteSetup, NoteHeartbeat, End}
-use Rattle.publication_core.specs.Sending.{Sending, after_asking, is_nak_of, new_sending}
+use Rattle.publication_core.specs.Runs.{AreOfStream, AreShort, Call, LaysOfStream, sending_after, after_calls, after_first, Lay, Hear, Ask, Send, Repeat, NoteSetup, NoteHeartbeat, End}
+use Rattle.publication_core.specs.Sending.{Sending, after_repeat_request, is_nak_of, new_sending}
 use Rattle.publication_core.proofs.BytesLemmas.{length_pad}
 use Rattle.publication_core.proofs.HoldLemmas.{IsMember, no_heartbeat}
 use Rattle.publication_core.proofs.MadeLemmas.{length_message, placed}
@@ -98,7 +98,7 @@ pub record IsShort (g : Geometry) (s : Sending) : Type 0 where
   pub sent : AreShort g s.sent
   pub waiting : AreShort g s.waiting
 
-short_request : (g : Geometry) (now : ℕ) (nak : Nak) (found : Option ℕ) (s : Sending) → IsShort g s → IsShort g (after_asking now nak found s)
+short_request : (g : Geometry) (now : ℕ) (nak : Nak) (found : Option ℕ) (s : Sending) → IsShort g s → IsShort g (after_repeat_request now nak found s)
 short_request g now nak None s short = short
 short_request g now nak (Some p) s short = record { geometry = short.geometry; sent = short_marked g now p (p + unsigned_abs nak.length) s.sent short.sent; waiting = short.waiting }
 
@@ -109,8 +109,8 @@ short_first g now (d ∷ ds) s waiting short =
     (λ may. record { geometry = short.geometry; sent = short_end g d s.sent short.sent waiting.0; waiting = waiting.1 })
     (λ held. short)
 
-short_call : (g : Geometry) (publication : Publication) (stream : List (ℕ × Frame)) (c : Call) (s : Sending) → AreMembers g publication stream → HasRoomFor g.mtu → IsOfStream stream c
-    → IsShort g s → IsShort g (after_call c s)
+short_call : (g : Geometry) (publication : Publication) (stream : List (ℕ × Frame)) (c : Call) (s : Sending) → AreMembers g publication stream → HasRoomFor g.mtu → LaysOfStream stream c
+    → IsShort g s → IsShort g (sending_after c s)
 short_call g publication stream (Lay p f) s members room of short = record {
   geometry = short.geometry;
   sent = short.sent;
@@ -118,7 +118,7 @@ short_call g publication stream (Lay p f) s members room of short = record {
 }
 short_call g publication stream (Hear now status) s members room of short = record { geometry = short.geometry; sent = short_unconsumed g _ s.sent short.sent; waiting = short.waiting }
 short_call g publication stream (Ask now nak) s members room of short =
-    cond_both (is_nak_of s.publication nak) (after_asking now nak (position_of s.geometry nak.term_id nak.term_offset) s) s (λ (it : Sending). IsShort g it)
+    cond_both (is_nak_of s.publication nak) (after_repeat_request now nak (position_of s.geometry nak.term_id nak.term_offset) s) s (λ (it : Sending). IsShort g it)
     (λ ours. short_request g now nak (position_of s.geometry nak.term_id nak.term_offset) s short)
     (λ other. short)
 short_call g publication stream (Send now) s members room of short = short_first g now s.waiting s short.waiting short
@@ -131,9 +131,9 @@ short_calls : (g : Geometry) (publication : Publication) (stream : List (ℕ × 
     → AreOfStream stream cs → IsShort g s → IsShort g (after_calls cs s)
 short_calls g publication stream [] s members room of short = short
 short_calls g publication stream (c ∷ cs) s members room of short =
-    short_calls g publication stream cs (after_call c s) members room of.1 (short_call g publication stream c s members room of.0 short)
+    short_calls g publication stream cs (sending_after c s) members room of.1 (short_call g publication stream c s members room of.0 short)
 
-pub all_short : (g : Geometry) (publication : Publication) (from to : ℕ) (stream : List (ℕ × Frame)) (cs : List Call) → IsStream g publication from stream to → is_mtu g.mtu ≡ true
+pub all_short : (g : Geometry) (publication : Publication) (from to : ℕ) (stream : List (ℕ × Frame)) (cs : List Call) → IsRecordedStream g publication from stream to → is_mtu g.mtu ≡ true
     → AreOfStream stream cs → IsShort g (after_calls cs (new_sending g publication from))
 all_short g publication from to stream cs is mtu of =
     short_calls g publication stream cs (new_sending g publication from) is.members (room_of g.mtu mtu) of (record { geometry = refl; sent = tt; waiting = tt })

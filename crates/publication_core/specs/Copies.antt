@@ -9,7 +9,7 @@ use Rattle.image_core.specs.Kept.{AreMembers}
 use Rattle.image_core.specs.Received.{IsChain, Received, rebuilt, received, window}
 
 -- recorded frames, each at its position, that follow one another from a position to another; each is of the publication, within the MTU and inside its term
-pub record IsStream (g : Geometry) (publication : Publication) (from : ℕ) (stream : List (ℕ × Frame)) (to : ℕ) : Type 0 where
+pub record IsRecordedStream (g : Geometry) (publication : Publication) (from : ℕ) (stream : List (ℕ × Frame)) (to : ℕ) : Type 0 where
   pub follows : IsChain from stream to
   pub members : AreMembers g publication stream
 

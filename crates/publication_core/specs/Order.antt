@@ -3,8 +3,8 @@ use Rattle.std.specs.Prelude.{◌≡◌, ◌++◌, ℕ, List, [], ◌∷◌}
 use Rattle.frame_core.specs.declared.frame.Frame.{Frame}
 use Rattle.image_core.specs.Received.{IsChain}
 use Rattle.publication_core.specs.declared.datagram.Datagram.{Datagram}
-use Rattle.publication_core.specs.Meeting.{first_of}
-use Rattle.publication_core.specs.Runs.{Call, after_call, stored_all, Lay, Send}
+use Rattle.publication_core.specs.Meeting.{first_waiting_of}
+use Rattle.publication_core.specs.Runs.{Call, sending_after, stored_all, Lay, Send}
 use Rattle.publication_core.specs.Sending.{Sending}
 
 -- the frames that are laid, in order
@@ -18,12 +18,12 @@ laid_by (c ∷ cs) = laid_of c ++ laid_by cs
 
 -- the datagrams that are sent for the first time, in order
 abbrev pub firsts_of : Call → Sending → List Datagram
-firsts_of (Send now) s = first_of s s.waiting
+firsts_of (Send now) s = first_waiting_of s s.waiting
 firsts_of call s = []
 
 abbrev pub firsts : List Call → Sending → List Datagram
 firsts [] s = []
-firsts (c ∷ cs) s = firsts_of c s ++ firsts cs (after_call c s)
+firsts (c ∷ cs) s = firsts_of c s ++ firsts cs (sending_after c s)
 
 -- some datagrams have these frames, each where the one before it ends, from a position to another
 abbrev pub AreRunsOf : ℕ → List Datagram → List (ℕ × Frame) → ℕ → Type 0

@@ -35,19 +35,19 @@ after_first now (d ∷ ds) s =
 abbrev pub after_sending : ℕ → Sending → Sending
 after_sending now s = after_first now s.waiting s
 
-abbrev pub after_call : Call → Sending → Sending
-after_call (Lay p f) s = after_laying p f s
-after_call (Hear now status) s = after_hearing now status s
-after_call (Ask now nak) s = after_nak now nak s
-after_call (Send now) s = after_sending now s
-after_call (Repeat now) s = after_again now s
-after_call (NoteSetup now) s = record s { flow = after_setup now s.flow }
-after_call (NoteHeartbeat now) s = record s { flow = after_heartbeat now s.flow }
-after_call End s = after_end s
+abbrev pub sending_after : Call → Sending → Sending
+sending_after (Lay p f) s = after_laying p f s
+sending_after (Hear now status) s = after_hearing now status s
+sending_after (Ask now nak) s = after_nak now nak s
+sending_after (Send now) s = after_sending now s
+sending_after (Repeat now) s = after_again now s
+sending_after (NoteSetup now) s = record s { flow = after_setup now s.flow }
+sending_after (NoteHeartbeat now) s = record s { flow = after_heartbeat now s.flow }
+sending_after End s = after_end s
 
 abbrev pub after_calls : List Call → Sending → Sending
 after_calls [] s = s
-after_calls (c ∷ cs) s = after_calls cs (after_call c s)
+after_calls (c ∷ cs) s = after_calls cs (sending_after c s)
 
 -- ---- limits
 
@@ -70,13 +70,13 @@ AreShort g (d ∷ ds) = (length d.bytes ≤ unsigned_abs g.mtu) × AreShort g ds
 -- ---- recorded frames
 
 -- the frame that is laid, if one is, is one of a stream, at its position
-abbrev pub IsOfStream : List (ℕ × Frame) → Call → Type 0
-IsOfStream stream (Lay p f) = IsAmong (p, f) stream
-IsOfStream stream call = Unit {0}
+abbrev pub LaysOfStream : List (ℕ × Frame) → Call → Type 0
+LaysOfStream stream (Lay p f) = IsAmong (p, f) stream
+LaysOfStream stream call = Unit {0}
 
 abbrev pub AreOfStream : List (ℕ × Frame) → List Call → Type 0
 AreOfStream stream [] = Unit {0}
-AreOfStream stream (c ∷ cs) = IsOfStream stream c × AreOfStream stream cs
+AreOfStream stream (c ∷ cs) = LaysOfStream stream c × AreOfStream stream cs
 
 -- what segment files hold of some frames, one after another
 abbrev pub stored_all : List (ℕ × Frame) → List ℕ

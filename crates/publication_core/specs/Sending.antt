@@ -44,13 +44,13 @@ abbrev pub is_nak_of : Publication → Nak → Bool
 is_nak_of publication n = int_eq n.session_id publication.session_id && int_eq n.stream_id publication.stream_id
 
 -- each datagram is asked for that was sent, is not consumed, meets a range that begins at a position, and was not repeated in the last 60 milliseconds
-abbrev pub after_asking : ℕ → Nak → Option ℕ → Sending → Sending
-after_asking now n None s = s
-after_asking now n (Some p) s = record s { sent = map (marked now p (p + unsigned_abs n.length)) s.sent }
+abbrev pub after_repeat_request : ℕ → Nak → Option ℕ → Sending → Sending
+after_repeat_request now n None s = s
+after_repeat_request now n (Some p) s = record s { sent = map (marked now p (p + unsigned_abs n.length)) s.sent }
 
 -- a NAK of another publication, or without a position, changes nothing
 abbrev pub after_nak : ℕ → Nak → Sending → Sending
-after_nak now n s = if is_nak_of s.publication n then after_asking now n (position_of s.geometry n.term_id n.term_offset) s else s
+after_nak now n s = if is_nak_of s.publication n then after_repeat_request now n (position_of s.geometry n.term_id n.term_offset) s else s
 
 -- ---- what goes
 

@@ -12,14 +12,14 @@ ghost use Rattle.publication_core.specs.Runs.{AreMadeOf, AreOfStream, AreShort, 
 ghost use Rattle.publication_core.specs.Meeting.{Meet, Turn, came};
 ghost use Rattle.publication_core.specs.Order.{SendsInOrder, firsts, laid_by};
 ghost use Rattle.publication_core.specs.Sending.{Sending, Sends, new_sending};
-ghost use Rattle.publication_core.specs.Copies.{AreFirst, AreInReach, AreRecorded, AreWithinLimits, BeginsWith, HaveCome, HoldsAlone, IsStream};
+ghost use Rattle.publication_core.specs.Copies.{AreFirst, AreInReach, AreRecorded, AreWithinLimits, BeginsWith, HaveCome, HoldsAlone, IsRecordedStream};
 
 /// An image that gets frames of a stream and heartbeats holds frames of the stream alone, wherever it joined: any of
 /// them, in any order, any number of times.
 pub fn an_image_holds_recorded_frames_alone()
     ensures { (g : Geometry) (publication : Publication) (from to join : ℕ)
         (stream : List (ℕ × Frame)) (fs : List Frame)
-        → IsStream g publication from stream to → AreRecorded stream fs
+        → IsRecordedStream g publication from stream to → AreRecorded stream fs
         → HoldsAlone stream (received_all (begun g publication join) fs) }
 {}
 
@@ -29,7 +29,7 @@ pub fn an_image_holds_recorded_frames_alone()
 pub fn an_image_that_got_all_frames_is_a_copy()
     ensures { (g : Geometry) (publication : Publication) (from to front : ℕ)
         (stream firsts : List (ℕ × Frame)) (fs : List Frame)
-        → IsStream g publication from stream to → AreFirst from stream firsts front
+        → IsRecordedStream g publication from stream to → AreFirst from stream firsts front
         → AreRecorded stream fs → AreInReach stream (begun g publication from) fs → HaveCome fs firsts
         → BeginsWith firsts front (received_all (begun g publication from) fs) }
 {}
@@ -40,7 +40,7 @@ pub fn an_image_that_got_all_frames_is_a_copy()
 pub fn a_sender_within_its_limit_makes_a_copy()
     ensures { (g : Geometry) (publication : Publication) (from to front : ℕ)
         (stream firsts sent : List (ℕ × Frame))
-        → IsStream g publication from stream to → AreFirst from stream firsts front
+        → IsRecordedStream g publication from stream to → AreFirst from stream firsts front
         → AreRecorded stream (map (λ it. it.1) sent)
         → AreWithinLimits stream (begun g publication from) sent
         → HaveCome (map (λ it. it.1) sent) firsts
@@ -63,15 +63,15 @@ pub fn nothing_is_sent_further_than_half_a_term_past_what_was_consumed()
 pub fn a_publication_sends_recorded_frames_alone()
     ensures sent { (g : Geometry) (publication : Publication) (from to : ℕ)
         (stream : List (ℕ × Frame)) (calls : List Call)
-        → IsStream g publication from stream to → AreOfStream stream calls
+        → IsRecordedStream g publication from stream to → AreOfStream stream calls
         → AreMadeOf stream (after_calls calls (new_sending g publication from)).sent }
     ensures waiting { (g : Geometry) (publication : Publication) (from to : ℕ)
         (stream : List (ℕ × Frame)) (calls : List Call)
-        → IsStream g publication from stream to → AreOfStream stream calls
+        → IsRecordedStream g publication from stream to → AreOfStream stream calls
         → AreMadeOf stream (after_calls calls (new_sending g publication from)).waiting }
     ensures alone { (g : Geometry) (publication : Publication) (from to : ℕ)
         (stream : List (ℕ × Frame)) (d : Datagram) (fs : List Frame)
-        → IsStream g publication from stream to → IsMadeOf stream d
+        → IsRecordedStream g publication from stream to → IsMadeOf stream d
         → IsDatagram d.bytes fs → AreRecorded stream fs }
 {}
 
@@ -80,11 +80,11 @@ pub fn a_publication_sends_recorded_frames_alone()
 pub fn no_datagram_is_longer_than_the_mtu()
     ensures sent { (g : Geometry) (publication : Publication) (from to : ℕ)
         (stream : List (ℕ × Frame)) (calls : List Call)
-        → IsStream g publication from stream to → is_mtu g.mtu ≡ true → AreOfStream stream calls
+        → IsRecordedStream g publication from stream to → is_mtu g.mtu ≡ true → AreOfStream stream calls
         → AreShort g (after_calls calls (new_sending g publication from)).sent }
     ensures waiting { (g : Geometry) (publication : Publication) (from to : ℕ)
         (stream : List (ℕ × Frame)) (calls : List Call)
-        → IsStream g publication from stream to → is_mtu g.mtu ≡ true → AreOfStream stream calls
+        → IsRecordedStream g publication from stream to → is_mtu g.mtu ≡ true → AreOfStream stream calls
         → AreShort g (after_calls calls (new_sending g publication from)).waiting }
 {}
 
@@ -95,12 +95,12 @@ pub fn no_datagram_is_longer_than_the_mtu()
 pub fn a_sender_and_an_image_make_a_copy()
     ensures alone { (g : Geometry) (publication : Publication) (from to : ℕ)
         (stream : List (ℕ × Frame)) (ts : List Turn)
-        → IsStream g publication from stream to
+        → IsRecordedStream g publication from stream to
         → Meet stream ts [] (new_sending g publication from) (begun g publication from)
         → HoldsAlone stream (received_all (begun g publication from) (came ts)) }
     ensures copy { (g : Geometry) (publication : Publication) (from to front : ℕ)
         (stream firsts : List (ℕ × Frame)) (ts : List Turn)
-        → IsStream g publication from stream to
+        → IsRecordedStream g publication from stream to
         → Meet stream ts [] (new_sending g publication from) (begun g publication from)
         → AreFirst from stream firsts front → HaveCome (came ts) firsts
         → BeginsWith firsts front (received_all (begun g publication from) (came ts)) }
