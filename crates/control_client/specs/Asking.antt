@@ -6,7 +6,7 @@ use Rattle.control_client.specs.declared.answer.Verdict.{Verdict}
 use Rattle.control_client.specs.declared.fault.AskFault.{AskFault}
 use Rattle.control_client.specs.declared.fault.AskFault.TheVariants.{Output}
 use Rattle.control_client.specs.Lines.{text_of}
-use Rattle.control_client.specs.Replies.{answer_of, verdict_of}
+use Rattle.control_client.specs.Replies.{answer_of, verdict_after}
 
 -- the bytes are all that a reader had left, if it is known what it had
 abbrev pub Gives : Option (List ℕ) → List ℕ → Type 0
@@ -52,7 +52,7 @@ module _ (answers : List ℕ → Option (List ℕ) → Type 0) (text : List ℕ)
     pub came : List ℕ
     pub reply : IsReply came
     pub printed : Appends contents written came
-    pub ends : verdict ≡ verdict_of (answer_of asked until came)
+    pub ends : verdict ≡ verdict_after (answer_of asked until came)
 
   -- the first bytes of it were printed before a fault; nothing is said of a writer that failed
   abbrev pub FailsOnce : Option (List ℕ) → Option (List ℕ) → AskFault → Type 0
@@ -62,7 +62,7 @@ module _ (answers : List ℕ → Option (List ℕ) → Type 0) (text : List ℕ)
 module _ (answers : List ℕ → Option (List ℕ) → Type 0) (asked : List (List ℕ)) (until : Option (List ℕ)) where
   -- how asking ends by the bytes that came on one connection, or that it goes on
   abbrev pub verdict_by : List ℕ → Option Verdict
-  verdict_by came = verdict_of (answer_of asked until came)
+  verdict_by came = verdict_after (answer_of asked until came)
 
   -- such bytes were all replies to the asked lines, on connections by which asking goes on
   abbrev pub GoOn : List (List ℕ) → Type 0

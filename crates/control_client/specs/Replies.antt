@@ -49,7 +49,7 @@ answer_of asked until came = record {
 }
 
 -- How asking ends by an answer: a line has no reply; else a reply is a refusal; else it is the awaited one. Else it goes on.
-abbrev pub verdict_of : Answer → Option Verdict
-verdict_of answer =
+abbrev pub verdict_after : Answer → Option Verdict
+verdict_after answer =
     if nat_lt 0 answer.left then Some (Unanswered answer.left)
     else (if answer.is_refused then Some Refused else (if answer.is_awaited then Some Answered else None))

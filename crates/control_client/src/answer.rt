@@ -1,7 +1,7 @@
 //! What came answers.
 
 ghost use Rattle.std.specs.Prelude.{◌≡◌};
-ghost use Rattle.control_client.specs.Replies.{verdict_of};
+ghost use Rattle.control_client.specs.Replies.{verdict_after};
 
 /// What the bytes that came on one connection answer.
 #[derive(Clone, Copy, Debug, PartialEq, Eq)]
@@ -28,7 +28,7 @@ pub enum Verdict {
 impl Answer {
     /// How asking ends by this answer; none if the lines are to be sent again.
     pub fn verdict(&self) -> Option<Verdict>
-        ensures { result ≡ verdict_of self.now }
+        ensures { result ≡ verdict_after self.now }
     {
         if self.left > 0 {
             Some(Verdict::Unanswered(self.left))

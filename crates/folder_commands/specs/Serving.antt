@@ -48,9 +48,9 @@ abbrev pub IsSegmentLength : ℕ → Type 0
 IsSegmentLength bytes = (65536 ≤ bytes) × (bytes ≤ 1073741824) × (is_power_of_two bytes ≡ true)
 
 -- `--aeron` (set or not) and these streams of `--record` go together: with it at most 64 streams, without it none
-abbrev pub MayRecord : Bool → List ℤ → Type 0
-MayRecord true streams = length streams ≤ 64
-MayRecord false streams = streams ≡ []
+abbrev pub MayAskToRecord : Bool → List ℤ → Type 0
+MayAskToRecord true streams = length streams ≤ 64
+MayAskToRecord false streams = streams ≡ []
 
 -- the segment length, in bytes, that the streams of `--record` and `--segment-length` (given or not) ask for: that of
 -- `--segment-length`, which needs a stream, or 134,217,728
@@ -70,7 +70,7 @@ module _ (words : ServeWords) where
 
   -- the server may record the streams that the words name
   abbrev pub RecordsStreams : Type 0
-  RecordsStreams = MayRecord words.is_aeron words.streams.items
+  RecordsStreams = MayAskToRecord words.is_aeron words.streams.items
 
   -- it may not
   abbrev pub HasBadStreams : Type 0

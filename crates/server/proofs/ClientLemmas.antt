@@ -8,7 +8,7 @@ use Rattle.call_history.specs.Values.{PassView}
 use Rattle.archive_lock.specs.declared.history.Made.{Made}
 use Rattle.disk_core.specs.Life.{Life}
 use Rattle.engine_core.specs.Engine.{EngineState}
-use Rattle.server.specs.Answering.{ClientView, Closes, ClosesEach}
+use Rattle.server.specs.Answering.{ClientView, ClosesReplay, ClosesEach}
 use Rattle.server.specs.Clients.{AreBack, IsBack}
 use Rattle.server_recorder.specs.Seats.{AreClientPasses, HasFrom}
 
@@ -22,11 +22,11 @@ err_part P r error is h = subst (λ (x : Result _ _). IfErr x P) is h
 -- ---- replays
 
 -- one replay more is closed
-closes_more : {D : Type 0} (life : D → Life) (opening : EngineState) (replays : List ℤ) (replay : ℤ) (old mid new : ClientView) → ClosesEach life opening replays old mid → Closes life opening replay mid new → ClosesEach life opening (replays ++ replay ∷ []) old new
-closes_more life opening [] replay old mid new is closes = (new, subst (λ (m : ClientView). Closes life opening replay m new) is closes, refl)
+closes_more : {D : Type 0} (life : D → Life) (opening : EngineState) (replays : List ℤ) (replay : ℤ) (old mid new : ClientView) → ClosesEach life opening replays old mid → ClosesReplay life opening replay mid new → ClosesEach life opening (replays ++ replay ∷ []) old new
+closes_more life opening [] replay old mid new is closes = (new, subst (λ (m : ClientView). ClosesReplay life opening replay m new) is closes, refl)
 closes_more life opening (r ∷ rs) replay old mid new (m, first, rest) closes = (m, first, closes_more life opening rs replay m mid new rest closes)
 
-pub closes_next : {D : Type 0} (life : D → Life) (opening : EngineState) (replays : List ℤ) (i : ℕ) (replay : ℤ) (old mid new : ClientView) → i < length replays → replay ≡ get_or replays i replay → ClosesEach life opening (take i replays) old mid → Closes life opening replay mid new → ClosesEach life opening (take (i + 1) replays) old new
+pub closes_next : {D : Type 0} (life : D → Life) (opening : EngineState) (replays : List ℤ) (i : ℕ) (replay : ℤ) (old mid new : ClientView) → i < length replays → replay ≡ get_or replays i replay → ClosesEach life opening (take i replays) old mid → ClosesReplay life opening replay mid new → ClosesEach life opening (take (i + 1) replays) old new
 closes_next life opening replays i replay old mid new within is before closes =
     let one : i + 1 ≡ suc i = omega arith in
     let next : take (i + 1) replays ≡ take i replays ++ replay ∷ [] = ap (λ k. take k replays) one ∙ take-suc replays i replay within ∙ ap (λ r. take i replays ++ r ∷ []) (sym is) in

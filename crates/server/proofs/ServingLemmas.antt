@@ -17,13 +17,13 @@ use Rattle.archive_lock.specs.declared.history.Made.{Made}
 use Rattle.archive_lock.specs.Closing.{ClosesWith}
 use Rattle.archive_lock.specs.Held.{engine_seen, view_of}
 use Rattle.archive_lock.specs.History.{Member}
-use Rattle.server.specs.Serving.{EndsFrom, EndsHistory, EndsUpTo, IsServed, IsServedAs, IsServedUpTo, stop_of}
+use Rattle.server.specs.Serving.{EndsFrom, EndsHistory, EndsUpTo, IsServed, IsServedAs, IsServedUpTo, stuck_by}
 use Rattle.server.specs.declared.served.Served.{Served}
 use Rattle.server.specs.declared.served.Stuck.{Stuck}
 
 -- what closing gave
 pub ends_history : {D : Type 0} {dg : Disk.Ghosts D} (life : D → Life) (opening : EngineState) (keeps strict : Bool) (passes : List (PassView Made)) (engine : Engine D dg) (begun : DeskState) (history : Stored Call) (new : Life) (stop : Option Stuck)
-    → ((calls : List Member) × ClosesWith opening keeps passes calls (engine_seen life (view_of engine calls)) begun history) → new ≡ life engine.archive.storage.disk → stop ≡ stop_of strict engine.archive.desk.state → EndsHistory opening strict new stop
+    → ((calls : List Member) × ClosesWith opening keeps passes calls (engine_seen life (view_of engine calls)) begun history) → new ≡ life engine.archive.storage.disk → stop ≡ stuck_by strict engine.archive.desk.state → EndsHistory opening strict new stop
 ends_history life opening keeps strict passes engine begun history new stop (calls, closes) is stops =
     record { calls = calls; now = engine_seen life (view_of engine calls); legal = closes.legal; leads = closes.leads; settled = closes.settled; left = is; stops = stops }
 

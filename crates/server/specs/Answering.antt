@@ -62,13 +62,13 @@ NotesOpened None old new = new ≡ old
 NotesOpened (Some replay) old new = (new ≡ old ++ replay ∷ []) ⊎ (new ≡ old)
 
 -- one that is closed is noted no longer
-abbrev pub left_by : Option ℤ → List ℤ → List ℤ
-left_by None replays = replays
-left_by (Some replay) replays = left_open replay replays
+abbrev pub replays_left_by : Option ℤ → List ℤ → List ℤ
+replays_left_by None replays = replays
+replays_left_by (Some replay) replays = left_open replay replays
 
 -- what is noted of a call that was answered so
 abbrev pub NotesReplay : Event → Result Reply Refusal → List ℤ → List ℤ → Type 0
-NotesReplay event outcome old new = (mid : List ℤ) × NotesOpened (opened_replay outcome) old mid × (new ≡ left_by (closed_replay event outcome) mid)
+NotesReplay event outcome old new = (mid : List ℤ) × NotesOpened (opened_replay outcome) old mid × (new ≡ replays_left_by (closed_replay event outcome) mid)
 
 -- What the pass has seen then is a legal history that begins with all that it had seen, with no call of its own more. The terms
 -- are those of the desk that it leads to.
@@ -87,13 +87,13 @@ module _ {D : Type 0} (life : D → Life) (opening : EngineState) where
   shared_ways = record { terms = TermsAre opening; call = CallsShared; reopen = IsNoLine; compact = IsNoLine }
 
   -- a call that closes a replay, however it is answered
-  abbrev pub Closes : ℤ → ClientView → ClientView → Type 0
-  Closes replay old new = (outcome : Result Reply Refusal) × CallsShared (ReplayClose replay) old outcome new
+  abbrev pub ClosesReplay : ℤ → ClientView → ClientView → Type 0
+  ClosesReplay replay old new = (outcome : Result Reply Refusal) × CallsShared (ReplayClose replay) old outcome new
 
   -- calls that close these replays, one after another
   abbrev pub ClosesEach : List ℤ → ClientView → ClientView → Type 0
   ClosesEach [] old new = new ≡ old
-  ClosesEach (replay ∷ replays) old new = (mid : ClientView) × Closes replay old mid × ClosesEach replays mid new
+  ClosesEach (replay ∷ replays) old new = (mid : ClientView) × ClosesReplay replay old mid × ClosesEach replays mid new
 
   -- a connection ends: the replays that are noted are closed, or stay open; no longer is one noted
   abbrev pub EndsConnection : Bool → ClientView → ClientView → Type 0
@@ -103,11 +103,11 @@ module _ {D : Type 0} (life : D → Life) (opening : EngineState) where
 abbrev pub HasNoTerms : {A : Type 0} → ℤ → A → Result Geometry Refusal → A → Type 0
 HasNoTerms session old terms new = (terms ≡ Err Broken) × (new ≡ old)
 
-abbrev pub IsBroken : {A : Type 0} → Event → A → Ends A
-IsBroken event old outcome new = (outcome ≡ Err Broken) × (new ≡ old)
+abbrev pub AnswersBroken : {A : Type 0} → Event → A → Ends A
+AnswersBroken event old outcome new = (outcome ≡ Err Broken) × (new ≡ old)
 
 abbrev pub unopened_ways : {A : Type 0} → Ways A
-unopened_ways = record { terms = HasNoTerms; call = IsBroken; reopen = IsNoLine; compact = IsNoLine }
+unopened_ways = record { terms = HasNoTerms; call = AnswersBroken; reopen = IsNoLine; compact = IsNoLine }
 
 -- ---- entries
 

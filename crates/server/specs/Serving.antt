@@ -19,9 +19,9 @@ use Rattle.server.specs.declared.served.Stuck.TheVariants.{Unopened, Broken, His
 -- ---- why a strict server can record nothing
 
 -- by its archive's desk: a write has failed, or the history is full
-abbrev pub stop_of : Bool → DeskState → Option Stuck
-stop_of false d = None
-stop_of true d = if d.is_broken then Some Broken else if has_room d then None else Some HistoryFull
+abbrev pub stuck_by : Bool → DeskState → Option Stuck
+stuck_by false d = None
+stuck_by true d = if d.is_broken then Some Broken else if has_room d then None else Some HistoryFull
 
 -- of an archive that could not be opened
 abbrev pub unopened_stop : Bool → Beginning → Option Stuck
@@ -40,7 +40,7 @@ pub record EndsHistory (opening : EngineState) (strict : Bool) (new : Life) (sto
   pub leads : LeadsTo opening calls now
   pub settled : (c : Content) → IsCrashConsistent opening.life opening.log (archive_of opening c) → IsTrue now.life.obeys → SettlingsStay (archive_of opening c) calls now
   pub left : new ≡ now.life
-  pub stops : stop ≡ stop_of strict now.desk
+  pub stops : stop ≡ stuck_by strict now.desk
 
 -- it does; or no call was made for want of memory, and the disk is as the archive was opened with it
 abbrev pub EndsOrLacks : Life → EngineState → Bool → Life → Option Stuck → Result (Unit {0}) EarlyEnd → Type 0

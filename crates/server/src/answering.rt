@@ -4,7 +4,7 @@ ghost use Rattle.std.specs.Prelude.{◌≡◌, [], IsErrOf, MatchBool};
 ghost use Rattle.std.specs.List.{position};
 ghost use Rattle.frame_core.specs.declared.refusal.Refusal.TheVariants.{NoMemory};
 ghost use Rattle.archive_lock.specs.History.{EndsWithAnswer, IsNoted};
-ghost use Rattle.server.specs.Answering.{Closes, ClosesEach, EndsConnection, NotesOpened, NotesReplay, awaited_before, closed_replay, is_command, is_device_fault, is_replay, left_by, left_open, makes_entry, may_be_last, opened_replay, settled_after, settled_before, shared_ways};
+ghost use Rattle.server.specs.Answering.{ClosesReplay, ClosesEach, EndsConnection, NotesOpened, NotesReplay, awaited_before, closed_replay, is_command, is_device_fault, is_replay, replays_left_by, left_open, makes_entry, may_be_last, opened_replay, settled_after, settled_before, shared_ways};
 
 use crate::connections::{Connections, Server};
 use crate::place::Place;
@@ -159,7 +159,7 @@ impl<'a, D: Disk, A: Naming, P: Place, R: Wait, T: Reporter> Controller<'a, D, A
         self.pass
     }
 
-    /// Closes replays, each by a call.
+    /// ClosesReplay replays, each by a call.
     fn close_each(&mut self, alloc: Global, replays: &[i64])
         ensures { ClosesEach D.life A.opening replays.now self.old self.new }
     {
@@ -169,9 +169,9 @@ impl<'a, D: Disk, A: Naming, P: Place, R: Wait, T: Reporter> Controller<'a, D, A
         }
     }
 
-    /// Closes a replay by a call.
+    /// ClosesReplay a replay by a call.
     fn close(&mut self, alloc: Global, replay: &i64)
-        ensures { Closes D.life A.opening replay.now self.old self.new }
+        ensures { ClosesReplay D.life A.opening replay.now self.old self.new }
     {
         let _ = self.call(alloc, &Event::ReplayClose { replay: *replay });
     }
@@ -197,7 +197,7 @@ fn note_opened(replays: &mut Vec<i64>, opened: Option<i64>)
 
 /// Removes a replay from those that are noted.
 fn forget_closed(replays: &mut Vec<i64>, closed: &Option<i64>)
-    ensures { replays.new.items ≡ left_by closed.now replays.old.items }
+    ensures { replays.new.items ≡ replays_left_by closed.now replays.old.items }
 {
     match closed {
         Some(replay) => forget_replay(replays, replay),

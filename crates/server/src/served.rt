@@ -1,7 +1,7 @@
 //! What a server gives back at its end. docs/SERVING.md, "A server that ends by itself".
 
 ghost use Rattle.std.specs.Prelude.{◌≡◌};
-ghost use Rattle.server.specs.Serving.{stop_of, unopened_stop};
+ghost use Rattle.server.specs.Serving.{stuck_by, unopened_stop};
 
 use control_core::Desk;
 use control_lines::print_refusal;
@@ -47,8 +47,8 @@ impl fmt::Display for Stuck {
 }
 
 /// Why a server can record nothing whose archive stands so at its end, if it is strict.
-pub(crate) fn stop_of(is_strict: bool, desk: &Desk) -> Option<Stuck>
-    ensures { result ≡ stop_of is_strict desk.now.state }
+pub(crate) fn stuck_by(is_strict: bool, desk: &Desk) -> Option<Stuck>
+    ensures { result ≡ stuck_by is_strict desk.now.state }
 {
     if !is_strict {
         None

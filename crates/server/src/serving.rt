@@ -13,7 +13,7 @@ use crate::connections::{ClientOptions, Connections};
 use crate::listener::SharedListener;
 use crate::options::ServeOptions;
 use crate::place::Places;
-use crate::served::{Served, stop_of, unopened_stop};
+use crate::served::{Served, stuck_by, unopened_stop};
 use archive_lock::{Closed, Made, Naming, SharedArchive};
 use call_history::{Opened, Pass};
 use disk_core::Disk;
@@ -483,7 +483,7 @@ fn closed<D: Disk + Drop, A: Naming>(
 {
     match archive.close(passes) {
         Ok(Closed { engine, .. }) => {
-            let stop = stop_of(is_strict, engine.desk());
+            let stop = stuck_by(is_strict, engine.desk());
             Served {
                 disk: engine.into_disk(),
                 stop,

@@ -13,7 +13,7 @@ use Rattle.call_history.specs.Passes.{AllOfTable, HasEach, has_number, new_pass,
 use Rattle.call_history.specs.Values.{PassView}
 use Rattle.archive_lock.specs.declared.history.Made.{Made}
 use Rattle.archive_lock.specs.History.{Member}
-use Rattle.server_recorder.specs.Seats.{AreNewWriters, AreNumbered, AreSeats, CallsAt, CallsAtSeat, HasFrom, IsNewWriter, IsSeat, SeatsView, reseated}
+use Rattle.server_recorder.specs.Seats.{AreNewWriters, AreNumbered, AreSeats, CallsAt, CallsAtSeat, HasNumbersFrom, IsNewWriter, IsSeat, SeatsView, reseated}
 
 -- ---- the last of a list
 
@@ -257,13 +257,13 @@ has_still : (n : ℕ) (ps : List (PassView Made)) (p : PassView Made) → has_nu
 has_still n [] p has = absurd cc
 has_still n (q ∷ ps) p has = either (eqb q.number n) (has_number n ps) (has_number n (ps ++ p ∷ [])) has (has_still n ps p)
 
-pub has_push : (k j count : ℕ) (ps : List (PassView Made)) (p : PassView Made) → HasFrom k count ps → k ≡ suc j → p.number ≡ j → HasFrom j count (ps ++ p ∷ [])
+pub has_push : (k j count : ℕ) (ps : List (PassView Made)) (p : PassView Made) → HasNumbersFrom k count ps → k ≡ suc j → p.number ≡ j → HasNumbersFrom j count (ps ++ p ∷ [])
 has_push k j count ps p has next is = λ n from below. dite (ℕ_discrete n j)
     (λ (same : n ≡ j). has_last n ps p (is ∙ sym same))
     (λ (ne : n ≢ j). has_still n ps p (has n (omega arith) below))
 
-pub has_none : (k count : ℕ) (ps : List (PassView Made)) → count ≤ k → HasFrom k count ps
+pub has_none : (k count : ℕ) (ps : List (PassView Made)) → count ≤ k → HasNumbersFrom k count ps
 has_none k count ps past = λ n from below. absurd (omega arith)
 
-pub all_from : (k count : ℕ) (ps : List (PassView Made)) → HasFrom k count ps → k ≡ 0 → HasEach count ps
+pub all_from : (k count : ℕ) (ps : List (PassView Made)) → HasNumbersFrom k count ps → k ≡ 0 → HasEach count ps
 all_from k count ps has at = λ n below. has n (omega arith) below

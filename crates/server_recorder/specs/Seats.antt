@@ -104,12 +104,12 @@ AreNumbered table n [] = Unit {0}
 AreNumbered table n (seat ∷ seats) = (seat.pass.table ≡ table) × (seat.pass.number ≡ n) × AreNumbered table (n + 1) seats
 
 -- passes with each number from one on, below a count, are among them
-abbrev pub HasFrom : ℕ → ℕ → List (PassView Made) → Type 0
-HasFrom k count passes = (n : ℕ) → k ≤ n → n < count → has_number n passes ≡ true
+abbrev pub HasNumbersFrom : ℕ → ℕ → List (PassView Made) → Type 0
+HasNumbersFrom k count passes = (n : ℕ) → k ≤ n → n < count → has_number n passes ≡ true
 
 -- passes of this history that clients have: each from 64 on, of so many, is among them
 abbrev pub AreClientPasses : TableId → ℕ → List (PassView Made) → Type 0
-AreClientPasses table count passes = AllOfTable table passes × HasFrom 64 count passes
+AreClientPasses table count passes = AllOfTable table passes × HasNumbersFrom 64 count passes
 
 -- passes of this history, each of so many among them
 abbrev pub AreAllPasses : TableId → ℕ → List (PassView Made) → Type 0

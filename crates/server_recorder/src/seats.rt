@@ -5,7 +5,7 @@ ghost use Rattle.frame_core.specs.declared.refusal.Refusal.TheVariants.{StaleSes
 ghost use Rattle.recorder_seats.specs.Seat.{raised_positions};
 ghost use Rattle.call_history.specs.Passes.{AllOfTable, new_passes};
 ghost use Rattle.position_board.specs.Positions.{new_writers};
-ghost use Rattle.server_recorder.specs.Seats.{AreAllPasses, AreClientPasses, AreNewWriters, AreNumbered, CallsAt, HasFrom, MakesCall, SeesStanding, SettlesSession, WritesBlock, reseated};
+ghost use Rattle.server_recorder.specs.Seats.{AreAllPasses, AreClientPasses, AreNewWriters, AreNumbered, CallsAt, HasNumbersFrom, MakesCall, SeesStanding, SettlesSession, WritesBlock, reseated};
 
 use archive_lock::{Made, Naming, SharedArchive, Standing};
 use archive_model::Reply;
@@ -231,7 +231,7 @@ impl<A: Naming> Seats<A> {
 fn passes_of<A: Naming>(mut seats: Vec<RecorderSeat>, mut room: Vec<Pass<Made>>) -> Vec<Pass<Made>>
     requires seats { AreNumbered A.table 0 seats.items }
     requires passes { AllOfTable A.table room.items }
-    requires others { HasFrom (vec_len seats) A.passes room.items }
+    requires others { HasNumbersFrom (vec_len seats) A.passes room.items }
     requires fits { vec_len seats + vec_len room ≤ vec_capacity room }
     ensures { AreAllPasses A.table A.passes result.items }
 {

@@ -5,8 +5,8 @@ use Rattle.stream_pairs.specs.Pairs.{PairsState, slot_of}
 use Rattle.metrics_text.specs.declared.measures.RecordingMeasures.{RecordingMeasures}
 
 -- the recording of a session, and where it is settled to
-abbrev pub recording_of : SessionSlot → RecordingMeasures
-recording_of slot = record {
+abbrev pub slot_measures : SessionSlot → RecordingMeasures
+slot_measures slot = record {
   recording = slot.recording;
   stream_id = slot.point.publication.stream_id;
   session_id = slot.point.publication.session_id;
@@ -16,7 +16,7 @@ recording_of slot = record {
 -- that of a seat's session, if that is open
 abbrev pub measured_recording : Option SessionSlot → Option RecordingMeasures
 measured_recording None = None
-measured_recording (Some slot) = if slot.is_open then Some (recording_of slot) else None
+measured_recording (Some slot) = if slot.is_open then Some (slot_measures slot) else None
 
 -- one more, if there is one
 abbrev pub with_measured : List RecordingMeasures → Option RecordingMeasures → List RecordingMeasures

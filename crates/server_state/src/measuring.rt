@@ -16,7 +16,7 @@ pub(crate) fn recordings_of(
 {
     let mut measures = Vec::new(alloc);
     for seat in 0..FED_SESSIONS {
-        add(&mut measures, recording_of(pairs.slot(seat)))?;
+        add(&mut measures, slot_measures(pairs.slot(seat)))?;
     }
     Ok(measures)
 }
@@ -35,7 +35,7 @@ fn add(
 }
 
 /// What is measured of the recording of a seat's session, if that is open.
-fn recording_of(slot: Option<SessionSlot>) -> Option<RecordingMeasures>
+fn slot_measures(slot: Option<SessionSlot>) -> Option<RecordingMeasures>
     ensures { result ≡ measured_recording slot }
 {
     match slot {

@@ -4,7 +4,7 @@ use Rattle.std.specs.Prelude.{vec_len}
 use Rattle.call_history.specs.Passes.{AllOfTable, new_passes}
 use Rattle.call_history.specs.Values.{PassView}
 use Rattle.archive_lock.specs.declared.history.Made.{Made}
-use Rattle.server_recorder.specs.Seats.{HasFrom}
+use Rattle.server_recorder.specs.Seats.{HasNumbersFrom}
 use Rattle.server_recorder.proofs.SeatLemmas.{all_push, count_made, has_none, has_push, one_longer, passes_front, passes_last}
 use Rattle.server_recorder.proofs.seats.parted.Goals as goal
 
@@ -40,7 +40,7 @@ loop-passes-preserved g c =
       passes = passes_front table (vec_len l.passes) k l.passes.items c.pop.new.self.items c.in-Some.pass l.invariant.passes c.in-Some.ensures.items next;
       some = omega (arith, next, c.len.ensures, c.loop-passes-test.true);
       clients = subst (AllOfTable table) (sym c.push_reserved.ensures.items) (all_push table l.room.items c.in-Some.pass l.invariant.clients of);
-      each = subst (HasFrom k g.A.Naming.passes) (sym c.push_reserved.ensures.items) (has_push (vec_len l.passes) k g.A.Naming.passes l.room.items c.in-Some.pass l.invariant.each next number);
+      each = subst (HasNumbersFrom k g.A.Naming.passes) (sym c.push_reserved.ensures.items) (has_push (vec_len l.passes) k g.A.Naming.passes l.room.items c.in-Some.pass l.invariant.each next number);
       count = omega (arith, l.invariant.count, next, c.push_reserved.ensures.len);
       room = omega (arith, l.invariant.room, c.push_reserved.ensures.capacity);
     }

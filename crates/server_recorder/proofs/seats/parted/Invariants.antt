@@ -1,7 +1,7 @@
 use Rattle.std.proofs.Common.{◌≡◌, ◌+◌, ◌≤◌}
 use Rattle.std.specs.Prelude.{length, vec_capacity, vec_len}
 use Rattle.call_history.specs.Passes.{AllOfTable, new_passes}
-use Rattle.server_recorder.specs.Seats.{HasFrom}
+use Rattle.server_recorder.specs.Seats.{HasNumbersFrom}
 use Rattle.server_recorder.proofs.seats.parted.Given as goal
 
 -- passes of a beginning are left, and the others are next to the room
@@ -10,7 +10,7 @@ invariant-loop-passes g l = record {
   passes : l.passes.items ≡ new_passes g.A.Naming.table (vec_len l.passes);
   some : 64 ≤ vec_len l.passes;
   clients : AllOfTable g.A.Naming.table l.room.items;
-  each : HasFrom (vec_len l.passes) g.A.Naming.passes l.room.items;
+  each : HasNumbersFrom (vec_len l.passes) g.A.Naming.passes l.room.items;
   count : vec_len l.passes + vec_len l.room ≡ g.A.Naming.passes;
   room : g.A.Naming.passes ≤ vec_capacity l.room;
 }

@@ -4,7 +4,7 @@ use Rattle.std.specs.Prelude.{vec_len}
 use Rattle.call_history.specs.Passes.{AllOfTable}
 use Rattle.call_history.specs.Values.{PassView}
 use Rattle.archive_lock.specs.declared.history.Made.{Made}
-use Rattle.server_recorder.specs.Seats.{AreNumbered, HasFrom}
+use Rattle.server_recorder.specs.Seats.{AreNumbered, HasNumbersFrom}
 use Rattle.server_recorder.proofs.SeatLemmas.{all_push, has_push, numbered_front, numbered_last, one_longer}
 use Rattle.server_recorder.proofs.seats.passes_of.Goals as goal
 
@@ -25,6 +25,6 @@ loop-seat-preserved g c =
     record {
       passes = subst (AllOfTable table) (sym c.push_reserved.ensures.items) (all_push table l.room.items pass l.invariant.passes of);
       seats = numbered_front table 0 c.pop.new.self.items c.in-Some.seat left;
-      others = subst (HasFrom k g.A.Naming.passes) (sym c.push_reserved.ensures.items) (has_push (vec_len l.seats) k g.A.Naming.passes l.room.items pass l.invariant.others next number);
+      others = subst (HasNumbersFrom k g.A.Naming.passes) (sym c.push_reserved.ensures.items) (has_push (vec_len l.seats) k g.A.Naming.passes l.room.items pass l.invariant.others next number);
       room = omega (arith, l.invariant.room, next, c.push_reserved.ensures.len, c.push_reserved.ensures.capacity);
     }

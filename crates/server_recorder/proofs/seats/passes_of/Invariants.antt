@@ -1,7 +1,7 @@
 use Rattle.std.proofs.Common.{◌+◌, ◌≤◌}
 use Rattle.std.specs.Prelude.{length, vec_capacity, vec_len}
 use Rattle.call_history.specs.Passes.{AllOfTable}
-use Rattle.server_recorder.specs.Seats.{AreNumbered, HasFrom}
+use Rattle.server_recorder.specs.Seats.{AreNumbered, HasNumbersFrom}
 use Rattle.server_recorder.proofs.seats.passes_of.Given as goal
 
 -- the passes of the seats that are left are the others, and there is room for them
@@ -9,7 +9,7 @@ abbrev pub invariant-loop-seat : goal.invariant-loop-seat
 invariant-loop-seat g l = record {
   passes : AllOfTable g.A.Naming.table l.room.items;
   seats : AreNumbered g.A.Naming.table 0 l.seats.items;
-  others : HasFrom (vec_len l.seats) g.A.Naming.passes l.room.items;
+  others : HasNumbersFrom (vec_len l.seats) g.A.Naming.passes l.room.items;
   room : vec_len l.seats + vec_len l.room ≤ vec_capacity l.room;
 }
 

@@ -3,4 +3,4 @@ use Rattle.server_state.specs.Measuring.{measured_recording, with_measured}
 use Rattle.server_state.proofs.measuring.recordings_of.Goals as goal
 
 pub loop-seat-preserved : goal.loop-seat-preserved
-loop-seat-preserved c = rw add-one (c.in_ok-add.ensures ∙ ap₂ with_measured c.loop-seat.invariant (c.recording_of.ensures ∙ ap measured_recording c.slot.ensures))
+loop-seat-preserved c = rw add-one (c.in_ok-add.ensures ∙ ap₂ with_measured c.loop-seat.invariant (c.slot_measures.ensures ∙ ap measured_recording c.slot.ensures))
