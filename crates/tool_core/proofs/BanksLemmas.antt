@@ -1,9 +1,9 @@
 -- What a compaction would ask of the banks of a script's archive.
-use Rattle.std.proofs.Common.{◌≡◌, ◌∙◌, ℕ, ℤ, List, IsTrue, Bool, true, false, ap, refl, inl, inr, sym, subst}
+use Rattle.std.proofs.Common.{◌≡◌, ◌≢◌, ◌∙◌, ℕ, ℤ, List, IsTrue, Bool, true, false, ap, refl, inl, inr, sym, subst}
 use Rattle.std.specs.Prelude.{Option, Some, None, Result, Ok, Err, is_none}
 use Rattle.frame_core.specs.declared.block.Block.{Block}
 use Rattle.frame_core.specs.declared.refusal.Refusal.{Refusal}
-use Rattle.frame_core.specs.declared.refusal.Refusal.TheVariants.{DeviceFault, NoMemory}
+use Rattle.frame_core.specs.declared.refusal.Refusal.TheVariants.{Broken, DeviceFault, HistoryFull, NoMemory, NotCatalogue}
 use Rattle.disk_core.specs.DiskImage.{DiskImage, Files, MayLeave, begun, durable, reads}
 use Rattle.disk_core.specs.Life.{HasFailed, Life}
 use Rattle.disk_core.proofs.CallerLemmas.{durable_left, now_leaves}
@@ -13,17 +13,19 @@ use Rattle.catalogue_entries.specs.declared.entry.Entry.{Entry}
 use Rattle.catalogue_log.specs.declared.bank.BankHeader.{BankHeader}
 use Rattle.catalogue_log.specs.Banks.{bank_file, other_of}
 use Rattle.catalogue_log.specs.declared.banks.Spare.{Spare}
+use Rattle.catalogue_log.specs.declared.banks.Spare.TheVariants as spares
 use Rattle.catalogue_log.specs.LogState.{Banks, IsAtRest, LogState, TellsBanks, banks_of, is_usable}
 use Rattle.catalogue_log.proofs.CallerLemmas.{told_at_rest, told_once}
 use Rattle.control_core.specs.declared.event.Event.{Event}
 use Rattle.control_core.specs.declared.event.Event.TheVariants as events
 use Rattle.control_core.specs.Exact.{Archive}
-use Rattle.engine_core.specs.Engine.{KeepsBank}
+use Rattle.engine_core.specs.Calls.{TellsBank}
+use Rattle.engine_core.specs.Engine.{EngineState, KeepsBank}
 use Rattle.engine_core.specs.Opening.{ReadsAsBefore}
 use Rattle.tool_core.specs.Answering.{ThenSettles, WritesBytes, WritesRead}
 use Rattle.tool_core.specs.Archives.{CallsEngine, Closed, Open, OpensDisk, SeenArchive, archive_ways, life_of}
 use Rattle.tool_core.specs.Script.{LeavesBanks, LeavesBanksOf}
-use Rattle.tool_core.specs.ScriptLines.{BanksAgain, OrWant, Reopens, ReopensOpened, Standing, WhereOpen, closed, doubtful, is_certain, opened, refused, unknown}
+use Rattle.tool_core.specs.ScriptLines.{BanksAgain, BanksCalled, OrWant, Reopens, ReopensOpened, Standing, WhereOpen, closed, doubtful, is_certain, opened, refused, unknown}
 use Rattle.tool_core.proofs.StandingLemmas.{IsStanding}
 
 pub none_is : {T : Type 0} (o : Option T) → is_none o ≡ true → o ≡ None
@@ -82,20 +84,21 @@ keeps_further (Open old) (Open mid) (Closed new) first later = absurd later
 keeps_further (Open old) (Closed mid) new first later = absurd first
 keeps_further (Closed disk) mid new first later = subst (λ (x : SeenArchive). KeepsBanks x new) first later
 
-pub calls_keep : (event : Event) (old : SeenArchive) (outcome : Result Reply Refusal) (new : SeenArchive) → CallsEngine event old outcome new → KeepsBanks old new
-calls_keep event (Open old) outcome (Open new) answered = same_banks old.log new.log answered.ends.bank
-calls_keep event (Open old) outcome (Closed disk) answered = absurd answered
-calls_keep event (Closed disk) outcome new answered = answered.1
+-- a call of an open archive that keeps its bank
+calls_keep : (event : Event) (old : SeenArchive) (outcome : Result Reply Refusal) (new : SeenArchive) → ((engine : EngineState) (log : LogState) → TellsBank event engine log outcome → KeepsBank engine.log log) → CallsEngine event old outcome new → KeepsBanks old new
+calls_keep event (Open old) outcome (Open new) keeps answered = same_banks old.log new.log (keeps old new.log answered.ends.bank)
+calls_keep event (Open old) outcome (Closed disk) keeps answered = absurd answered
+calls_keep event (Closed disk) outcome new keeps answered = answered.1
 
 read_keeps : (session : ℤ) (read : Result Block Refusal) (old : SeenArchive) (outcome : Result Reply Refusal) (new : SeenArchive) → WritesRead archive_ways session read old outcome new → KeepsBanks old new
-read_keeps session (Ok block) old outcome new written = calls_keep (events.Write session block) old outcome new written
+read_keeps session (Ok block) old outcome new written = calls_keep (events.Write session block) old outcome new (λ engine log told. told) written
 read_keeps session (Err refusal) old outcome new written = keeps_same old new written.1
 
 pub writes_keep : (session : ℤ) (bytes : List ℕ) (old : SeenArchive) (outcome : Result Reply Refusal) (new : SeenArchive) → WritesBytes archive_ways session bytes old outcome new → KeepsBanks old new
 writes_keep session bytes old outcome new (terms, read, mid, are, is, written) = read_keeps session read old outcome new (subst (λ (x : SeenArchive). WritesRead archive_ways session read x outcome new) are.1 written)
 
 settles_keep : (session : ℤ) (first : Result Reply Refusal) (mid : SeenArchive) (outcome : Result Reply Refusal) (new : SeenArchive) → ThenSettles archive_ways session first mid outcome new → KeepsBanks mid new
-settles_keep session (Ok reply) mid outcome new settled = calls_keep (events.Settle session) mid outcome new settled
+settles_keep session (Ok reply) mid outcome new settled = calls_keep (events.Settle session) mid outcome new (λ engine log told. told) settled
 settles_keep session (Err refusal) mid outcome new settled = keeps_same mid new settled.1
 
 pub records_keep : (session : ℤ) (bytes : List ℕ) (first : Result Reply Refusal) (old mid : SeenArchive) (outcome : Result Reply Refusal) (new : SeenArchive) → WritesBytes archive_ways session bytes old first mid
@@ -120,6 +123,38 @@ banks_kept (Open old) (Open new) s t b keeps stands same is = is ∙ sym keeps
 banks_kept (Open old) (Closed disk) s t b keeps stands same is = absurd keeps
 banks_kept (Closed disk) new s t b keeps stands same is =
     subst (λ (x : SeenArchive). IsBanksOf x t b) (sym keeps) (subst (λ (y : Standing). IsBanksOf (Closed disk) y b) (sym (same disk stands)) is)
+
+-- ---- events
+
+usable : (spare : Spare) → spare ≢ spares.Unusable → is_usable spare ≡ true
+usable spares.Closed may = refl
+usable spares.Open may = refl
+usable spares.Unusable may = absurd (may refl)
+
+-- what a call of an open archive makes of the banks
+called : (event : Event) (old : EngineState) (log : LogState) (outcome : Result Reply Refusal) → TellsBank event old log outcome → BanksCalled event (banks_of old.log) outcome (banks_of log)
+called events.Checkpoint old log (Ok reply) told = ap banks_of told
+called events.Checkpoint old log (Err NotCatalogue) told = (ap is_usable told.1.1, same_banks old.log log told.0)
+called events.Checkpoint old log (Err HistoryFull) told = (usable old.log.spare told.1.1, told.1.2, same_banks old.log log told.0)
+called events.Checkpoint old log (Err DeviceFault) told = ((usable old.log.spare told.1.usable, told.1.later), same_banks old.log log told.0)
+called events.Checkpoint old log (Err refusal) told = same_banks old.log log told.0
+called event old log outcome told = same_banks old.log log told
+
+-- one of a closed archive leaves them
+called_closed : (event : Event) (b : Banks) → BanksCalled event b (Err Broken) b
+called_closed events.Checkpoint b = refl
+called_closed event b = refl
+
+pub calls_banks : (event : Event) (old new : SeenArchive) (s t : Standing) (b : Banks) (outcome : Result Reply Refusal) → CallsEngine event old outcome new → IsStanding old s → ((disk : Life) → IsStanding (Closed disk) s → t ≡ s)
+    → IsBanksOf old s b → (c : Banks) × IsBanksOf new t c × BanksCalled event b outcome c
+calls_banks event (Open old) (Open new) s t b outcome answered stands same is =
+    (banks_of new.log, refl, subst (λ (x : Banks). BanksCalled event x outcome (banks_of new.log)) (sym is) (called event old new.log outcome answered.ends.bank))
+calls_banks event (Open old) (Closed disk) s t b outcome answered stands same is = absurd answered
+calls_banks event (Closed disk) new s t b outcome answered stands same is = (
+  b,
+  banks_kept (Closed disk) new s t b answered.1 stands same is,
+  subst (λ (o : Result Reply Refusal). BanksCalled event b o b) (sym answered.0) (called_closed event b),
+)
 
 -- ---- reopening
 

@@ -13,7 +13,7 @@ use Rattle.tool_core.specs.Answering.{IsAnswer, LineIs}
 use Rattle.tool_core.specs.Archives.{Closed, SeenArchive, archive_ways, life_of}
 use Rattle.tool_core.specs.Merging.{Ends}
 use Rattle.tool_core.specs.ScriptLines.{ReadLineOrWant, Calls, LeavesMeanwhile, LineEnds, OrWant, Records, Scene, Standing, WhereOpen, WritesBytes}
-use Rattle.tool_core.proofs.BanksLemmas.{IsBanksOf, KeepsBanks, banks_kept, calls_keep, records_keep, reopen_banks, stays_or, stays_so, writes_keep}
+use Rattle.tool_core.proofs.BanksLemmas.{IsBanksOf, KeepsBanks, banks_kept, calls_banks, records_keep, reopen_banks, stays_or, stays_so, writes_keep}
 use Rattle.tool_core.proofs.CallLemmas.{Kept, bytes_kept, event_kept}
 use Rattle.tool_core.proofs.CompactLemmas.{compact_kept}
 use Rattle.tool_core.proofs.OpeningLemmas.{reopen_kept}
@@ -71,9 +71,9 @@ same_scene old new s b same = ap (λ (x : ScriptState SeenArchive). scene_at x s
 line_done : (old : ScriptState SeenArchive) (s : Standing) (b : Banks) (line : Line) (outcome : Result Reply Refusal) (new : ScriptState SeenArchive) → IsOfDisk old.archive → IsStanding old.archive s → IsBanksOf old.archive s b → IsTrue (life_of new.archive).obeys
     → LineIs archive_ways old line outcome new → Done old s b line outcome new
 line_done old s b (lines.Event event) outcome new of_disk stands told obeys is =
-    of_archive old new s b (lines.Event event) (WhereOpen (Calls (HasFailed (life_of old.archive) (life_of new.archive)) event) s) outcome stands told
-    (event_kept (lines.Event event) event old.archive new.archive s outcome stands obeys is.0) (calls_keep event old.archive outcome new.archive is.0)
-    (λ disk t closed ends. stays_so _ disk s t outcome closed ends) (λ t ends. (ends, is.1, refl))
+    let k = event_kept (lines.Event event) event old.archive new.archive s outcome stands obeys is.0 in
+    let c = calls_banks event old.archive new.archive s k.after b outcome is.0 stands (λ disk closed. stays_so _ disk s k.after outcome closed k.ends) told in
+    (k.after, c.0, k.stands, c.1, ((k.ends, is.1, c.2), k.meanwhile))
 line_done old s b (lines.Write session bytes) outcome new of_disk stands told obeys is =
     of_archive old new s b (lines.Write session bytes) (OrWant s (WhereOpen (WritesBytes (HasFailed (life_of old.archive) (life_of new.archive)) session bytes) s)) outcome stands told
     (bytes_kept (lines.Write session bytes) session bytes old.archive new.archive s outcome stands (standing_left old.archive s of_disk stands) obeys is.0) (writes_keep session bytes old.archive outcome new.archive is.0)

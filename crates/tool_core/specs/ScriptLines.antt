@@ -168,6 +168,18 @@ Compacts life faulted (opened a) b outcome new c =
 Compacts life faulted unknown b outcome new c = new ≡ unknown
 Compacts life faulted standing b outcome new c = (outcome ≡ Err Broken) × (new ≡ standing) × (c ≡ b)
 
+-- ---- checkpoints
+
+-- What a call leaves of what a compaction would ask of the banks. A checkpoint that is answered goes on in the next epoch, and the
+-- bank that was in use may be written. Its banks refuse one exactly so, and the disk may fail only if they do not. Each other
+-- call leaves them as they were.
+abbrev pub BanksCalled : Event → Banks → Result Reply Refusal → Banks → Type 0
+BanksCalled events.Checkpoint b (Ok reply) c = c ≡ next_banks b
+BanksCalled events.Checkpoint b (Err NotCatalogue) c = (b.spare ≡ false) × (c ≡ b)
+BanksCalled events.Checkpoint b (Err HistoryFull) c = (b.spare ≡ true) × (2 ^ 64 ≤ b.epoch + 1) × (c ≡ b)
+BanksCalled events.Checkpoint b (Err DeviceFault) c = MayCompact b × (c ≡ b)
+BanksCalled event b outcome c = c ≡ b
+
 -- ---- lines
 
 -- the archive, what a compaction would ask of the banks of its catalogue, the merge that was begun last, and what befell the
@@ -196,7 +208,8 @@ Stays s answer outcome new = (outcome ≡ answer) × (new ≡ s)
 
 -- What a line is answered. The bytes of a block are read as one, which may want memory.
 abbrev pub LineEnds : Scene → Line → Ends Scene
-LineEnds s (lines.Event event) outcome t = OfArchive s (WhereOpen (Calls (Faulted s t) event) s.archive) outcome t
+LineEnds s (lines.Event event) outcome t =
+    WhereOpen (Calls (Faulted s t) event) s.archive outcome t.archive × (t.merge ≡ s.merge) × BanksCalled event s.banks outcome t.banks
 LineEnds s (lines.Write session bytes) outcome t = OfArchive s (OrWant s.archive (WhereOpen (WritesBytes (Faulted s t) session bytes) s.archive)) outcome t
 LineEnds s (lines.Block session bytes) outcome t = OfArchive s (WhereOpen (Records (Faulted s t) session bytes) s.archive) outcome t
 LineEnds s lines.Reopen outcome t =
