@@ -10,6 +10,8 @@ mod crashes;
 #[cfg(test)]
 mod damage;
 #[cfg(test)]
+mod groups;
+#[cfg(test)]
 mod handing;
 #[cfg(test)]
 mod merging;
