@@ -17,7 +17,7 @@ import subprocess
 import sys
 
 from measure import most_memory
-from tool import ROOT, needs
+from lib.tool import ROOT, needs
 
 PROGRAM = ROOT / "crates/trial_agents/out/trial_agents"
 LOOKS = 50_000_000

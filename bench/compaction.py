@@ -15,7 +15,7 @@ from pathlib import Path
 
 from deployment import HISTORIES, SHORT, made
 from measure import Cost, cost
-from tool import Fault, bank, file_system, program, room, run, settle_entry, stop_entry
+from lib.tool import Fault, bank, file_system, program, room, run, settle_entry, stop_entry
 
 RECORDINGS, ENTRIES = 1_024, 1_000_000
 RUNS = 5

@@ -14,7 +14,7 @@ from pathlib import Path
 
 from measure import seconds
 from settles import STREAM, write_lines
-from tool import MTU, Session, Stream, bank, expect, file_system, program, room, run, settle_entry, stop_entry
+from lib.tool import MTU, Session, Stream, bank, expect, file_system, program, room, run, settle_entry, stop_entry
 
 SHORT = Stream(term_length=65_536, segment_length=65_536)
 BLOCKS = {"one frame of 64 bytes": (1, 64, 2_000), "46 frames of 1,408 bytes": (46, MTU, 500)}

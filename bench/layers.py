@@ -13,7 +13,7 @@ import sys
 from pathlib import Path
 
 from measure import compiled, cost, seconds
-from tool import ROOT, Fault, needs, room
+from lib.tool import ROOT, Fault, needs, room
 
 PROGRAM = ROOT / "crates/trial_layers/out/trial_layers"
 RUNS, OPENINGS, ENTRIES = 5, 20, 100_000

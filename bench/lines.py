@@ -8,7 +8,7 @@ import sys
 from pathlib import Path
 
 from measure import compiled, cost
-from tool import Fault, Stream, program, room
+from lib.tool import Fault, Stream, program, room
 
 STREAM = Stream(term_length=2**30, segment_length=2**30)
 LINES = 200_000

@@ -17,7 +17,7 @@ from pathlib import Path
 
 from measure import HERE, cost
 from settles import MTU, POLLED, STREAM, message
-from tool import Fault, bank, file_system, program, room, settle_entry, stop_entry
+from lib.tool import Fault, bank, file_system, program, room, settle_entry, stop_entry
 
 SIZES = {64: 1_000_000, MTU: 142_046}  # bytes of a frame, and how many there are
 REPLAYS = 6

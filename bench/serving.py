@@ -25,7 +25,7 @@ from dataclasses import dataclass
 from pathlib import Path
 
 from measure import compiled
-from tool import ROOT, Fault, conclude, expect, file_system, program, room, run, stop_positions
+from lib.tool import ROOT, Fault, conclude, expect, file_system, program, room, run, stop_positions
 
 sys.path.insert(0, str(ROOT / "trials"))
 from serving import Server, settles  # noqa: E402

@@ -20,7 +20,7 @@ from collections.abc import Sequence
 from pathlib import Path
 
 from measure import compiled, cost, seconds
-from tool import MTU, Fault, Stream, bank, file_system, program, room, run, settle_entry, stop_entry
+from lib.tool import MTU, Fault, Stream, bank, file_system, program, room, run, settle_entry, stop_entry
 
 STREAM = Stream(term_length=2**30, segment_length=2**30)
 TURNS = 4

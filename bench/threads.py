@@ -17,7 +17,7 @@ import sys
 from pathlib import Path
 
 from measure import most_memory
-from tool import ROOT, file_system, needs, room
+from lib.tool import ROOT, file_system, needs, room
 
 PROGRAM = ROOT / "crates/trial_lock/out/trial_lock"
 # Size, disk, blocks, and for each ratio what it has to be at least, if anything.

@@ -1,29 +1,48 @@
 #!/usr/bin/env python3
-"""What the definitions of this repository's specs lack, and what the main guarantee unfolds to.
+"""Prints docs/DEFINITIONS.md, and says which words of this repository's specs have two meanings.
 
-Usage: tools/definitions.py          prints the words of public clauses that docs/DEFINITIONS.md has no row for, the words that
-                                     are defined in more than one file, and how much the main guarantee unfolds to; status 1
-                                     where a row or a mark is missing
-       tools/definitions.py --main   prints each word that the main guarantee unfolds to, file by file
-       tools/definitions.py --mark   marks the rows of these words in docs/DEFINITIONS.md
+Usage: tools/definitions.py           prints the words that are defined in more than one file, how much the main guarantee unfolds
+                                      to, and whether docs/DEFINITIONS.md is what --print prints; status 1 if it is not, or if
+                                      more than MOST_DOUBLE words stand in two files
+       tools/definitions.py --print   prints docs/DEFINITIONS.md: each definition of each `specs/`, with the sentence above it
+       tools/definitions.py --main    prints each word that the main guarantee unfolds to, file by file
 
-A row has the word in backquotes. Words of std and of the toolchain's crates are not asked for, nor the names of the
-repository's own types and their variants, which the code documents. The same thing over two types may share a word, and
-nothing else: `SHARED` names the words that do, and of every other word in two files it is printed where it stands.
+A definition's sentence is the comment right above it, without a blank line between. It is marked by what can be computed: whether
+the clauses of MAIN unfold to it, whether those of any other public function do, or neither. The same thing over two types may share
+a word, and nothing else: `SHARED` names the words that do, and of every other word in two files it is printed where it stands.
 """
 import re
 import sys
 from collections import defaultdict
 from pathlib import Path
 
-ROOT = Path(__file__).resolve().parent.parent
+from repository import ROOT, dependencies
+
 CRATES = {it.name for it in (ROOT / "crates").iterdir() if it.is_dir()}
 DEFINITIONS = ROOT / "docs/DEFINITIONS.md"
+HOW = ": tools/definitions.py --print > docs/DEFINITIONS.md"
 FUNCTION = re.compile(r"^(\s*)(pub )?(?:const )?fn (\w+)")
 USE = re.compile(r"^\s*(?:ghost )?use Rattle\.(\w+)\.specs\.([\w.]+?)(?:\.\{([^}]*)\}| as (\w+));?$", re.M)
 HEAD = re.compile(r"(?:abbrev |unfoldable )?(?:pub )?(?:record |data )?([A-Za-z_]\w*)\b.* : ")
 NAME = re.compile(r"(?<![\w.])(?:(\w+)\.)?([A-Za-z_]\w*)")
-MARK = "• "
+MARK, OTHER_MARK = "• ", "◦ "
+# As many words as stood in two files for two things when this was last counted. It falls, and never rises.
+MOST_DOUBLE = 66
+HEAD_OF_PAGE = """\
+# Definitions
+
+For those who check proofs: what a reader has to believe, since every other statement of this repository is proved from it.
+This page is printed by `tools/definitions.py --print` from `crates/*/specs`, so change a sentence there. It has {all} definitions.
+
+| Mark | Definitions | How many |
+|---|---|---|
+| • | to be believed: the [main guarantee](GUARANTEES.md#the-main-guarantee) unfolds to them | {main} |
+| ◦ | to be believed with a clause of another public function: that unfolds to them | {other} |
+| none | representation: no public function's clause unfolds to them; private functions, ghost members or proofs use them | {rest} |
+
+Crates are in the order of [`crates.txt`](../crates.txt), each with its marked definitions first. The exact text of a definition is
+in the file that its row names. Definitions without a sentence of their own are listed by name.
+"""
 
 # Words of the same thing over two types, as the id of a recording with its frames and of its registration.
 SHARED = frozenset(
@@ -82,6 +101,7 @@ class Specs:
 
     def __init__(self) -> None:
         self.text: dict[Word, list[str]] = {}
+        self.sentence: dict[Word, str] = {}
         self.scopes: dict[tuple[str, str], tuple[dict[str, Word], dict[str, tuple[str, str]]]] = {}
         for path in sorted((ROOT / "crates").glob("*/specs/*.antt")):
             if path.stem != "Lib":
@@ -89,10 +109,12 @@ class Specs:
 
     def read(self, crate: str, file: str, source: str) -> None:
         self.scopes[crate, file] = scope_of(source)
-        word, margin = None, 0
+        word, margin, comment = None, 0, ""
         for line in source.splitlines():
             code = line.split("--")[0].rstrip()
+            above, comment = comment, ""
             if not code or code.startswith("use "):
+                comment = f"{above} {line.strip()[2:].strip()}".strip() if line.strip().startswith("--") else ""
                 continue
             indent = len(code) - len(code.lstrip())
             if indent == 0:
@@ -101,6 +123,7 @@ class Specs:
             if head and (crate, file, head[1]) not in self.text:
                 word = crate, file, head[1]
                 self.text[word] = []
+                self.sentence[word] = above
             if word:
                 self.text[word].append(code)
 
@@ -125,44 +148,50 @@ class Specs:
         return found
 
 
-def missing_rows(listed: set[str]) -> dict[str, set[str]]:
-    """The words of public clauses without a row, by crate."""
-    missing: dict[str, set[str]] = defaultdict(set)
-    for path in sorted(ROOT.glob("crates/*/src/**/*.rt")):
-        source = path.read_text()
-        clauses = "\n".join(public_functions(source).values())
-        for name, word in scope_of(source)[0].items():
-            if word[2] not in listed and re.search(rf"(?<![\w.]){re.escape(name)}(?!\w)", clauses):
-                missing[path.relative_to(ROOT / "crates").parts[0]].add(word[2])
-    return missing
-
-
 def main_guarantee(specs: Specs) -> set[Word]:
     """What the main guarantee unfolds to."""
     roots = set()
     for name, functions in MAIN.items():
-        source = (ROOT / "crates" / name).read_text()
-        clauses = public_functions(source)
+        clauses = public_functions(source := (ROOT / "crates" / name).read_text())
         for function in functions:
             roots |= specs.cited(clauses[function], scope_of(source), ("", ""))
     return specs.unfolded(roots)
 
 
-def marked(text: str, words: set[Word]) -> str:
-    """The rows of docs/DEFINITIONS.md, those of the words marked, and no others. A section names its crates in its head."""
-    names: dict[str, set[str]] = defaultdict(set)
-    for crate, _, name in words:
-        names[crate].add(name)
-    lines, here = [], set()
-    for line in text.splitlines():
-        if line.startswith("## "):
-            here = set().union(*(names[crate] for crate in re.findall(r"crates/(\w+)/specs", line)))
-        cells = line.split(" | ")
-        if line.startswith("| ") and len(cells) == 4 and cells[0] not in ("| Name", "|---"):
-            has = here & set(re.findall(r"\w+", " ".join(re.findall(r"`([^`]*)`", cells[2]))))
-            name = cells[0].removeprefix("| ").removeprefix(MARK)
-            line = " | ".join([f"| {MARK if has else ''}{name}", *cells[1:]])
-        lines.append(line)
+def other_clauses(specs: Specs) -> set[Word]:
+    """What the clauses of all public functions unfold to."""
+    roots = set()
+    for path in sorted(ROOT.glob("crates/*/src/**/*.rt")):
+        source = path.read_text()
+        roots |= specs.cited("\n".join(public_functions(source).values()), scope_of(source), ("", ""))
+    return specs.unfolded(roots)
+
+
+def section(crate: str, words: list[Word], marks: dict[Word, str], specs: Specs) -> list[str]:
+    """A crate's definitions: a row for each that has a sentence, and the names of the others."""
+    ranks = [MARK, OTHER_MARK, ""]
+    words = sorted(words, key=lambda word: (ranks.index(marks[word]), word[1]))
+    rows = [
+        f"| {marks[word]}`{word[2]}` | {specs.sentence[word].replace('|', chr(92) + '|')} | `{word[1]}` |"
+        for word in words
+        if specs.sentence[word]
+    ]
+    bare = [f"{marks[word]}`{word[2]}` ({word[1]})" for word in words if not specs.sentence[word]]
+    lines = ["", f"## {crate}", ""]
+    lines += ["| Name | In a sentence | File of `specs/` |", "|---|---|---|", *rows] if rows else []
+    lines += ["", *([f"Also: {', '.join(bare)}."] if bare else [])] if rows else [f"By name alone: {', '.join(bare)}."]
+    return lines if lines[-1] else lines[:-1]
+
+
+def page(specs: Specs, main: set[Word]) -> str:
+    """docs/DEFINITIONS.md."""
+    other = other_clauses(specs) - main
+    marks = {word: MARK if word in main else OTHER_MARK if word in other else "" for word in specs.text}
+    rest = sum(not it for it in marks.values())
+    lines = [HEAD_OF_PAGE.format(all=len(marks), main=len(main), other=len(other), rest=rest).rstrip()]
+    for crate in dependencies():
+        if words := [it for it in specs.text if it[0] == crate]:
+            lines += section(crate, words, marks, specs)
     return "\n".join(lines) + "\n"
 
 
@@ -173,39 +202,44 @@ def by_file(words: set[Word]) -> dict[tuple[str, str], list[str]]:
     return files
 
 
-def report(specs: Specs, words: set[Word]) -> int:
-    """Prints what is missing, which words stand for two things, and how much has to be believed."""
-    text = DEFINITIONS.read_text()
-    missing = missing_rows(set(re.findall(r"[\w'-]+", " ".join(re.findall(r"`([^`]*)`", text)))))
-    for crate, names in sorted(missing.items()):
-        print(f"{crate}: {', '.join(sorted(names))}")
-    print(f"{sum(map(len, missing.values()))} words of public clauses without a row in docs/DEFINITIONS.md\n")
+def double_words(specs: Specs) -> dict[str, list[str]]:
+    """The words that stand in more than one file, each with these."""
     stands = defaultdict(list)
     for crate, file, name in specs.text:
         stands[name].append(f"{crate} {file}")
-    twice = {name: files for name, files in stands.items() if len(files) > 1}
+    return {name: files for name, files in stands.items() if len(files) > 1}
+
+
+def report(specs: Specs, main: set[Word]) -> int:
+    """Prints which words stand for two things, how much has to be believed, and whether the page is what is printed."""
+    twice = double_words(specs)
+    shared = len(SHARED & set(twice))
     for name, files in sorted(twice.items(), key=lambda it: (-len(it[1]), it[0])):
         if name not in SHARED:
             print(f"{name}: {', '.join(files)}")
-    shared = len(SHARED & set(twice))
-    print(f"{len(twice)} of {len(stands)} words of specs stand in more than one file, {shared} of them for the same thing over two types\n")
-    files, lines = by_file(words), sum(len(specs.text[word]) for word in words)
-    print(f"The main guarantee unfolds to {len(words)} of {len(specs.text)} definitions: {lines} lines in {len(files)} files")
-    is_marked = marked(text, words) == text
-    print(f"docs/DEFINITIONS.md marks {'their' if is_marked else 'other'} rows{'' if is_marked else ': tools/definitions.py --mark'}")
-    return 1 if missing or not is_marked else 0
+    double = len(twice) - shared
+    names = len({name for _, _, name in specs.text})
+    print(f"{len(twice)} of {names} words of specs stand in more than one file, {shared} of them for the same thing over two types")
+    print(f"{double} words have two meanings, and {MOST_DOUBLE} may\n")
+    files, lines = by_file(main), sum(len(specs.text[word]) for word in main)
+    print(f"The main guarantee unfolds to {len(main)} of {len(specs.text)} definitions: {lines} lines in {len(files)} files")
+    is_printed = DEFINITIONS.exists() and DEFINITIONS.read_text() == page(specs, main)
+    print(f"docs/DEFINITIONS.md is {'' if is_printed else 'not '}what this tool prints{'' if is_printed else HOW}")
+    return 0 if is_printed and double <= MOST_DOUBLE else 1
 
 
 def main() -> int:
     specs = Specs()
     words = main_guarantee(specs)
+    if sys.argv[1:] == ["--print"]:
+        sys.stdout.write(page(specs, words))
+        return 0
     if sys.argv[1:] == ["--main"]:
         for (crate, file), names in by_file(words).items():
             print(f"{crate} {file}: {', '.join(names)}")
         return 0
-    if sys.argv[1:] == ["--mark"]:
-        DEFINITIONS.write_text(marked(DEFINITIONS.read_text(), words))
-        return 0
+    if sys.argv[1:]:
+        sys.exit(__doc__)
     return report(specs, words)
 
 

@@ -1,13 +1,13 @@
 #!/usr/bin/env python3
 """Counts long sentences and words to avoid in documents.
 
-Usage: tools/prose.py [--long] [FILE ..]   without a name README.md, CONTRIBUTING.md and the pages of docs/ named below
+Usage: tools/prose.py [--long] [FILE ..]   without a name every page that is kept by hand: all but those of PRINTED
 Prints a line for each file: sentences, those of more than 25 and of more than 40 words, the counted words, and the file's words
 as `wc -w` has them. With --long it also prints each sentence that is too long or has a counted word, with its line.
 A sentence ends at `.`, `!` or `?`, and at the end of a paragraph, of a list's point and of a table's cell; never at `;` or `:`.
 A link's target is no word, and a piece of code within a line is one. Code blocks are left out. Headings, and cells of code or
-numbers alone, are no sentences. Status 1 if a file has a counted word, a sentence of more than 40 words, or more than 5 % of
-its sentences have more than 25.
+numbers alone, are no sentences. Status 1 if a file has a counted word or a sentence of more than 40 words, or if more than 2 % of
+all sentences have more than 25. Without a name it also prints the sums, of all and without the READMEs of the crates.
 """
 import re
 import sys
@@ -17,8 +17,9 @@ from typing import NamedTuple
 
 from repository import ROOT
 
-PAGES = ["README.md", *(f"docs/{it}.md" for it in ("SERVING", "CONTROL", "STORAGE", "RELIABILITY", "ARCHITECTURE")), "CONTRIBUTING.md", "docs/GLOSSARY.md"]
-LONG, LONGEST, SHARE = 25, 40, 0.05
+PRINTED = {"docs/DEFINITIONS.md", "docs/SCENARIOS.md"}
+PLACES = ("*.md", "docs/*.md", "*/README.md", "crates/*/README.md")
+LONG, LONGEST, SHARE = 25, 40, 0.02
 POINT = re.compile(r"\s*([-*+]|\d+\.)\s+")
 CODE = re.compile(r"(`+)(?!`).+?(?<!`)\1(?!`)", re.S)
 TARGET = re.compile(r"\]\([^)\s]*\)")
@@ -88,19 +89,40 @@ def sentences(piece: Piece) -> Iterator[Sentence]:
         begin = end
 
 
-def report(path: Path, name: str, is_long: bool) -> bool:
-    """Prints a file's counts, and whether they are as they should be."""
+class Counts(NamedTuple):
+    """What is counted in a page, or in several."""
+
+    sentences: int
+    long: int
+    longest: int
+    counted: int
+    words: int
+
+    def share(self) -> float:
+        return self.long / max(1, self.sentences)
+
+    def line(self, name: str) -> str:
+        return (
+            f"{name:34} sentences {self.sentences:5}, over {LONG} words {self.long:3} ({self.share():.1%}), over {LONGEST} {self.longest:3}, "
+            f"counted words {self.counted:3}, words {self.words:6}"
+        )
+
+
+def pages() -> list[str]:
+    """Every page that is kept by hand, by its path."""
+    found = {path.relative_to(ROOT).as_posix() for place in PLACES for path in ROOT.glob(place)}
+    return sorted(found - PRINTED, key=lambda it: (it.count("/"), it))
+
+
+def report(path: Path, name: str, is_long: bool) -> Counts:
+    """Prints a file's counts, and with `is_long` what is counted."""
     text = path.read_text()
     found = list(pieces(text))
     all_of = [it for piece in found if not piece.is_heading for it in sentences(piece)]
     long = [it for it in all_of if it.words > LONG]
-    longest = [it for it in long if it.words > LONGEST]
     counted = [(piece, it) for piece in found for it in COUNTED.finditer(piece.text)]
-    share = len(long) / max(1, len(all_of))
-    print(
-        f"{name:24} sentences {len(all_of):4}, over {LONG} words {len(long):3} ({share:.1%}), over {LONGEST} {len(longest):3}, "
-        f"counted words {len(counted):3}, words {len(text.split()):5}"
-    )
+    counts = Counts(len(all_of), len(long), sum(it.words > LONGEST for it in long), len(counted), len(text.split()))
+    print(counts.line(name))
     if is_long:
         rows = [(it.line, f"{it.words} words: {it.text}") for it in long]
         for piece, it in counted:
@@ -108,15 +130,24 @@ def report(path: Path, name: str, is_long: bool) -> bool:
             rows.append((piece.line + piece.text.count("\n", 0, it.start()), f"'{it[0]}': {' '.join(around.split())}"))
         for line, said in sorted(rows):
             print(f"  {name}:{line}: {said}")
-    return not longest and not counted and share <= SHARE
+    return counts
+
+
+def total(counts: list[Counts]) -> Counts:
+    return Counts(*(sum(it) for it in zip(*counts))) if counts else Counts(0, 0, 0, 0, 0)
 
 
 def main() -> int:
     words = [it for it in sys.argv[1:] if it != "--long"]
     if any(it.startswith("-") for it in words):
         sys.exit(__doc__)
-    named = [(Path(it), it) for it in words] or [(ROOT / it, it) for it in PAGES]
-    return 0 if all([report(path, name, "--long" in sys.argv) for path, name in named]) else 1
+    named = [(Path(it), it) for it in words] or [(ROOT / it, it) for it in pages()]
+    counts = [report(path, name, "--long" in sys.argv) for path, name in named]
+    everything = total(counts)
+    if not words:
+        print(total([one for one, (_, name) in zip(counts, named) if not name.startswith("crates/")]).line("without the crates' READMEs"))
+        print(everything.line("all"))
+    return 1 if everything.longest or everything.counted or everything.share() > SHARE else 0
 
 
 if __name__ == "__main__":

@@ -19,7 +19,7 @@ from collections.abc import Callable, Iterator
 from contextlib import contextmanager
 from pathlib import Path
 
-from tool import ROOT, Session, Stream, bank, program, room, settle_entry
+from lib.tool import ROOT, Session, Stream, bank, program, room, settle_entry
 
 CRATES = ROOT / "crates"
 TEXT = r'"((?:[^"\\]|\\.|\\\n)*)"'

@@ -14,7 +14,7 @@ import subprocess
 import threading
 from pathlib import Path
 
-from tool import ROOT, Fault, KilledRounds, Stream, conclude, expect, file_system, go_round, needs, noted, program, replayed, room, run, stop_positions, trial_words
+from lib.tool import ROOT, Fault, KilledRounds, Stream, conclude, expect, file_system, go_round, needs, noted, program, replayed, room, run, stop_positions, trial_words
 
 AGENTS = ROOT / "crates/trial_agents/out/trial_agents"
 STREAM = Stream(term_length=65_536, segment_length=65_536)

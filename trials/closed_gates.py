@@ -23,15 +23,15 @@ from collections.abc import Callable
 from pathlib import Path
 from random import Random
 
-import random_lines
-from comparison import Files, Script, look_only, same_state, try_opening, warning, write
+from lib import random_lines
+from lib.comparison import Files, Script, look_only, same_state, try_opening, warning, write
 from damaged import go_on, in_folders, made
 from hostile import try_description, try_exports
-from mutations import damage
+from lib.mutations import damage
 from readers.archive import files_of, looked_at, opened
 from readers.catalogue import BANKS, CHANNEL_LIMIT, NEXT_ID, NUMBERS, SETTLE, Catalogue, entry_at, read_banks
 from readers.closed_gate import OF_SETTLE, OPEN_GATE, shows_hidden
-from tool import Stream, conclude, entry, expect, settle_entry
+from lib.tool import Stream, conclude, entry, expect, settle_entry
 
 OLD = [Path(__file__).resolve().parent / "version_1" / name / "archive" for name in ("bank_a", "bank_b")]
 STEPS = 15

@@ -18,7 +18,7 @@ from pathlib import Path
 from random import Random
 
 from readers.catalogue import BANKS, bank_in_use, epoch_of
-from tool import Fault, Stream, bank, conclude, entry, expect, file_system, program, replayed, room, run, settle_entry, stop_entry, trial_words
+from lib.tool import Fault, Stream, bank, conclude, entry, expect, file_system, program, replayed, room, run, settle_entry, stop_entry, trial_words
 
 STREAM = Stream(term_length=65_536, segment_length=131_072)
 CHANNELS = ["first", "second", "third"]

@@ -23,12 +23,12 @@ from collections.abc import Callable
 from pathlib import Path
 from random import Random
 
-import random_lines
-from comparison import Script, ended, in_parts, look_only, same_state, try_export, verification, write
-from mutations import damage
+from lib import random_lines
+from lib.comparison import Script, ended, in_parts, look_only, same_state, try_export, verification, write
+from lib.mutations import damage
 from readers.archive import Archive, files_of, looked_at, opened
 from readers.catalogue import BANKS, NEWEST, Recording, Register
-from tool import Fault, conclude, expect, file_system, program, room, trial_words
+from lib.tool import Fault, conclude, expect, file_system, program, room, trial_words
 
 Trial = Callable[[Path, Path, int, bool], Counter[str]]  # of one folder, by its seed and whether a recording is active at the end
 

@@ -33,10 +33,10 @@ from dataclasses import dataclass
 from pathlib import Path
 
 from flow_control import FaultySender, receiver
-from metrics import Reader
-from mounts import Skipped, mounted
+from lib.metrics import Reader
+from lib.mounts import Skipped, mounted
 from serving import MOST_MEMORY, PATIENCE, STREAM, Client, Faults, Server, compare, free_port
-from tool import STREAM_ID, Fault, bank, conclude, expect, file_system, program, room, run, trial_words
+from lib.tool import STREAM_ID, Fault, bank, conclude, expect, file_system, program, room, run, trial_words
 
 
 @dataclass

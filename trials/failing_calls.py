@@ -22,9 +22,9 @@ import random
 import subprocess
 from pathlib import Path
 
-import each_change
+from lib import each_change
 from power_cuts import library, script_of, shown
-from tool import HISTORY_LIMIT, Fault, conclude, create, expect, program, room, run, run_trials, trial_words
+from lib.tool import HISTORY_LIMIT, Fault, conclude, create, expect, program, room, run, run_trials, trial_words
 
 DEVICE_FAULT, BROKEN = "error 17 DeviceFault", "error 16 Broken"
 

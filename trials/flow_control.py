@@ -33,7 +33,7 @@ from serving import (
     PATIENCE, STREAM, Client, Faults, Server, compare, free_port, payload, publication_of, recorded_position, served, settles, start_line,
     write_capture,
 )
-from tool import (
+from lib.tool import (
     INITIAL_TERM, ROOT, SESSION_ID, STREAM_ID, Fault, conclude, dissected, expect, file_system, program, read_numbers, room, run,
     run_trials, stop_positions, trial_words,
 )

@@ -21,9 +21,9 @@ import time
 from collections.abc import Callable
 from pathlib import Path
 
-from server_lines import expect_calm
+from lib.server_lines import expect_calm
 from serving import IN_FLIGHT, MOST_MEMORY, STATUS, STREAM, Sender, Server, compare, kind_of, recorded_position, served, start_line
-from tool import INITIAL_TERM, STREAM_ID, Fault, conclude, expect, program, trial_words
+from lib.tool import INITIAL_TERM, STREAM_ID, Fault, conclude, expect, program, trial_words
 
 SESSIONS = 7, 8
 ADDRESSES = [f"127.0.0.{1 + number % 7}" for number in range(8)]

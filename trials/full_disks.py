@@ -15,9 +15,9 @@ import subprocess
 import sys
 from pathlib import Path
 
-from mounts import Skipped, make_ext4, mounted
+from lib.mounts import Skipped, make_ext4, mounted
 from standard_error import CLOSED
-from tool import TIMESTAMP, Fault, Session, Stream, expect, program, room, run
+from lib.tool import TIMESTAMP, Fault, Session, Stream, expect, program, room, run
 
 STREAM = Stream(term_length=2**30, segment_length=2**30)
 LENGTH = 1_408  # bytes of a frame

@@ -25,21 +25,21 @@ from collections import Counter
 from pathlib import Path
 from random import Random
 
-import bent_lines
-from bent_datagrams import messages
-from bent_datagrams import mutated as mutated_datagram
-from comparison import (
+from lib import bent_lines
+from lib.bent_datagrams import messages
+from lib.bent_datagrams import mutated as mutated_datagram
+from lib.comparison import (
     Files, Script, after_an_opening, ended, in_parts, look_only, refusal, same_state, try_export, try_opening, warning, write,
 )
 from damaged import looks, made
-from mutations import MUTATIONS, OF_BANKS, damage
+from lib.mutations import MUTATIONS, OF_BANKS, damage
 from readers.archive import Archive, files_of, looked_at, opened
 from readers.catalogue import BANKS, NEWEST, Catalogue, Recording, Refused, Register, read_banks
 from readers.lines import form_of
 from readers.segments import frames_of_file, segment_of, stale_files
 from serving import Server
-from tool import Fault, conclude, expect, file_system, program, room, trial_words
-from worked_banks import FORMS, WORKED_FILES, worked_bank
+from lib.tool import Fault, conclude, expect, file_system, program, room, trial_words
+from lib.worked_banks import FORMS, WORKED_FILES, worked_bank
 
 TERM = 2**31 - 2  # the initial term id of recordings and merges that get hostile datagrams: it soon wraps
 PART = 20  # folders that one worker tries in turn

@@ -24,16 +24,16 @@ import time
 from collections import Counter
 from pathlib import Path
 
-import bent_datagrams
-import random_lines
-from comparison import in_parts
+from lib import bent_datagrams
+from lib import random_lines
+from lib.comparison import in_parts
 from forged import ADDRESSES, Forger
 from readers.catalogue import Recording
 from readers.images import STOCK, Image, Receiver
 from readers.segments import DATA, HEADER
-from server_lines import expect_calm
+from lib.server_lines import expect_calm
 from serving import MOST_MEMORY, PATIENCE, Client, Server, recorded_position, served
-from tool import STREAM_ID, Fault, conclude, expect, program, replayed, trial_words
+from lib.tool import STREAM_ID, Fault, conclude, expect, program, replayed, trial_words
 
 PART = 50_000  # datagrams that one server gets
 MOST_BYTES = 49_152  # of datagrams that are sent before their answers are read: the system's buffer has room for them

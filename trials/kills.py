@@ -20,7 +20,7 @@ from collections.abc import Iterable, Iterator
 from contextlib import suppress
 from pathlib import Path
 
-from tool import MOST_AT_ONCE, MTU, Fault, Stream, aligned, file_system, program, room, run
+from lib.tool import MOST_AT_ONCE, MTU, Fault, Stream, aligned, file_system, program, room, run
 
 STREAM = Stream(term_length=65_536, segment_length=131_072)
 LONGEST_LIFE = 0.3  # seconds from a writer's first answer, or one time in four from its start, to its kill

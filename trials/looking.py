@@ -28,9 +28,9 @@ import threading
 import time
 from pathlib import Path
 
-from mounts import Skipped, make_ext4, mounted
+from lib.mounts import Skipped, make_ext4, mounted
 from serving import IN_FLIGHT, Sender, Server, served, start_line
-from tool import (
+from lib.tool import (
     SESSION_ID, Fault, Session, Stream, aligned, conclude, dissected, expect, program, replayed, room, run, told_of_frame, trial_words,
 )
 

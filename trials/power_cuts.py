@@ -26,7 +26,7 @@ from concurrent.futures import ProcessPoolExecutor
 from dataclasses import dataclass, field
 from pathlib import Path
 
-from tool import MTU, Fault, Stream, aligned, create, is_calm, program, room
+from lib.tool import MTU, Fault, Stream, aligned, create, is_calm, program, room
 
 STREAM = Stream(term_length=65_536, segment_length=131_072)
 TRACED = "openat,pwrite64,ftruncate,fdatasync,fsync,unlink,write,close,flock"

@@ -26,10 +26,10 @@ from collections import Counter
 from collections.abc import Sequence
 from pathlib import Path
 
-from each_change import HISTORY, REPLIES
-from each_change import LINES as CHANGES
+from lib.each_change import HISTORY, REPLIES
+from lib.each_change import LINES as CHANGES
 from power_cuts import shown
-from tool import ROOT, Fault, create, expect, program, room, run
+from lib.tool import ROOT, Fault, create, expect, program, room, run
 
 HELLO = "2500000000c00100%s00000007000000e90300002a000000000000000000000068656c6c6f"
 LINES = ["start 1001 7 42 65536 1408 131072 0 1000 c", "block 0 " + HELLO % "00", "write 0 " + HELLO % "40", "settle 0",

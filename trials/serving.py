@@ -25,7 +25,7 @@ from dataclasses import replace
 from pathlib import Path
 
 from readers.catalogue import SETTLE, read_banks
-from tool import (
+from lib.tool import (
     INITIAL_TERM, ROOT, SESSION_ID, STREAM_ID, Fault, Stream, conclude, dissected, expect, file_system, program, replayed, room, run,
     run_trials, stop_positions, told_of_frame, trial_words,
 )

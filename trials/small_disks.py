@@ -14,10 +14,10 @@ import sys
 from collections.abc import Callable
 from pathlib import Path
 
-from mounts import Skipped, make_ext4, mount, mounted
+from lib.mounts import Skipped, make_ext4, mount, mounted
 from power_cuts import script_of, shown
 from standard_error import CLOSED
-from tool import Fault, Stream, expect, program, room, run
+from lib.tool import Fault, Stream, expect, program, room, run
 
 BROKEN, DEVICE_FAULT = "error 16 Broken", "error 17 DeviceFault"
 STREAM = Stream(term_length=65_536, segment_length=131_072)

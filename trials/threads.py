@@ -16,7 +16,7 @@ import signal
 import subprocess
 from pathlib import Path
 
-from tool import ROOT, Fault, Stream, conclude, expect, file_system, go_round, needs, noted, program, replayed, room, run, stop_positions, trial_words
+from lib.tool import ROOT, Fault, Stream, conclude, expect, file_system, go_round, needs, noted, program, replayed, room, run, stop_positions, trial_words
 
 THREADS = ROOT / "crates/trial_lock/out/trial_lock"
 STREAM = Stream(term_length=65_536, segment_length=65_536)

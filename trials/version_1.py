@@ -11,10 +11,10 @@ Usage: trials/version_1.py [program].
 """
 from pathlib import Path
 
-from comparison import Files, after_an_opening, ended, write
+from lib.comparison import Files, after_an_opening, ended, write
 from readers.archive import Archive, files_of, looked_at, opened
 from readers.catalogue import BANKS, read_banks
-from tool import Stream, conclude, expect, program, room, run, trial_words
+from lib.tool import Stream, conclude, expect, program, room, run, trial_words
 
 DATA = Path(__file__).resolve().parent / "version_1"
 IN_USE = {"bank_a": BANKS[0], "bank_b": BANKS[1]}

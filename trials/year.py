@@ -29,7 +29,7 @@ from pathlib import Path
 from days import Recording, listed
 from flow_control import FaultySender, wait_for
 from serving import MOST_MEMORY, PATIENCE, STREAM, Client, Faults, Publication, Server, recorded_position, served
-from tool import MOST_AT_ONCE, STREAM_ID, Fault, conclude, expect, file_system, program, run_trials, trial_words
+from lib.tool import MOST_AT_ONCE, STREAM_ID, Fault, conclude, expect, file_system, program, run_trials, trial_words
 
 CLIENTS = 4  # at a time
 MOST_REPLAYS = 64  # docs/CONTROL.md, "Limits"

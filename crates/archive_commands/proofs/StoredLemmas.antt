@@ -101,7 +101,7 @@ filled_more a b c at n out part within whole room first then =
     ap (take n) (drop_at (take at out) (part ++ post_of at (32 - at) out) at (length-take-le at out (omega (arith, within, whole)))) ∙ take-append-le n part (post_of at (32 - at) out) room in
     subst (Consumes a c) (ap (λ l. l ++ take n part) (sym before) ∙ ap (λ l. take at all ++ l) (sym behind) ∙ sym (take-add at n all)) (Consumes-trans a b c _ _ first then)
 
--- ---- what the first 32 bytes tell
+-- ---- what the first 32 bytes report
 
 starts_as : (xs ys : List ℕ) (header : Frame) → take 32 xs ≡ take 32 ys → StartsWithHeader xs header → StartsWithHeader ys header
 starts_as xs ys header same starts = record {

@@ -69,7 +69,7 @@ pub fn create_archive<W: Write, D: Disk>(
 }
 
 /// Opens the archive of a disk, which stops each active recording, closes it, writes its catalogue anew, and writes
-/// `compacted`. The disk comes back. An observer is told then how that ended.
+/// `compacted`. The disk comes back. An observer then gets how that ended.
 ///
 /// Refused as `Engine::open` and `engine_core::compact` refuse, and then nothing is written; cut by `Write` where the writer
 /// fails: then the archive is compacted. docs/CONTROL.md, "The program".
@@ -100,7 +100,7 @@ pub fn compact_archive<W: Write, D: Disk, O: Observer>(
     Ok(disk)
 }
 
-/// Opens the archive of a disk, and writes its recordings as `list_recordings`. The disk comes back. An observer is told
+/// Opens the archive of a disk, and writes its recordings as `list_recordings`. The disk comes back. An observer gets
 /// whether it was opened.
 ///
 /// Refused as `Engine::open` refuses, and then nothing is written; cut as `list_recordings`. docs/CONTROL.md, "The program".
@@ -128,7 +128,7 @@ pub fn list_archive<W: Write, D: Disk, O: Observer>(
 }
 
 /// Opens the archive of a disk, and verifies its recordings as `verify_recordings`. The disk comes back, with the verdict. An
-/// observer is told whether it was opened, and of each answer.
+/// observer gets whether it was opened, and each answer.
 ///
 /// Refused as `Engine::open` refuses, and then nothing is written; cut as `verify_recordings`. docs/CONTROL.md, "The
 /// program".
@@ -155,7 +155,7 @@ pub fn verify_archive<W: Write, D: Disk, O: Observer>(
     }
 }
 
-/// The archive of a disk, opened, which an observer is told; else why it is not, and the disk.
+/// The archive of a disk, opened, which an observer gets; else why it is not, and the disk.
 fn opened<D: Disk, O: Observer>(
     alloc: Global,
     disk: D,

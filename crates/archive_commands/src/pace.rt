@@ -7,7 +7,7 @@ const SHOWN_AFTER_MILLIS: u64 = 500;
 /// How long a line stays at least, in milliseconds.
 const SHOWN_FOR_MILLIS: u64 = 200;
 
-/// Tells when a line about a piece of work is due: once the work has lasted half a second, and then about five times a second.
+/// Says when a line about a piece of work is due: once the work has lasted half a second, and then about five times a second.
 #[derive(Drop)]
 pub(crate) struct Pace<'a, R> {
     clock: &'a R,

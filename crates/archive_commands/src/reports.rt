@@ -1,4 +1,4 @@
-//! What `list` and `verify` tell of an archive. docs/CONTROL.md, "The program".
+//! What `list` and `verify` report of an archive. docs/CONTROL.md, "The program".
 
 ghost use Rattle.std.specs.Prelude.{◌≡◌, pos, IfErr, IfOk, OnOk, map};
 ghost use Rattle.std.specs.Io.KnownBytes.{Appends};
@@ -86,7 +86,7 @@ impl<D: Disk> Verifiable for Engine<D> {
 }
 
 /// Verification each recording, by rising id, and writes the answer to each as a script does: `verified <frames>`, or the
-/// line of its refusal. An observer is told of each answer before it is written.
+/// line of its refusal. An observer gets each answer before it is written.
 ///
 /// `Memory` where there is none for the list of ids or for a reply's text, and `Write` where the writer fails: what was
 /// written before stays written. Costs what each recorded frame costs. docs/CONTROL.md, "The program".

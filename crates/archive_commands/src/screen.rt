@@ -16,7 +16,7 @@ pub enum Stage {
 }
 
 /// Standard error. Where it is a terminal, its last line may show how far a command has come; the line goes before another
-/// text is told.
+/// text is reported.
 #[derive(Drop)]
 pub struct Screen<'a, R> {
     rt: &'a R,
@@ -59,13 +59,13 @@ impl<'a, R: Eprint> Screen<'a, R> {
         }
     }
 
-    /// Tells a text, with a line end behind it.
-    pub fn tell<T: Display + Drop>(&self, text: T) {
+    /// Reports a text, with a line end after it.
+    pub fn report<T: Display + Drop>(&self, text: T) {
         self.clear();
         let _ = eprintln!(self.rt; "{text}");
     }
-    /// Tells a refusal's line.
-    pub fn tell_refusal(&self, refusal: &Refusal) {
+    /// Reports a refusal's line.
+    pub fn report_refusal(&self, refusal: &Refusal) {
         self.clear();
         let line = print_refusal(refusal);
         if let Ok(text) = std::str::from_utf8(line.as_bytes()) {

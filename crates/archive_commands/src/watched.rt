@@ -4,7 +4,7 @@ ghost use Rattle.std.specs.Prelude.{◌≡◌};
 
 use disk_core::{Disk, Fault, FileId, ListFault};
 
-/// Is told of the calls of a disk. Nothing that they answer depends on it.
+/// Gets the calls of a disk. Nothing that they answer depends on it.
 pub trait Viewer<D> {
     /// So many bytes of a file were read from an offset on.
     fn saw(&mut self, _file: FileId, _at: u64, _count: usize) {}
@@ -16,7 +16,7 @@ pub trait Viewer<D> {
     fn failed(&mut self, _disk: &D) {}
 }
 
-/// Nobody is told where there is no viewer.
+/// Nobody gets them where there is no viewer.
 impl<D, V: Viewer<D>> Viewer<D> for Option<V> {
     fn saw(&mut self, file: FileId, at: u64, count: usize) {
         if let Some(viewer) = self {
@@ -37,7 +37,7 @@ impl<D, V: Viewer<D>> Viewer<D> for Option<V> {
     }
 }
 
-/// Both are told.
+/// Both get them.
 impl<D, V: Viewer<D>, W: Viewer<D>> Viewer<D> for (V, W) {
     fn saw(&mut self, file: FileId, at: u64, count: usize) {
         self.0.saw(file, at, count);
@@ -55,7 +55,7 @@ impl<D, V: Viewer<D>, W: Viewer<D>> Viewer<D> for (V, W) {
     }
 }
 
-/// A disk whose viewer is told of its reads and syncs and of each call that fails. To a contract it is the disk inside.
+/// A disk whose viewer gets its reads and syncs, and each call that fails. To a contract it is the disk inside.
 #[derive(Drop)]
 pub struct Watched<D, V> {
     disk: D,

@@ -6,5 +6,6 @@ mod HistoryLemmas
 mod SpanLemmas
 mod HeldLemmas
 mod KeptLemmas
+mod TogetherLemmas
 mod DurableLemmas
 mod ProtectedLemmas

@@ -1,4 +1,4 @@
-//! What `describe` tells of an archive. docs/CONTROL.md, "A page for people".
+//! What `describe` prints of an archive. docs/CONTROL.md, "A page for people".
 
 ghost use Rattle.std.specs.Prelude.{◌≡◌, IfErr, IfOk, IfSome, OnOk, string_bytes};
 ghost use Rattle.std.specs.Io.KnownBytes.{Appends};
@@ -21,7 +21,7 @@ use tool_core::{EarlyEnd, Observer};
 
 /// Writes what is known of the archive of a disk as it stands: each recording with its files, totals, which files a sweep
 /// would remove and why, files that no recording knows, and how much of the history is used. The disk is only read, and
-/// comes back. An observer is told whether the archive is there.
+/// comes back. An observer gets whether the archive is there.
 ///
 /// Refused as `ArchiveView::open` refuses, and by `DeviceFault` and `NoMemory` of its files, and then nothing is written;
 /// cut by `Memory` where there is none for the text, and then nothing is written either, and by `Write` where the writer
@@ -82,7 +82,7 @@ fn written<W: Write>(text: &str, writer: &mut W) -> Result<(), Stop>
     }
 }
 
-/// What is told of a desk and of its archive's files, if there is memory for it.
+/// What is known of a desk and of its archive's files, if there is memory for it.
 fn text_of(alloc: Global, desk: &Desk, summary: &Summary, form: Form) -> Option<String>
     ensures { IfSome result (λ text. string_bytes text ≡ text_as form desk.now.state
         summary.now.files.items summary.now.stale.items summary.now.unknown.items) }

@@ -33,7 +33,7 @@ pub(crate) fn document_of(
     Ok(text)
 }
 
-/// The archive, with what is told of its recordings and of files to look after.
+/// The archive, with what is known of its recordings and of files to look after.
 #[tactic(auto, unfolding(crate::specs::DocumentData::archive_in_total))]
 fn archive_of(
     alloc: Global,

@@ -13,7 +13,7 @@ use std::io::Write;
 use tool_core::EarlyEnd;
 
 /// Writes the frames of a part of a recording as a capture file, of the archive of a disk as it stands. The disk is only
-/// read, and comes back. An observer is told whether the archive is there, and of the recording before anything is written.
+/// read, and comes back. An observer gets whether the archive is there, and the recording before anything is written.
 ///
 /// Refused as `ArchiveView::open` refuses, and then nothing is written, and as `archive_export::export`; cut by `Write` where
 /// the writer fails. What was written before stays written. docs/CONTROL.md, "Exporting frames".

@@ -1,4 +1,4 @@
-//! What the program tells of an archive that is only looked at: its recordings, whether they are whole, and a page for people.
+//! What the program prints of an archive that is only looked at: its recordings, whether they are whole, and a page for people.
 #![tactic(auto)]
 
 mod dates;
@@ -18,5 +18,5 @@ pub use describe::describe_archive;
 pub use export::export_view;
 pub use form::Form;
 pub use list::list_view;
-pub use progress::{ExportObserver, ExportTeller, Extent};
+pub use progress::{ExportObserver, ExportReporter, Extent};
 pub use verify::{Finding, verify_view};

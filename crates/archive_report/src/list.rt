@@ -1,4 +1,4 @@
-//! What `list --read-only` tells of an archive. docs/CONTROL.md, "Looking without a change".
+//! What `list --read-only` prints of an archive. docs/CONTROL.md, "Looking without a change".
 
 ghost use Rattle.std.specs.Prelude.{IfErr, IfOk};
 ghost use Rattle.archive_report.specs.Viewing.{FailsToList, HasListed};
@@ -11,7 +11,7 @@ use std::io::Write;
 use tool_core::Observer;
 
 /// Writes the recordings of the archive of a disk as it stands, as `list_recordings`: an active one as active. The disk is
-/// only read, and comes back. An observer is told whether the archive is there.
+/// only read, and comes back. An observer gets whether the archive is there.
 ///
 /// Refused as `ArchiveView::open` refuses, and then nothing is written; cut as `list_recordings`. docs/CONTROL.md, "Looking
 /// without a change".

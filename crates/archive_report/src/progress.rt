@@ -11,7 +11,7 @@ use std::cell::Cell;
 use std::io::Eprint;
 use tool_core::{Beginning, Observer, Unobserved};
 
-/// Is told of an export. Nothing that is written depends on it.
+/// Gets how an export goes on. Nothing that is written depends on it.
 pub trait ExportObserver: Observer {
     /// The archive has the recording, of which frames are to be written.
     fn found(&mut self, _known: &Registration) {}
@@ -62,19 +62,23 @@ impl Measure for &Extent {
     }
 }
 
-/// Tells the progress of an export what is to be written, and takes away the line that shows an opening.
+/// Gives the progress of an export what is to be written, and takes away the line that shows an opening.
 #[derive(Drop)]
-pub struct ExportTeller<'a, R> {
+pub struct ExportReporter<'a, R> {
     screen: &'a Screen<'a, R>,
     span: Span,
     extent: &'a Extent,
 }
 
-impl<'a, R: Eprint> ExportTeller<'a, R> {
-    /// Of this part of a recording; where it begins and ends is told there, once it is known.
-    pub fn new(screen: &'a Screen<'a, R>, span: &Span, extent: &'a Extent) -> ExportTeller<'a, R> {
+impl<'a, R: Eprint> ExportReporter<'a, R> {
+    /// Of this part of a recording; where it begins and ends is put there, once it is known.
+    pub fn new(
+        screen: &'a Screen<'a, R>,
+        span: &Span,
+        extent: &'a Extent,
+    ) -> ExportReporter<'a, R> {
         let span = *span;
-        ExportTeller {
+        ExportReporter {
             screen,
             span,
             extent,
@@ -82,13 +86,13 @@ impl<'a, R: Eprint> ExportTeller<'a, R> {
     }
 }
 
-impl<R: Eprint> Observer for ExportTeller<'_, R> {
+impl<R: Eprint> Observer for ExportReporter<'_, R> {
     fn began(&mut self, _beginning: &Beginning) {
         self.screen.work();
     }
 }
 
-impl<R: Eprint> ExportObserver for ExportTeller<'_, R> {
+impl<R: Eprint> ExportObserver for ExportReporter<'_, R> {
     fn found(&mut self, known: &Registration) {
         let first = self
             .span

@@ -1,4 +1,4 @@
-//! What is told of the files of an archive. docs/CONTROL.md, "A page for people".
+//! What is known of the files of an archive. docs/CONTROL.md, "A page for people".
 
 ghost use Rattle.std.specs.Prelude.{◌≡◌, ◌++◌, IfErr, IfOk, IsTrue, OnOk, Some, [], ◌∷◌, map};
 ghost use Rattle.disk_core.specs.DiskImage.{reads};

@@ -1,4 +1,4 @@
-//! What `verify --read-only` tells of an archive. docs/CONTROL.md, "Looking without a change".
+//! What `verify --read-only` prints of an archive. docs/CONTROL.md, "Looking without a change".
 
 ghost use Rattle.std.specs.Prelude.{◌≡◌, IfErr, IfOk, IsTrue};
 ghost use Rattle.archive_view.specs.ReadOnly.{IsOnlyRead};
@@ -21,7 +21,7 @@ use tool_core::{EarlyEnd, Observer};
 pub struct Finding {
     /// Whether each recording was verified.
     pub verdict: Verdict,
-    /// One was not, and the catalogue has moved meanwhile: the archive is being written, and what was told of it may be of
+    /// One was not, and the catalogue has moved meanwhile: the archive is being written, and what was reported of it may be of
     /// no moment at all.
     pub is_moving: bool,
 }
@@ -48,8 +48,8 @@ impl<D: Disk> Verifiable for Seen<D> {
 }
 
 /// Verifies each recording of the archive of a disk as it stands, by rising id, and writes the answer to each:
-/// `verified <frames>`, or the line of its refusal. The disk is only read, and comes back with what was found. An observer is
-/// told whether the archive is there, and of each answer before it is written.
+/// `verified <frames>`, or the line of its refusal. The disk is only read, and comes back with what was found. An observer
+/// gets whether the archive is there, and each answer before it is written.
 ///
 /// Refused as `ArchiveView::open` refuses, and then nothing is written; cut by `Memory` where there is none for the list of
 /// ids or for a reply's text, and by `Write` where the writer fails: what was written before stays written. Costs what each

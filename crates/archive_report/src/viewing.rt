@@ -10,7 +10,7 @@ use engine_core::OpenRefusal;
 use std::alloc::Global;
 use tool_core::{Beginning, Observer};
 
-/// The archive of a disk as it stands, of which an observer is told; else why it cannot be looked at, and the disk. The disk
+/// The archive of a disk as it stands, which an observer gets; else why it cannot be looked at, and the disk. The disk
 /// is only read.
 pub(crate) fn viewed<D: Disk, O: Observer>(
     alloc: Global,

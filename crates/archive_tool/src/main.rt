@@ -24,7 +24,7 @@ fn main(rt: HostRuntime) -> ExitCode {
             let exit = commanded(&rt, rt, rt.reader(), &mut writer);
             exit.with_output_fault(writer.get_ref().fault())
         }
-        Err(_) => Exit::told(Ending::Cut(EarlyEnd::Memory)),
+        Err(_) => Exit::reported(Ending::Cut(EarlyEnd::Memory)),
     };
     ExitCode::from(concluded(&rt, exit))
 }
@@ -40,7 +40,7 @@ fn commanded<
         Err(error) if error.kind() == io::ErrorKind::InvalidData => {
             no_command(rt, &unreadable_words(rt.alloc()))
         }
-        Err(error) => Exit::told(Ending::Failed(error.kind())),
+        Err(error) => Exit::reported(Ending::Failed(error.kind())),
     }
 }
 

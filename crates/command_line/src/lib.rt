@@ -4,8 +4,10 @@
 mod asking;
 mod command;
 mod serving;
+mod usage;
 mod version;
 
 pub use asking::AskWords;
 pub use command::{ToolCommand, command_of, unreadable_words};
 pub use serving::ServeWords;
+pub use usage::UsageError;

@@ -1,25 +1,18 @@
 -- What a call makes of the archive.
-use Rattle.std.proofs.Common.{◌≡◌, ◌<◌, ◌&&◌, ◌⊎◌, inl, inr, not, ℕ, ℤ, negsuc, Bool, true, false, cond, List, [], ◌∷◌, ◌++◌, length, Option, Some, None, Result, Ok, Err, refl, sym, ap, subst, ◌∙◌, true≢false, int_le, nat_lt, arith}
-use Rattle.std.specs.Prelude.{IsFalse, IsTrue, is_some, option_map}
+use Rattle.std.proofs.Common.{◌≡◌, ◌<◌, ◌&&◌, inl, inr, not, ℕ, ℤ, negsuc, Bool, true, false, cond, List, [], ◌∷◌, ◌++◌, length, Option, Some, None, Result, Ok, Err, refl, sym, ap, subst, true≢false, int_le, nat_lt, arith}
+use Rattle.std.specs.Prelude.{IsFalse, IsTrue, is_some}
 use Rattle.std.specs.Ordering.{int_eq}
 use Rattle.std.proofs.lemmas.Bool.Decides.{nat_tests}
-use Rattle.frame_core.specs.declared.block.Block.{Block}
 use Rattle.frame_core.specs.declared.refusal.Refusal.{Refusal}
-use Rattle.frame_core.specs.declared.refusal.Refusal.TheVariants.{BadPosition}
 use Rattle.archive_model.specs.declared.command.Command.{Command}
 use Rattle.archive_model.specs.declared.command.Command.TheVariants as commands
 use Rattle.archive_model.specs.declared.registration.Registration.{Registration}
 use Rattle.archive_model.specs.declared.reply.Reply.{Reply}
 use Rattle.archive_model.specs.State.{Recording}
 use Rattle.archive_model.specs.Register.{is_end, registration_in}
-use Rattle.archive_model.specs.Commands.{after}
-use Rattle.archive_model.specs.Acceptance.{BookState, book_after}
-use Rattle.archive_model.specs.Accepting.{begins_in}
 use Rattle.archive_model.specs.Checks.{Tests, block_checks, checked, checks, first_checks, is_boundary_by, is_of, last_checks, passes}
 use Rattle.archive_model.proofs.WellLemmas.{both}
 use Rattle.control_core.specs.declared.callers.OpenReplay.{OpenReplay}
-use Rattle.control_core.specs.declared.callers.RecorderSession.{RecorderSession}
-use Rattle.control_core.specs.declared.callers.Written.{Written}
 use Rattle.control_core.specs.Decided.{Decision}
 use Rattle.control_core.specs.Decided as decisions
 use Rattle.control_core.specs.declared.event.Event.{Event}
@@ -31,16 +24,12 @@ use Rattle.control_core.specs.declared.turns.Settling.{Settling}
 use Rattle.control_core.specs.declared.turns.Settling.TheVariants as settling
 use Rattle.control_core.specs.Callers.{last_number}
 use Rattle.control_core.specs.Desk.{DeskState}
-use Rattle.control_core.specs.Changes.{desk_after, settled, settled_by}
-use Rattle.control_core.specs.declared.request.Request.{Request}
-use Rattle.control_core.specs.Decisions.{Allows, asked_command, command_in, decision_of}
-use Rattle.control_core.specs.Turns.{MayOpen, begins_at, close_decision, open_decision, open_tests, opened_at, opening_decided, opening_in, opening_of, poll_decision, session_in, settle_decision, settle_tests, settling_of, sweep_tests, write_decision}
-use Rattle.control_core.specs.Agreement.{WroteBlocks}
-use Rattle.control_core.specs.Exact.{Archive, ArchiveEnds, CheckpointEnds, DecisionEnds, Leaves, OpeningEnds, PolledEnds, PollingEnds, SettlingEnds, SweepEnds, archive_after, asked_frames, asked_opening, book_of, recording_at, settled_archive}
+use Rattle.control_core.specs.Decisions.{Allows, decision_of}
+use Rattle.control_core.specs.Turns.{MayOpen, begins_at, close_decision, open_decision, open_tests, opened_at, opening_decided, opening_in, opening_of, poll_decision, settle_decision, sweep_tests}
+use Rattle.control_core.specs.Exact.{Archive, ArchiveEnds, CheckpointEnds, DecisionEnds, Leaves, OpeningEnds, PolledEnds, PollingEnds, SettlingEnds, SweepEnds, asked_frames, asked_opening, recording_at}
 use Rattle.control_core.specs.Consistent.{is_append, is_asked}
 use Rattle.control_core.proofs.AllowedLemmas.{differ, works_of}
-use Rattle.control_core.proofs.DecidedLemmas.{decided_accepted, held, settling_accepted, settling_session}
-use Rattle.control_core.proofs.AgreementLemmas.{asked_is}
+use Rattle.control_core.proofs.DecidedLemmas.{held}
 
 -- ---- what is opened
 

@@ -1,5 +1,5 @@
 -- An archive that is consistent still is after each call.
-use Rattle.std.proofs.Common.{◌≡◌, ◌≢◌, ◌+ℤ◌, ◌<◌, ◌≤◌, ◌⊎◌, inl, inr, ◌&&◌, ◌||◌, not, nat_lt, nat_le, length, arith, ℤ, pos, negsuc, Bool, true, false, cond, List, [], ◌∷◌, ◌++◌, map, ℕ, Option, Some, None, Result, Ok, Err, refl, sym, ap, subst, ◌∙◌, true≢false, int_le, unsigned_abs}
+use Rattle.std.proofs.Common.{◌≡◌, ◌≢◌, ◌+ℤ◌, ◌<◌, ◌⊎◌, inl, inr, ◌&&◌, ◌||◌, not, nat_le, length, arith, ℤ, pos, negsuc, Bool, true, false, cond, List, [], ◌∷◌, ◌++◌, map, ℕ, Option, Some, None, Result, Ok, Err, refl, sym, ap, subst, ◌∙◌, true≢false, int_le, unsigned_abs}
 use Rattle.std.specs.Prelude.{IsFalse, IsSomeAnd, IsTrue, is_some, option_map}
 use Rattle.std.specs.Ordering.{int_eq}
 use Rattle.std.proofs.lemmas.Bool.Decides.{nat_tests}
@@ -40,9 +40,9 @@ use Rattle.control_core.specs.declared.turns.Settling.{Settling}
 use Rattle.control_core.specs.declared.turns.Settling.TheVariants as settling
 use Rattle.control_core.specs.Callers.{moved_to, replay_number, session_number, with_written}
 use Rattle.control_core.specs.Desk.{DeskState, has_room}
-use Rattle.control_core.specs.Changes.{after_close, after_open, after_poll, checkpointed, positions_each, settled, settled_by, settled_each}
+use Rattle.control_core.specs.Changes.{after_close, after_open, after_poll, checkpointed, positions_each, settled, settled_by}
 use Rattle.control_core.specs.Decisions.{decision_of}
-use Rattle.control_core.specs.Turns.{begins_at, close_decision, held_to, open_decision, open_tests, opened_at, opening_decided, opening_in, opening_of, poll_decision, poll_tests, open_replay_in, open_replay_of, session_in, settle_all_tests, settle_decision, settle_tests, settling_by, settling_of, has_room_for_each, has_written, are_once, sweep_tests, write_decision}
+use Rattle.control_core.specs.Turns.{begins_at, close_decision, held_to, open_decision, open_tests, opened_at, opening_decided, opening_in, opening_of, poll_decision, poll_tests, open_replay_in, open_replay_of, session_in, settle_all_tests, settle_decision, settle_tests, settling_of, has_room_for_each, has_written, are_once, sweep_tests, write_decision}
 use Rattle.control_core.specs.Seats.{AreApart, KeepsSeats}
 use Rattle.control_core.specs.Agreement.{Agrees, WroteBlocks}
 use Rattle.control_core.specs.Exact.{Archive, ArchiveEnds, CallEnds, CheckpointEnds, DecisionEnds, Leaves, LeftByFault, OpeningEnds, PolledEnds, PollingEnds, SettlingEnds, SweepEnds, asked_frames, asked_opening, book_of, broken, frames_end, opened_archive, recording_at, settled_archive, settled_archives, settled_by_number, settling_in, span_of, with_desk, with_session_blocks, written}

@@ -1,14 +1,14 @@
 -- Several sessions settled one after another: what each wrote is known before the first of them.
-use Rattle.std.proofs.Common.{◌≡◌, ◌≢◌, ◌+◌, ◌<◌, ◌≤◌, ◌⊎◌, inl, inr, ◌&&◌, ◌||◌, not, ℕ, ℤ, Bool, true, false, cond, List, [], ◌∷◌, map, Option, Some, None, refl, sym, ap, subst, ◌∙◌, true≢false, nat_lt, nat_le, arith}
+use Rattle.std.proofs.Common.{◌≡◌, ◌≢◌, ◌+◌, ◌<◌, ◌≤◌, ◌⊎◌, inl, inr, ◌||◌, not, ℕ, ℤ, Bool, true, false, cond, List, [], ◌∷◌, map, Option, Some, None, refl, sym, ap, subst, ◌∙◌, true≢false, nat_lt, nat_le, arith}
 use Rattle.std.proofs.lemmas.Bool.Decides.{Decides-int_eq, nat_tests}
 use Rattle.std.proofs.lemmas.List.Sums.{sum_by-cons}
-use Rattle.std.specs.Prelude.{IsTrue, count_by, is_some}
+use Rattle.std.specs.Prelude.{count_by, is_some}
 use Rattle.std.specs.List.{list_any}
 use Rattle.std.specs.Ordering.{int_eq}
 use Rattle.archive_model.specs.declared.registration.Registration.{Registration}
 use Rattle.archive_model.specs.declared.registration.Change.TheVariants as changes
 use Rattle.archive_model.specs.Keyed.{Each, change, find}
-use Rattle.archive_model.specs.Register.{RegisterState, changed_by, registration_in}
+use Rattle.archive_model.specs.Register.{changed_by}
 use Rattle.archive_model.proofs.RegisterLemmas.{id_kept}
 use Rattle.archive_model.proofs.StateLemmas.{each_found}
 use Rattle.archive_model.proofs.WellLemmas.{both}
@@ -18,13 +18,13 @@ use Rattle.control_core.specs.declared.turns.Settling.{Settling}
 use Rattle.control_core.specs.declared.turns.Settling.TheVariants as settling
 use Rattle.control_core.specs.Callers.{session_number, with_written, written_to}
 use Rattle.control_core.specs.Desk.{DeskState, has_room_for}
-use Rattle.control_core.specs.Changes.{next_position, position_of, positions_each, recorded_of, sessions_each, settled, settled_by, settled_each}
+use Rattle.control_core.specs.Changes.{position_of, positions_each, recorded_of, sessions_each, settled, settled_by, settled_each}
 use Rattle.control_core.specs.Turns.{are_once, has_room_for_each, has_written, session_in, settling_by, settling_of, wrote_any}
 use Rattle.control_core.specs.Seats.{AreApart}
 use Rattle.control_core.specs.Exact.{Archive, settled_archives, settled_by_number, settling_in}
 use Rattle.control_core.proofs.DecidedLemmas.{found_number}
 use Rattle.control_core.proofs.DeskLemmas.{apart_written, not_same}
-use Rattle.control_core.proofs.FoundLemmas.{each_weaker, found_other}
+use Rattle.control_core.proofs.FoundLemmas.{found_other}
 
 -- ---- numbers that stand once
 

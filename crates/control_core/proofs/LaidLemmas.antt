@@ -88,7 +88,8 @@ laid_extended session_id r laid = record { laid_out = record { layout = laid.lai
 -- recorded further, in its stream, up to a multiple of 32
 pub laid_settled : (position : ℤ) (r : Registration) → IsLaid r → r.recorded ≤ℤ position → position ≤ℤ stream_end r → IsAligned position → IsLaid (changed_by (changes.Settle position) r)
 laid_settled position r laid further inside aligned = record {
-  laid_out = record { layout = laid.laid_out.layout; mtu = laid.laid_out.mtu }; origin = laid.origin;
+  laid_out = record { layout = laid.laid_out.layout; mtu = laid.laid_out.mtu };
+  origin = laid.origin;
   from_start = omega (arith, ints, laid.from_start, further);
   in_stream = inside;
   aligned = aligned;

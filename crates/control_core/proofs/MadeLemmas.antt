@@ -1,5 +1,5 @@
 -- A call that is answered makes the steps that it asks for.
-use Rattle.std.proofs.Common.{◌≡◌, ◌≢◌, ◌<◌, ◌≤◌, ◌&&◌, ◌⊎◌, inl, inr, not, ◌+◌, ℕ, ℤ, Bool, true, false, cond, List, [], ◌∷◌, ◌++◌, length, Option, Some, None, Result, Ok, Err, refl, sym, ap, subst, ◌∙◌, true≢false, arith}
+use Rattle.std.proofs.Common.{◌≡◌, ◌<◌, ◌≤◌, inl, inr, not, ℤ, Bool, true, false, cond, List, [], ◌∷◌, ◌++◌, length, Option, Some, None, Result, Ok, Err, refl, sym, ap, subst, ◌∙◌, true≢false, arith}
 use Rattle.std.proofs.lemmas.List.{length-append}
 use Rattle.std.specs.Prelude.{IsFalse, IsTrue, is_some}
 use Rattle.frame_core.specs.declared.block.Block.{Block}
@@ -29,14 +29,14 @@ use Rattle.control_core.specs.declared.request.Request.TheVariants as requests
 use Rattle.control_core.specs.declared.turns.Opening.{Opening}
 use Rattle.control_core.specs.declared.turns.Settling.{Settling}
 use Rattle.control_core.specs.declared.turns.Settling.TheVariants as settling
-use Rattle.control_core.specs.Changes.{checkpointed, desk_after, positions_each, settled, settled_by}
+use Rattle.control_core.specs.Changes.{desk_after, positions_each, settled, settled_by}
 use Rattle.control_core.specs.Desk.{DeskState}
 use Rattle.control_core.specs.Decisions.{accepted, asked_command, command_in, decided, decision_of, extend_tests, if_boundary, purge_segments_tests, purge_tests, start_tests, stop_tests, truncate_tests}
-use Rattle.control_core.specs.Turns.{close_decision, has_written, open_decision, poll_decision, session_in, settle_all_tests, settle_decision, settle_tests, settling_of, sweep_tests, write_decision}
+use Rattle.control_core.specs.Turns.{close_decision, has_written, open_decision, poll_decision, session_in, settle_all_tests, settle_decision, settle_tests, sweep_tests, write_decision}
 use Rattle.control_core.specs.Agreement.{WroteBlocks}
-use Rattle.control_core.specs.Exact.{Archive, ArchiveEnds, CheckpointEnds, DecisionEnds, Leaves, OpeningEnds, PolledEnds, PollingEnds, SettlingEnds, SweepEnds, archive_after, asked_frames, asked_opening, book_of, recording_at, settled_archive, settled_archives, settled_by_number, settling_in, with_desk}
+use Rattle.control_core.specs.Exact.{Archive, ArchiveEnds, CheckpointEnds, DecisionEnds, Leaves, OpeningEnds, PolledEnds, PollingEnds, SettlingEnds, SweepEnds, archive_after, asked_frames, asked_opening, book_of, recording_at, settled_archive, settled_archives, settled_by_number, settling_in}
 use Rattle.control_core.specs.Consistent.{AsksFew, IsAcceptable, IsConsistent, MakesSteps, SettlesByAppend, append_of, appends_of, is_append, is_asked, request_steps, steps_asked}
-use Rattle.control_core.specs.Steps.{AreAcceptedSteps, AreAllowedSteps, BookStep, Entered, Recounted, books_after, desks_after, recounted}
+use Rattle.control_core.specs.Steps.{AreAcceptedSteps, AreAllowedSteps, BookStep, Entered, books_after, desks_after}
 use Rattle.control_core.proofs.AgreementLemmas.{asked_is}
 use Rattle.control_core.proofs.AllowedLemmas.{works_of}
 use Rattle.control_core.proofs.CallLemmas.{asked_works, no_append}

@@ -1,6 +1,6 @@
 -- What each call of an archive is answered exactly, by its state with the frames, its desk and what its sessions wrote.
 -- docs/CONTROL.md, "Requests", "Recorder sessions" and "Replays".
-use Rattle.std.specs.Prelude.{◌≡◌, ◌⊎◌, ◌++◌, ◌+ℤ◌, ℕ, ℤ, pos, int_le, Bool, true, false, IsTrue, IsSomeAnd, MatchBool, List, [], ◌∷◌, length, unsigned_abs, Option, Some, None, is_none, is_some, nat_lt, Result, Ok, Err, if◌then◌else◌, ◌&&◌}
+use Rattle.std.specs.Prelude.{◌≡◌, ◌⊎◌, ◌++◌, ◌+ℤ◌, ℕ, ℤ, pos, int_le, Bool, true, false, IsTrue, IsSomeAnd, MatchBool, List, [], ◌∷◌, length, unsigned_abs, Option, Some, None, is_none, is_some, Result, Ok, Err, if◌then◌else◌, ◌&&◌}
 use Rattle.std.specs.Ordering.{int_eq}
 use Rattle.frame_core.specs.declared.block.Block.{Block}
 use Rattle.frame_core.specs.declared.refusal.Refusal.{Refusal}

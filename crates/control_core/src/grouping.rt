@@ -1,7 +1,7 @@
 //! Several recorder sessions that are settled together: what is decided, what each is answered, and the desk then.
 //! docs/CONTROL.md, "Recorder sessions".
 
-ghost use Rattle.std.specs.Prelude.{◌≡◌, ◌<◌, count_by, true, IfOk, IsTrue, Ok};
+ghost use Rattle.std.specs.Prelude.{◌≡◌, ◌<◌, count_by, true, IfOk, IsTrue, Ok, OnOk};
 ghost use Rattle.archive_model.specs.Checks.{checked, checks};
 ghost use Rattle.control_core.specs.Changes.{position_of, positions_each, settled, settled_each};
 ghost use Rattle.control_core.specs.Turns.{are_once, has_room_for_each, has_written, session_in, settle_all_tests};
@@ -16,7 +16,10 @@ use std::alloc::{AllocError, Global};
 /// number that no open session has refuses nothing. Costs the open sessions and the other numbers, for each number; does not
 /// allocate.
 pub fn decide_settle_all(desk: &Desk, sessions: &[i64]) -> Result<(), Refusal>
-    ensures { result ≡ checked (settle_all_tests desk.now.state sessions.now) checks (Ok tt) }
+    ensures decided { result
+        ≡ checked (settle_all_tests desk.now.state sessions.now) checks (Ok tt) }
+    ensures once { OnOk result (IsTrue (are_once sessions.now)) }
+    ensures room { OnOk result (IsTrue (has_room_for_each desk.now.state sessions.now)) }
 {
     if desk.is_broken() {
         return Err(Refusal::Broken);

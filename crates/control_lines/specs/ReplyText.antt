@@ -56,6 +56,15 @@ abbrev pub merge_line : Bool → ℤ → List ℕ
 merge_line true cursor = told (codes "merged yes ") cursor
 merge_line false cursor = told (codes "merged no ") cursor
 
+-- one of the positions that a settling of several sessions answers: none for a session that isn't open
+abbrev pub position_word : Option ℤ → List ℕ
+position_word None = codes " -"
+position_word (Some position) = codes " " ++ signed_decimal position
+
+-- no line asks for such a settling
+abbrev pub settled_all_line : List (Option ℤ) → List ℕ
+settled_all_line positions = codes "settled-all" ++ flat_map position_word positions ++ codes "\n"
+
 -- a reply's lines
 abbrev pub reply_text : Reply → List ℕ
 reply_text (replies.Started recording session) =
@@ -63,6 +72,7 @@ reply_text (replies.Started recording session) =
 reply_text (replies.Extended session) = told (codes "extended ") session
 reply_text (replies.Written position) = told (codes "written ") position
 reply_text (replies.Settled position) = told (codes "settled ") position
+reply_text (replies.SettledAll positions) = settled_all_line positions
 reply_text (replies.Stopped position) = told (codes "stopped ") position
 reply_text (replies.Truncated position) = told (codes "truncated ") position
 reply_text (replies.Purged segments) = told (codes "purged ") segments
@@ -80,6 +90,7 @@ reply_text (replies.Swept removed) = swept_line removed
 reply_text (replies.Verified frames) = told (codes "verified ") frames
 reply_text (replies.Reopened recordings) = told (codes "reopened ") recordings
 reply_text replies.Compacted = codes "compacted\n"
+reply_text replies.Checkpointed = codes "checkpointed\n"
 reply_text (replies.MergeOpened position) = told (codes "merge ") position
 reply_text replies.Held = codes "held\n"
 reply_text replies.Ignored = codes "ignored\n"

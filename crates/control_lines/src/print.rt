@@ -3,7 +3,7 @@
 ghost use Rattle.std.specs.Prelude.{◌≡◌, ◌++◌, OnOk, IfOk, IfErr, length, codes, decimal, string_bytes};
 ghost use Rattle.std.specs.List.{flat_map};
 ghost use Rattle.frame_core.specs.declared.refusal.Refusal.TheVariants.{NoMemory};
-ghost use Rattle.control_lines.specs.ReplyText.{told, descriptor_line, frame_line, source_line, end_line, taken_line, swept_line, merge_line, reply_text};
+ghost use Rattle.control_lines.specs.ReplyText.{told, descriptor_line, frame_line, source_line, end_line, taken_line, swept_line, merge_line, position_word, reply_text, settled_all_line};
 
 use crate::polled::{TextBuffer, write_frame, write_polled};
 use archive_model::{Descriptor, PolledFrame, Reply, SourceIdentity};
@@ -88,6 +88,35 @@ fn told(alloc: Global, word: &str, value: i64) -> Result<Vec<u8>, AllocError>
     Ok(format!(in alloc; "{word}{value}\n")?.into_bytes())
 }
 
+fn put_position(out: &mut String, position: Option<i64>) -> Result<(), AllocError>
+    ensures { OnOk result (string_bytes out.new ≡ string_bytes out.old ++ position_word position) }
+{
+    match position {
+        Some(position) => write!(out, " {position}"),
+        None => write!(out, " -"),
+    }
+}
+
+fn put_positions(out: &mut String, positions: &[Option<i64>]) -> Result<(), AllocError>
+    ensures { OnOk result
+        (string_bytes out.new ≡ string_bytes out.old ++ flat_map position_word positions.now) }
+{
+    for position in positions {
+        put_position(out, *position)?;
+    }
+    Ok(())
+}
+
+/// The positions that a settling of several sessions answers, and `-` for a session that isn't open.
+fn settled_all_text(alloc: Global, positions: &[Option<i64>]) -> Result<Vec<u8>, AllocError>
+    ensures { IfOk result (λ text. text.items ≡ settled_all_line positions.now) }
+{
+    let mut out = String::from_str(alloc, "settled-all")?;
+    put_positions(&mut out, positions)?;
+    writeln!(out)?;
+    Ok(out.into_bytes())
+}
+
 fn merge_text(alloc: Global, is_merged: bool, cursor: i64) -> Result<Vec<u8>, AllocError>
     ensures { IfOk result (λ text. text.items ≡ merge_line is_merged cursor) }
 {
@@ -108,6 +137,7 @@ fn text(alloc: Global, reply: &Reply) -> Result<Vec<u8>, AllocError>
         Reply::Extended { session } => told(alloc, "extended ", *session),
         Reply::Written { position } => told(alloc, "written ", *position),
         Reply::Settled { position } => told(alloc, "settled ", *position),
+        Reply::SettledAll { positions } => settled_all_text(alloc, positions.as_slice()),
         Reply::Stopped { position } => told(alloc, "stopped ", *position),
         Reply::Truncated { position } => told(alloc, "truncated ", *position),
         Reply::Purged { segments } => told(alloc, "purged ", *segments),
@@ -128,6 +158,7 @@ fn text(alloc: Global, reply: &Reply) -> Result<Vec<u8>, AllocError>
         Reply::Verified { frames } => told(alloc, "verified ", *frames),
         Reply::Reopened { recordings } => told(alloc, "reopened ", *recordings),
         Reply::Compacted => Vec::from_slice(alloc, b"compacted\n"),
+        Reply::Checkpointed => Vec::from_slice(alloc, b"checkpointed\n"),
         Reply::MergeOpened { position } => told(alloc, "merge ", *position),
         Reply::Held => Vec::from_slice(alloc, b"held\n"),
         Reply::Ignored => Vec::from_slice(alloc, b"ignored\n"),

@@ -21,3 +21,4 @@ pub mod FollowLemmas
 pub mod PageLemmas
 pub mod PageCallLemmas
 pub mod AskLemmas
+pub mod CheckpointCallLemmas

@@ -9,3 +9,4 @@ pub mod GroupLemmas
 pub mod BlockLemmas
 pub mod SweepLemmas
 pub mod AnewLemmas
+pub mod CheckpointLemmas

@@ -35,21 +35,29 @@ pub record SyncsFiles {T : Type 0} (old new : Life) (count : ℕ) (result : Resu
   pub calls : moment new ≤ moment old + count + 2
   pub cause : IsErrOf result DeviceFault → HasFailed old new
 
--- no archive is made: the history limit is out of its range, or a file is there; a fault of the listing, or behind it where
--- no file was; or want of memory for the listing
+-- An archive is made, or fails to be: no file but the banks has changed, by at most six calls that change something.
+pub record MakesBanks (old new : Life) : Type 0 where
+  pub obeyed : IsTrue new.obeys → IsTrue old.obeys
+  pub faults : old.faults ≤ new.faults
+  pub others : (file : FileId) → file ≢ BankA → file ≢ BankB → new.now file ≡ old.now file
+  pub calls : moment new ≤ moment old + 6
+
+-- no archive is made: the history limit is out of its range, or a file is there; a fault of the listing, or after it where no
+-- file was, and then the banks alone may have changed; or want of memory for the listing
 abbrev pub RefusesNew : Life → Life → ℕ → Refusal → Type 0
 RefusesNew old new limit BadParameter =
     IsQuiet old new × ((limit < 1) ⊎ (16777216 < limit) ⊎ (IsTrue new.obeys → (file : FileId) × IsSome (reads old.now file)))
-RefusesNew old new limit DeviceFault = HasFailed old new × (IsQuiet old new ⊎ (IsTrue new.obeys → (file : FileId) → reads old.now file ≡ None))
+RefusesNew old new limit DeviceFault = HasFailed old new × (IsQuiet old new ⊎ ((IsTrue new.obeys → (file : FileId) → reads old.now file ≡ None) × MakesBanks old new))
 RefusesNew old new limit NoMemory = IsQuiet old new
 RefusesNew old new limit _ = ⊥
 
--- an archive was made where there was none, and bank B holds a closed gate
+-- an archive was made where there was none, in the banks alone, and bank B holds a closed gate
 pub record IsMadeIn (old new : Life) (limit : ℕ) : Type 0 where
   pub some : 1 ≤ limit
   pub most : limit ≤ 16777216
   pub empty : IsTrue new.obeys → (file : FileId) → reads old.now file ≡ None
   pub spare : HasClosedGate new.now BankB
+  pub banks : MakesBanks old new
 
 -- why a disk is not opened, whatever it holds: a device fault has its cause; and where it obeys, its catalogue is refused so.
 -- Refused by anything but a fault each file reads as before.

@@ -30,6 +30,7 @@ ghost use Rattle.catalogue_log.specs.Compacting.{HasRegister, LeavesRegister};
 ghost use Rattle.catalogue_log.specs.LogState.{LogState};
 ghost use Rattle.control_core.specs.declared.callers.OpenReplay.{OpenReplay};
 ghost use Rattle.control_core.specs.declared.event.Event.{Event};
+ghost use Rattle.control_core.specs.declared.event.Event.TheVariants as events;
 ghost use Rattle.control_core.specs.Consistent.{IsConsistent};
 ghost use Rattle.control_core.specs.Exact.{Archive, ArchiveEnds, CallEnds, recording_at};
 ghost use Rattle.control_core.specs.Orderly.{AreLaid};
@@ -42,7 +43,7 @@ ghost use Rattle.engine_core.specs.Engine.{Content, EngineState, DiskGoesOn, arc
 ghost use Rattle.engine_core.specs.Moves.{Enters, EntryLeads};
 ghost use Rattle.engine_core.specs.Opened.{HasOpened, LeavesEither};
 ghost use Rattle.engine_core.specs.Protected.{GoesOn, HasFrom, KeepOpen, KeepsFrom, KnowsFrom, StandFrom, StaysRead, closes};
-ghost use Rattle.engine_core.specs.Recovery.{IsDurable, IsSound, Recovers, last_of};
+ghost use Rattle.engine_core.specs.Recovery.{IsDurable, IsSound, Recovers, RecoversTo, last_of};
 ghost use Rattle.recording_reads.specs.Reading.{GivesShown};
 ghost use Rattle.recording_reads.specs.Recording.{layout_of};
 
@@ -110,6 +111,14 @@ pub fn a_run_and_a_step_are_a_run()
         (Result Reply Refusal))
         (event : Event) (outcome : Result Reply Refusal) → IsRun old events outcomes mid →
         AnswersEvent mid new event outcome → IsRun old (events ++ event ∷ []) (outcomes ++ outcome ∷ []) new }
+{}
+
+/// While no write has failed a checkpoint leaves the archive's state alone: a crash at any moment of it leaves that state,
+/// whatever is active, and also where it is refused or breaks the archive.
+pub fn a_checkpoint_leaves_the_state()
+    ensures { (old new : EngineState) (c : Content) (result : Result Reply Refusal) →
+        AnswersEvent old new events.Checkpoint result → IsCrashConsistent old.life old.log (archive_of old c) →
+        IsFalse old.desk.is_broken → LeavesOnly old.life new.life (RecoversTo (λ x. x ≡ c.state)) }
 {}
 
 /// A run over a disk that obeys leaves a crash-consistent archive such; a crash at any moment of it leaves a state that

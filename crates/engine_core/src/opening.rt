@@ -14,7 +14,7 @@ ghost use Rattle.catalogue_log.specs.Banks.{HasClosedGate};
 ghost use Rattle.catalogue_log.specs.Catalogue.{RefusesCatalogue};
 ghost use Rattle.catalogue_entries.specs.Fold.{after_entries};
 ghost use Rattle.catalogue_log.specs.LogState.{IsAtRest, IsLogIn, banks_of};
-ghost use Rattle.engine_core.specs.Opening.{SyncsFiles, SyncsOnly};
+ghost use Rattle.engine_core.specs.Opening.{MakesBanks, SyncsFiles, SyncsOnly};
 ghost use Rattle.archive_model.specs.declared.version.BankVersion.TheVariants.{Two};
 ghost use Rattle.control_core.specs.Desk.{opened_desk};
 ghost use Rattle.control_core.specs.Orderly.{AreLaid};
@@ -151,7 +151,7 @@ pub(crate) fn create<D: Disk>(
     ensures spare { OnOk result (HasClosedGate (D.life disk.new).now BankB) }
     ensures refused { IfErr result (λ refusal.
         (refusal ≡ DeviceFault) × HasFailed (D.life disk.old) (D.life disk.new)) }
-    ensures goes_on { DiskGoesOn (D.life disk.old) (D.life disk.new) }
+    ensures goes_on { MakesBanks (D.life disk.old) (D.life disk.new) }
 {
     catalogue_log::create(alloc, disk, history_limit)
 }

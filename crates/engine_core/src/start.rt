@@ -9,9 +9,10 @@ ghost use Rattle.disk_core.specs.Life.{HasFailed};
 ghost use Rattle.catalogue_log.specs.Banks.{HasClosedGate};
 ghost use Rattle.catalogue_log.specs.LogState.{banks_of};
 ghost use Rattle.engine_core.specs.Consistent.{KeepsArchive};
-ghost use Rattle.engine_core.specs.Engine.{DiskGoesOn, new_archive};
+ghost use Rattle.engine_core.specs.Engine.{new_archive};
 ghost use Rattle.engine_core.specs.Making.{HasNotStarted, Restarts};
 ghost use Rattle.engine_core.specs.Opened.{HasNotOpened, HasOpened, new_banks};
+ghost use Rattle.engine_core.specs.Opening.{MakesBanks};
 ghost use Rattle.engine_core.specs.Seen.{seen, state_of};
 ghost use Rattle.replay_core.specs.Pages.{kept};
 
@@ -40,8 +41,8 @@ pub(crate) fn make<D: Disk>(
     ensures banks { IfOk result (λ engine. banks_of engine.archive.storage.log ≡ new_banks) }
     ensures spare { IfOk result (λ engine. HasClosedGate (D.life engine.archive.storage.disk).now BankB) }
     ensures goes_on { MatchResult result
-        (λ engine. DiskGoesOn (D.life disk) (D.life engine.archive.storage.disk))
-        (λ refused. DiskGoesOn (D.life disk) (D.life refused.disk)) }
+        (λ engine. MakesBanks (D.life disk) (D.life engine.archive.storage.disk))
+        (λ refused. MakesBanks (D.life disk) (D.life refused.disk)) }
     ensures refused { IfErr result (λ refused.
         ((refused.refusal ≡ DeviceFault) × HasFailed (D.life disk) (D.life refused.disk))
         ⊎ ((refused.refusal ≡ NoMemory) × (D.life refused.disk ≡ D.life disk))) }
@@ -108,8 +109,8 @@ fn make_archive<D: Disk>(
     ensures banks { IfOk result (λ archive. banks_of archive.storage.log ≡ new_banks) }
     ensures spare { IfOk result (λ archive. HasClosedGate (D.life archive.storage.disk).now BankB) }
     ensures goes_on { MatchResult result
-        (λ archive. DiskGoesOn (D.life disk) (D.life archive.storage.disk))
-        (λ refused. DiskGoesOn (D.life disk) (D.life refused.disk)) }
+        (λ archive. MakesBanks (D.life disk) (D.life archive.storage.disk))
+        (λ refused. MakesBanks (D.life disk) (D.life refused.disk)) }
     ensures refused { IfErr result (λ refused. (refused.refusal ≡ DeviceFault)
         × HasFailed (D.life disk) (D.life refused.disk)) }
 {

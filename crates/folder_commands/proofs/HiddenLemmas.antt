@@ -9,7 +9,7 @@ use Rattle.host_disk.specs.Replay.{life_from}
 use Rattle.catalogue_log.specs.declared.hidden.Hidden.{Hidden}
 use Rattle.archive_view.specs.declared.read_only.ReadOnly.{ReadOnly}
 use Rattle.archive_view.specs.declared.view.ArchiveView.{ArchiveView}
-use Rattle.archive_view.specs.Hidden.{TellsHiddenEntry}
+use Rattle.archive_view.specs.Hidden.{ReportsHiddenEntry}
 use Rattle.archive_view.specs.ReadOnly.{Looks, disk_of}
 use Rattle.archive_view.specs.View.{IsAsCatalogued}
 use Rattle.archive_view.specs.Viewed.{desk_of, log_of, read_of}
@@ -17,7 +17,7 @@ use Rattle.folder_commands.specs.Hidden.{MayHideEntries}
 
 module _ (given : Given) (disk : ReadOnly ReadFolder) (opened : ArchiveView ReadFolder) (last : ReadOnly ReadFolder) (h : Hidden) (begun : folder_life (disk_of disk) ≡ life_from given)
     (viewed : Looks folder_life (λ image. IsAsCatalogued image (desk_of opened) (log_of opened)) disk (read_of opened))
-    (found : Looks folder_life (λ image. TellsHiddenEntry image (desk_of opened).register (log_of opened) (Some h)) (read_of opened) last) where
+    (found : Looks folder_life (λ image. ReportsHiddenEntry image (desk_of opened).register (log_of opened) (Some h)) (read_of opened) last) where
   pub may_hide : MayHideEntries given
   may_hide = record {
     looked = folder_life (disk_of last);

@@ -12,10 +12,10 @@ use Rattle.folder_commands.specs.declared.status.Ending.TheVariants.{NoCommand, 
 use Rattle.folder_commands.specs.Obeying.{HasObeyed}
 
 -- an error of this kind was told; or there was no memory for its text, or its stream failed
-abbrev pub TellsKind : ErrorKind → Ending → Type 0
-TellsKind kind (NoCommand told) = (told ≡ kind) ⊎ (told ≡ OutOfMemory)
-TellsKind kind (Failed fault) = Unit {0}
-TellsKind kind ending = ⊥
+abbrev pub ReportsKind : ErrorKind → Ending → Type 0
+ReportsKind kind (NoCommand told) = (told ≡ kind) ⊎ (told ≡ OutOfMemory)
+ReportsKind kind (Failed fault) = Unit {0}
+ReportsKind kind ending = ⊥
 
 module _ (given : Given) (words : List Text) (input contents written : Option (List ℕ)) where
   -- the words hold a command, which was obeyed
@@ -26,7 +26,7 @@ module _ (given : Given) (words : List Text) (input contents written : Option (L
   abbrev pub HoldsNone : Option Life → Ending → Type 0
   HoldsNone left ending = (kind : ErrorKind) × IsWordsFault (fault_of tool_app words) kind
       × ((command : ToolCommand) → IsHeld words command → kind ≡ OutOfMemory)
-      × TellsKind kind ending × (left ≡ None) × (written ≡ contents)
+      × ReportsKind kind ending × (left ≡ None) × (written ≡ contents)
 
   abbrev pub AnswersWords : Option Life → Ending → Type 0
   AnswersWords left ending = HoldsObeyed left ending ⊎ HoldsNone left ending

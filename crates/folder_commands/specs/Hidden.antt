@@ -8,7 +8,7 @@ use Rattle.host_disk.specs.Replay.{life_from}
 use Rattle.catalogue_log.specs.declared.hidden.Hidden.{Hidden}
 use Rattle.catalogue_log.specs.LogState.{LogState}
 use Rattle.control_core.specs.Desk.{DeskState}
-use Rattle.archive_view.specs.Hidden.{TellsHiddenEntry}
+use Rattle.archive_view.specs.Hidden.{ReportsHiddenEntry}
 use Rattle.archive_view.specs.View.{IsAsCatalogued}
 
 -- the catalogue of an image has a log, behind whose closed gate an entry stands that may have been answered
@@ -20,7 +20,7 @@ pub record HidesEntry (image : DiskImage) : Type 0 where
   -- the image as it read then
   pub later : DiskImage
   pub same : (file : FileId) → later file ≡ image file
-  pub stands : TellsHiddenEntry later desk.register log (Some hidden)
+  pub stands : ReportsHiddenEntry later desk.register log (Some hidden)
 
 -- the folder with these files was looked at, and so does its catalogue
 pub record MayHideEntries (given : Given) : Type 0 where

@@ -1,6 +1,6 @@
 -- What a reader has to believe: what is told where the words ask for no command, the program's statuses, and what its commands
 -- do over a folder.
-pub mod Telling
+pub mod Usage
 pub mod Status
 pub mod Left
 pub mod Folders

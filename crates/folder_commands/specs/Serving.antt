@@ -9,10 +9,12 @@ use Rattle.disk_core.specs.Life.{Life}
 use Rattle.host_disk.specs.Events.{Given}
 use Rattle.host_disk.specs.Replay.{life_from}
 use Rattle.command_line.specs.declared.serving.ServeWords.{ServeWords}
+use Rattle.command_line.specs.declared.usage.UsageError.{UsageError}
+use Rattle.command_line.specs.declared.usage.UsageError.TheVariants.{Address, Multicast, Window, NeedsAeron, RecordNeedsAeron, Streams, NeedsRecord, SegmentLength}
 use Rattle.server.specs.declared.options.ServeOptions.{ServeOptions}
 use Rattle.server.specs.Serving.{IsServedAs, IsServedUpTo}
 use Rattle.folder_commands.specs.declared.why.Why.{Why}
-use Rattle.folder_commands.specs.declared.why.Why.TheVariants.{Address, Multicast, Window, NeedsAeron, RecordNeedsAeron, Streams, NeedsRecord, SegmentLength}
+use Rattle.folder_commands.specs.declared.why.Why.TheVariants.{Usage}
 use Rattle.folder_commands.specs.declared.status.Ending.{Ending}
 use Rattle.folder_commands.specs.Hidden.{MayHideEntries}
 use Rattle.folder_commands.specs.declared.status.Ending.TheVariants.{Done, Cut, Stuck, Hidden, Unopened, NoCommand, Failed}
@@ -25,8 +27,8 @@ IsNoAddress text = (address : Ipv4Addr) → IsIpv4Text text address → IsMultic
 
 -- what is wrong with it
 abbrev pub IsAddressReason : List ℕ → Why → Type 0
-IsAddressReason text Address = (address : Ipv4Addr) → IsIpv4Text text address → ⊥
-IsAddressReason text Multicast = (address : Ipv4Addr) × IsIpv4Text text address × IsMulticastV4 address
+IsAddressReason text (Usage Address) = (address : Ipv4Addr) → IsIpv4Text text address → ⊥
+IsAddressReason text (Usage Multicast) = (address : Ipv4Addr) × IsIpv4Text text address × IsMulticastV4 address
 IsAddressReason text why = ⊥
 
 -- a receiver window that a server can have, in bytes: a multiple of 32, from 4,096 to 1,048,576
@@ -114,17 +116,17 @@ module _ (words : ServeWords) where
   IsUnbound ending = ⊥
 
 -- what is wrong with the words of a bad receiver window
-abbrev pub window_reason : Bool → Why
+abbrev pub window_reason : Bool → UsageError
 window_reason false = NeedsAeron
 window_reason true = Window
 
 -- of bad streams
-abbrev pub streams_reason : Bool → Why
+abbrev pub streams_reason : Bool → UsageError
 streams_reason false = RecordNeedsAeron
 streams_reason true = Streams
 
 -- and of bad segments, if the words name these streams
-abbrev pub segment_reason : List ℤ → Why
+abbrev pub segment_reason : List ℤ → UsageError
 segment_reason [] = NeedsRecord
 segment_reason (stream ∷ streams) = SegmentLength
 

@@ -15,7 +15,7 @@ use Rattle.folder_commands.specs.declared.status.Ending.{Ending}
 use Rattle.folder_commands.specs.declared.status.Ending.TheVariants.{Done, Cut, Refused, Unopened, FoundDamage, LineRefused, Stuck, Hidden, NoCommand, Failed}
 use Rattle.folder_commands.specs.declared.why.Why.{Why}
 use Rattle.folder_commands.specs.declared.why.Why.TheVariants.{Output}
-use Rattle.folder_commands.specs.Telling.{FailsToTell, IsToldBy, words_status}
+use Rattle.folder_commands.specs.Usage.{FailsToReport, IsReportedBy, words_status}
 
 -- the status of a refused command: 1, or 3 for a device fault or damage
 abbrev pub status_of_refusal : Refusal → ℕ
@@ -44,17 +44,17 @@ refusal_of (Failed kind) = Some DeviceFault
 
 -- the status of an ending that tells no refusal: 0 done, 3 damage and a strict server that could record nothing or did not open
 -- its archive, 1 a line that a server refused, and that of words that ask for no command
-abbrev pub untold_status : Ending → ℕ
-untold_status FoundDamage = 3
-untold_status LineRefused = 1
-untold_status (Stuck stop) = 3
-untold_status Hidden = 3
-untold_status (NoCommand kind) = words_status kind
-untold_status ending = 0
+abbrev pub status_without_refusal : Ending → ℕ
+status_without_refusal FoundDamage = 3
+status_without_refusal LineRefused = 1
+status_without_refusal (Stuck stop) = 3
+status_without_refusal Hidden = 3
+status_without_refusal (NoCommand kind) = words_status kind
+status_without_refusal ending = 0
 
 -- the status with which the program ends: that of the refusal which it tells, where it tells one
 abbrev pub status_of : Ending → ℕ
-status_of ending = option_map_or status_of_refusal (refusal_of ending) (untold_status ending)
+status_of ending = option_map_or status_of_refusal (refusal_of ending) (status_without_refusal ending)
 
 -- how a command ends that was refused, or that ended early
 abbrev pub ending_of : Stop → Ending
@@ -73,7 +73,7 @@ why_with_output_fault fault (Output None) = Output fault
 why_with_output_fault fault why = why
 
 -- an error of that kind was told so, or could not be
-abbrev pub IsTold : ErrorKind → List ℕ → Option (List ℕ) → Option (List ℕ) → Option (List ℕ) → Option (List ℕ) → Ending → Type 0
-IsTold kind text output shown errors told (NoCommand of) = (of ≡ kind) × IsToldBy kind text output shown errors told
-IsTold kind text output shown errors told (Failed fault) = FailsToTell kind output shown errors told
-IsTold kind text output shown errors told ending = ⊥
+abbrev pub IsReported : ErrorKind → List ℕ → Option (List ℕ) → Option (List ℕ) → Option (List ℕ) → Option (List ℕ) → Ending → Type 0
+IsReported kind text output shown errors told (NoCommand of) = (of ≡ kind) × IsReportedBy kind text output shown errors told
+IsReported kind text output shown errors told (Failed fault) = FailsToReport kind output shown errors told
+IsReported kind text output shown errors told ending = ⊥

@@ -3,14 +3,14 @@
 ghost use Rattle.std.specs.Prelude.{◌≡◌, map, string_bytes};
 ghost use Rattle.clap.specs.Words.{kind_of};
 ghost use Rattle.host_disk.specs.Events.{Given};
-ghost use Rattle.folder_commands.specs.Answering.{AnswersWords, TellsKind};
+ghost use Rattle.folder_commands.specs.Answering.{AnswersWords, ReportsKind};
 ghost use Rattle.folder_commands.specs.Left.{left_life};
 
 use crate::commands::obeyed;
+use crate::concluding::reported;
 use crate::exit::Exit;
 use crate::outcome::Outcome;
 use crate::status::Ending;
-use crate::telling::told;
 use clap::Error;
 use clap::error::ErrorKind;
 use command_line::command_of;
@@ -21,7 +21,7 @@ use std::sync::Wait;
 use std::thread::Threads;
 
 /// Does what the words of a command line ask for, the program's name first, and answers how that ended, and what it left; of words
-/// that ask for no command it tells on standard error what is wrong with them, or on standard output the help that they ask for. What a command
+/// that ask for no command it prints on standard error what is wrong with them, or on standard output the help that they ask for. What a command
 /// writes goes to a writer, and is handed on; the control lines of `run` come from an input.
 pub fn answered<
     R: Threads + Wait + Clock + Eprint + Net<Listener = TcpListener, Stream = TcpStream> + Sync,
@@ -40,15 +40,15 @@ pub fn answered<
 
 /// Tells why a command line asks for no command, or gives the help that it asks for.
 pub fn no_command(rt: HostRuntime, error: &Error) -> Exit
-    ensures { TellsKind (kind_of error.now) result.ending }
+    ensures { ReportsKind (kind_of error.now) result.ending }
 {
     match error.to_string(rt.alloc()) {
-        Ok(text) => told(
+        Ok(text) => reported(
             error.kind(),
             text.as_str(),
             &mut rt.stdout(),
             &mut rt.stderr(),
         ),
-        Err(_) => Exit::told(Ending::NoCommand(ErrorKind::OutOfMemory)),
+        Err(_) => Exit::reported(Ending::NoCommand(ErrorKind::OutOfMemory)),
     }
 }

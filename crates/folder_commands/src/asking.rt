@@ -10,7 +10,7 @@ use crate::exit::Exit;
 use crate::serving::{misworded, port_of};
 use crate::status::Ending;
 use crate::why::Why;
-use command_line::AskWords;
+use command_line::{AskWords, UsageError};
 use control_client::{AskFault, ConnectionFault, Question, Server, Verdict, are_sendable, is_line};
 use std::io::{self, ErrorKind, Write};
 use std::net::{Ipv4Addr, Net, Shutdown, SocketAddr, TcpListener, TcpStream};
@@ -89,10 +89,10 @@ fn port_to_ask(words: &AskWords<'_>) -> Result<u16, Exit>
         (λ exit. IsUnaskable words.now × (exit.ending ≡ NoCommand ValueValidation)) }
 {
     if !are_sendable(words.lines.as_slice()) {
-        return Err(misworded(Why::Lines));
+        return Err(misworded(UsageError::Lines));
     }
     if !is_one_line(words.until) {
-        return Err(misworded(Why::Until));
+        return Err(misworded(UsageError::Until));
     }
     port_of(words.port)
 }
@@ -113,7 +113,7 @@ fn answered_by(verdict: Verdict, words: &AskWords<'_>) -> Result<(), Exit>
 {
     match verdict {
         Verdict::Answered => Ok(()),
-        Verdict::Refused => Err(Exit::told(Ending::LineRefused)),
+        Verdict::Refused => Err(Exit::reported(Ending::LineRefused)),
         Verdict::Unanswered(left) => {
             let lines = words.lines.len();
             Err(Exit {
@@ -129,8 +129,8 @@ fn unanswered_by(fault: AskFault, words: &AskWords<'_>) -> Exit
     ensures { FailsAsking fault result.ending }
 {
     match fault {
-        AskFault::Output => Exit::cut(EarlyEnd::Write, Why::Told),
-        AskFault::Memory => Exit::cut(EarlyEnd::Memory, Why::Told),
+        AskFault::Output => Exit::cut(EarlyEnd::Write, Why::Reported),
+        AskFault::Memory => Exit::cut(EarlyEnd::Memory, Why::Reported),
         AskFault::Connection(ConnectionFault::Unreachable(error)) => Exit {
             ending: Ending::Failed(error.kind()),
             why: Why::Unreachable(words.port, error),

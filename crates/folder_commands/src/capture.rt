@@ -21,7 +21,7 @@ use crate::status::Ending;
 use crate::why::Why;
 use archive_commands::{CommandFault, Progress, Screen, Stop, Viewer, Watched};
 use archive_export::Span;
-use archive_report::{ExportTeller, Extent, export_view};
+use archive_report::{ExportReporter, Extent, export_view};
 use frame_core::Refusal;
 use host_disk::ReadFolder;
 use std::fs::{self, File};
@@ -67,8 +67,16 @@ pub(crate) fn export<W: Write>(
     };
     let viewer = (opening_of(&rt, &screen), progress_of(&rt, &screen, &extent));
     let disk = Watched::new(disk, viewer);
-    let mut teller = ExportTeller::new(&screen, span, &extent);
-    let captured = captured(rt, disk, recording, span, &part, pcap.as_str(), &mut teller);
+    let mut reporter = ExportReporter::new(&screen, span, &extent);
+    let captured = captured(
+        rt,
+        disk,
+        recording,
+        span,
+        &part,
+        pcap.as_str(),
+        &mut reporter,
+    );
     screen.clear();
     let left = captured?;
     Outcome::leaving(exported(writer), left)
@@ -126,14 +134,14 @@ fn captured<V: Viewer<ReadFolder> + Drop>(
     span: &Span,
     part: &Part,
     pcap: &str,
-    teller: &mut ExportTeller<'_, HostRuntime>,
+    reporter: &mut ExportReporter<'_, HostRuntime>,
 ) -> Result<Left, Outcome>
     ensures done { IfOk result (λ left. IsSomeAnd (left_life left) (λ new.
         HasCaptured (folder_life disk.disk) new recording.now span.now)) }
     ensures failed { IfErr result (λ outcome. IsSomeAnd (left_life outcome.left) (λ new.
         FailsToCapture (folder_life disk.disk) new recording.now span.now outcome.exit.ending)) }
 {
-    match placed(rt, disk, recording, span, part, pcap, teller) {
+    match placed(rt, disk, recording, span, part, pcap, reporter) {
         Ok(left) => match synced(rt, pcap) {
             Ok(()) => Ok(left),
             Err(exit) => Err(Outcome { exit, left }),
@@ -153,14 +161,14 @@ fn placed<V: Viewer<ReadFolder> + Drop>(
     span: &Span,
     part: &Part,
     pcap: &str,
-    teller: &mut ExportTeller<'_, HostRuntime>,
+    reporter: &mut ExportReporter<'_, HostRuntime>,
 ) -> Result<Left, Outcome>
     ensures done { IfOk result (λ left. IsSomeAnd (left_life left) (λ new.
         HasCaptured (folder_life disk.disk) new recording.now span.now)) }
     ensures failed { IfErr result (λ outcome. IsSomeAnd (left_life outcome.left) (λ new.
         FailsToCapture (folder_life disk.disk) new recording.now span.now outcome.exit.ending)) }
 {
-    let left = written(rt, disk, recording, span, &part.file, teller)?;
+    let left = written(rt, disk, recording, span, &part.file, reporter)?;
     match named(rt, part, pcap) {
         Ok(()) => Ok(left),
         Err(exit) => Err(Outcome { exit, left }),
@@ -205,7 +213,7 @@ fn written<V: Viewer<ReadFolder> + Drop>(
     recording: &i64,
     span: &Span,
     file: &File,
-    teller: &mut ExportTeller<'_, HostRuntime>,
+    reporter: &mut ExportReporter<'_, HostRuntime>,
 ) -> Result<Left, Outcome>
     ensures done { IfOk result (λ left. IsSomeAnd (left_life left) (λ new.
         HasCaptured (folder_life disk.disk) new recording.now span.now)) }
@@ -218,7 +226,7 @@ fn written<V: Viewer<ReadFolder> + Drop>(
             left: closed(disk),
         });
     };
-    let left = match export_view(rt.alloc(), disk, recording, span, &mut out, teller) {
+    let left = match export_view(rt.alloc(), disk, recording, span, &mut out, reporter) {
         Ok(disk) => closed(disk),
         Err(fault) => return Err(uncaptured(fault, out.get_ref().fault())),
     };
@@ -231,17 +239,17 @@ fn written<V: Viewer<ReadFolder> + Drop>(
     }
 }
 
-/// Why an export was stopped: its file, of which the system told this, takes no more, or the archive refuses it.
+/// Why an export was stopped: its file, of which the system says this, takes no more, or the archive refuses it.
 fn uncaptured<V: Drop>(
     fault: CommandFault<Watched<ReadFolder, V>>,
-    told: Option<io::Error>,
+    error: Option<io::Error>,
 ) -> Outcome
     ensures ending { result.exit.ending ≡ uncaptured_ending fault.why }
     ensures left { left_life result.left ≡ Some (folder_life fault.disk.disk) }
 {
     match fault.why {
         Stop::Cut(EarlyEnd::Write) => Outcome {
-            exit: unwritten(told),
+            exit: unwritten(error),
             left: closed(fault.disk),
         },
         _ => stopped(fault),
@@ -271,7 +279,7 @@ fn synced(rt: HostRuntime, pcap: &str) -> Result<(), Exit>
     }
 }
 
-/// The capture file was not written; what the system told of it, if that is known.
+/// The capture file was not written; what the system says of it, if that is known.
 fn unwritten(error: Option<io::Error>) -> Exit
     ensures { result.ending ≡ Refused DeviceFault }
 {

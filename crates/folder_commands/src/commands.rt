@@ -15,11 +15,11 @@ use crate::capture::export;
 use crate::exit::Exit;
 use crate::hidden::warns_of_hidden;
 use crate::looking::{describe, list_read_only};
+use crate::observers::{FaultReporter, OpeningReporter, ScriptReporter, StartReporter};
 use crate::open_folder::{closed, stopped};
 use crate::outcome::{Left, Outcome};
 use crate::serving::serve;
 use crate::status::Ending;
-use crate::teller::{FaultTeller, OpeningTeller, ScriptTeller, StartTeller};
 use crate::verifying::verify;
 use crate::why::Why;
 use archive_commands::{
@@ -132,7 +132,7 @@ fn create<W: Write>(
     }
 }
 
-/// Why no archive was made on a disk whose last fault was this one, with this limit of its history, or was not told to be.
+/// Why no archive was made on a disk whose last fault was this one, with this limit of its history, or why that was not printed.
 fn unmade(why: Stop, fault: Option<LastFault>, history: u32) -> Exit
     ensures { result.ending ≡ ending_of why }
 {
@@ -186,12 +186,12 @@ fn run_in_memory<I: Read + Drop, W: Write>(
         input,
         writer,
         MemoryDisk::new(rt.alloc()),
-        &mut StartTeller::new(rt.alloc(), &screen),
+        &mut StartReporter::new(rt.alloc(), &screen),
     );
     done
 }
 
-/// Answers the control lines of an input, over the archive of a folder. Before that is opened it is told on standard error if
+/// Answers the control lines of an input, over the archive of a folder. Before that is opened it is reported on standard error if
 /// its catalogue may hide entries.
 fn run<I: Read + Drop, W: Write>(
     rt: HostRuntime,
@@ -203,7 +203,7 @@ fn run<I: Read + Drop, W: Write>(
     ensures { RunsFolder given (I.remaining input) (W.contents writer.old) (W.contents writer.new) (leaves result) (ends_with result) }
 {
     let screen = Screen::new(&rt);
-    let faults = FaultTeller::new(rt.alloc(), &screen, Stage::Opening);
+    let faults = FaultReporter::new(rt.alloc(), &screen, Stage::Opening);
     let viewer = (faults, opening_of(&rt, &screen));
     let disk = Watched::new(disk_of(rt, folder)?, viewer);
     let _ = warns_of_hidden(rt, folder, &screen);
@@ -212,7 +212,7 @@ fn run<I: Read + Drop, W: Write>(
         input,
         writer,
         disk,
-        &mut ScriptTeller::new(rt.alloc(), &screen),
+        &mut ScriptReporter::new(rt.alloc(), &screen),
     );
     Outcome::leaving(done, closed(disk))
 }
@@ -243,13 +243,13 @@ fn compact<W: Write>(rt: HostRuntime, folder: Path<'_>, writer: &mut W) -> Resul
 {
     let screen = Screen::new(&rt);
     let disk = watched_disk(&rt, folder, &screen)?;
-    match compact_archive(rt.alloc(), disk, writer, &mut OpeningTeller::new(&screen)) {
+    match compact_archive(rt.alloc(), disk, writer, &mut OpeningReporter::new(&screen)) {
         Ok(compacted) => Ok(closed(compacted)),
         Err(fault) => Err(uncompacted(fault)),
     }
 }
 
-/// Why the archive of a watched disk was not compacted, or was not told to be. The disk is closed.
+/// Why the archive of a watched disk was not compacted, or why that was not printed. The disk is closed.
 fn uncompacted<V: Drop>(fault: CommandFault<Watched<HostDisk, V>>) -> Outcome
     ensures ending { result.exit.ending ≡ ending_of fault.why }
     ensures left { left_life result.left ≡ Some (host_life fault.disk.disk) }
@@ -293,7 +293,7 @@ fn list_opened<W: Write>(rt: HostRuntime, folder: Path<'_>, writer: &mut W) -> R
 {
     let screen = Screen::new(&rt);
     let disk = watched_disk(&rt, folder, &screen)?;
-    match list_archive(rt.alloc(), disk, writer, &mut OpeningTeller::new(&screen)) {
+    match list_archive(rt.alloc(), disk, writer, &mut OpeningReporter::new(&screen)) {
         Ok(disk) => Ok(closed(disk)),
         Err(fault) => Err(stopped(fault)),
     }
@@ -318,12 +318,12 @@ fn frames_of<F: Read + Drop, W: Write>(alloc: Global, reader: F, writer: &mut W)
 {
     match list_frames(alloc, reader, writer) {
         Ok(Listing::Whole) => Ok(()),
-        Ok(Listing::Damaged) => Err(Exit::told(Ending::FoundDamage)),
+        Ok(Listing::Damaged) => Err(Exit::reported(Ending::FoundDamage)),
         Err(end) => Err(Exit::cut(end, Why::FileRead)),
     }
 }
 
-/// The disk of a folder, whose opening is shown where it lasts. It is told on standard error if its catalogue may hide entries.
+/// The disk of a folder, whose opening is shown where it lasts. It is reported on standard error if its catalogue may hide entries.
 fn watched_disk<'a>(
     rt: &'a HostRuntime,
     folder: Path<'_>,

@@ -13,7 +13,7 @@ use host_disk::{LastFault, OpenFault};
 use std::{fmt, io};
 use tool_core::{EarlyEnd, ScriptFault};
 
-/// How a command ended, and why it did not do what it was asked for: its status, the refusal that is told, and the line behind that.
+/// How a command ended, and why it did not do what it was asked for: its status, the refusal that is reported, and the line after it.
 #[derive(Clone, Copy)]
 pub struct Exit {
     /// How. The status and the refusal follow from it.
@@ -24,12 +24,12 @@ pub struct Exit {
 
 impl Exit {
     /// It ended so, and nothing more is known of why.
-    pub fn told(ending: Ending) -> Exit
+    pub fn reported(ending: Ending) -> Exit
         ensures { result.ending ≡ ending }
     {
         Exit {
             ending,
-            why: Why::Told,
+            why: Why::Reported,
         }
     }
 
@@ -42,7 +42,7 @@ impl Exit {
             why: match end {
                 EarlyEnd::Read => read,
                 EarlyEnd::Write => Why::Output(None),
-                EarlyEnd::Memory => Why::Told,
+                EarlyEnd::Memory => Why::Reported,
             },
         }
     }
@@ -68,7 +68,7 @@ impl Exit {
             ending: Ending::Refused(refusal),
             why: match (refusal, fault) {
                 (Refusal::DeviceFault, Some(fault)) => Why::Call(fault),
-                _ => Why::Told,
+                _ => Why::Reported,
             },
         }
     }
@@ -86,7 +86,7 @@ impl Exit {
         }
     }
 
-    /// The same, where that is what the system told of standard output.
+    /// The same, where that is what the system says of standard output.
     pub fn with_output_fault(self, fault: Option<io::Error>) -> Exit
         ensures ending { result.ending ≡ self.ending }
         ensures why { result.why ≡ why_with_output_fault fault self.why }
@@ -105,7 +105,7 @@ impl Exit {
     pub(crate) fn has_line(&self) -> bool {
         match (self.ending, self.why) {
             (Ending::Unopened(_) | Ending::Stuck(_) | Ending::Hidden, _) => true,
-            (_, Why::Told) => false,
+            (_, Why::Reported) => false,
             _ => true,
         }
     }
@@ -135,6 +135,6 @@ impl From<OpenFault> for Exit {
     ghost from_gives = { λ fault exit. exit.ending ≡ Unopened fault };
 
     fn from(fault: OpenFault) -> Self {
-        Exit::told(Ending::Unopened(fault))
+        Exit::reported(Ending::Unopened(fault))
     }
 }

@@ -30,7 +30,7 @@ impl fmt::Display for HiddenPlace {
     }
 }
 
-/// Tells on standard error if the catalogue of a folder may hide entries that were answered; and whether it may. Nothing is told
+/// Reports on standard error if the catalogue of a folder may hide entries that were answered; and whether it may. Nothing is reported
 /// of a folder that can't be looked at: what opens it says why. Costs a read of the catalogue.
 pub(crate) fn warns_of_hidden<R: Eprint>(
     rt: HostRuntime,
@@ -43,7 +43,7 @@ pub(crate) fn warns_of_hidden<R: Eprint>(
     let Some(place) = hidden_place(rt, folder) else {
         return false;
     };
-    screen.tell(place);
+    screen.report(place);
     true
 }
 

@@ -11,9 +11,9 @@ ghost use Rattle.folder_commands.specs.Looking.{DescribesFolder, ListsAsItStands
 use crate::commands::opening_of;
 use crate::exit::Exit;
 use crate::hidden::{hidden_place, still_hidden_place};
+use crate::observers::OpeningReporter;
 use crate::open_folder::{closed, stopped};
 use crate::outcome::{Left, Outcome};
-use crate::teller::OpeningTeller;
 use archive_commands::{Screen, Watched};
 use archive_report::{Form, describe_archive, list_view};
 use host_disk::ReadFolder;
@@ -31,13 +31,13 @@ pub(crate) fn list_read_only<W: Write>(
 {
     let screen = Screen::new(&rt);
     let disk = Watched::new(folder_of(rt, folder)?, opening_of(&rt, &screen));
-    match list_view(rt.alloc(), disk, writer, &mut OpeningTeller::new(&screen)) {
+    match list_view(rt.alloc(), disk, writer, &mut OpeningReporter::new(&screen)) {
         Ok(folder) => Ok(closed(folder)),
         Err(fault) => Err(stopped(fault)),
     }
 }
 
-/// Writes what is known of the archive in a folder as it stands, as a page or as JSON. It is told on standard error if its
+/// Writes what is known of the archive in a folder as it stands, as a page or as JSON. It is reported on standard error if its
 /// catalogue may hide entries, before and after that.
 pub(crate) fn describe<W: Write>(
     rt: HostRuntime,
@@ -52,11 +52,11 @@ pub(crate) fn describe<W: Write>(
     let screen = Screen::new(&rt);
     let disk = Watched::new(folder_of(rt, folder)?, opening_of(&rt, &screen));
     let hidden = hidden_place(rt, folder);
-    let mut teller = OpeningTeller::new(&screen);
-    match describe_archive(rt.alloc(), disk, form, writer, &mut teller) {
+    let mut reporter = OpeningReporter::new(&screen);
+    match describe_archive(rt.alloc(), disk, form, writer, &mut reporter) {
         Ok(disk) => {
             if let Some(place) = still_hidden_place(rt, folder, hidden) {
-                screen.tell(place);
+                screen.report(place);
             }
             Ok(closed(disk))
         }

@@ -6,7 +6,7 @@ use crate::exit::Exit;
 use crate::status::Ending;
 use host_disk::ClosedDisk;
 
-/// What a command left of the folder that it opened: its life up to its closing, for clauses to tell of. None if it opened none.
+/// What a command left of the folder that it opened: its life up to its closing, for clauses to report of. None if it opened none.
 pub type Left = Option<ClosedDisk>;
 
 /// How a command ended, and what it left of its folder.
@@ -27,7 +27,7 @@ impl Outcome {
     {
         match answer {
             Ok(left) => Outcome {
-                exit: Exit::told(Ending::Done),
+                exit: Exit::reported(Ending::Done),
                 left,
             },
             Err(outcome) => outcome,

@@ -1,4 +1,4 @@
-//! A writer, and what the system told where it failed.
+//! A writer, and what the system says where it failed.
 
 ghost use Rattle.std.specs.Prelude.{◌≡◌, MatchResult, None, Some};
 

@@ -1,48 +1,48 @@
 //! What a server reports while it runs: lines on standard error, and the metrics file. docs/SERVING.md, "What the server prints"
 //! and "Metrics".
 
-use crate::teller::is_same;
+use crate::observers::is_same;
 use crate::why::{FaultLine, MetricsFault};
 use archive_commands::Viewer;
 use host_disk::{HostDisk, LastFault};
 use metrics_text::{Measures, print_metrics};
-use server::{Happening, LineTeller, Teller};
+use server::{Happening, LineReporter, Reporter};
 use std::alloc::Global;
 use std::fs;
 use std::io::{self, Eprint, ErrorKind};
 use std::sync::atomic::{AtomicI32, Ordering};
 
-/// Causes of faults of a metrics file that are told at most.
-const TOLD_CAUSES: usize = 8;
+/// Causes of faults of a metrics file that are reported at most.
+const REPORTED_CAUSES: usize = 8;
 /// No cause.
 const NO_CAUSE: i32 = i32::MIN;
 
-/// Tells what happens, a line for each, and writes the metrics file, if there is one.
+/// Reports what happens, a line for each, and writes the metrics file, if there is one.
 #[derive(Drop)]
-pub(crate) struct ServeTeller<'a, R> {
-    lines: LineTeller<'a, R>,
+pub(crate) struct ServeReporter<'a, R> {
+    lines: LineReporter<'a, R>,
     errors: &'a R,
     metrics: Option<MetricsFile<'a>>,
 }
 
-impl<'a, R: Eprint> ServeTeller<'a, R> {
-    /// Standard error is told; faults and the end alone if it is quiet.
+impl<'a, R: Eprint> ServeReporter<'a, R> {
+    /// Reports on standard error; faults and the end alone if it is quiet.
     pub(crate) fn new(
         errors: &'a R,
         is_quiet: bool,
         metrics: Option<MetricsFile<'a>>,
-    ) -> ServeTeller<'a, R> {
-        ServeTeller {
-            lines: LineTeller::new(errors, is_quiet),
+    ) -> ServeReporter<'a, R> {
+        ServeReporter {
+            lines: LineReporter::new(errors, is_quiet),
             errors,
             metrics,
         }
     }
 }
 
-impl<R: Eprint> Teller for ServeTeller<'_, R> {
-    fn tell(&self, happening: &Happening<'_>) {
-        self.lines.tell(happening);
+impl<R: Eprint> Reporter for ServeReporter<'_, R> {
+    fn report(&self, happening: &Happening<'_>) {
+        self.lines.report(happening);
     }
 
     fn measured(&self, measures: &Measures) {
@@ -62,8 +62,8 @@ impl<R: Eprint> Teller for ServeTeller<'_, R> {
 pub(crate) struct MetricsFile<'a> {
     rt: HostRuntime,
     name: &'a str,
-    /// The numbers of the causes of its faults that were told.
-    told: [AtomicI32; TOLD_CAUSES],
+    /// The numbers of the causes of its faults that were reported.
+    reported: [AtomicI32; REPORTED_CAUSES],
 }
 
 impl<'a> MetricsFile<'a> {
@@ -71,7 +71,7 @@ impl<'a> MetricsFile<'a> {
         MetricsFile {
             rt,
             name,
-            told: [
+            reported: [
                 AtomicI32::new(NO_CAUSE),
                 AtomicI32::new(NO_CAUSE),
                 AtomicI32::new(NO_CAUSE),
@@ -96,15 +96,15 @@ impl<'a> MetricsFile<'a> {
         fs::rename(&self.rt, part.as_str(), self.name)
     }
 
-    /// Whether a fault has a cause that was not told. From now on it was; no more than eight are.
+    /// Whether a fault has a cause that was not reported. From now on it was; no more than eight are.
     fn is_new(&self, error: io::Error) -> bool {
         let cause = error.raw_os_error().unwrap_or(0);
-        for slot in self.told.iter() {
-            let told = slot.load(Ordering::SeqCst);
-            if told == cause {
+        for slot in self.reported.iter() {
+            let reported = slot.load(Ordering::SeqCst);
+            if reported == cause {
                 return false;
             }
-            if told == NO_CAUSE {
+            if reported == NO_CAUSE {
                 slot.store(cause, Ordering::SeqCst);
                 return true;
             }
@@ -113,18 +113,18 @@ impl<'a> MetricsFile<'a> {
     }
 }
 
-/// Tells each call of a served folder that fails, once for each file and cause.
+/// Reports each call of a served folder that fails, once for each file and cause.
 #[derive(Drop)]
 pub(crate) struct ServeFaults<'a, R> {
     errors: &'a R,
-    told: Vec<LastFault>,
+    reported: Vec<LastFault>,
 }
 
 impl<'a, R: Eprint> ServeFaults<'a, R> {
     pub(crate) fn new(alloc: Global, errors: &'a R) -> ServeFaults<'a, R> {
         ServeFaults {
             errors,
-            told: Vec::new(alloc),
+            reported: Vec::new(alloc),
         }
     }
 }
@@ -134,11 +134,15 @@ impl<R: Eprint> Viewer<HostDisk> for ServeFaults<'_, R> {
         let Some(fault) = disk.last_fault() else {
             return;
         };
-        if self.told.iter().any(|told| is_same(told, &fault)) {
+        if self
+            .reported
+            .iter()
+            .any(|reported| is_same(reported, &fault))
+        {
             return;
         }
-        // Where there is no memory for it, it may be told again.
-        let _ = self.told.push(fault);
+        // Where there is no memory for it, it may be reported again.
+        let _ = self.reported.push(fault);
         let _ = self.errors.eprintln(FaultLine(fault));
     }
 }

@@ -6,6 +6,7 @@ ghost use Rattle.clap.specs.declared.error.ErrorKind.TheVariants.{ValueValidatio
 ghost use Rattle.host_disk.specs.Events.{Given};
 ghost use Rattle.host_disk.specs.HostDisk.{host_life};
 ghost use Rattle.folder_commands.specs.declared.status.Ending.TheVariants.{NoCommand, Failed};
+ghost use Rattle.folder_commands.specs.declared.why.Why.TheVariants.{Usage};
 ghost use Rattle.folder_commands.specs.Folders.{ending_in};
 ghost use Rattle.folder_commands.specs.Left.{ends_with, leaves};
 ghost use Rattle.folder_commands.specs.Serving.{AreOptions, HasBadOptions, HasBadSegments, HasBadStreams, HasBadWindow, HasNoEnds, HasSegments, HasWindow, IsAddressReason, IsNoAddress, IsReceiverWindow, IsSegmentLength, IsUnbound, RecordsStreams, ServesFolder, ServesOver, segment_reason, streams_reason, window_reason};
@@ -15,16 +16,16 @@ use crate::exit::Exit;
 use crate::hidden::warns_of_hidden;
 use crate::open_folder::closed;
 use crate::outcome::{Left, Outcome};
-use crate::reporting::{MetricsFile, ServeFaults, ServeTeller};
+use crate::reporting::{MetricsFile, ServeFaults, ServeReporter};
 use crate::status::Ending;
 use crate::why::Why;
 use archive_commands::{Screen, Watched};
 use clap::error::ErrorKind;
-use command_line::ServeWords;
+use command_line::{ServeWords, UsageError};
 use disk_core::Disk;
 use flow_control::{INITIAL_WINDOW, LONGEST_WINDOW, SHORTEST_WINDOW};
 use frame_core::limits::{FRAME_ALIGNMENT, MAX_TERM_LENGTH, MIN_TERM_LENGTH};
-use server::{SEGMENT_LENGTH, ServeOptions, Served, Teller, serve_with};
+use server::{Reporter, SEGMENT_LENGTH, ServeOptions, Served, serve_with};
 use std::alloc::Global;
 use std::io::{self, Eprint};
 use std::net::{Ipv4Addr, Net, TcpListener, TcpStream, UdpSocket};
@@ -59,14 +60,14 @@ pub(crate) fn serve<
     let disk = disk_of(rt, folder)?;
     if warns_of_hidden(rt, folder, &Screen::new(net)) && words.is_strict {
         return Err(Outcome {
-            exit: Exit::told(Ending::Hidden),
+            exit: Exit::reported(Ending::Hidden),
             left: Some(disk.close()),
         });
     }
     let disk = Watched::new(disk, ServeFaults::new(rt.alloc(), net));
     let metrics = metrics_of(rt, words);
-    let teller = ServeTeller::new(net, words.is_quiet, metrics);
-    let (disk, done) = serve_disk(net, rt.alloc(), ports, disk, &options, teller);
+    let reporter = ServeReporter::new(net, words.is_quiet, metrics);
+    let (disk, done) = serve_disk(net, rt.alloc(), ports, disk, &options, reporter);
     Outcome::leaving(done, closed(disk))
 }
 
@@ -104,14 +105,14 @@ fn options_of<'a>(words: &'a ServeWords<'_>, receiver_id: i64) -> Result<ServeOp
 fn window_of(words: &ServeWords<'_>) -> Result<Option<i32>, Exit>
     ensures window { MatchResult result (HasWindow words.now) (λ exit.
         HasBadWindow words.now × (exit.ending ≡ NoCommand ValueValidation)) }
-    ensures why { IfErr result (λ exit. exit.why ≡ window_reason words.now.is_aeron) }
+    ensures why { IfErr result (λ exit. exit.why ≡ Usage (window_reason words.now.is_aeron)) }
 {
     match words.window {
         None if words.is_aeron => Ok(Some(INITIAL_WINDOW)),
         None => Ok(None),
-        Some(_) if !words.is_aeron => Err(misworded(Why::NeedsAeron)),
+        Some(_) if !words.is_aeron => Err(misworded(UsageError::NeedsAeron)),
         Some(bytes) if is_receiver_window(bytes) => Ok(Some(bytes as i32)),
-        Some(_) => Err(misworded(Why::Window)),
+        Some(_) => Err(misworded(UsageError::Window)),
     }
 }
 
@@ -129,14 +130,14 @@ fn streams_of<'a>(words: &'a ServeWords<'_>) -> Result<&'a [i32], Exit>
     ensures streams { MatchResult result
         (λ streams. RecordsStreams words.now × (streams.now ≡ words.now.streams.items))
         (λ exit. HasBadStreams words.now × (exit.ending ≡ NoCommand ValueValidation)) }
-    ensures why { IfErr result (λ exit. exit.why ≡ streams_reason words.now.is_aeron) }
+    ensures why { IfErr result (λ exit. exit.why ≡ Usage (streams_reason words.now.is_aeron)) }
 {
     let streams = words.streams.as_slice();
     if !words.is_aeron && !streams.is_empty() {
-        return Err(misworded(Why::RecordNeedsAeron));
+        return Err(misworded(UsageError::RecordNeedsAeron));
     }
     if streams.len() > MOST_STREAMS {
-        return Err(misworded(Why::Streams));
+        return Err(misworded(UsageError::Streams));
     }
     Ok(streams)
 }
@@ -146,13 +147,13 @@ fn streams_of<'a>(words: &'a ServeWords<'_>) -> Result<&'a [i32], Exit>
 fn segment_length_of(words: &ServeWords<'_>) -> Result<i32, Exit>
     ensures length { MatchResult result (HasSegments words.now) (λ exit.
         HasBadSegments words.now × (exit.ending ≡ NoCommand ValueValidation)) }
-    ensures why { IfErr result (λ exit. exit.why ≡ segment_reason words.now.streams.items) }
+    ensures why { IfErr result (λ exit. exit.why ≡ Usage (segment_reason words.now.streams.items)) }
 {
     match words.segment_length {
         None => Ok(SEGMENT_LENGTH),
-        Some(_) if words.streams.is_empty() => Err(misworded(Why::NeedsRecord)),
+        Some(_) if words.streams.is_empty() => Err(misworded(UsageError::NeedsRecord)),
         Some(bytes) if is_segment_length(bytes) => Ok(bytes as i32),
-        Some(_) => Err(misworded(Why::SegmentLength)),
+        Some(_) => Err(misworded(UsageError::SegmentLength)),
     }
 }
 
@@ -164,13 +165,13 @@ fn is_segment_length(bytes: u32) -> bool
 }
 
 /// The words are wrong, for this reason.
-pub(crate) fn misworded(why: Why) -> Exit
+pub(crate) fn misworded(error: UsageError) -> Exit
     ensures ending { result.ending ≡ NoCommand ValueValidation }
-    ensures why { result.why ≡ why }
+    ensures why { result.why ≡ Usage error }
 {
     Exit {
         ending: Ending::NoCommand(ErrorKind::ValueValidation),
-        why,
+        why: Why::Usage(error),
     }
 }
 
@@ -182,10 +183,10 @@ fn address_of(word: &str) -> Result<Ipv4Addr, Exit>
     ensures why { IfErr result (λ exit. IsAddressReason word.now exit.why) }
 {
     let Ok(address) = word.parse::<Ipv4Addr>() else {
-        return Err(misworded(Why::Address));
+        return Err(misworded(UsageError::Address));
     };
     if address.is_multicast() {
-        return Err(misworded(Why::Multicast));
+        return Err(misworded(UsageError::Multicast));
     }
     Ok(address)
 }
@@ -219,7 +220,7 @@ pub(crate) fn port_of(port: u32) -> Result<u16, Exit>
 {
     match u16::try_from(port) {
         Ok(port) => Ok(port),
-        Err(_) => Err(Exit::told(Ending::NoCommand(ErrorKind::ValueValidation))),
+        Err(_) => Err(Exit::reported(Ending::NoCommand(ErrorKind::ValueValidation))),
     }
 }
 
@@ -243,22 +244,22 @@ fn metrics_of<'a>(rt: HostRuntime, words: &ServeWords<'a>) -> Option<MetricsFile
 fn serve_disk<
     R: Threads + Wait + Clock + Sync,
     D: Disk + Drop + Send,
-    T: Teller + Drop + Send + Sync,
+    T: Reporter + Drop + Send + Sync,
 >(
     net: &R,
     alloc: Global,
     ports: Ports,
     disk: D,
     options: &ServeOptions<'_>,
-    teller: T,
+    reporter: T,
 ) -> (D, Result<(), Exit>)
     ensures { ServesOver options.now.is_strict (D.life disk) (D.life result.0) (ending_in result.1) }
 {
     let Ports { listener, socket } = ports;
-    match serve_with(net, alloc, listener, socket, disk, options, teller) {
+    match serve_with(net, alloc, listener, socket, disk, options, reporter) {
         Ok(Served { disk, stop }) => match stop {
             None => (disk, Ok(())),
-            Some(stop) => (disk, Err(Exit::told(Ending::Stuck(stop)))),
+            Some(stop) => (disk, Err(Exit::reported(Ending::Stuck(stop)))),
         },
         Err(fault) => {
             let (disk, exit) = Exit::cut_off(fault, Why::Ends);

@@ -1,10 +1,10 @@
 //! How the program ends, and the status that says so: docs/CONTROL.md, "The program".
 
 ghost use Rattle.std.specs.Prelude.{◌≡◌};
-ghost use Rattle.folder_commands.specs.Status.{refusal_of, status_of, status_of_refusal, untold_status};
+ghost use Rattle.folder_commands.specs.Status.{refusal_of, status_of, status_of_refusal, status_without_refusal};
 
 use crate::exit::Exit;
-use crate::told_words::words_status;
+use crate::usage::words_status;
 use clap::error::ErrorKind;
 use frame_core::Refusal;
 use host_disk::OpenFault;
@@ -38,26 +38,26 @@ pub enum Ending {
     Stuck(Stuck),
     /// A strict server did not open an archive whose catalogue may hide entries.
     Hidden,
-    /// The words of the command line asked for no command; what is wrong with them, or the help, was told.
+    /// The words of the command line asked for no command; what is wrong with them, or the help, was printed.
     NoCommand(ErrorKind),
-    /// The words could not be read, or nothing could be told of them.
+    /// The words could not be read, or nothing could be printed of them.
     Failed(io::ErrorKind),
 }
 
 impl Exit {
-    /// The program's status: that of the refusal which is told, if one is.
+    /// The program's status: that of the refusal which is reported, if one is.
     pub fn status(self) -> u8
         ensures { result ≡ status_of self.ending }
     {
         match self.refusal() {
             Some(refusal) => status_of_refusal(refusal),
-            None => self.untold_status(),
+            None => self.status_without_refusal(),
         }
     }
 
-    /// The status of an ending that tells no refusal.
-    fn untold_status(self) -> u8
-        ensures { result ≡ untold_status self.ending }
+    /// The status of an ending that reports no refusal.
+    fn status_without_refusal(self) -> u8
+        ensures { result ≡ status_without_refusal self.ending }
     {
         match self.ending {
             Ending::FoundDamage => DEVICE,
@@ -68,7 +68,7 @@ impl Exit {
         }
     }
 
-    /// The refusal whose line is told on standard error.
+    /// The refusal whose line is reported on standard error.
     pub fn refusal(self) -> Option<Refusal>
         ensures { result ≡ refusal_of self.ending }
     {

@@ -11,10 +11,10 @@ use crate::commands::{disk_of, opening_of};
 use crate::exit::Exit;
 use crate::hidden::warns_of_hidden;
 use crate::looking::folder_of;
+use crate::observers::{FaultReporter, VerifyReporter};
 use crate::open_folder::{OpenFolder, closed, stopped};
 use crate::outcome::{Left, Outcome};
 use crate::status::Ending;
-use crate::teller::{FaultTeller, VerifyTeller};
 use crate::why::Why;
 use archive_commands::{
     ListedFiles, OpeningProgress, Progress, Screen, Stage, Verdict, Watched, verify_archive,
@@ -24,9 +24,9 @@ use disk_core::Disk;
 use std::io::{IsTerminal, Write};
 use std::path::Path;
 
-/// Tells the calls that fail, and shows how far an opening and a verification have come.
+/// Reports the calls that fail, and shows how far an opening and a verification have come.
 type VerifyViewer<'a> = (
-    FaultTeller<'a, HostRuntime>,
+    FaultReporter<'a, HostRuntime>,
     (
         Option<OpeningProgress<'a, HostRuntime>>,
         Option<Progress<'a, HostRuntime, ListedFiles>>,
@@ -34,7 +34,7 @@ type VerifyViewer<'a> = (
 );
 
 /// Reads each recorded frame of the archive in a folder, which is opened, or only looked at, and writes what was found of each
-/// recording. How far it has come is shown on standard error, where that is a terminal, and what it found in all is told there.
+/// recording. How far it has come is shown on standard error, where that is a terminal, and what it found in all is reported there.
 pub(crate) fn verify<W: Write>(
     rt: HostRuntime,
     folder: Path<'_>,
@@ -54,7 +54,7 @@ pub(crate) fn verify<W: Write>(
     }
 }
 
-/// Verifies the archive in a folder, which is opened. Before that it is told if its catalogue may hide entries.
+/// Verifies the archive in a folder, which is opened. Before that it is reported if its catalogue may hide entries.
 fn verify_opened<W: Write>(
     rt: HostRuntime,
     folder: Path<'_>,
@@ -67,12 +67,12 @@ fn verify_opened<W: Write>(
     let disk = disk_of(rt, folder)?;
     let _ = warns_of_hidden(rt, folder, &screen);
     let disk = watched(&rt, &screen, disk);
-    let mut teller = VerifyTeller::new(&screen);
-    match verify_archive(rt.alloc(), disk, writer, &mut teller) {
+    let mut reporter = VerifyReporter::new(&screen);
+    match verify_archive(rt.alloc(), disk, writer, &mut reporter) {
         Ok((disk, verdict)) => {
             // Nobody else writes it meanwhile.
             let is_moving = false;
-            found(disk, Finding { verdict, is_moving }, teller)
+            found(disk, Finding { verdict, is_moving }, reporter)
         }
         Err(fault) => {
             screen.clear();
@@ -81,7 +81,7 @@ fn verify_opened<W: Write>(
     }
 }
 
-/// Verifies the archive in a folder as it stands. It is told if the archive is being written.
+/// Verifies the archive in a folder as it stands. It is reported if the archive is being written.
 fn verify_read_only<W: Write>(
     rt: HostRuntime,
     folder: Path<'_>,
@@ -92,9 +92,9 @@ fn verify_read_only<W: Write>(
 {
     let screen = Screen::new(&rt);
     let folder = watched(&rt, &screen, folder_of(rt, folder)?);
-    let mut teller = VerifyTeller::new(&screen);
-    match verify_view(rt.alloc(), folder, writer, &mut teller) {
-        Ok((folder, finding)) => found(folder, finding, teller),
+    let mut reporter = VerifyReporter::new(&screen);
+    match verify_view(rt.alloc(), folder, writer, &mut reporter) {
+        Ok((folder, finding)) => found(folder, finding, reporter),
         Err(fault) => {
             screen.clear();
             Err(stopped(fault))
@@ -112,7 +112,7 @@ fn watched<'a, F: OpenFolder>(
 {
     let mut folder = folder;
     let progress = progress_of(rt, screen, &mut folder);
-    let faults = FaultTeller::new(rt.alloc(), screen, Stage::Working);
+    let faults = FaultReporter::new(rt.alloc(), screen, Stage::Working);
     Watched::new(folder, (faults, (opening_of(rt, screen), progress)))
 }
 
@@ -120,12 +120,12 @@ fn watched<'a, F: OpenFolder>(
 fn found<F: OpenFolder, V: Drop>(
     folder: Watched<F, V>,
     finding: Finding,
-    teller: VerifyTeller<'_, HostRuntime>,
+    reporter: VerifyReporter<'_, HostRuntime>,
 ) -> Result<Left, Outcome>
     ensures ending { ends_with result ≡ ending_by finding.verdict }
     ensures left { leaves result ≡ Some (F.life folder.disk) }
 {
-    teller.finish();
+    reporter.finish();
     Outcome::leaving(judged(finding), closed(folder))
 }
 
@@ -140,7 +140,7 @@ fn judged(finding: Finding) -> Result<(), Exit>
             why: if finding.is_moving {
                 Why::Moving
             } else {
-                Why::Told
+                Why::Reported
             },
         }),
     }

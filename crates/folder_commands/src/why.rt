@@ -1,5 +1,6 @@
 //! Why a command could not do what it was asked for, where its ending does not say that. docs/CONTROL.md, "Standard error".
 
+use command_line::UsageError;
 use disk_core::FileId;
 use host_disk::{FailedCall, LastFault};
 use std::fmt;
@@ -8,8 +9,8 @@ use std::io::{self, Cursor, ErrorKind, Write};
 /// Why a command ended as it did.
 #[derive(Clone, Copy, Drop)]
 pub enum Why {
-    /// Nothing more is known than what was told.
-    Told,
+    /// Nothing more is known than what was reported.
+    Reported,
     /// Its folder was not made.
     NewFolder(io::Error),
     /// Where an archive was to be made the folder has files of one.
@@ -24,26 +25,16 @@ pub enum Why {
     File(io::Error),
     /// Its file could not be read on.
     FileRead,
-    /// The capture file could not be written; what the system told of it, if that is known.
+    /// The capture file could not be written; what the system says of it, if that is known.
     Capture(Option<io::Error>),
     /// The capture file would lie in the archive's folder.
     CaptureInside,
     /// Its archive was being written while it was read.
     Moving,
+    /// Its words are wrong.
+    Usage(UsageError),
     /// A port was not bound.
     Port(u16, io::Error),
-    /// The word of `--receive-on` is no address.
-    Address,
-    /// The word of `--receive-on` is a multicast address.
-    Multicast,
-    /// The word of `--window` is not a multiple of 32 in its range.
-    Window,
-    /// `--window` comes without `--aeron`.
-    NeedsAeron,
-    /// Lines may not be sent at once.
-    Lines,
-    /// The word of `--until` is more than one line.
-    Until,
     /// The server of a port was not reached.
     Unreachable(u32, io::Error),
     /// A connection to a server failed.
@@ -52,26 +43,18 @@ pub enum Why {
     Silent(u32),
     /// A server ended the connection when it had answered the first number of lines, of the second.
     Unanswered(usize, usize),
-    /// `--record` comes without `--aeron`.
-    RecordNeedsAeron,
-    /// `--record` comes too often.
-    Streams,
-    /// `--segment-length` comes without `--record`.
-    NeedsRecord,
-    /// The word of `--segment-length` is not a power of two in its range.
-    SegmentLength,
     /// The listener of control lines or the socket of datagrams failed.
     Ends,
     /// Standard input could not be read on.
     Input,
-    /// Standard output took no more; what the system told of it, if it told anything.
+    /// Standard output took no more; what the system says of it, if it says anything.
     Output(Option<io::Error>),
 }
 
 impl fmt::Display for Why {
     fn fmt<W: fmt::Write>(&self, f: &mut fmt::Formatter<W>) -> fmt::Result {
         match self {
-            Why::Told => Ok(()),
+            Why::Reported => Ok(()),
             Why::NewFolder(error) => write!(f, "the folder cannot be made: {}", SystemText(*error)),
             Why::HasFiles => write!(f, "the folder has an archive, or files of one"),
             Why::History(entries) => {
@@ -97,21 +80,10 @@ impl fmt::Display for Why {
                 f,
                 "the archive is being written: what is told to be damaged may be whole, so look again"
             ),
+            Why::Usage(error) => write!(f, "{error}"),
             Why::Port(port, error) => {
                 write!(f, "the port {port} cannot be bound: {}", SystemText(*error))
             }
-            Why::Address => write!(f, "--receive-on wants an IPv4 address"),
-            Why::Multicast => write!(
-                f,
-                "--receive-on wants an address of this machine, not a multicast address"
-            ),
-            Why::Window => write!(f, "--window wants a multiple of 32"),
-            Why::NeedsAeron => write!(f, "--window needs --aeron"),
-            Why::Lines => write!(
-                f,
-                "lines have no line feed, and with their ends at most 65536 bytes"
-            ),
-            Why::Until => write!(f, "--until wants a line without a line feed"),
             Why::Unreachable(port, error) => {
                 write!(f, "no server on port {port}: {}", SystemText(*error))
             }
@@ -120,10 +92,6 @@ impl fmt::Display for Why {
             Why::Unanswered(answered, lines) => {
                 write!(f, "the server answered {answered} of {lines} lines")
             }
-            Why::RecordNeedsAeron => write!(f, "--record needs --aeron"),
-            Why::Streams => write!(f, "--record may be given at most 64 times"),
-            Why::NeedsRecord => write!(f, "--segment-length needs --record"),
-            Why::SegmentLength => write!(f, "--segment-length wants a power of two"),
             Why::Ends => write!(f, "a port failed"),
             Why::Input => write!(f, "standard input cannot be read on"),
             Why::Output(Some(error)) if !is_closed(error) => {
@@ -159,7 +127,7 @@ impl fmt::Display for SystemText {
     }
 }
 
-/// A metrics file was not written, as the system told.
+/// A metrics file was not written, as the system says.
 #[derive(Clone, Copy, Drop)]
 pub(crate) struct MetricsFault(pub io::Error);
 

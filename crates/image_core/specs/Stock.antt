@@ -46,7 +46,7 @@ are_near r fs = list_all (is_near r.geometry (stock_end r)) fs
 
 -- ---- offers
 
--- The frames of a datagram are taken in if what is kept of each of them ends within the stock. If not, they are lost.
+-- The frames of a datagram are taken in if each of them is near: it is never held, or what is kept of it ends within the stock. If not, they are lost.
 abbrev pub Offers : Received → List Frame → Option Inserted → Received → Type 0
 Offers old fs None new = (are_near old fs ≡ false) × (new ≡ old)
 Offers old fs (Some i) new = (are_near old fs ≡ true) × TakesIn old fs i new

@@ -1,5 +1,5 @@
 -- Frames with where each begins.
-use Rattle.std.proofs.Common.{◌≡◌, ◌⊎◌, ◌∙◌, subst, ℕ, ℤ, pos, ◌+◌, ◌+ℤ◌, List, [], ◌∷◌, arith}
+use Rattle.std.proofs.Common.{◌≡◌, ◌∙◌, subst, ℕ, ℤ, pos, ◌+◌, ◌+ℤ◌, List, [], ◌∷◌, arith}
 use Rattle.std.proofs.lemmas.Int.{ints}
 use Rattle.frame_core.specs.declared.frame.Frame.{Frame}
 use Rattle.frame_core.specs.Block.{covered}

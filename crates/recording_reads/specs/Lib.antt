@@ -2,3 +2,4 @@
 pub mod Recording
 pub mod Reading
 pub mod Handing
+pub mod Settled

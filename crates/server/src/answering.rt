@@ -15,7 +15,7 @@ use control_core::{Event, Request};
 use disk_core::Disk;
 use frame_core::{Geometry, Refusal};
 use server_recorder::note_standing;
-use server_state::{Happening, Teller};
+use server_state::{ClientNews, Happening, Reporter};
 use std::alloc::Global;
 use std::marker::{Model, PhantomData};
 use std::mem;
@@ -30,7 +30,7 @@ pub(crate) struct NotedArchive<'a, D: Disk, A: Naming, R, T> {
     pub with: &'a Connections<T>,
 }
 
-impl<'a, D: Disk, A: Naming, R: Wait, T: Teller> NotedArchive<'a, D, A, R, T> {
+impl<'a, D: Disk, A: Naming, R: Wait, T: Reporter> NotedArchive<'a, D, A, R, T> {
     /// Makes a call, as `SharedArchive::call`, and notes its answer.
     fn call(&self, alloc: Global, pass: &mut Pass<Made>, event: &Event) -> Result<Reply, Refusal>
         requires { pass.old.table ≡ A.table }
@@ -95,7 +95,7 @@ impl<'a, D: Disk, A: Naming, R: Wait, T: Teller> NotedArchive<'a, D, A, R, T> {
     /// Notes what a call was answered, beside the history, and where the archive then stands, if the call may be the last one.
     fn note(&self, event: &Event, outcome: &Result<Reply, Refusal>, standing: Option<Standing>) {
         self.with.shared.meter.note_call(event, outcome);
-        self.with.shared.tell_wrong_word(event, outcome);
+        self.with.shared.report_wrong_word(event, outcome);
         if self.with.shared.note(self.rt, event, outcome) {
             self.with.shared.look_round(&self.with.socket);
         }
@@ -131,7 +131,7 @@ impl<'a, D: Disk, A: Naming, P: Place, R, T> Model for Controller<'a, D, A, P, R
     ghost invariant = { λ c. (c.pass.table ≡ A.table) × (c.pass.number ≡ P.number) };
 }
 
-impl<'a, D: Disk, A: Naming, P: Place, R: Wait, T: Teller> Controller<'a, D, A, P, R, T> {
+impl<'a, D: Disk, A: Naming, P: Place, R: Wait, T: Reporter> Controller<'a, D, A, P, R, T> {
     /// The part that calls with a pass.
     pub fn new(
         alloc: Global,
@@ -322,7 +322,8 @@ fn settled_after(event: &Event, outcome: &Result<Reply, Refusal>) -> Option<i64>
     }
 }
 
-impl<D: Disk, A: Naming, P: Place, R: Wait, T: Teller> Answerer for Controller<'_, D, A, P, R, T> {
+impl<D: Disk, A: Naming, P: Place, R: Wait, T: Reporter> Answerer
+    for Controller<'_, D, A, P, R, T> {
     ghost ways = { shared_ways D.life A.opening };
 
     fn terms(&mut self, session: &i64) -> Result<Geometry, Refusal> {
@@ -346,7 +347,7 @@ impl<D: Disk, A: Naming, P: Place, R: Wait, T: Teller> Answerer for Controller<'
     }
 }
 
-impl<D: Disk, A: Naming, P: Place, R: Wait, T: Teller> Server for Controller<'_, D, A, P, R, T> {
+impl<D: Disk, A: Naming, P: Place, R: Wait, T: Reporter> Server for Controller<'_, D, A, P, R, T> {
     ghost ended = { EndsConnection D.life A.opening };
 
     fn end_connection(&mut self, alloc: Global, closes_replays: bool) {
@@ -354,8 +355,8 @@ impl<D: Disk, A: Naming, P: Place, R: Wait, T: Teller> Server for Controller<'_,
         if closes_replays {
             self.close_each(alloc, replays.as_slice());
         } else if !replays.is_empty() {
-            let left = Happening::LeftReplays(replays.as_slice());
-            self.noted.with.shared.tell(&left);
+            let left = Happening::Client(ClientNews::LeftReplays(replays.as_slice()));
+            self.noted.with.shared.report(&left);
         }
     }
 }

@@ -1,8 +1,8 @@
 //! A client's connection, whose reads and writes end if it is idle for too long and another waits.
 
-use crate::door::Door;
+use crate::listener::SharedListener;
 use memchr::memchr;
-use server_state::{Shared, Teller};
+use server_state::{Reporter, Shared};
 use std::alloc::{AllocError, Global};
 use std::cell::Cell;
 use std::io::{self, ErrorKind, Read, Write};
@@ -27,7 +27,7 @@ pub(crate) fn is_timed(stream: &TcpStream) -> bool {
 pub(crate) struct Client<'a, R, T> {
     rt: &'a R,
     shared: &'a Shared<T>,
-    door: &'a Door,
+    listener: &'a SharedListener,
     idle: Duration,
     stream: TcpStream,
     last: Cell<Option<Instant>>,
@@ -35,19 +35,19 @@ pub(crate) struct Client<'a, R, T> {
     next: Mutex<Option<TcpStream>>,
 }
 
-impl<'a, R: Wait + Clock, T: Teller> Client<'a, R, T> {
+impl<'a, R: Wait + Clock, T: Reporter> Client<'a, R, T> {
     /// A connection that was just taken, and has time-outs.
     pub fn new(
         rt: &'a R,
         shared: &'a Shared<T>,
-        door: &'a Door,
+        listener: &'a SharedListener,
         idle: Duration,
         stream: TcpStream,
     ) -> Client<'a, R, T> {
         Client {
             rt,
             shared,
-            door,
+            listener,
             idle,
             stream,
             last: Cell::new(Instant::now(rt).ok()),
@@ -67,7 +67,7 @@ impl<'a, R: Wait + Clock, T: Teller> Client<'a, R, T> {
 
     /// Whether the line that is answered is the last one: a client has quit, or the server has stopped.
     fn is_last(&self) -> bool {
-        self.door.is_closed() || self.shared.has_stopped()
+        self.listener.is_closed() || self.shared.has_stopped()
     }
 
     /// The answer to the line `images`.
@@ -89,7 +89,7 @@ impl<'a, R: Wait + Clock, T: Teller> Client<'a, R, T> {
     fn leaves_place(&self) -> bool {
         let mut next = self.next.lock(self.rt);
         if next.is_none() && self.is_idle() {
-            *next = self.door.take_waiting();
+            *next = self.listener.take_waiting();
         }
         next.is_some()
     }
@@ -107,7 +107,7 @@ impl<'a, R: Wait + Clock, T: Teller> Client<'a, R, T> {
 #[derive(Drop)]
 pub(crate) struct ClientReader<'a, R, T>(pub &'a Client<'a, R, T>);
 
-impl<R: Wait + Clock, T: Teller> Read for ClientReader<'_, R, T> {
+impl<R: Wait + Clock, T: Reporter> Read for ClientReader<'_, R, T> {
     fn read(&mut self, buf: &mut [u8]) -> io::Result<usize> {
         let client = self.0;
         for _ in client.rt.forever() {
@@ -133,7 +133,7 @@ impl<R: Wait + Clock, T: Teller> Read for ClientReader<'_, R, T> {
 #[derive(Drop)]
 pub(crate) struct ClientWriter<'a, R, T>(pub &'a Client<'a, R, T>);
 
-impl<R: Wait + Clock, T: Teller> Write for ClientWriter<'_, R, T> {
+impl<R: Wait + Clock, T: Reporter> Write for ClientWriter<'_, R, T> {
     fn write(&mut self, buf: &[u8]) -> io::Result<usize> {
         let client = self.0;
         for _ in client.rt.forever() {

@@ -12,7 +12,7 @@ use crate::unopened::Unopened;
 use archive_lock::{Made, Naming, SharedArchive};
 use call_history::Pass;
 use disk_core::Disk;
-use server_state::Teller;
+use server_state::Reporter;
 use std::marker::Brand;
 use std::rt::Clock;
 use std::snapshot::Snapshot;
@@ -39,7 +39,7 @@ pub(crate) fn serve_clients<
     D: Disk + Drop + Send,
     A: Naming + Send + Sync,
     R: Threads + Wait + Clock + Sync,
-    T: Teller + Drop + Send + Sync,
+    T: Reporter + Drop + Send + Sync,
 >(
     rt: &R,
     with: &Connections<T>,
@@ -66,7 +66,7 @@ fn serve_beside<
     D: Disk + Drop + Send,
     A: Naming + Send + Sync,
     R: Threads + Wait + Clock + Sync,
-    T: Teller + Drop + Send + Sync,
+    T: Reporter + Drop + Send + Sync,
 >(
     rt: &R,
     with: &Connections<T>,
@@ -102,7 +102,7 @@ fn serve_beside<
                 { serve_by(rt, with, archive, pass) },
             );
             if serving.is_err() {
-                with.door.close(rt, Err(EarlyEnd::Memory));
+                with.listener.close(rt, Err(EarlyEnd::Memory));
             }
             let mut passes = serve_clients(rt, with, archive, rest);
             let pass = match serving {
@@ -116,7 +116,7 @@ fn serve_beside<
 }
 
 /// Serves clients by a pass until the server ends: the pass.
-fn serve_by<D: Disk + Drop, A: Naming, R: Wait + Clock, T: Teller>(
+fn serve_by<D: Disk + Drop, A: Naming, R: Wait + Clock, T: Reporter>(
     rt: &R,
     with: &Connections<T>,
     archive: &SharedArchive<D, A>,
@@ -129,7 +129,7 @@ fn serve_by<D: Disk + Drop, A: Naming, R: Wait + Clock, T: Teller>(
 }
 
 /// Serves clients by the pass of a place.
-fn serve_at<'x, D: Disk + Drop, A: Naming, P: Place, R: Wait + Clock, T: Teller>(
+fn serve_at<'x, D: Disk + Drop, A: Naming, P: Place, R: Wait + Clock, T: Reporter>(
     rt: &'x R,
     with: &'x Connections<T>,
     archive: &'x SharedArchive<D, A>,
@@ -147,7 +147,7 @@ fn serve_at<'x, D: Disk + Drop, A: Naming, P: Place, R: Wait + Clock, T: Teller>
 
 /// Serves so many clients at a time until the server ends, without an archive. The server ends by `Memory` if a thread can't
 /// be made.
-pub(crate) fn serve_unopened<R: Threads + Wait + Clock + Sync, T: Teller + Drop + Send + Sync>(
+pub(crate) fn serve_unopened<R: Threads + Wait + Clock + Sync, T: Reporter + Drop + Send + Sync>(
     rt: &R,
     with: &Connections<T>,
     places: &Places,
@@ -156,7 +156,7 @@ pub(crate) fn serve_unopened<R: Threads + Wait + Clock + Sync, T: Teller + Drop 
         for _ in 1..places.count {
             let serving = scope.spawn(move || serve_connections(rt, with, Unopened));
             if serving.is_err() {
-                with.door.close(rt, Err(EarlyEnd::Memory));
+                with.listener.close(rt, Err(EarlyEnd::Memory));
             }
         }
         let Unopened = serve_connections(rt, with, Unopened);

@@ -5,14 +5,14 @@ ghost use Rattle.tool_core.specs.Answering.{AnswersFirstLines, AnswersLines, End
 ghost use Rattle.tool_core.specs.Transcript.{WritesText};
 
 use crate::client::{Client, ClientReader, ClientWriter, is_timed};
-use crate::door::Door;
 use crate::line_reader::LineReader;
+use crate::listener::SharedListener;
 use crate::options::ServeOptions;
 use crate::place::Places;
 use crate::script_reader::ScriptReader;
 use archive_model::Reply;
 use frame_core::Refusal;
-use server_state::{Shared, Teller};
+use server_state::{Reporter, Shared};
 use std::alloc::Global;
 use std::io::{BufWriter, Read, Write};
 use std::net::{TcpStream, UdpSocket};
@@ -38,7 +38,7 @@ pub(crate) trait Server: Answerer {
 
 /// How clients are served.
 #[derive(Clone, Copy)]
-pub(crate) struct Manner {
+pub(crate) struct ClientOptions {
     /// For how long a client may be idle while another waits.
     pub idle: Duration,
     /// Whether the line `images` is answered.
@@ -49,14 +49,14 @@ pub(crate) struct Manner {
     pub is_single: bool,
 }
 
-impl Manner {
+impl ClientOptions {
     /// That of these options, for so many clients.
-    pub fn of(options: &ServeOptions<'_>, places: &Places) -> Manner
+    pub fn of(options: &ServeOptions<'_>, places: &Places) -> ClientOptions
         ensures closes { IsTrue result.closes_replays ↔ IsSome options.now.clients }
         ensures single { IsTrue result.is_single ↔ (places.now.count ≡ 1) }
         ensures images { IsTrue result.lists_images ↔ IsSome options.now.window }
     {
-        Manner {
+        ClientOptions {
             idle: Duration::from_secs(options.idle_seconds),
             lists_images: options.window.is_some(),
             closes_replays: options.clients.is_some(),
@@ -72,8 +72,8 @@ pub(crate) struct Connections<T> {
     pub shared: Shared<T>,
     /// Where datagrams come to.
     pub socket: UdpSocket,
-    pub door: Door,
-    pub manner: Manner,
+    pub listener: SharedListener,
+    pub options: ClientOptions,
 }
 
 /// Sees whether a line quits.
@@ -92,7 +92,7 @@ impl Observer for QuitObserver {
 
 /// Serves connections, one after another, until the server ends. It ends if a line quits. If one client is served at a time,
 /// the lines of each go on from the merge that those before it left.
-pub(crate) fn serve_connections<R: Wait + Clock, T: Teller, S: Server + Drop>(
+pub(crate) fn serve_connections<R: Wait + Clock, T: Reporter, S: Server + Drop>(
     rt: &R,
     with: &Connections<T>,
     server: S,
@@ -100,22 +100,22 @@ pub(crate) fn serve_connections<R: Wait + Clock, T: Teller, S: Server + Drop>(
     let mut state = ScriptState::new(server);
     let mut waiting = None;
     for _ in rt.forever() {
-        let Some(stream) = with.door.next(rt, &with.shared, waiting) else {
+        let Some(stream) = with.listener.next(rt, &with.shared, waiting) else {
             return state.into_archive();
         };
         let (after, next) = serve_stream(rt, with, stream, state);
         state = after;
         waiting = next;
         if waiting.is_none() {
-            with.door.leave();
+            with.listener.leave();
         }
     }
     unreachable!()
 }
 
-/// Serves a connection that was taken, and closes the door if a line quits. The connection that its place goes to, if it was
+/// Serves a connection that was taken, and ends serving if a line quits. The connection that its place goes to, if it was
 /// idle for too long and that one waits.
-fn serve_stream<R: Wait + Clock, T: Teller, S: Server + Drop>(
+fn serve_stream<R: Wait + Clock, T: Reporter, S: Server + Drop>(
     rt: &R,
     with: &Connections<T>,
     stream: TcpStream,
@@ -125,44 +125,44 @@ fn serve_stream<R: Wait + Clock, T: Teller, S: Server + Drop>(
     if !is_timed(&stream) {
         return (state, None);
     }
-    let client = Client::new(rt, &with.shared, &with.door, with.manner.idle, stream);
-    let (mut state, has_quit) = serve_client(with.alloc, &client, &with.manner, state);
+    let client = Client::new(rt, &with.shared, &with.listener, with.options.idle, stream);
+    let (mut state, has_quit) = serve_client(with.alloc, &client, &with.options, state);
     if has_quit {
-        with.door.close(rt, Ok(()));
+        with.listener.close(rt, Ok(()));
     }
     state
         .archive
-        .end_connection(with.alloc, with.manner.closes_replays);
-    if !with.manner.is_single {
+        .end_connection(with.alloc, with.options.closes_replays);
+    if !with.options.is_single {
         state.merge = None;
     }
     (state, client.take_next())
 }
 
 /// Answers the lines of a client until one quits, the client ends or fails, or is served no further. Whether one quit.
-fn serve_client<R: Wait + Clock, T: Teller, S: Answerer>(
+fn serve_client<R: Wait + Clock, T: Reporter, S: Answerer>(
     alloc: Global,
     client: &Client<'_, R, T>,
-    manner: &Manner,
+    options: &ClientOptions,
     state: ScriptState<S>,
 ) -> (ScriptState<S>, bool) {
     let writer = ClientWriter(client);
     let Ok(mut writer) = BufWriter::with_capacity(alloc, WRITTEN_AT_ONCE, writer) else {
         return (state, false);
     };
-    if manner.lists_images {
-        return serve_scripts(alloc, client, manner, &mut writer, state);
+    if options.lists_images {
+        return serve_scripts(alloc, client, options, &mut writer, state);
     }
     let reader = ClientReader(client);
-    let (state, _, has_quit) = answer_script(alloc, client, manner, reader, &mut writer, state);
+    let (state, _, has_quit) = answer_script(alloc, client, options, reader, &mut writer, state);
     (state, has_quit)
 }
 
 /// Answers the lines of a client as `serve_client`, and a line `images` between them by the images.
-fn serve_scripts<R: Wait + Clock, T: Teller, W: Write, S: Answerer>(
+fn serve_scripts<R: Wait + Clock, T: Reporter, W: Write, S: Answerer>(
     alloc: Global,
     client: &Client<'_, R, T>,
-    manner: &Manner,
+    options: &ClientOptions,
     writer: &mut W,
     state: ScriptState<S>,
 ) -> (ScriptState<S>, bool) {
@@ -174,7 +174,7 @@ fn serve_scripts<R: Wait + Clock, T: Teller, W: Write, S: Answerer>(
         let (next, goes_on, has_quit) = answer_script(
             alloc,
             client,
-            manner,
+            options,
             &mut reader,
             writer,
             state,
@@ -192,15 +192,15 @@ fn serve_scripts<R: Wait + Clock, T: Teller, W: Write, S: Answerer>(
 
 /// Answers the lines that a reader gives of a client, a line at a time if others are served meanwhile. Whether all were
 /// answered, and whether one quit.
-fn answer_script<R: Wait + Clock, T: Teller, I: Read + Drop, W: Write, S: Answerer>(
+fn answer_script<R: Wait + Clock, T: Reporter, I: Read + Drop, W: Write, S: Answerer>(
     alloc: Global,
     client: &Client<'_, R, T>,
-    manner: &Manner,
+    options: &ClientOptions,
     reader: I,
     writer: &mut W,
     state: ScriptState<S>,
 ) -> (ScriptState<S>, bool, bool) {
-    if manner.is_single {
+    if options.is_single {
         let (state, outcome, has_quit) = answer_client(alloc, reader, writer, state);
         return (state, outcome.is_ok(), has_quit);
     }
@@ -212,7 +212,7 @@ fn answer_script<R: Wait + Clock, T: Teller, I: Read + Drop, W: Write, S: Answer
 }
 
 /// Writes the answer to the line `images`. Whether it went out.
-fn put_images<R: Wait + Clock, T: Teller, W: Write>(
+fn put_images<R: Wait + Clock, T: Reporter, W: Write>(
     alloc: Global,
     client: &Client<'_, R, T>,
     writer: &mut W,

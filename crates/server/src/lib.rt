@@ -5,8 +5,8 @@ mod answering;
 mod client;
 mod clients;
 mod connections;
-mod door;
 mod line_reader;
+mod listener;
 mod options;
 mod place;
 mod script_reader;
@@ -16,5 +16,8 @@ mod unopened;
 
 pub use options::{IDLE_SECONDS, SEGMENT_LENGTH, SETTLE_EVERY, ServeOptions};
 pub use served::{Served, Stuck};
-pub use server_state::{Counted, Happening, ImageCounted, LineTeller, Teller, Untold};
+pub use server_state::{
+    ArchiveNews, ClientNews, Counted, Happening, ImageCounted, ImageNews, LineReporter, Reporter,
+    SessionNews, Unreported,
+};
 pub use serving::{serve_on, serve_with};

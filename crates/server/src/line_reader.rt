@@ -4,7 +4,7 @@ ghost use Rattle.std.specs.Prelude.{◌≤◌, length};
 
 use crate::client::Client;
 use memchr::memchr;
-use server_state::Teller;
+use server_state::Reporter;
 use std::alloc::Global;
 use std::io::{self, BufRead, BufReader, ErrorKind, Read};
 use std::rt::Clock;
@@ -20,7 +20,7 @@ pub(crate) struct LineReader<'a, R, T, I> {
     lines: BufReader<I>,
 }
 
-impl<'a, R: Wait + Clock, T: Teller, I: Read + Drop> LineReader<'a, R, T, I> {
+impl<'a, R: Wait + Clock, T: Reporter, I: Read + Drop> LineReader<'a, R, T, I> {
     /// The lines of a reader. Costs memory for 65,536 bytes.
     pub fn new(
         alloc: Global,
@@ -32,7 +32,7 @@ impl<'a, R: Wait + Clock, T: Teller, I: Read + Drop> LineReader<'a, R, T, I> {
     }
 }
 
-impl<R: Wait + Clock, T: Teller, I: Read + Drop> Read for LineReader<'_, R, T, I> {
+impl<R: Wait + Clock, T: Reporter, I: Read + Drop> Read for LineReader<'_, R, T, I> {
     fn read(&mut self, buf: &mut [u8]) -> io::Result<usize> {
         if !self.client.reads_on() {
             return Err(io::Error::from(ErrorKind::TimedOut));

@@ -32,7 +32,7 @@ pub struct ServeOptions<'a> {
     /// Whether the server ends by itself once it can record nothing: its archive can't be opened, a write has failed, or its
     /// history is full. If not, it goes on until a line quits.
     pub is_strict: bool,
-    /// Whether the teller is told each second what is measured of the server.
+    /// Whether the reporter gets each second what is measured of the server.
     pub is_measured: bool,
 }
 

@@ -9,8 +9,8 @@ ghost use Rattle.server_recorder.specs.Seats.{AreAllPasses, AreClientPasses};
 ghost use Rattle.server.specs.Serving.{EndsHistory, EndsOrLacks, EndsUpTo, IsServed, IsServedAs, IsServedUpTo};
 
 use crate::clients::{serve_clients, serve_unopened};
-use crate::connections::{Connections, Manner};
-use crate::door::Door;
+use crate::connections::{ClientOptions, Connections};
+use crate::listener::SharedListener;
 use crate::options::ServeOptions;
 use crate::place::Places;
 use crate::served::{Served, stop_of, unopened_stop};
@@ -21,9 +21,9 @@ use engine_core::Engine;
 use frame_core::limits::{LONGEST_DATAGRAM, MAX_WAITING_BLOCKS};
 use server_receiver::{Images, Receiver, Reception, Senders, TENDING};
 use server_recorder::{
-    Benches, OwnRecordings, Recording, Seats, note_standing, parted, record_all,
+    OwnRecordings, Recording, SeatRoom, Seats, note_standing, parted, record_all,
 };
-use server_state::{FedBlock, Happening, Shared, SharedOptions, Teller, Untold};
+use server_state::{ArchiveNews, FedBlock, Happening, Reporter, Shared, SharedOptions, Unreported};
 use std::alloc::{AllocError, Global};
 use std::collections::VecDeque;
 use std::marker::Brand;
@@ -35,8 +35,8 @@ use std::time::Duration;
 use stream_pairs::FED_SESSIONS;
 use tool_core::{Beginning, EarlyEnd, ScriptArchive, ScriptFault};
 
-/// Milliseconds for which the thread that receives sleeps at most.
-const DOZE: u64 = 100;
+/// Milliseconds after which a read of the socket ends, if the server is no receiver of the public standard.
+const READ_TIMEOUT: u64 = 100;
 
 /// What all of a server works with: where datagrams come to, and what its threads share.
 #[derive(Drop)]
@@ -90,8 +90,8 @@ fn senders_for(alloc: Global, options: &ServeOptions<'_>) -> Result<Option<Sende
     Ok(Some(Senders::new(alloc, receiver)?))
 }
 
-/// Serves the archive of a disk as `serve_with`: a client may be idle for 60 seconds while another waits, and nobody is told
-/// what happens.
+/// Serves the archive of a disk as `serve_with`: a client may be idle for 60 seconds while another waits, and nothing is
+/// reported.
 pub fn serve_on<R: Threads + Wait + Clock + Sync, D: Disk + Drop + Send>(
     rt: &R,
     alloc: Global,
@@ -104,7 +104,7 @@ pub fn serve_on<R: Threads + Wait + Clock + Sync, D: Disk + Drop + Send>(
         IsServedUpTo (D.life disk) (D.life (disk_of fault)) (early_end_of fault)) }
 {
     let options = ServeOptions::new();
-    match serve_with(rt, alloc, listener, socket, disk, &options, Untold) {
+    match serve_with(rt, alloc, listener, socket, disk, &options, Unreported) {
         Ok(served) => Ok(served.disk),
         Err(fault) => Err(fault),
     }
@@ -128,7 +128,7 @@ pub fn serve_on<R: Threads + Wait + Clock + Sync, D: Disk + Drop + Send>(
 pub fn serve_with<
     R: Threads + Wait + Clock + Sync,
     D: Disk + Drop + Send,
-    T: Teller + Drop + Send + Sync,
+    T: Reporter + Drop + Send + Sync,
 >(
     rt: &R,
     alloc: Global,
@@ -136,7 +136,7 @@ pub fn serve_with<
     socket: UdpSocket,
     disk: D,
     options: &ServeOptions<'_>,
-    teller: T,
+    reporter: T,
 ) -> Result<Served<D>, ScriptFault<D>>
     ensures served { IfOk result (λ back. IsServed (D.life disk) (D.life back.disk)) }
     ensures stop { IfOk result (λ back.
@@ -144,10 +144,10 @@ pub fn serve_with<
     ensures early { IfErr result (λ fault.
         IsServedUpTo (D.life disk) (D.life (disk_of fault)) (early_end_of fault)) }
 {
-    let Ok(shared) = Shared::new(alloc, shared_by(options), teller) else {
+    let Ok(shared) = Shared::new(alloc, shared_by(options), reporter) else {
         return Err(ScriptFault::Memory(disk));
     };
-    let (Ok(tools), Ok(benches)) = (Tools::new(alloc, options), Benches::new(alloc)) else {
+    let (Ok(tools), Ok(seat_room)) = (Tools::new(alloc, options), SeatRoom::new(alloc)) else {
         return Err(ScriptFault::Memory(disk));
     };
     let (archive, beginning) = match ScriptArchive::of_disk(alloc, disk) {
@@ -159,8 +159,8 @@ pub fn serve_with<
         alloc,
         shared,
         socket,
-        door: Door::new(rt, listener, &places),
-        manner: Manner::of(options, &places),
+        listener: SharedListener::new(rt, listener, &places),
+        options: ClientOptions::of(options, &places),
     };
     let serving = Serving {
         rt,
@@ -175,12 +175,12 @@ pub fn serve_with<
         lines: &lines,
     };
     begin(&serving, beginning);
-    let (served, end) = serve_archive(&serving, tools, benches, archive, beginning);
-    lines.shared.tell_end();
+    let (served, end) = serve_archive(&serving, tools, seat_room, archive, beginning);
+    lines.shared.report_end();
     handed_back(served, end)
 }
 
-/// What the threads of a server are told of its options.
+/// What the threads of a server know of its options.
 fn shared_by(options: &ServeOptions<'_>) -> SharedOptions {
     SharedOptions {
         gives_back: options.window.is_some(),
@@ -193,18 +193,18 @@ fn shared_by(options: &ServeOptions<'_>) -> SharedOptions {
 fn serve_archive<
     R: Threads + Wait + Clock + Sync,
     D: Disk + Drop + Send,
-    T: Teller + Drop + Send + Sync,
+    T: Reporter + Drop + Send + Sync,
 >(
     with: &Serving<'_, R, T>,
     tools: Tools,
-    benches: Benches,
+    seat_room: SeatRoom,
     archive: ScriptArchive<D>,
     beginning: Beginning,
 ) -> (Served<D>, Result<(), EarlyEnd>)
     ensures { EndsUpTo with.now.is_strict beginning (archive_seen D.life archive) (D.life result.0.disk) result.0.stop result.1 }
 {
     match archive {
-        ScriptArchive::Open(engine) => serve_open(with, tools, benches, engine),
+        ScriptArchive::Open(engine) => serve_open(with, tools, seat_room, engine),
         ScriptArchive::Closed(disk) => {
             let end = if with.is_strict {
                 Ok(())
@@ -229,24 +229,25 @@ fn handed_back<D>(served: Served<D>, end: Result<(), EarlyEnd>) -> Result<Served
     }
 }
 
-/// Tells where the server is, and how its archive began.
-fn begin<R, T: Teller>(with: &Serving<'_, R, T>, beginning: Beginning) {
-    let ends = (with.lines.door.address(), with.socket.local_addr());
+/// Reports where the server is, and how its archive began.
+fn begin<R, T: Reporter>(with: &Serving<'_, R, T>, beginning: Beginning) {
+    let ends = (with.lines.listener.address(), with.socket.local_addr());
     if let (Ok(control), Ok(receive)) = ends {
-        with.shared.tell(&Happening::Bound { control, receive });
+        with.shared.report(&Happening::Bound { control, receive });
     }
-    with.shared.tell(&Happening::Began(beginning));
+    with.shared
+        .report(&Happening::Archive(ArchiveNews::Began(beginning)));
 }
 
 /// Serves an archive that is open: what comes back, and how that ended.
 fn serve_open<
     R: Threads + Wait + Clock + Sync,
     D: Disk + Drop + Send,
-    T: Teller + Drop + Send + Sync,
+    T: Reporter + Drop + Send + Sync,
 >(
     with: &Serving<'_, R, T>,
     tools: Tools,
-    benches: Benches,
+    seat_room: SeatRoom,
     engine: Engine<D>,
 ) -> (Served<D>, Result<(), EarlyEnd>)
     ensures { EndsOrLacks (D.life engine.archive.storage.disk) (seen D.life engine) with.now.is_strict
@@ -255,7 +256,7 @@ fn serve_open<
     let Ok(opened) = Opened::new(with.alloc, false) else {
         return lacking(engine);
     };
-    serve_named::<D, Brand, R, T>(with, tools, benches, opened, engine)
+    serve_named::<D, Brand, R, T>(with, tools, seat_room, opened, engine)
 }
 
 /// Serves an archive that has a pass for each seat and for each client.
@@ -263,11 +264,11 @@ fn serve_named<
     D: Disk + Drop + Send,
     A: Naming + Send + Sync,
     R: Threads + Wait + Clock + Sync,
-    T: Teller + Drop + Send + Sync,
+    T: Reporter + Drop + Send + Sync,
 >(
     with: &Serving<'_, R, T>,
     tools: Tools,
-    benches: Benches,
+    seat_room: SeatRoom,
     opened: Opened<Made>,
     engine: Engine<D>,
 ) -> (Served<D>, Result<(), EarlyEnd>)
@@ -289,7 +290,7 @@ fn serve_named<
         Err(refused) => return lacking(refused.engine),
     };
     let (passes, clients) = parted::<A>(passes, room);
-    let mut seats = benches.seated::<A>(passes);
+    let mut seats = seat_room.seated::<A>(passes);
     if let Some(standing) = seats.standing(with.rt, &archive, 0) {
         note_standing(with.shared, &standing);
     }
@@ -314,7 +315,7 @@ fn serve_shared<
     D: Disk + Drop + Send,
     A: Naming + Send + Sync,
     R: Threads + Wait + Clock + Sync,
-    T: Teller + Drop + Send + Sync,
+    T: Reporter + Drop + Send + Sync,
 >(
     with: &Serving<'_, R, T>,
     tools: Tools,
@@ -369,14 +370,14 @@ fn serve_shared<
             let is_whole = receiver.join(*rt);
             (
                 recorder.join(*rt).into_passes(clients),
-                ended_by(lines.door.end(*rt, shared), is_whole),
+                ended_by(lines.listener.end(*rt, shared), is_whole),
             )
         },
     )
 }
 
 /// Serves lines alone, and receives datagrams that no session has.
-fn serve_closed<R: Threads + Wait + Clock + Sync, T: Teller + Drop + Send + Sync>(
+fn serve_closed<R: Threads + Wait + Clock + Sync, T: Reporter + Drop + Send + Sync>(
     with: &Serving<'_, R, T>,
     tools: Tools,
 ) -> Result<(), EarlyEnd> {
@@ -396,14 +397,14 @@ fn serve_closed<R: Threads + Wait + Clock + Sync, T: Teller + Drop + Send + Sync
         serve_unopened(with.rt, with.lines, &with.places);
         with.shared.end(with.socket);
         ended_by(
-            with.lines.door.end(with.rt, with.shared),
+            with.lines.listener.end(with.rt, with.shared),
             receiver.join(with.rt),
         )
     })
 }
 
 /// Records until no more blocks come. The seats.
-fn record<D: Disk, A: Naming, R: Wait + Clock, T: Teller>(
+fn record<D: Disk, A: Naming, R: Wait + Clock, T: Reporter>(
     with: &Serving<'_, R, T>,
     archive: &SharedArchive<D, A>,
     mut seats: Seats<A>,
@@ -422,7 +423,7 @@ fn record<D: Disk, A: Naming, R: Wait + Clock, T: Teller>(
 }
 
 /// Receives until the server ends, and ends it if no more can be received. Whether more could be.
-fn receive<R: Wait + Clock, T: Teller>(
+fn receive<R: Wait + Clock, T: Reporter>(
     with: &Serving<'_, R, T>,
     images: Images,
     senders: Option<Senders>,
@@ -434,9 +435,13 @@ fn receive<R: Wait + Clock, T: Teller>(
         shared,
         ..
     } = with;
-    let doze = if senders.is_some() { TENDING } else { DOZE };
+    let timeout = if senders.is_some() {
+        TENDING
+    } else {
+        READ_TIMEOUT
+    };
     let is_timed = socket
-        .set_read_timeout(Some(Duration::from_millis(doze)))
+        .set_read_timeout(Some(Duration::from_millis(timeout)))
         .is_ok();
     let mut reception = Reception::new(
         *rt,

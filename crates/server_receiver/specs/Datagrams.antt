@@ -19,8 +19,8 @@ use Rattle.image_core.specs.Take.{GivesBlock}
 use Rattle.image_core.specs.Stock.{Asks, AsksNothing, Offers}
 use Rattle.stream_pairs.specs.declared.points.StreamPoint.{StreamPoint}
 use Rattle.stream_pairs.specs.Pairs.{vacant_or_next}
-use Rattle.server_receiver.specs.declared.images.Came.{Came}
-use Rattle.server_receiver.specs.declared.images.Came.TheVariants.{Frames, Joined, Nothing, Refused, SetUp, Unknown}
+use Rattle.server_receiver.specs.declared.images.DatagramOutcome.{DatagramOutcome}
+use Rattle.server_receiver.specs.declared.images.DatagramOutcome.TheVariants.{Frames, Joined, Nothing, Refused, SetUp, Unknown}
 
 -- ---- images by their places, of which some have none
 
@@ -92,8 +92,8 @@ LacksBlock i olds news = LacksAt (slice_get olds i) i olds news
 -- ---- setup frames
 
 -- the publication that a setup frame tells of
-abbrev pub publication_told : Setup → Publication
-publication_told setup = record { session_id = setup.session_id; stream_id = setup.stream_id }
+abbrev pub publication_of_setup : Setup → Publication
+publication_of_setup setup = record { session_id = setup.session_id; stream_id = setup.stream_id }
 
 -- where an image joined of which nothing was received
 abbrev pub join_point : Received → StreamPoint
@@ -106,22 +106,22 @@ BeginsImage setup olds point news =
 
 -- A setup frame of a publication without an image makes one image more exactly if there is a place; for want of memory there is
 -- none.
-abbrev pub BegunBy : Setup → List (Option Received) → List (Option Received) → Came → Type 0
+abbrev pub BegunBy : Setup → List (Option Received) → List (Option Received) → DatagramOutcome → Type 0
 BegunBy setup olds news Nothing = (place_for_next olds ≡ None) × (news ≡ olds)
 BegunBy setup olds news (Joined i point) = (place_for_next olds ≡ Some i) × BeginsImage setup olds point news
 BegunBy setup olds news (Refused refusal) = (is_some (place_for_next olds) ≡ true) × (refusal ≡ NoMemory) × (news ≡ olds)
 BegunBy setup olds news came = ⊥
 
 -- by the image of its publication, if there is one
-abbrev pub JoinsAs : Option ℕ → Setup → List (Option Received) → List (Option Received) → Came → Type 0
+abbrev pub JoinsAs : Option ℕ → Setup → List (Option Received) → List (Option Received) → DatagramOutcome → Type 0
 JoinsAs (Some i) setup olds news came = (came ≡ SetUp i) × (news ≡ olds)
 JoinsAs None setup olds news came = BegunBy setup olds news came
 
-abbrev pub JoinsBy : Setup → List (Option Received) → List (Option Received) → Came → Type 0
-JoinsBy setup olds news came = JoinsAs (image_with (publication_told setup) olds) setup olds news came
+abbrev pub JoinsBy : Setup → List (Option Received) → List (Option Received) → DatagramOutcome → Type 0
+JoinsBy setup olds news came = JoinsAs (image_with (publication_of_setup setup) olds) setup olds news came
 
 -- of bytes without a frame in front: a setup frame, or nothing comes of them
-abbrev pub Joins : List ℕ → List (Option Received) → List (Option Received) → Came → Type 0
+abbrev pub Joins : List ℕ → List (Option Received) → List (Option Received) → DatagramOutcome → Type 0
 Joins datagram olds news came =
     ((setup : Setup) × IsSetup datagram setup × JoinsBy setup olds news came)
     ⊎ (HasNoSetup datagram × (came ≡ Nothing) × (news ≡ olds))
@@ -135,9 +135,9 @@ IsRefusedLater datagram (BadFrame offset) = (0 < offset) × IsBadAt datagram off
 IsRefusedLater datagram refusal = ⊥
 
 -- what happens to frames of an image, with its place
-abbrev pub came_of : ℕ → Result Bool Refusal → Came
-came_of image (Ok is_lost) = Frames image is_lost
-came_of image (Err refusal) = Refused refusal
+abbrev pub outcome_of : ℕ → Result Bool Refusal → DatagramOutcome
+outcome_of image (Ok is_lost) = Frames image is_lost
+outcome_of image (Err refusal) = Refused refusal
 
 -- Frames were offered to an image, which took them, or lost them past its stock. Or there was no memory, and nothing changed.
 abbrev pub HandlesFrames : Received → List Frame → Received → Result Bool Refusal → Type 0
@@ -150,12 +150,12 @@ HandlesIn None fs new outcome = ⊥
 HandlesIn (Some image) fs new outcome = (after : Received) × HandlesFrames image fs after outcome × (new ≡ Some after)
 
 -- and the others stay
-abbrev pub HandledBy : Option (Option Received) → ℕ → List (Option Received) → List Frame → List (Option Received) → Came → Type 0
+abbrev pub HandledBy : Option (Option Received) → ℕ → List (Option Received) → List Frame → List (Option Received) → DatagramOutcome → Type 0
 HandledBy None i olds fs news came = ⊥
 HandledBy (Some old) i olds fs news came =
-    (after : Option Received) × (outcome : Result Bool Refusal) × HandlesIn old fs after outcome × (news ≡ slice_set olds i after) × (came ≡ came_of i outcome)
+    (after : Option Received) × (outcome : Result Bool Refusal) × HandlesIn old fs after outcome × (news ≡ slice_set olds i after) × (came ≡ outcome_of i outcome)
 
-abbrev pub HandledAt : ℕ → List (Option Received) → List Frame → List (Option Received) → Came → Type 0
+abbrev pub HandledAt : ℕ → List (Option Received) → List Frame → List (Option Received) → DatagramOutcome → Type 0
 HandledAt i olds fs news came = HandledBy (slice_get olds i) i olds fs news came
 
 -- there is an image at a place
@@ -164,18 +164,18 @@ IsPlaced None = ⊥
 IsPlaced (Some image) = is_some image ≡ true
 
 -- frames whose publication has no image: it may get one while there is a place
-abbrev pub unknown_of : List Frame → List (Option Received) → Came
+abbrev pub unknown_of : List Frame → List (Option Received) → DatagramOutcome
 unknown_of [] images = Nothing
 unknown_of (f ∷ fs) images = if is_some (place_for_next images) then Unknown (publication_of f) else Nothing
 
 -- frames of a publication are its image's
-abbrev pub TakesFrames : Option ℕ → List (Option Received) → List Frame → List (Option Received) → Came → Type 0
+abbrev pub TakesFrames : Option ℕ → List (Option Received) → List Frame → List (Option Received) → DatagramOutcome → Type 0
 TakesFrames (Some i) olds fs news came = HandledAt i olds fs news came
 TakesFrames None olds fs news came = (came ≡ unknown_of fs olds) × (news ≡ olds)
 
 -- What happens to a datagram: frames are for the image of the publication of the first one; bytes without a frame in front may
 -- be a setup frame, which makes an image; and of what else is no datagram nothing comes.
-abbrev pub Takes : List (Option Received) → List ℕ → List (Option Received) → Came → Type 0
+abbrev pub Takes : List (Option Received) → List ℕ → List (Option Received) → DatagramOutcome → Type 0
 Takes olds datagram news came =
     ((fs : List Frame) × IsDatagram datagram fs × TakesFrames (image_of fs olds) olds fs news came)
     ⊎ ((HasNoFront datagram × Joins datagram olds news came)
@@ -195,7 +195,7 @@ module _ {E : Type 0} (sends : E → List ℕ → E → Type 0) where
   AsksOf (Some image) old new asked = SendsRequest image old new asked
 
   -- after frames that an image took or lost it is asked for what is missing; after anything else nothing is sent
-  abbrev pub AsksAfter : List (Option Received) → Came → E → E → Bool → Type 0
+  abbrev pub AsksAfter : List (Option Received) → DatagramOutcome → E → E → Bool → Type 0
   AsksAfter images (Frames i is_lost) old new asked = AsksOf (image_at i images) old new asked
   AsksAfter images came old new asked = (asked ≡ false) × (new ≡ old)
 

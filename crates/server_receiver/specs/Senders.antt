@@ -14,8 +14,8 @@ use Rattle.flow_control.specs.Feedback.{GivesRequest, GivesStatus, has_passed, i
 use Rattle.flow_control.specs.Setups.{after_asking, may_ask, setup_request_of}
 use Rattle.server_receiver.specs.declared.senders.Receiver.{Receiver}
 use Rattle.server_receiver.specs.declared.senders.ImageSender.{ImageSender}
-use Rattle.server_receiver.specs.declared.images.Came.{Came}
-use Rattle.server_receiver.specs.declared.images.Came.TheVariants.{Frames, Joined, SetUp, Unknown}
+use Rattle.server_receiver.specs.declared.images.DatagramOutcome.{DatagramOutcome}
+use Rattle.server_receiver.specs.declared.images.DatagramOutcome.TheVariants.{Frames, Joined, SetUp, Unknown}
 
 -- the receiver, the senders of its images by the images' places, and the publications that were asked for a setup frame
 pub record SendersState : Type 0 where
@@ -57,7 +57,7 @@ ChangesAt i None olds news Changes = news ≡ olds
 ChangesAt i (Some sender) olds news Changes = (after : ImageSender) × Changes sender after × (news ≡ slice_set olds i after)
 
 -- a datagram came from an address
-abbrev pub Notes : Came → Option SocketAddr → ℕ → List ImageSender → List ImageSender → Type 0
+abbrev pub Notes : DatagramOutcome → Option SocketAddr → ℕ → List ImageSender → List ImageSender → Type 0
 Notes (Joined i point) from now olds news = news ≡ with_sender i from now olds
 Notes (SetUp i) from now olds news = ChangesAt i (slice_get olds i) olds news (SetsUp from now)
 Notes (Frames i is_lost) from now olds news = ChangesAt i (slice_get olds i) olds news (Hears from now)
@@ -76,23 +76,23 @@ module _ {E : Type 0} (puts : E → SocketAddr → List ℕ → E → Type 0) wh
   PutsNak to (Some nak) old new = puts old to (encoded_nak nak) new
 
   -- the status message that is due was sent, if the image is recorded; it is not due to an image that is not
-  abbrev pub TellsStatus : Bool → ℕ → Receiver → Received → SocketAddr → Feedback → E → Feedback → E → Type 0
-  TellsStatus is_recorded now receiver image to old end new later =
+  abbrev pub SendsStatusDue : Bool → ℕ → Receiver → Received → SocketAddr → Feedback → E → Feedback → E → Type 0
+  SendsStatusDue is_recorded now receiver image to old end new later =
       MatchBool is_recorded
       ((status : Option StatusMessage) × GivesStatus now receiver.window None receiver.id image old status new × PutsStatus to status end later)
       ((new ≡ old) × (later ≡ end))
 
   -- then the NAK that is due
-  abbrev pub TellsRequest : ℕ → Received → SocketAddr → Feedback → E → Feedback → E → Bool → Type 0
-  TellsRequest now image to old end new later asked =
+  abbrev pub SendsRequestDue : ℕ → Received → SocketAddr → Feedback → E → Feedback → E → Bool → Type 0
+  SendsRequestDue now image to old end new later asked =
       (nak : Option Nak) × GivesRequest now image old nak new × PutsNak to nak end later × (asked ≡ is_some nak)
 
   -- what is due to the sender of an image was sent to where its setup frame came from
   pub record TendsTo (is_recorded : Bool) (now : ℕ) (receiver : Receiver) (image : Received) (to : SocketAddr) (old : ImageSender) (end : E) (new : ImageSender) (later : E) (asked : Bool) : Type 0 where
     pub between : Feedback
     pub meanwhile : E
-    pub status : TellsStatus is_recorded now receiver image to old.feedback end between meanwhile
-    pub request : TellsRequest now image to between meanwhile new.feedback later asked
+    pub status : SendsStatusDue is_recorded now receiver image to old.feedback end between meanwhile
+    pub request : SendsRequestDue now image to between meanwhile new.feedback later asked
     pub same : new ≡ record old { feedback = new.feedback }
 
   abbrev pub TendsIf : Bool → ℕ → Receiver → Received → Option SocketAddr → ImageSender → E → ImageSender → E → Bool → Type 0
@@ -119,7 +119,7 @@ module _ {E : Type 0} (puts : E → SocketAddr → List ℕ → E → Type 0) wh
       (later ≡ end)
 
   -- so it is after frames of an unknown publication; after anything else nothing is asked
-  abbrev pub AsksForSetup : Came → Option SocketAddr → ℕ → SendersState → E → SendersState → E → Type 0
+  abbrev pub AsksForSetup : DatagramOutcome → Option SocketAddr → ℕ → SendersState → E → SendersState → E → Type 0
   AsksForSetup (Unknown publication) (Some to) now old end new later = AsksPublication publication to now old end new later
   AsksForSetup came from now old end new later = (new ≡ old) × (later ≡ end)
 

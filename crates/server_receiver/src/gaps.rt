@@ -3,7 +3,7 @@
 ghost use Rattle.std.specs.Prelude.{◌≡◌, None, replicate, slice_index_or, slice_set};
 ghost use Rattle.server_receiver.specs.Metering.{gap_now, gap_seen, is_seen, stood};
 
-use stream_pairs::MAX_IMAGES;
+use stream_pairs::{MAX_IMAGES, Place};
 
 /// A gap that was seen.
 #[derive(Clone, Copy, Debug, PartialEq, Eq)]
@@ -32,7 +32,7 @@ impl Gaps {
 
     /// The first gap of the image at a place is there now, or it has none: for how many milliseconds it has stood, since it was
     /// seen first. 0 if it has none.
-    pub fn follow(&mut self, place: usize, position: Option<i64>, now: u64) -> u64
+    pub fn follow(&mut self, place: Place, position: Option<i64>, now: u64) -> u64
         ensures stood { result ≡ stood now (gap_seen position now (slice_index_or self.old.seen place None)) }
         ensures seen { self.new ≡ record self.old {
           seen = slice_set self.old.seen place (gap_seen position now (slice_index_or self.old.seen place None));
@@ -46,7 +46,7 @@ impl Gaps {
         stood(now, gap)
     }
 
-    fn at(&self, place: usize) -> Option<SeenGap>
+    fn at(&self, place: Place) -> Option<SeenGap>
         ensures { result ≡ slice_index_or self.now.seen place None }
     {
         match self.seen.get(place) {
@@ -55,7 +55,7 @@ impl Gaps {
         }
     }
 
-    fn set(&mut self, place: usize, gap: Option<SeenGap>)
+    fn set(&mut self, place: Place, gap: Option<SeenGap>)
         ensures { self.new ≡ record self.old { seen = slice_set self.old.seen place gap } }
     {
         if place < MAX_IMAGES {

@@ -3,17 +3,18 @@
 use crate::images::Images;
 use crate::leaving::Leaving;
 use frame_core::Refusal;
-use server_state::{FedBlock, Shared, Teller};
+use server_state::{FedBlock, Reporter, Shared};
 use std::sync::Wait;
+use stream_pairs::Place;
 
 /// Hands on the blocks of an image that may be handed on now, if a session has it and it does not leave. Whether one was kept
 /// back.
-pub(crate) fn give<R: Wait, T: Teller>(
+pub(crate) fn give<R: Wait, T: Reporter>(
     rt: &R,
     shared: &Shared<T>,
     images: &mut Images,
     leaving: &Leaving,
-    place: usize,
+    place: Place,
 ) -> bool {
     if !images.has_block(place) || leaving.contains(place) {
         return false;
@@ -37,7 +38,7 @@ pub(crate) fn give<R: Wait, T: Teller>(
 }
 
 /// Puts a block; if there is no memory for it, its session loses the image.
-fn put<R: Wait, T: Teller>(rt: &R, shared: &Shared<T>, fed: FedBlock) {
+fn put<R: Wait, T: Reporter>(rt: &R, shared: &Shared<T>, fed: FedBlock) {
     if let Err(fed) = shared.queue.put(rt, fed) {
         if let Some(fed) = shared.session_of(rt, &fed.image) {
             shared.refused(rt, fed.session, Refusal::NoMemory);
@@ -46,13 +47,13 @@ fn put<R: Wait, T: Teller>(rt: &R, shared: &Shared<T>, fed: FedBlock) {
 }
 
 /// Hands on blocks of all images, from one on. The place that a next round begins with: the first that kept one back.
-pub(crate) fn give_round<R: Wait, T: Teller>(
+pub(crate) fn give_round<R: Wait, T: Reporter>(
     rt: &R,
     shared: &Shared<T>,
     images: &mut Images,
     leaving: &Leaving,
-    first: usize,
-) -> usize {
+    first: Place,
+) -> Place {
     let count = images.len();
     let mut place = first;
     let mut next = None;
@@ -69,7 +70,7 @@ pub(crate) fn give_round<R: Wait, T: Teller>(
 }
 
 /// Hands on all blocks of all images that sessions have, and waits for room.
-pub(crate) fn give_all<R: Wait, T: Teller>(
+pub(crate) fn give_all<R: Wait, T: Reporter>(
     rt: &R,
     shared: &Shared<T>,
     images: &mut Images,
@@ -82,7 +83,7 @@ pub(crate) fn give_all<R: Wait, T: Teller>(
     }
 }
 
-fn give_rest<R: Wait, T: Teller>(rt: &R, shared: &Shared<T>, images: &mut Images, place: usize) {
+fn give_rest<R: Wait, T: Reporter>(rt: &R, shared: &Shared<T>, images: &mut Images, place: Place) {
     for _ in 0..u64::MAX {
         let Some(image) = shared.feeding(rt, place) else {
             return;

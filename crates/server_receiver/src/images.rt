@@ -7,7 +7,7 @@ ghost use Rattle.frame_core.specs.FrameEncoding.{frame_of};
 ghost use Rattle.frame_core.specs.Block.{AreEncodable, publication_of};
 ghost use Rattle.frame_core.specs.Setup.{IsUsable};
 ghost use Rattle.frame_core.specs.declared.refusal.Refusal.TheVariants.{NoMemory};
-ghost use Rattle.server_receiver.specs.Datagrams.{AsksAfter, AsksOf, BegunBy, GivesNext, HandledAt, HandlesFrames, HandlesIn, HasNext, IsPlaced, Joins, JoinsBy, LacksBlock, SendsRequest, Takes, TakesNext, TakesFrames, has_block_of, has_publication, image_at, image_of, image_with, is_full_image, is_full_of, join_point, place_for_next, publication_told, put_image, unknown_of, vacated_at};
+ghost use Rattle.server_receiver.specs.Datagrams.{AsksAfter, AsksOf, BegunBy, GivesNext, HandledAt, HandlesFrames, HandlesIn, HasNext, IsPlaced, Joins, JoinsBy, LacksBlock, SendsRequest, Takes, TakesNext, TakesFrames, has_block_of, has_publication, image_at, image_of, image_with, is_full_image, is_full_of, join_point, place_for_next, publication_of_setup, put_image, unknown_of, vacated_at};
 
 use frame_core::limits::MAX_BLOCK_LENGTH;
 use frame_core::{Block, FrameRef, Publication, Refusal, Setup, frames_of_datagram};
@@ -15,7 +15,7 @@ use image_core::BoundedImage;
 use recorder_seats::DatagramEnd;
 use std::alloc::Global;
 use std::marker::Model;
-use stream_pairs::{MAX_IMAGES, StreamPoint};
+use stream_pairs::{MAX_IMAGES, Place, StreamPoint};
 
 /// The images by their places, at most 64 at a time. To a contract they are what each received.
 #[derive(Drop)]
@@ -35,25 +35,25 @@ impl Model for Images {
 
 /// What a datagram was.
 #[derive(Clone, Copy)]
-pub enum Came {
+pub enum DatagramOutcome {
     /// Nothing that an image takes, and nothing of a publication that may join.
     Nothing,
     /// The setup frame of a new image, which joined at the point.
     Joined {
         /// The image's place.
-        image: usize,
+        place: Place,
         /// Where it joined.
         point: StreamPoint,
     },
     /// A setup frame of a publication that has an image.
     SetUp {
         /// The image's place.
-        image: usize,
+        place: Place,
     },
     /// Frames of an image.
     Frames {
         /// The image's place.
-        image: usize,
+        place: Place,
         /// Whether they were lost past the stock.
         is_lost: bool,
     },
@@ -82,26 +82,26 @@ impl Images {
     }
 
     /// The image at a place.
-    pub fn get(&self, image: usize) -> Option<&BoundedImage>
-        ensures { option_copied result ≡ image_at image self.now }
+    pub fn get(&self, place: Place) -> Option<&BoundedImage>
+        ensures { option_copied result ≡ image_at place self.now }
     {
-        match self.images.as_slice().get(image) {
+        match self.images.as_slice().get(place) {
             Some(Some(image)) => Some(image),
             _ => None,
         }
     }
 
     /// The image at a place is given back. Its memory is freed.
-    pub fn remove(&mut self, image: usize)
-        ensures { self.new ≡ vacated_at image self.old }
+    pub fn remove(&mut self, place: Place)
+        ensures { self.new ≡ vacated_at place self.old }
     {
-        if let Some(place) = self.images.get_mut(image) {
-            *place = None;
+        if let Some(slot) = self.images.get_mut(place) {
+            *slot = None;
         }
     }
 
     /// The place of the image of a publication.
-    fn index_of(&self, publication: &Publication) -> Option<usize>
+    fn index_of(&self, publication: &Publication) -> Option<Place>
         ensures { result ≡ image_with publication.now self.now }
     {
         self.images
@@ -110,7 +110,7 @@ impl Images {
     }
 
     /// The place of one image more: the least without one, or the next one, of 64.
-    fn place_for_next(&self) -> Option<usize>
+    fn place_for_next(&self) -> Option<Place>
         ensures { result ≡ place_for_next self.now }
     {
         match self.vacant() {
@@ -121,7 +121,7 @@ impl Images {
     }
 
     /// The least place without an image.
-    fn vacant(&self) -> Option<usize>
+    fn vacant(&self) -> Option<Place>
         ensures { result ≡ position is_none self.now }
     {
         self.images.iter().position(|image| image.is_none())
@@ -130,53 +130,53 @@ impl Images {
     /// Takes a datagram, which is decoded here once. Its frames are offered to the image of the first one's publication.
     /// The setup frame of a publication that has no image makes one, if there is a place and memory for it. For
     /// everything else, and for a datagram that is refused, nothing changes.
-    pub fn take_datagram(&mut self, datagram: &[u8]) -> Came
+    pub fn take_datagram(&mut self, datagram: &[u8]) -> DatagramOutcome
         ensures { Takes self.old datagram.now self.new result }
     {
         match frames_of_datagram(self.alloc, datagram) {
             Ok(frames) => self.take_frames(frames.as_slice()),
             Err(Refusal::BadFrame { offset: 0 }) => self.take_setup(datagram),
-            Err(refusal) => Came::Refused(refusal),
+            Err(refusal) => DatagramOutcome::Refused(refusal),
         }
     }
 
     /// Asks once for what is missing of the image whose frames came, as far as the window and the stock have room for it.
     /// Whether it did. After anything else nothing is sent.
-    pub fn ask_after<E: DatagramEnd>(&self, end: &mut E, came: &Came) -> bool
-        ensures { AsksAfter E.sends self.now came.now end.old end.new result }
+    pub fn ask_after<E: DatagramEnd>(&self, end: &mut E, outcome: &DatagramOutcome) -> bool
+        ensures { AsksAfter E.sends self.now outcome.now end.old end.new result }
     {
-        match came {
-            Came::Frames { image, is_lost } => {
+        match outcome {
+            DatagramOutcome::Frames { place, is_lost } => {
                 let _ = is_lost;
-                self.ask_of(end, *image)
+                self.ask_of(end, *place)
             }
             _ => false,
         }
     }
 
-    fn ask_of<E: DatagramEnd>(&self, end: &mut E, image: usize) -> bool
-        ensures { AsksOf E.sends (image_at image self.now) end.old end.new result }
+    fn ask_of<E: DatagramEnd>(&self, end: &mut E, place: Place) -> bool
+        ensures { AsksOf E.sends (image_at place self.now) end.old end.new result }
     {
-        match self.get(image) {
+        match self.get(place) {
             Some(image) => request(end, image),
             None => false,
         }
     }
 
     #[tactic(auto, using(crate::proofs::ImageLemmas::is_placed_of))]
-    fn take_frames(&mut self, frames: &[FrameRef<'_>]) -> Came
+    fn take_frames(&mut self, frames: &[FrameRef<'_>]) -> DatagramOutcome
         requires { AreEncodable (map frame_of frames.now) }
         ensures { let fs = map frame_of frames.now in
             TakesFrames (image_of fs self.old) self.old fs self.new result }
     {
         match self.image_of(frames) {
-            Some(image) => self.offer_to(image, frames),
+            Some(place) => self.offer_to(place, frames),
             None => self.unknown(frames),
         }
     }
 
     /// The place of the image of the first frame's publication.
-    fn image_of(&self, frames: &[FrameRef<'_>]) -> Option<usize>
+    fn image_of(&self, frames: &[FrameRef<'_>]) -> Option<Place>
         ensures { result ≡ image_of (map frame_of frames.now) self.now }
     {
         match frames.first() {
@@ -186,71 +186,68 @@ impl Images {
     }
 
     /// What frames are whose publication has no image.
-    fn unknown(&self, frames: &[FrameRef<'_>]) -> Came
+    fn unknown(&self, frames: &[FrameRef<'_>]) -> DatagramOutcome
         ensures { result ≡ unknown_of (map frame_of frames.now) self.now }
     {
         if self.place_for_next().is_none() {
-            return Came::Nothing;
+            return DatagramOutcome::Nothing;
         }
         match frames.first() {
-            Some(frame) => Came::Unknown(publication_of(frame)),
-            None => Came::Nothing,
+            Some(frame) => DatagramOutcome::Unknown(publication_of(frame)),
+            None => DatagramOutcome::Nothing,
         }
     }
 
     /// Offers frames to the image at a place.
-    fn offer_to(&mut self, image: usize, frames: &[FrameRef<'_>]) -> Came
-        requires there { IsPlaced (slice_get self.old image) }
+    fn offer_to(&mut self, place: Place, frames: &[FrameRef<'_>]) -> DatagramOutcome
+        requires there { IsPlaced (slice_get self.old place) }
         requires encodable { AreEncodable (map frame_of frames.now) }
-        ensures { let fs = map frame_of frames.now in HandledAt image self.old fs self.new result }
+        ensures { let fs = map frame_of frames.now in HandledAt place self.old fs self.new result }
     {
-        let Some(place) = self.images.get_mut(image) else {
+        let Some(slot) = self.images.get_mut(place) else {
             unreachable!();
         };
-        match offer_in(place, frames) {
-            Ok(is_lost) => Came::Frames { image, is_lost },
-            Err(refusal) => Came::Refused(refusal),
+        match offer_in(slot, frames) {
+            Ok(is_lost) => DatagramOutcome::Frames { place, is_lost },
+            Err(refusal) => DatagramOutcome::Refused(refusal),
         }
     }
 
-    fn take_setup(&mut self, datagram: &[u8]) -> Came
+    fn take_setup(&mut self, datagram: &[u8]) -> DatagramOutcome
         ensures { Joins datagram.now self.old self.new result }
     {
         match Setup::decode(datagram) {
             Ok(setup) => self.join(&setup),
-            Err(_) => Came::Nothing,
+            Err(_) => DatagramOutcome::Nothing,
         }
     }
 
     /// Makes an image of a setup frame, if its publication has none, and there is a place and memory for it.
-    fn join(&mut self, setup: &Setup) -> Came
+    fn join(&mut self, setup: &Setup) -> DatagramOutcome
         requires { IsUsable setup.now }
         ensures { JoinsBy setup.now self.old self.new result }
     {
-        match self.index_of(&publication_told(setup)) {
-            Some(image) => Came::SetUp { image },
+        match self.index_of(&publication_of_setup(setup)) {
+            Some(place) => DatagramOutcome::SetUp { place },
             None => self.begin(setup),
         }
     }
 
     /// One image more, if there is a place. `NoMemory`.
-    fn begin(&mut self, setup: &Setup) -> Came
+    fn begin(&mut self, setup: &Setup) -> DatagramOutcome
         requires { IsUsable setup.now }
         ensures { BegunBy setup.now self.old self.new result }
     {
         let Some(place) = self.place_for_next() else {
-            return Came::Nothing;
+            return DatagramOutcome::Nothing;
         };
         let Ok(image) = BoundedImage::from_setup(self.alloc, setup) else {
             unreachable!();
         };
         let point = join_point(&image);
         match self.put(image) {
-            Ok(()) => Came::Joined {
-                image: place,
-                point,
-            },
-            Err(refusal) => Came::Refused(refusal),
+            Ok(()) => DatagramOutcome::Joined { place, point },
+            Err(refusal) => DatagramOutcome::Refused(refusal),
         }
     }
 
@@ -272,33 +269,33 @@ impl Images {
     }
 
     /// Whether an image has a block to take.
-    pub fn has_block(&self, image: usize) -> bool
-        ensures { result ≡ has_block_of (image_at image self.now) }
+    pub fn has_block(&self, place: Place) -> bool
+        ensures { result ≡ has_block_of (image_at place self.now) }
     {
-        match self.get(image) {
+        match self.get(place) {
             Some(image) => image.has_block(),
             None => false,
         }
     }
 
     /// Whether so much was rebuilt of an image, and not taken, that a block of it is as long as it may be.
-    pub fn is_full(&self, image: usize) -> bool
-        ensures { result ≡ is_full_of (image_at image self.now) }
+    pub fn is_full(&self, place: Place) -> bool
+        ensures { result ≡ is_full_of (image_at place self.now) }
     {
-        match self.get(image) {
+        match self.get(place) {
             Some(image) => is_full(image),
             None => false,
         }
     }
 
     /// Takes the next block of an image, if there is one. `NoMemory`; then it stays in the image.
-    pub fn take_block(&mut self, image: usize) -> Result<Option<Block>, Refusal>
-        ensures taken { IfOk result (λ found. TakesNext image self.old found self.new) }
-        ensures lacks { OnErr result (LacksBlock image self.old self.new) }
+    pub fn take_block(&mut self, place: Place) -> Result<Option<Block>, Refusal>
+        ensures taken { IfOk result (λ found. TakesNext place self.old found self.new) }
+        ensures lacks { OnErr result (LacksBlock place self.old self.new) }
         ensures memory { IfErr result (λ refusal. refusal ≡ NoMemory) }
     {
-        match self.images.get_mut(image) {
-            Some(place) => take_next(place),
+        match self.images.get_mut(place) {
+            Some(slot) => take_next(slot),
             None => Ok(None),
         }
     }
@@ -314,9 +311,9 @@ fn publication_of(frame: &FrameRef<'_>) -> Publication
     }
 }
 
-/// The publication that a setup frame tells of.
-fn publication_told(setup: &Setup) -> Publication
-    ensures { result ≡ publication_told setup.now }
+/// The publication that a setup frame is of.
+fn publication_of_setup(setup: &Setup) -> Publication
+    ensures { result ≡ publication_of_setup setup.now }
 {
     Publication {
         session_id: setup.session_id,
@@ -355,24 +352,24 @@ fn join_point(image: &BoundedImage) -> StreamPoint
 }
 
 /// Takes the next block of the image at a place, if there is one. `NoMemory`; then it stays in the image.
-fn take_next(place: &mut Option<BoundedImage>) -> Result<Option<Block>, Refusal>
-    ensures taken { IfOk result (λ found. GivesNext place.old found place.new) }
-    ensures lacks { OnErr result (HasNext place.old × (place.new ≡ place.old)) }
+fn take_next(slot: &mut Option<BoundedImage>) -> Result<Option<Block>, Refusal>
+    ensures taken { IfOk result (λ found. GivesNext slot.old found slot.new) }
+    ensures lacks { OnErr result (HasNext slot.old × (slot.new ≡ slot.old)) }
     ensures memory { IfErr result (λ refusal. refusal ≡ NoMemory) }
 {
-    match place {
+    match slot {
         Some(image) => image.take_block(),
         None => Ok(None),
     }
 }
 
 /// Offers frames to the image at a place.
-fn offer_in(place: &mut Option<BoundedImage>, frames: &[FrameRef<'_>]) -> Result<bool, Refusal>
-    requires there { is_some place.old ≡ true }
+fn offer_in(slot: &mut Option<BoundedImage>, frames: &[FrameRef<'_>]) -> Result<bool, Refusal>
+    requires there { is_some slot.old ≡ true }
     requires encodable { AreEncodable (map frame_of frames.now) }
-    ensures { HandlesIn place.old (map frame_of frames.now) place.new result }
+    ensures { HandlesIn slot.old (map frame_of frames.now) slot.new result }
 {
-    match place {
+    match slot {
         Some(image) => offer(image, frames),
         None => unreachable!(),
     }

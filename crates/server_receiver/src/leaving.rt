@@ -3,7 +3,7 @@
 
 ghost use Rattle.std.specs.Prelude.{◌≡◌, false, replicate, slice_index_or, slice_set, true};
 
-use stream_pairs::MAX_IMAGES;
+use stream_pairs::{MAX_IMAGES, Place};
 
 /// The places of images that leave.
 #[derive(Clone, Copy)]
@@ -22,7 +22,7 @@ impl Leaving {
     }
 
     /// Whether the image at a place leaves.
-    pub fn contains(&self, place: usize) -> bool
+    pub fn contains(&self, place: Place) -> bool
         ensures { result ≡ slice_index_or self.now.places place false }
     {
         match self.places.get(place) {
@@ -32,20 +32,20 @@ impl Leaving {
     }
 
     /// The image at a place leaves.
-    pub fn add(&mut self, place: usize)
+    pub fn add(&mut self, place: Place)
         ensures { self.new ≡ record self.old { places = slice_set self.old.places place true } }
     {
         self.set(place, true);
     }
 
     /// The image at a place has left.
-    pub fn remove(&mut self, place: usize)
+    pub fn remove(&mut self, place: Place)
         ensures { self.new ≡ record self.old { places = slice_set self.old.places place false } }
     {
         self.set(place, false);
     }
 
-    fn set(&mut self, place: usize, leaves: bool)
+    fn set(&mut self, place: Place, leaves: bool)
         ensures { self.new ≡ record self.old { places = slice_set self.old.places place leaves } }
     {
         if place < MAX_IMAGES {

@@ -12,6 +12,6 @@ mod recorded_streams;
 mod repeats;
 mod senders;
 
-pub use images::{Came, Images};
+pub use images::{DatagramOutcome, Images};
 pub use receiving::{Reception, TENDING};
 pub use senders::{Receiver, SenderEnd, Senders};

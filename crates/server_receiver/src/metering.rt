@@ -4,17 +4,18 @@ ghost use Rattle.std.specs.Prelude.{◌≡◌, ◌*◌, ◌<◌, ◌^◌};
 ghost use Rattle.server_receiver.specs.Metering.{image_measured};
 
 use crate::gaps::Gaps;
-use crate::images::{Came, Images};
+use crate::images::{DatagramOutcome, Images};
 use crate::repeats::{Repeats, begins_at};
 use image_core::BoundedImage;
 use metrics_text::ImageMeasures;
-use server_state::{ReceivedMeasures, Shared, Teller};
+use server_state::{ReceivedMeasures, Reporter, Shared};
 use std::alloc::{AllocError, Global};
 use std::sync::Wait;
+use stream_pairs::{ImageNumber, Place};
 
 /// Milliseconds between two times that a server is measured.
 const MEASURING: u64 = 1_000;
-/// The longest time of a gap that is told, in milliseconds: more than a hundred years.
+/// The longest time of a gap that is measured, in milliseconds: more than a hundred years.
 const LONGEST: u64 = 1 << 42;
 
 /// What is measured of datagrams and images.
@@ -41,21 +42,21 @@ impl Metering {
     }
 
     /// Notes a datagram: one that changed nothing, or one that came late or again.
-    pub fn note(&mut self, came: &Came, datagram: &[u8], images: &Images) {
-        match came {
-            Came::Joined { image, .. } => self.repeats.forget(*image),
-            Came::SetUp { .. } => {}
-            Came::Frames { image, .. } => self.note_frames(*image, datagram, images),
+    pub fn note(&mut self, outcome: &DatagramOutcome, datagram: &[u8], images: &Images) {
+        match outcome {
+            DatagramOutcome::Joined { place, .. } => self.repeats.forget(*place),
+            DatagramOutcome::SetUp { .. } => {}
+            DatagramOutcome::Frames { place, .. } => self.note_frames(*place, datagram, images),
             _ => self.dropped = self.dropped.saturating_add(1),
         }
     }
 
-    fn note_frames(&mut self, image: usize, datagram: &[u8], images: &Images) {
-        let Some(known) = images.get(image) else {
+    fn note_frames(&mut self, place: Place, datagram: &[u8], images: &Images) {
+        let Some(known) = images.get(place) else {
             return;
         };
         let begins = begins_at(datagram, known.geometry());
-        if self.repeats.note(image, begins) {
+        if self.repeats.note(place, begins) {
             self.repeated = self.repeated.saturating_add(1);
         }
     }
@@ -65,8 +66,8 @@ impl Metering {
         self.measures_at <= now
     }
 
-    /// Measures the server, which sent so many status messages, and tells it. Without memory nothing is told.
-    pub fn measure<R: Wait, T: Teller>(
+    /// Measures the server, which sent so many status messages, and hands that on. Without memory nothing is.
+    pub fn measure<R: Wait, T: Reporter>(
         &mut self,
         rt: &R,
         alloc: Global,
@@ -82,12 +83,12 @@ impl Metering {
             status_messages,
         };
         if let Ok(measured) = self.measured(rt, alloc, shared, images, now) {
-            shared.tell_measures(rt, alloc, received, measured);
+            shared.report_measures(rt, alloc, received, measured);
         }
     }
 
     /// What is measured of each image.
-    fn measured<R: Wait, T: Teller>(
+    fn measured<R: Wait, T: Reporter>(
         &mut self,
         rt: &R,
         alloc: Global,
@@ -116,7 +117,7 @@ fn gap_of(image: &BoundedImage) -> Option<i64> {
 }
 
 /// What is measured of an image with this number, whose first gap has stood for so many milliseconds.
-fn image_measured(number: u64, image: &BoundedImage, millis: u64) -> ImageMeasures
+fn image_measured(number: ImageNumber, image: &BoundedImage, millis: u64) -> ImageMeasures
     requires { millis < 2 ^ 43 }
     ensures { result ≡ image_measured number image.now millis }
 {

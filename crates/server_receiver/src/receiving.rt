@@ -2,18 +2,18 @@
 
 use crate::ends::UdpEnd;
 use crate::giving::{give, give_all, give_round};
-use crate::images::{Came, Images};
+use crate::images::{DatagramOutcome, Images};
 use crate::leaving::Leaving;
 use crate::metering::Metering;
 use crate::recorded_streams::is_recorded_stream;
 use crate::senders::Senders;
 use recorder_seats::DatagramEnd;
-use server_state::{Happening, Shared, Stopwatch, Teller};
+use server_state::{Happening, ImageNews, Reporter, Shared, Stopwatch};
 use std::alloc::Global;
 use std::net::UdpSocket;
 use std::rt::Clock;
 use std::sync::Wait;
-use stream_pairs::StreamPoint;
+use stream_pairs::{ImageNumber, Place, StreamPoint};
 
 /// Milliseconds between two looks for what is due to senders.
 pub const TENDING: u64 = 10;
@@ -46,7 +46,7 @@ pub struct Reception<'a, R, T> {
     metering: Metering,
 }
 
-impl<'a, R: Wait + Clock, T: Teller> Reception<'a, R, T> {
+impl<'a, R: Wait + Clock, T: Reporter> Reception<'a, R, T> {
     /// Nothing was received.
     pub fn new(
         rt: &'a R,
@@ -117,59 +117,60 @@ impl<'a, R: Wait + Clock, T: Teller> Reception<'a, R, T> {
             return;
         }
         self.shared.counts.datagrams.add(1);
-        let came = self.images.take_datagram(datagram);
+        let outcome = self.images.take_datagram(datagram);
         if self.shared.meter.is_on() {
-            self.metering.note(&came, datagram, &self.images);
+            self.metering.note(&outcome, datagram, &self.images);
         }
-        match came {
-            Came::Joined { image, point } => {
+        match outcome {
+            DatagramOutcome::Joined { place, point } => {
                 self.note_joined(point);
-                self.ask_to_record(image);
+                self.ask_to_record(place);
             }
-            Came::Frames { image, is_lost } => self.note_frames(image, is_lost),
+            DatagramOutcome::Frames { place, is_lost } => self.note_frames(place, is_lost),
             _ => {}
         }
         if self.senders.is_some() {
-            self.answer(&came, now);
+            self.answer(&outcome, now);
         } else {
-            self.ask(&came);
+            self.ask(&outcome);
         }
     }
 
     fn note_joined(&mut self, point: StreamPoint) {
         let sender = self.end.sender();
         if let Some(joined) = self.shared.joined(self.rt, point, sender) {
-            self.shared.tell(&Happening::Joined {
+            self.shared.report(&Happening::Image(ImageNews::Joined {
                 image: joined.number,
                 point,
                 sender,
-            });
+            }));
             self.note_window(joined.number, point);
-            self.shared.tell_pairs(self.rt);
-            self.shared.tell_misfits(self.rt);
+            self.shared.report_pairs(self.rt);
+            self.shared.report_misfits(self.rt);
         }
     }
 
     /// Reports an image whose sender is sent no status messages.
-    fn note_window(&self, image: u64, point: StreamPoint) {
+    fn note_window(&self, image: ImageNumber, point: StreamPoint) {
         if let Some(senders) = &self.senders {
             if !senders.has_window(&point.geometry) {
                 let mtu = point.geometry.mtu;
-                self.shared.tell(&Happening::NoWindow { image, mtu });
+                self.shared
+                    .report(&Happening::Image(ImageNews::NoWindow { image, mtu }));
             }
         }
     }
 
-    fn note_frames(&self, image: usize, is_lost: bool) {
-        if let Some(counts) = self.shared.counts.of(image) {
+    fn note_frames(&self, place: Place, is_lost: bool) {
+        if let Some(counts) = self.shared.counts.of(place) {
             if is_lost {
                 counts.lost.add(1);
             }
         }
     }
 
-    fn note_request(&self, image: usize, has_asked: bool) {
-        if let Some(counts) = self.shared.counts.of(image) {
+    fn note_request(&self, place: Place, has_asked: bool) {
+        if let Some(counts) = self.shared.counts.of(place) {
             if has_asked {
                 counts.requests.add(1);
             }
@@ -177,66 +178,66 @@ impl<'a, R: Wait + Clock, T: Teller> Reception<'a, R, T> {
     }
 
     /// Asks for what is missing of an image, and hands on its blocks.
-    fn ask(&mut self, came: &Came) {
-        let has_asked = self.images.ask_after(&mut self.end, came);
-        if let Came::Frames { image, .. } = came {
-            self.note_request(*image, has_asked);
-            self.give(*image);
+    fn ask(&mut self, outcome: &DatagramOutcome) {
+        let has_asked = self.images.ask_after(&mut self.end, outcome);
+        if let DatagramOutcome::Frames { place, .. } = outcome {
+            self.note_request(*place, has_asked);
+            self.give(*place);
         }
     }
 
     /// Hands on blocks of an image, and sends what is due to its sender, as a receiver of the public standard does.
-    fn answer(&mut self, came: &Came, now: Option<u64>) {
-        if let Came::Frames { image, .. } = came {
-            self.give(*image);
+    fn answer(&mut self, outcome: &DatagramOutcome, now: Option<u64>) {
+        if let DatagramOutcome::Frames { place, .. } = outcome {
+            self.give(*place);
         }
         let Some(now) = now else {
             return;
         };
         let from = self.end.sender();
         if let Some(senders) = self.senders.as_mut() {
-            senders.note(came, from, now);
-            senders.ask_for_setup(&mut self.end, came, from, now);
+            senders.note(outcome, from, now);
+            senders.ask_for_setup(&mut self.end, outcome, from, now);
         }
-        if let Some(image) = self.image_in(came) {
-            self.tend(image, now);
+        if let Some(place) = self.image_in(outcome) {
+            self.tend(place, now);
         }
     }
 
     /// The image that a datagram was for, or made.
-    fn image_in(&self, came: &Came) -> Option<usize> {
-        match came {
-            Came::Joined { image, .. } | Came::SetUp { image } | Came::Frames { image, .. } => {
-                Some(*image)
-            }
+    fn image_in(&self, outcome: &DatagramOutcome) -> Option<Place> {
+        match outcome {
+            DatagramOutcome::Joined { place, .. }
+            | DatagramOutcome::SetUp { place }
+            | DatagramOutcome::Frames { place, .. } => { Some(*place) }
             _ => None,
         }
     }
 
     /// Hands on the blocks of an image that may be handed on now. Whether one was kept back.
-    fn give(&mut self, image: usize) -> bool {
-        give(self.rt, self.shared, &mut self.images, &self.leaving, image)
+    fn give(&mut self, place: Place) -> bool {
+        give(self.rt, self.shared, &mut self.images, &self.leaving, place)
     }
 
     /// Sends what is due to the sender of an image, unless the image leaves.
-    fn tend(&mut self, image: usize, now: u64) {
-        if self.leaving.contains(image) {
+    fn tend(&mut self, place: Place, now: u64) {
+        if self.leaving.contains(place) {
             return;
         }
-        let is_recorded = self.is_status_due(image, now) && self.shared.is_recorded(self.rt, image);
-        let has_asked = match (self.senders.as_mut(), self.images.get(image)) {
+        let is_recorded = self.is_status_due(place, now) && self.shared.is_recorded(self.rt, place);
+        let has_asked = match (self.senders.as_mut(), self.images.get(place)) {
             (Some(senders), Some(known)) => {
-                senders.tend(&mut self.end, image, known, is_recorded, now)
+                senders.tend(&mut self.end, place, known, is_recorded, now)
             }
             _ => false,
         };
-        self.note_request(image, has_asked);
+        self.note_request(place, has_asked);
     }
 
     /// Whether it is time for a status message to the sender of an image, if it is recorded.
-    fn is_status_due(&self, image: usize, now: u64) -> bool {
-        match (&self.senders, self.images.get(image)) {
-            (Some(senders), Some(known)) => senders.is_status_due(image, known, now),
+    fn is_status_due(&self, place: Place, now: u64) -> bool {
+        match (&self.senders, self.images.get(place)) {
+            (Some(senders), Some(known)) => senders.is_status_due(place, known, now),
             _ => false,
         }
     }
@@ -250,8 +251,8 @@ impl<'a, R: Wait + Clock, T: Teller> Reception<'a, R, T> {
             return;
         }
         self.tends_at = now.saturating_add(TENDING);
-        for image in 0..self.images.len() {
-            self.tend(image, now);
+        for place in 0..self.images.len() {
+            self.tend(place, now);
         }
     }
 
@@ -264,8 +265,8 @@ impl<'a, R: Wait + Clock, T: Teller> Reception<'a, R, T> {
             return;
         }
         self.sees_off_at = now.saturating_add(SEEING_OFF);
-        for image in 0..self.images.len() {
-            self.see_off(image, now);
+        for place in 0..self.images.len() {
+            self.see_off(place, now);
         }
     }
 
@@ -278,8 +279,8 @@ impl<'a, R: Wait + Clock, T: Teller> Reception<'a, R, T> {
             return;
         }
         self.records_at = now.saturating_add(RECORDING);
-        for image in 0..self.images.len() {
-            self.ask_to_record(image);
+        for place in 0..self.images.len() {
+            self.ask_to_record(place);
         }
     }
 
@@ -309,46 +310,46 @@ impl<'a, R: Wait + Clock, T: Teller> Reception<'a, R, T> {
     }
 
     /// Asks that an image is recorded if its stream is, it does not leave, and feeds no session.
-    fn ask_to_record(&self, image: usize) {
-        let Some(known) = self.images.get(image) else {
+    fn ask_to_record(&self, place: Place) {
+        let Some(known) = self.images.get(place) else {
             return;
         };
         if is_recorded_stream(self.streams, known.publication().stream_id)
-            && !self.leaving.contains(image)
-            && self.shared.waiting(self.rt, image).is_some()
+            && !self.leaving.contains(place)
+            && self.shared.waiting(self.rt, place).is_some()
         {
-            self.shared.queue.ask_to_record(self.rt, image);
+            self.shared.queue.ask_to_record(self.rt, place);
         }
     }
 
     /// Gives the place of an image back that has to leave, in two steps: no block of it is handed on any more; then the
     /// recording thread is done with those that were.
-    fn see_off(&mut self, image: usize, now: u64) {
-        if !self.leaving.contains(image) {
-            if self.has_to_leave(image, now) {
-                self.leaving.add(image);
-                self.shared.queue.ask_to_leave(self.rt, image);
+    fn see_off(&mut self, place: Place, now: u64) {
+        if !self.leaving.contains(place) {
+            if self.has_to_leave(place, now) {
+                self.leaving.add(place);
+                self.shared.queue.ask_to_leave(self.rt, place);
             }
-        } else if !self.shared.queue.is_leaving(self.rt, image) {
-            self.shared.left(self.rt, image);
-            self.images.remove(image);
-            self.leaving.remove(image);
+        } else if !self.shared.queue.is_leaving(self.rt, place) {
+            self.shared.left(self.rt, place);
+            self.images.remove(place);
+            self.leaving.remove(place);
         }
     }
 
     /// Whether an image has to leave: it was lost, its session has ended, or it is not live, and no block of it is left for its
     /// session.
-    fn has_to_leave(&mut self, image: usize, now: u64) -> bool {
-        if self.images.get(image).is_none() {
+    fn has_to_leave(&mut self, place: Place, now: u64) -> bool {
+        if self.images.get(place).is_none() {
             return false;
         }
-        if self.shared.is_over(self.rt, image) {
+        if self.shared.is_over(self.rt, place) {
             return true;
         }
         let is_gone = match &self.senders {
-            Some(senders) => senders.is_gone(image, now),
+            Some(senders) => senders.is_gone(place, now),
             None => false,
         };
-        is_gone && !self.give(image)
+        is_gone && !self.give(place)
     }
 }

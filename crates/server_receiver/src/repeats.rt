@@ -5,7 +5,7 @@ ghost use Rattle.server_receiver.specs.Metering.{farther, is_late};
 
 use frame_core::limits::HEADER_LENGTH;
 use frame_core::{Geometry, position, read_i32};
-use stream_pairs::MAX_IMAGES;
+use stream_pairs::{MAX_IMAGES, Place};
 
 /// Where the length of a frame, the offset in its term, and its term id are in its header.
 const LENGTH_AT: usize = 0;
@@ -31,14 +31,14 @@ impl Repeats {
     }
 
     /// A new image is at a place.
-    pub fn forget(&mut self, place: usize)
+    pub fn forget(&mut self, place: Place)
         ensures { self.new ≡ record self.old { farthest = slice_set self.old.farthest place None } }
     {
         self.set(place, None);
     }
 
     /// Frames came that begin there, for the image at a place. Whether they came late or again. Not known: they change nothing.
-    pub fn note(&mut self, place: usize, begins: Option<i64>) -> bool
+    pub fn note(&mut self, place: Place, begins: Option<i64>) -> bool
         ensures late { result ≡ is_late begins (slice_index_or self.old.farthest place None) }
         ensures farthest { self.new ≡ record self.old {
           farthest = slice_set self.old.farthest place (farther begins (slice_index_or self.old.farthest place None));
@@ -49,7 +49,7 @@ impl Repeats {
         is_late(begins, farthest)
     }
 
-    fn at(&self, place: usize) -> Option<i64>
+    fn at(&self, place: Place) -> Option<i64>
         ensures { result ≡ slice_index_or self.now.farthest place None }
     {
         match self.farthest.get(place) {
@@ -58,7 +58,7 @@ impl Repeats {
         }
     }
 
-    fn set(&mut self, place: usize, farthest: Option<i64>)
+    fn set(&mut self, place: Place, farthest: Option<i64>)
         ensures { self.new ≡ record self.old { farthest = slice_set self.old.farthest place farthest } }
     {
         if place < MAX_IMAGES {

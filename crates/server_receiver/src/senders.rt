@@ -3,16 +3,16 @@
 
 ghost use Rattle.std.specs.Prelude.{◌≡◌, [], IfOk, slice_get};
 ghost use Rattle.flow_control.specs.Windows.{has_window};
-ghost use Rattle.server_receiver.specs.Senders.{AsksForSetup, AsksPublication, ChangesAt, Hears, Notes, SetsUp, TellsRequest, TellsStatus, Tends, TendsIf, TendsTo, is_gone, is_silent, is_status_due_to, new_sender, with_sender};
+ghost use Rattle.server_receiver.specs.Senders.{AsksForSetup, AsksPublication, ChangesAt, Hears, Notes, SetsUp, SendsRequestDue, SendsStatusDue, Tends, TendsIf, TendsTo, is_gone, is_silent, is_status_due_to, new_sender, with_sender};
 
-use crate::images::Came;
+use crate::images::DatagramOutcome;
 use flow_control::{Feedback, SetupRequests, setup_request, window_of};
 use frame_core::{Geometry, Publication};
 use image_core::BoundedImage;
 use std::alloc::{AllocError, Global};
 use std::marker::Model;
 use std::net::SocketAddr;
-use stream_pairs::MAX_IMAGES;
+use stream_pairs::{MAX_IMAGES, Place};
 
 /// Milliseconds without a datagram from an image's sender after which another address may take its place.
 const SILENCE: u64 = 10_000;
@@ -106,7 +106,7 @@ impl ImageSender {
         let Some(to) = self.address else {
             return false;
         };
-        tell_status(
+        send_status(
             &mut self.feedback,
             end,
             to,
@@ -115,12 +115,12 @@ impl ImageSender {
             is_recorded,
             now,
         );
-        tell_request(&mut self.feedback, end, to, image, now)
+        send_request(&mut self.feedback, end, to, image, now)
     }
 }
 
 /// Sends the status message that is due, if the image is recorded.
-fn tell_status<E: SenderEnd>(
+fn send_status<E: SenderEnd>(
     feedback: &mut Feedback,
     end: &mut E,
     to: SocketAddr,
@@ -129,7 +129,7 @@ fn tell_status<E: SenderEnd>(
     is_recorded: bool,
     now: u64,
 )
-    ensures { TellsStatus E.puts is_recorded now receiver.now image.now to feedback.old end.old feedback.new end.new }
+    ensures { SendsStatusDue E.puts is_recorded now receiver.now image.now to feedback.old end.old feedback.new end.new }
 {
     if !is_recorded {
         return;
@@ -140,14 +140,14 @@ fn tell_status<E: SenderEnd>(
 }
 
 /// Sends the NAK that is due. Whether there was one.
-fn tell_request<E: SenderEnd>(
+fn send_request<E: SenderEnd>(
     feedback: &mut Feedback,
     end: &mut E,
     to: SocketAddr,
     image: &BoundedImage,
     now: u64,
 ) -> bool
-    ensures { TellsRequest E.puts now image.now to feedback.old end.old feedback.new end.new result }
+    ensures { SendsRequestDue E.puts now image.now to feedback.old end.old feedback.new end.new result }
 {
     match feedback.request(now, image) {
         Some(nak) => {
@@ -197,31 +197,31 @@ impl Senders {
     }
 
     /// Notes a datagram, and where it came from. Does not allocate.
-    pub fn note(&mut self, came: &Came, from: Option<SocketAddr>, now: u64)
-        ensures senders { Notes came.now from now self.old.senders self.new.senders }
+    pub fn note(&mut self, outcome: &DatagramOutcome, from: Option<SocketAddr>, now: u64)
+        ensures senders { Notes outcome.now from now self.old.senders self.new.senders }
         ensures same { self.new ≡ record self.old { senders = self.new.senders } }
     {
-        match came {
-            Came::Joined { image, point } => {
+        match outcome {
+            DatagramOutcome::Joined { place, point } => {
                 let _ = point;
-                self.add(*image, from, now);
+                self.add(*place, from, now);
             }
-            Came::SetUp { image } => self.set_up(*image, from, now),
-            Came::Frames { image, is_lost } => {
+            DatagramOutcome::SetUp { place } => self.set_up(*place, from, now),
+            DatagramOutcome::Frames { place, is_lost } => {
                 let _ = is_lost;
-                self.hear(*image, from, now);
+                self.hear(*place, from, now);
             }
             _ => {}
         }
     }
 
     /// The sender of a new image at a place.
-    fn add(&mut self, image: usize, from: Option<SocketAddr>, now: u64)
-        ensures { self.new ≡ record self.old { senders = with_sender image from now self.old.senders } }
+    fn add(&mut self, place: Place, from: Option<SocketAddr>, now: u64)
+        ensures { self.new ≡ record self.old { senders = with_sender place from now self.old.senders } }
     {
         let sender = ImageSender::new(from, now);
-        if image < self.senders.len() {
-            self.senders[image] = sender;
+        if place < self.senders.len() {
+            self.senders[place] = sender;
         } else if self.senders.len() < MAX_IMAGES {
             self.senders.push_reserved(sender);
         }
@@ -229,10 +229,10 @@ impl Senders {
 
     /// Whether a status message is due to the sender of an image, if the image is recorded. If not, [`tend`](Senders::tend)
     /// does the same for one that is recorded and one that is not.
-    pub fn is_status_due(&self, index: usize, image: &BoundedImage, now: u64) -> bool
-        ensures { result ≡ is_status_due_to (slice_get self.now.senders index) now self.now.receiver.window image.now }
+    pub fn is_status_due(&self, place: Place, image: &BoundedImage, now: u64) -> bool
+        ensures { result ≡ is_status_due_to (slice_get self.now.senders place) now self.now.receiver.window image.now }
     {
-        match self.senders.as_slice().get(index) {
+        match self.senders.as_slice().get(place) {
             Some(sender) => sender
                 .feedback
                 .is_status_due(now, image, self.receiver.window, None),
@@ -241,29 +241,29 @@ impl Senders {
     }
 
     /// Whether the image at a place is not live: nothing of its publication came for 10,000 milliseconds.
-    pub fn is_gone(&self, image: usize, now: u64) -> bool
-        ensures { result ≡ is_gone now (slice_get self.now.senders image) }
+    pub fn is_gone(&self, place: Place, now: u64) -> bool
+        ensures { result ≡ is_gone now (slice_get self.now.senders place) }
     {
-        match self.senders.as_slice().get(image) {
+        match self.senders.as_slice().get(place) {
             Some(sender) => !sender.feedback.is_live(now),
             None => false,
         }
     }
 
-    fn set_up(&mut self, image: usize, from: Option<SocketAddr>, now: u64)
-        ensures senders { ChangesAt image (slice_get self.old.senders image) self.old.senders self.new.senders (SetsUp from now) }
+    fn set_up(&mut self, place: Place, from: Option<SocketAddr>, now: u64)
+        ensures senders { ChangesAt place (slice_get self.old.senders place) self.old.senders self.new.senders (SetsUp from now) }
         ensures same { self.new ≡ record self.old { senders = self.new.senders } }
     {
-        if let Some(sender) = self.senders.get_mut(image) {
+        if let Some(sender) = self.senders.get_mut(place) {
             sender.set_up(from, now);
         }
     }
 
-    fn hear(&mut self, image: usize, from: Option<SocketAddr>, now: u64)
-        ensures senders { ChangesAt image (slice_get self.old.senders image) self.old.senders self.new.senders (Hears from now) }
+    fn hear(&mut self, place: Place, from: Option<SocketAddr>, now: u64)
+        ensures senders { ChangesAt place (slice_get self.old.senders place) self.old.senders self.new.senders (Hears from now) }
         ensures same { self.new ≡ record self.old { senders = self.new.senders } }
     {
-        if let Some(sender) = self.senders.get_mut(image) {
+        if let Some(sender) = self.senders.get_mut(place) {
             sender.hear(from, now);
         }
     }
@@ -273,14 +273,14 @@ impl Senders {
     pub fn tend<E: SenderEnd>(
         &mut self,
         end: &mut E,
-        index: usize,
+        place: Place,
         image: &BoundedImage,
         is_recorded: bool,
         now: u64,
     ) -> bool
-        ensures { Tends E.puts index is_recorded now image.now self.old end.old self.new end.new result }
+        ensures { Tends E.puts place is_recorded now image.now self.old end.old self.new end.new result }
     {
-        match self.senders.get_mut(index) {
+        match self.senders.get_mut(place) {
             Some(sender) => sender.tend(end, image, &self.receiver, is_recorded, now),
             None => false,
         }
@@ -291,13 +291,13 @@ impl Senders {
     pub fn ask_for_setup<E: SenderEnd>(
         &mut self,
         end: &mut E,
-        came: &Came,
+        outcome: &DatagramOutcome,
         from: Option<SocketAddr>,
         now: u64,
     )
-        ensures { AsksForSetup E.puts came.now from now self.old end.old self.new end.new }
+        ensures { AsksForSetup E.puts outcome.now from now self.old end.old self.new end.new }
     {
-        if let (Came::Unknown(publication), Some(to)) = (came, from) {
+        if let (DatagramOutcome::Unknown(publication), Some(to)) = (outcome, from) {
             self.ask_publication(end, publication, to, now);
         }
     }

@@ -10,5 +10,5 @@ mod streams;
 
 pub use own_recordings::OwnRecordings;
 pub use recording::{Recording, record_all};
-pub use seats::{Benches, Seats, parted};
+pub use seats::{SeatRoom, Seats, parted};
 pub use stopping::note_standing;

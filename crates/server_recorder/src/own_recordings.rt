@@ -15,13 +15,13 @@ use control_core::{Event, Request};
 use disk_core::Disk;
 use frame_core::Refusal;
 use frame_core::limits::MAX_LIST;
-use server_state::{Happening, Taken, Teller, WaitingImage};
+use server_state::{Happening, ImageNews, Reporter, Taken, WaitingImage};
 use std::alloc::{AllocError, Global};
 use std::net::SocketAddr;
 use std::rt::Clock;
 use std::sync::Wait;
 use std::time::SystemTime;
-use stream_pairs::{MAX_IMAGES, StreamPoint};
+use stream_pairs::{MAX_IMAGES, Place, StreamPoint};
 
 /// Milliseconds of an hour.
 const HOUR: u64 = 3_600_000;
@@ -57,7 +57,7 @@ impl OwnRecordings {
     }
 
     /// Stops the recordings of images that leave, and records those that are asked for.
-    pub fn follow<D: Disk, A: Naming, R: Wait + Clock, T: Teller>(
+    pub fn follow<D: Disk, A: Naming, R: Wait + Clock, T: Reporter>(
         &mut self,
         with: &Recording<'_, D, A, R, T>,
         seats: &mut Seats<A>,
@@ -75,11 +75,11 @@ impl OwnRecordings {
 
     /// Records the image at a place, if it feeds no session: by an extension of a stopped recording, or a new one. Reports it;
     /// a refusal once for an image and cause.
-    fn record<D: Disk, A: Naming, R: Wait + Clock, T: Teller>(
+    fn record<D: Disk, A: Naming, R: Wait + Clock, T: Reporter>(
         &mut self,
         with: &Recording<'_, D, A, R, T>,
         seats: &mut Seats<A>,
-        place: usize,
+        place: Place,
         now: Option<u64>,
     ) {
         let Some(image) = with.shared.waiting(with.rt, place) else {
@@ -89,38 +89,38 @@ impl OwnRecordings {
             Ok(recording) => {
                 self.set(place, Some(recording), None);
                 with.shared.look_round(with.socket);
-                with.shared.tell(&Happening::Recorded {
+                with.shared.report(&Happening::Image(ImageNews::Recorded {
                     image: image.number,
                     recording,
-                });
+                }));
             }
             Err(cause) => self.report(with, place, &image, cause, now),
         }
     }
 
-    fn report<D: Disk, A: Naming, R: Wait + Clock, T: Teller>(
+    fn report<D: Disk, A: Naming, R: Wait + Clock, T: Reporter>(
         &mut self,
         with: &Recording<'_, D, A, R, T>,
-        place: usize,
+        place: Place,
         image: &WaitingImage,
         cause: Refusal,
         now: Option<u64>,
     ) {
         if self.is_new(place, cause, now) {
             self.set(place, None, Some(cause));
-            with.shared.tell(&Happening::NotRecorded {
+            with.shared.report(&Happening::Image(ImageNews::NotRecorded {
                 image: image.number,
                 cause,
-            });
+            }));
         }
     }
 
     /// The image at a place leaves: its recording is stopped, if the server started it.
-    fn stop<D: Disk, A: Naming, R: Wait + Clock, T: Teller>(
+    fn stop<D: Disk, A: Naming, R: Wait + Clock, T: Reporter>(
         &mut self,
         with: &Recording<'_, D, A, R, T>,
         seats: &mut Seats<A>,
-        place: usize,
+        place: Place,
     ) {
         let recording = self.recording(place);
         self.set(place, None, None);
@@ -136,7 +136,7 @@ impl OwnRecordings {
 
     /// Whether a refusal is to be reported: it is another one for the image, or says once more after an hour that there are as
     /// many recordings as there may be.
-    fn is_new(&mut self, place: usize, cause: Refusal, now: Option<u64>) -> bool {
+    fn is_new(&mut self, place: Place, cause: Refusal, now: Option<u64>) -> bool {
         let is_late = cause == Refusal::MaxRecordings && self.is_hour_past(now);
         if is_late {
             self.full_at = now;
@@ -152,21 +152,21 @@ impl OwnRecordings {
         }
     }
 
-    fn recording(&self, place: usize) -> Option<i64> {
+    fn recording(&self, place: Place) -> Option<i64> {
         match self.recordings.get(place) {
             Some(recording) => *recording,
             None => None,
         }
     }
 
-    fn refused(&self, place: usize) -> Option<Refusal> {
+    fn refused(&self, place: Place) -> Option<Refusal> {
         match self.refused.get(place) {
             Some(refused) => *refused,
             None => None,
         }
     }
 
-    fn set(&mut self, place: usize, recording: Option<i64>, refused: Option<Refusal>)
+    fn set(&mut self, place: Place, recording: Option<i64>, refused: Option<Refusal>)
         ensures { self.new ≡ record self.old {
           recordings = slice_set self.old.recordings place recording;
           refused = slice_set self.old.refused place refused;
@@ -180,7 +180,7 @@ impl OwnRecordings {
 }
 
 /// Opens a session for an image that joined at a point: the id of its recording.
-fn open<D: Disk, A: Naming, R: Wait + Clock, T: Teller>(
+fn open<D: Disk, A: Naming, R: Wait + Clock, T: Reporter>(
     with: &Recording<'_, D, A, R, T>,
     seats: &mut Seats<A>,
     point: &StreamPoint,
@@ -198,7 +198,7 @@ fn open<D: Disk, A: Naming, R: Wait + Clock, T: Teller>(
 }
 
 /// The stopped recording that goes on with an image which joined at a point.
-fn continued<D: Disk, A: Naming, R: Wait + Clock, T: Teller>(
+fn continued<D: Disk, A: Naming, R: Wait + Clock, T: Reporter>(
     with: &Recording<'_, D, A, R, T>,
     seats: &mut Seats<A>,
     point: &StreamPoint,
@@ -214,7 +214,7 @@ fn continued<D: Disk, A: Naming, R: Wait + Clock, T: Teller>(
 }
 
 /// Starts a recording at a point: its id. Without a source, if the catalogue keeps none.
-fn start<D: Disk, A: Naming, R: Wait + Clock, T: Teller>(
+fn start<D: Disk, A: Naming, R: Wait + Clock, T: Reporter>(
     with: &Recording<'_, D, A, R, T>,
     seats: &mut Seats<A>,
     point: &StreamPoint,
@@ -231,7 +231,7 @@ fn start<D: Disk, A: Naming, R: Wait + Clock, T: Teller>(
     }
 }
 
-fn start_from<D: Disk, A: Naming, R: Wait + Clock, T: Teller>(
+fn start_from<D: Disk, A: Naming, R: Wait + Clock, T: Reporter>(
     with: &Recording<'_, D, A, R, T>,
     seats: &mut Seats<A>,
     point: &StreamPoint,
@@ -249,7 +249,7 @@ fn start_from<D: Disk, A: Naming, R: Wait + Clock, T: Teller>(
 
 /// Makes a call by the pass of the first seat, and notes its answer and where the archive stands after it, before or after each
 /// other call that is noted.
-fn call<D: Disk, A: Naming, R: Wait, T: Teller>(
+fn call<D: Disk, A: Naming, R: Wait, T: Reporter>(
     with: &Recording<'_, D, A, R, T>,
     seats: &mut Seats<A>,
     event: &Event,

@@ -11,13 +11,13 @@ use archive_lock::{Naming, SharedArchive};
 use archive_model::Reply;
 use disk_core::Disk;
 use frame_core::{Block, Items, Refusal};
-use server_state::{FedBlock, FedSession, Shared, Stopwatch, Taken, Teller};
+use server_state::{FedBlock, FedSession, Reporter, Shared, Stopwatch, Taken};
 use std::alloc::Global;
 use std::collections::VecDeque;
 use std::net::UdpSocket;
 use std::rt::Clock;
 use std::sync::Wait;
-use stream_pairs::{FED_SESSIONS, MAX_IMAGES};
+use stream_pairs::{FED_SESSIONS, MAX_IMAGES, Place, Seat};
 
 /// What the thread that records works with.
 #[derive(Drop)]
@@ -40,7 +40,7 @@ pub struct Recording<'a, D: Disk, A: Naming, R, T> {
 ///
 /// Where the archive stands is noted after each settling, and after each call for a recording that nobody asked for, by what
 /// came with the answer. After a write that the disk failed the lock is taken once more for it. Nothing else is noted.
-pub fn record_all<D: Disk, A: Naming, R: Wait + Clock, T: Teller>(
+pub fn record_all<D: Disk, A: Naming, R: Wait + Clock, T: Reporter>(
     with: &Recording<'_, D, A, R, T>,
     seats: &mut Seats<A>,
     mut own: OwnRecordings,
@@ -64,7 +64,7 @@ pub fn record_all<D: Disk, A: Naming, R: Wait + Clock, T: Teller>(
 }
 
 /// Waits for blocks, for a settling that is asked for, or until a session is due, and takes what came. Sets the time.
-fn take_batch<D: Disk, A: Naming, R: Wait + Clock, T: Teller>(
+fn take_batch<D: Disk, A: Naming, R: Wait + Clock, T: Reporter>(
     with: &Recording<'_, D, A, R, T>,
     watch: &Stopwatch,
     settling: &mut Settling,
@@ -81,7 +81,7 @@ fn take_batch<D: Disk, A: Naming, R: Wait + Clock, T: Teller>(
 }
 
 /// Settles each session that is due now; all of them if no more blocks come.
-fn settle_due<D: Disk, A: Naming, R: Wait + Clock, T: Teller>(
+fn settle_due<D: Disk, A: Naming, R: Wait + Clock, T: Reporter>(
     with: &Recording<'_, D, A, R, T>,
     seats: &mut Seats<A>,
     settling: &mut Settling,
@@ -96,7 +96,7 @@ fn settle_due<D: Disk, A: Naming, R: Wait + Clock, T: Teller>(
 }
 
 /// Settles the sessions of images that leave: no block of theirs waits any more.
-fn settle_leaving<D: Disk, A: Naming, R: Wait + Clock, T: Teller>(
+fn settle_leaving<D: Disk, A: Naming, R: Wait + Clock, T: Reporter>(
     with: &Recording<'_, D, A, R, T>,
     seats: &mut Seats<A>,
     settling: &mut Settling,
@@ -113,7 +113,7 @@ fn settle_leaving<D: Disk, A: Naming, R: Wait + Clock, T: Teller>(
 
 /// Writes the blocks of a batch, each for the session that its image feeds then. A block of an image that feeds none, or that is
 /// not at its place any more, is dropped. A session that wrote enough settles before its next block.
-fn write_batch<D: Disk, A: Naming, R: Wait + Clock, T: Teller>(
+fn write_batch<D: Disk, A: Naming, R: Wait + Clock, T: Reporter>(
     with: &Recording<'_, D, A, R, T>,
     seats: &mut Seats<A>,
     settling: &mut Settling,
@@ -135,7 +135,7 @@ fn write_batch<D: Disk, A: Naming, R: Wait + Clock, T: Teller>(
 
 /// Writes a block of a session's image. Where the session has to settle first, it does, and writes it again. A refusal takes
 /// the image away.
-fn write<D: Disk, A: Naming, R: Wait + Clock, T: Teller>(
+fn write<D: Disk, A: Naming, R: Wait + Clock, T: Reporter>(
     with: &Recording<'_, D, A, R, T>,
     seats: &mut Seats<A>,
     settling: &mut Settling,
@@ -166,7 +166,7 @@ fn write<D: Disk, A: Naming, R: Wait + Clock, T: Teller>(
 }
 
 /// A write of a session was refused, which takes its image away. Where the archive stands is noted if the disk failed it.
-fn refuse<D: Disk, A: Naming, R: Wait + Clock, T: Teller>(
+fn refuse<D: Disk, A: Naming, R: Wait + Clock, T: Reporter>(
     with: &Recording<'_, D, A, R, T>,
     seats: &mut Seats<A>,
     session: &FedSession,
@@ -180,12 +180,12 @@ fn refuse<D: Disk, A: Naming, R: Wait + Clock, T: Teller>(
     }
 }
 
-fn write_once<D: Disk, A: Naming, R: Wait + Clock, T: Teller>(
+fn write_once<D: Disk, A: Naming, R: Wait + Clock, T: Reporter>(
     with: &Recording<'_, D, A, R, T>,
     seats: &mut Seats<A>,
     settling: &mut Settling,
     session: &FedSession,
-    image: usize,
+    image: Place,
     block: Block,
 ) -> Result<(), Refusal> {
     let term_id = term_of(&block);
@@ -205,11 +205,11 @@ fn write_once<D: Disk, A: Naming, R: Wait + Clock, T: Teller>(
 
 /// Settles the session at a seat, if it wrote something, and notes where the archive stands after it. False if that is refused,
 /// which takes its image away.
-fn settle<D: Disk, A: Naming, R: Wait + Clock, T: Teller>(
+fn settle<D: Disk, A: Naming, R: Wait + Clock, T: Reporter>(
     with: &Recording<'_, D, A, R, T>,
     seats: &mut Seats<A>,
     settling: &mut Settling,
-    seat: usize,
+    seat: Seat,
 ) -> bool {
     let Some(written) = settling.take(seat) else {
         return true;
@@ -231,7 +231,7 @@ fn settle<D: Disk, A: Naming, R: Wait + Clock, T: Teller>(
 }
 
 /// A session settled what it wrote, and is recorded up to a position.
-fn note_settled<D: Disk, A: Naming, R: Wait + Clock, T: Teller>(
+fn note_settled<D: Disk, A: Naming, R: Wait + Clock, T: Reporter>(
     with: &Recording<'_, D, A, R, T>,
     written: &Written,
     position: i64,
@@ -243,7 +243,7 @@ fn note_settled<D: Disk, A: Naming, R: Wait + Clock, T: Teller>(
 }
 
 /// A watch that begins now, if the server is measured.
-fn watch_if_measured<D: Disk, A: Naming, R: Wait + Clock, T: Teller>(
+fn watch_if_measured<D: Disk, A: Naming, R: Wait + Clock, T: Reporter>(
     with: &Recording<'_, D, A, R, T>,
 ) -> Option<Stopwatch> {
     if with.shared.meter.is_on() {
@@ -254,7 +254,7 @@ fn watch_if_measured<D: Disk, A: Naming, R: Wait + Clock, T: Teller>(
 }
 
 /// A settle was made, which began when a watch did.
-fn note_time<D: Disk, A: Naming, R: Wait + Clock, T: Teller>(
+fn note_time<D: Disk, A: Naming, R: Wait + Clock, T: Reporter>(
     with: &Recording<'_, D, A, R, T>,
     watch: Option<Stopwatch>,
 ) {

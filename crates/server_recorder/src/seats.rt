@@ -18,7 +18,7 @@ use recorder_seats::RecorderSeat;
 use std::alloc::Global;
 use std::marker::{Model, PhantomData};
 use std::sync::Wait;
-use stream_pairs::FED_SESSIONS;
+use stream_pairs::{FED_SESSIONS, Seat};
 
 /// A board, and a seat for each of 64 recorder sessions that images feed, by its number, which is its pass's number too. To a
 /// contract it is the board and the seats; their passes are the archive's.
@@ -42,13 +42,13 @@ impl<A: Naming> Model for Seats<A> {
 
 /// A board with its writers, and room for seats: all that seats take memory for. To a contract it is the board.
 #[derive(Drop)]
-pub struct Benches {
+pub struct SeatRoom {
     board: Board,
     writers: Vec<Writer>,
     seats: Vec<RecorderSeat>,
 }
 
-impl Model for Benches {
+impl Model for SeatRoom {
     ghost use Rattle.std.specs.Prelude.{◌≡◌, ◌≤◌, [], vec_capacity, vec_len};
     ghost use Rattle.atomic_table.specs.Seated.{TableId};
     ghost use Rattle.server_recorder.specs.Seats.{AreNewWriters};
@@ -61,37 +61,37 @@ impl Model for Benches {
         × (vec_len b.writers ≡ 64) × (b.seats.items ≡ []) × (64 ≤ vec_capacity b.seats) };
 }
 
-impl Benches {
-    /// Benches for the sessions of the numbers 0 to 63, with slots that start at 0, and no reader.
+impl SeatRoom {
+    /// Room for the sessions of the numbers 0 to 63, with slots that start at 0, and no reader.
     #[tactic(auto, using(crate::proofs::SeatLemmas::count_new))]
-    pub fn new(alloc: Global) -> Result<Benches, Refusal> {
+    pub fn new(alloc: Global) -> Result<SeatRoom, Refusal> {
         let starts = [0; FED_SESSIONS];
         let (board, writers, _) = Board::new(alloc, &starts, 0)?;
         let seats = Vec::with_capacity(alloc, FED_SESSIONS)?;
-        Ok(Benches::of_board(board, writers, seats, &starts))
+        Ok(SeatRoom::of_board(board, writers, seats, &starts))
     }
 
-    /// Benches of a new board with these starts.
+    /// Room with a new board with these starts.
     fn of_board(
         board: Board,
         writers: Vec<Writer>,
         seats: Vec<RecorderSeat>,
         starts: &[i64],
-    ) -> Benches
+    ) -> SeatRoom
         requires writers { writers.items ≡ new_writers board 0 starts.now }
         requires count { vec_len writers ≡ 64 }
         requires seats { (seats.items ≡ []) × (64 ≤ vec_capacity seats) }
     {
         let _ = starts;
-        Benches::of_parts(board, writers, seats)
+        SeatRoom::of_parts(board, writers, seats)
     }
 
-    fn of_parts(board: Board, writers: Vec<Writer>, seats: Vec<RecorderSeat>) -> Benches
+    fn of_parts(board: Board, writers: Vec<Writer>, seats: Vec<RecorderSeat>) -> SeatRoom
         requires writers { AreNewWriters board 0 writers.items }
         requires count { vec_len writers ≡ 64 }
         requires seats { (seats.items ≡ []) × (64 ≤ vec_capacity seats) }
     {
-        Benches {
+        SeatRoom {
             board,
             writers,
             seats,
@@ -103,7 +103,7 @@ impl Benches {
         requires { passes.items ≡ new_passes A.table 64 }
         ensures { result.board ≡ self }
     {
-        let Benches {
+        let SeatRoom {
             board,
             mut writers,
             mut seats,
@@ -125,7 +125,7 @@ impl Benches {
 }
 
 /// The seat of the session of a number.
-fn seat_of(number: usize, pass: Pass<Made>, writer: Writer) -> RecorderSeat
+fn seat_of(number: Seat, pass: Pass<Made>, writer: Writer) -> RecorderSeat
     requires small { number < 64 }
     requires none { raised_positions writer ≡ [] }
     ensures { result ≡ record { session = pos number; pass = pass; writer = writer } }
@@ -135,7 +135,7 @@ fn seat_of(number: usize, pass: Pass<Made>, writer: Writer) -> RecorderSeat
 
 impl<A: Naming> Seats<A> {
     /// A seat writes and settles for the session of a number from now on. One from 64 on changes nothing.
-    pub fn set_session(&mut self, seat: usize, session: i64)
+    pub fn set_session(&mut self, seat: Seat, session: i64)
         ensures { self.new ≡ record self.old { seats = reseated session (slice_get self.old.seats seat) seat self.old.seats } }
     {
         if seat < self.seats.len() {
@@ -149,15 +149,15 @@ impl<A: Naming> Seats<A> {
         rt: &R,
         alloc: Global,
         archive: &SharedArchive<D, A>,
-        session: usize,
+        seat: Seat,
         block: Block,
     ) -> Result<Reply, Refusal>
-        ensures { CallsAt session (Err StaleSession) self.old result self.new (WritesBlock D.life A.opening block) }
+        ensures { CallsAt seat (Err StaleSession) self.old result self.new (WritesBlock D.life A.opening block) }
     {
-        if session >= self.seats.len() {
+        if seat >= self.seats.len() {
             return Err(Refusal::StaleSession);
         }
-        self.seats[session].write(rt, alloc, archive, block)
+        self.seats[seat].write(rt, alloc, archive, block)
     }
 
     /// Makes another call by the pass of a seat, as `RecorderSeat::call_with_standing`: its answer, and where the archive stands
@@ -167,7 +167,7 @@ impl<A: Naming> Seats<A> {
         rt: &R,
         alloc: Global,
         archive: &SharedArchive<D, A>,
-        seat: usize,
+        seat: Seat,
         event: &Event,
     ) -> (Result<Reply, Refusal>, Option<Standing>)
         ensures { CallsAt seat (Err StaleSession, None) self.old result self.new (MakesCall D.life A.opening event.now) }
@@ -183,7 +183,7 @@ impl<A: Naming> Seats<A> {
         &mut self,
         rt: &R,
         archive: &SharedArchive<D, A>,
-        seat: usize,
+        seat: Seat,
     ) -> Option<Standing>
         ensures { CallsAt seat None self.old result self.new (SeesStanding A.opening) }
     {
@@ -200,14 +200,14 @@ impl<A: Naming> Seats<A> {
         rt: &R,
         alloc: Global,
         archive: &SharedArchive<D, A>,
-        session: usize,
+        seat: Seat,
     ) -> (Result<i64, Refusal>, Option<Standing>)
-        ensures { CallsAt session (Err StaleSession, None) self.old result self.new (SettlesSession D.life A.opening) }
+        ensures { CallsAt seat (Err StaleSession, None) self.old result self.new (SettlesSession D.life A.opening) }
     {
-        if session >= self.seats.len() {
+        if seat >= self.seats.len() {
             return (Err(Refusal::StaleSession), None);
         }
-        self.seats[session].settle_with_standing(rt, alloc, archive, &self.board)
+        self.seats[seat].settle_with_standing(rt, alloc, archive, &self.board)
     }
 
     /// The passes of clients, and of all seats: all of the archive's. Does not allocate.

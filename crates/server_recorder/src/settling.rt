@@ -5,7 +5,7 @@
 ghost use Rattle.std.specs.Prelude.{◌≡◌, None, false, replicate, slice_set};
 ghost use Rattle.server_recorder.specs.Settling.{PassesFirst, after_block, session_settled, elapsed, is_due, is_enough, is_full, is_overdue, later, nothing_written, session_at, some_overdue, sooner};
 
-use stream_pairs::FED_SESSIONS;
+use stream_pairs::{FED_SESSIONS, Place, Seat};
 
 /// A session that wrote so many bytes settles, if no further block waits.
 const SETTLED_IF_NONE_WAITS: u64 = 65_536;
@@ -18,7 +18,7 @@ pub(crate) struct Written {
     /// The session's number.
     pub session: i64,
     /// The place of the image that the last block is of.
-    pub image: usize,
+    pub image: Place,
     /// The term of the last block.
     pub term_id: i32,
     /// How many bytes of the stream the blocks cover, at most 2^64 - 1.
@@ -69,14 +69,14 @@ impl Settling {
     }
 
     /// What the session at a seat wrote and did not settle. None if it wrote nothing.
-    pub fn written(&self, seat: usize) -> Option<Written>
+    pub fn written(&self, seat: Seat) -> Option<Written>
         ensures { result ≡ (session_at seat self.now.sessions).written }
     {
         self.session(seat).written
     }
 
     /// The session of a number, at a seat, wrote a block of an image: its term, and how many bytes of the stream it covers.
-    pub fn add(&mut self, seat: usize, session: i64, image: usize, term_id: i32, bytes: u64)
+    pub fn add(&mut self, seat: Seat, session: i64, image: Place, term_id: i32, bytes: u64)
         ensures { self.new ≡ record self.old {
           sessions = slice_set self.old.sessions seat
               (after_block self.old.time session image term_id bytes (session_at seat self.old.sessions));
@@ -104,7 +104,7 @@ impl Settling {
     }
 
     /// What the session at a seat wrote, which it settles now. None if it wrote nothing.
-    pub fn take(&mut self, seat: usize) -> Option<Written>
+    pub fn take(&mut self, seat: Seat) -> Option<Written>
         ensures written { result ≡ (session_at seat self.old.sessions).written }
         ensures settled { self.new ≡ session_settled seat self.old }
     {
@@ -121,7 +121,7 @@ impl Settling {
     }
 
     /// Whether the session at a seat has to settle now. `block_waits`: a further block waits. `is_asked`: a client asked for it.
-    pub fn is_due(&self, seat: usize, block_waits: bool, is_asked: bool) -> bool
+    pub fn is_due(&self, seat: Seat, block_waits: bool, is_asked: bool) -> bool
         ensures { result ≡ is_due self.now.every self.now.time block_waits is_asked
             (session_at seat self.now.sessions) }
     {
@@ -135,7 +135,7 @@ impl Settling {
     }
 
     /// Whether the session at a seat wrote so much that it has to settle before its next block is written.
-    pub fn is_full(&self, seat: usize) -> bool
+    pub fn is_full(&self, seat: Seat) -> bool
         ensures { result ≡ is_full (session_at seat self.now.sessions) }
     {
         match self.written(seat) {
@@ -155,7 +155,7 @@ impl Settling {
         next
     }
 
-    fn session(&self, seat: usize) -> SessionState
+    fn session(&self, seat: Seat) -> SessionState
         ensures { result ≡ session_at seat self.now.sessions }
     {
         match self.sessions.get(seat) {
@@ -164,7 +164,7 @@ impl Settling {
         }
     }
 
-    fn set_session(&mut self, seat: usize, state: SessionState)
+    fn set_session(&mut self, seat: Seat, state: SessionState)
         ensures { self.new ≡ record self.old { sessions = slice_set self.old.sessions seat state } }
     {
         if seat < FED_SESSIONS {

@@ -5,11 +5,11 @@ ghost use Rattle.std.specs.Prelude.{◌≡◌};
 ghost use Rattle.server_recorder.specs.Stopping.{is_stuck};
 
 use archive_lock::Standing;
-use server_state::{Shared, Teller};
+use server_state::{Reporter, Shared};
 
 /// Notes where an archive stands after a call: how much of its history is used, and for the metrics that a write has failed.
 /// Stops a strict server whose archive can record nothing any more.
-pub fn note_standing<T: Teller>(shared: &Shared<T>, standing: &Standing) {
+pub fn note_standing<T: Reporter>(shared: &Shared<T>, standing: &Standing) {
     shared.note_history(standing.counted, standing.limit);
     if shared.is_strict() && is_stuck(standing) {
         shared.stop();

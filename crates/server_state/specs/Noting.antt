@@ -149,19 +149,19 @@ lost_key (Some n) s = fed_key n s
 -- ---- pairs that are reported
 
 -- the number of an image, unless it is the one that was reported
-abbrev pub unless_told : Option ImageKey → Option ℕ → Option ℕ
-unless_told None told = None
-unless_told (Some key) told = if is_index key.number told then None else Some key.number
+abbrev pub unless_reported : Option ImageKey → Option ℕ → Option ℕ
+unless_reported None reported = None
+unless_reported (Some key) reported = if is_index key.number reported then None else Some key.number
 
-abbrev pub untold_image : ℕ → PairsState → List (Option ℕ) → Option ℕ
-untold_image n pairs told = unless_told (fed_key n pairs) (slice_index_or told n None)
+abbrev pub unreported_image : ℕ → PairsState → List (Option ℕ) → Option ℕ
+unreported_image n pairs reported = unless_reported (fed_key n pairs) (slice_index_or reported n None)
 
 -- the least seat with an image that was not reported; or there is none
-abbrev pub TellsNext : PairsState → List (Option ℕ) → Option (ℕ × ℕ) → List (Option ℕ) → Type 0
-TellsNext pairs old None new = (new ≡ old) × ((n : ℕ) → n < 64 → untold_image n pairs old ≡ None)
-TellsNext pairs old (Some pair) new =
-    (pair.0 < 64) × (untold_image pair.0 pairs old ≡ Some pair.1)
-    × ((n : ℕ) → n < pair.0 → untold_image n pairs old ≡ None) × (new ≡ slice_set old pair.0 (Some pair.1))
+abbrev pub ReportsNext : PairsState → List (Option ℕ) → Option (ℕ × ℕ) → List (Option ℕ) → Type 0
+ReportsNext pairs old None new = (new ≡ old) × ((n : ℕ) → n < 64 → unreported_image n pairs old ≡ None)
+ReportsNext pairs old (Some pair) new =
+    (pair.0 < 64) × (unreported_image pair.0 pairs old ≡ Some pair.1)
+    × ((n : ℕ) → n < pair.0 → unreported_image n pairs old ≡ None) × (new ≡ slice_set old pair.0 (Some pair.1))
 
 -- ---- images and sessions of one publication that don't fit
 
@@ -199,20 +199,20 @@ abbrev pub misfit_at : ℕ → PairsState → Option Misfit
 misfit_at n s = misfit_in (slot_of n s) s
 
 -- a misfit was reported: it is of this image and session
-abbrev pub is_told : Misfit → Option Misfit → Bool
-is_told misfit None = false
-is_told misfit (Some told) = told.image == misfit.image && int_eq told.session misfit.session
+abbrev pub is_reported : Misfit → Option Misfit → Bool
+is_reported misfit None = false
+is_reported misfit (Some reported) = reported.image == misfit.image && int_eq reported.session misfit.session
 
-abbrev pub unless_misfit_told : Option Misfit → Option Misfit → Option Misfit
-unless_misfit_told None told = None
-unless_misfit_told (Some misfit) told = if is_told misfit told then None else Some misfit
+abbrev pub unless_misfit_reported : Option Misfit → Option Misfit → Option Misfit
+unless_misfit_reported None reported = None
+unless_misfit_reported (Some misfit) reported = if is_reported misfit reported then None else Some misfit
 
-abbrev pub untold_misfit : ℕ → PairsState → List (Option Misfit) → Option Misfit
-untold_misfit n pairs told = unless_misfit_told (misfit_at n pairs) (slice_index_or told n None)
+abbrev pub unreported_misfit : ℕ → PairsState → List (Option Misfit) → Option Misfit
+unreported_misfit n pairs reported = unless_misfit_reported (misfit_at n pairs) (slice_index_or reported n None)
 
 -- the least seat with a misfit that was not reported; or there is none
-abbrev pub TellsMisfit : PairsState → List (Option Misfit) → Option Misfit → List (Option Misfit) → Type 0
-TellsMisfit pairs old None new = (new ≡ old) × ((n : ℕ) → n < 64 → untold_misfit n pairs old ≡ None)
-TellsMisfit pairs old (Some misfit) new =
-    (seat : ℕ) × (seat < 64) × (untold_misfit seat pairs old ≡ Some misfit)
-    × ((n : ℕ) → n < seat → untold_misfit n pairs old ≡ None) × (new ≡ slice_set old seat (Some misfit))
+abbrev pub ReportsMisfit : PairsState → List (Option Misfit) → Option Misfit → List (Option Misfit) → Type 0
+ReportsMisfit pairs old None new = (new ≡ old) × ((n : ℕ) → n < 64 → unreported_misfit n pairs old ≡ None)
+ReportsMisfit pairs old (Some misfit) new =
+    (seat : ℕ) × (seat < 64) × (unreported_misfit seat pairs old ≡ Some misfit)
+    × ((n : ℕ) → n < seat → unreported_misfit n pairs old ≡ None) × (new ≡ slice_set old seat (Some misfit))

@@ -2,10 +2,10 @@
 
 ghost use Rattle.std.specs.Prelude.{◌≡◌, ◌↔◌, ◌<◌, IsSome, vec_len};
 
-use crate::happening::{Counted, ImageCounted};
+use crate::counted::{Counted, ImageCounted};
 use std::alloc::{AllocError, Global};
 use std::sync::atomic::{AtomicU64, Ordering};
-use stream_pairs::MAX_IMAGES;
+use stream_pairs::{MAX_IMAGES, Place};
 
 /// A number that threads add to. It wraps around after the last `u64`.
 #[derive(Drop)]
@@ -99,23 +99,23 @@ impl Counts {
     }
 
     /// What is counted of the image at a place, of each of 64.
-    pub fn of(&self, image: usize) -> Option<&ImageCounts>
-        ensures { IsSome result ↔ (image < 64) }
+    pub fn of(&self, place: Place) -> Option<&ImageCounts>
+        ensures { IsSome result ↔ (place < 64) }
     {
-        self.of_images.as_slice().get(image)
+        self.of_images.as_slice().get(place)
     }
 
     /// What was counted of the image at a place.
-    pub fn counted(&self, image: usize) -> ImageCounted {
-        match self.of(image) {
+    pub fn counted(&self, place: Place) -> ImageCounted {
+        match self.of(place) {
             Some(counts) => counts.counted(),
             None => NOTHING,
         }
     }
 
     /// The image at a place has left: what was counted of it counts for the whole alone from now on.
-    pub fn leave(&self, image: usize) {
-        if let Some(counts) = self.of(image) {
+    pub fn leave(&self, place: Place) {
+        if let Some(counts) = self.of(place) {
             let counted = counts.counted();
             self.left.recorded.add(counted.recorded);
             self.left.lost.add(counted.lost);

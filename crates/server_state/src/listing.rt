@@ -4,7 +4,7 @@ ghost use Rattle.std.specs.Prelude.{◌≡◌, ◌++◌, string_bytes, IfOk, OnO
 ghost use Rattle.server_state.specs.Listing.{image_line_with, image_lines, images_text, number_of_slot, numbered_line, fed_number, session_text};
 
 use std::alloc::{AllocError, Global};
-use stream_pairs::{JoinedImage, Pairs, SessionSlot, StreamPoint};
+use stream_pairs::{ImageNumber, JoinedImage, Pairs, Place, SessionSlot, StreamPoint};
 
 /// A line for each image, by its number, and a line with how many there are.
 pub(crate) fn images_text(alloc: Global, pairs: &Pairs) -> Result<String, AllocError>
@@ -29,7 +29,7 @@ fn put_image(
     alloc: Global,
     out: &mut String,
     pairs: &Pairs,
-    place: usize,
+    place: Place,
     image: &JoinedImage,
 ) -> Result<(), AllocError>
     ensures { OnOk result (string_bytes out.new ≡ string_bytes out.old ++ numbered_line pairs.now (place, image.now)) }
@@ -42,7 +42,7 @@ fn put_image(
 }
 
 /// The number of the session that the image at a place feeds.
-fn fed_number(pairs: &Pairs, place: usize) -> Option<i64>
+fn fed_number(pairs: &Pairs, place: Place) -> Option<i64>
     ensures { result ≡ fed_number place pairs.now }
 {
     match pairs.session_of_image(place) {
@@ -63,7 +63,7 @@ fn number_of(slot: Option<SessionSlot>) -> Option<i64>
 
 fn put_line(
     out: &mut String,
-    number: u64,
+    number: ImageNumber,
     point: &StreamPoint,
     session: &str,
 ) -> Result<(), AllocError>

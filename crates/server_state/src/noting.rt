@@ -7,7 +7,7 @@ ghost use Rattle.stream_pairs.specs.Pairs.{seat_of};
 use archive_model::{ExtendFields, Reply, StartFields};
 use control_core::{Event, Request};
 use frame_core::{Geometry, Publication};
-use stream_pairs::{Pairs, StreamPoint};
+use stream_pairs::{Pairs, Seat, StreamPoint};
 
 /// Notes a call that was answered Ok: a session that a start or an extension opened, a position that was settled, a recording
 /// that was stopped, whose session's seat is given back, or not. Other calls change nothing.
@@ -63,7 +63,7 @@ fn note_opened(
 }
 
 /// The seat of a session that was opened: that of its own number, or any that is free, if seats are given back.
-fn seat_of_opening(pairs: &Pairs, gives_back: bool, session: i64) -> Option<usize>
+fn seat_of_opening(pairs: &Pairs, gives_back: bool, session: i64) -> Option<Seat>
     ensures { result ≡ seat_of_opening gives_back session pairs.now }
 {
     if gives_back {
@@ -75,7 +75,7 @@ fn seat_of_opening(pairs: &Pairs, gives_back: bool, session: i64) -> Option<usiz
 
 fn note_seat(
     pairs: &mut Pairs,
-    seat: Option<usize>,
+    seat: Option<Seat>,
     session: i64,
     recording: i64,
     point: StreamPoint,

@@ -3,28 +3,30 @@
 ghost use Rattle.std.specs.Prelude.{◌≡◌, ◌<◌, None, replicate};
 ghost use Rattle.std.specs.List.{position};
 ghost use Rattle.stream_pairs.specs.Pairs.{feeds, seat_of};
-ghost use Rattle.server_state.specs.Noting.{TellsMisfit, TellsNext, after_noted, after_refusing, fed_key, fed_session, has_key, image_key, is_over, is_told, is_unfed, key_at, lost_key, misfit_at, misfit_of, misfit_with, untold_misfit, waiting_image, waiting_with, waits, seated_session, fed_at, untold_image};
+ghost use Rattle.server_state.specs.Noting.{ReportsMisfit, ReportsNext, after_noted, after_refusing, fed_key, fed_session, has_key, image_key, is_over, is_reported, is_unfed, key_at, lost_key, misfit_at, misfit_of, misfit_with, unreported_misfit, waiting_image, waiting_with, waits, seated_session, fed_at, unreported_image};
 
 use crate::noting::note;
 use archive_model::Reply;
 use control_core::Event;
 use frame_core::Publication;
-use stream_pairs::{FED_SESSIONS, JoinedImage, Pairs, SessionSlot, StreamPoint};
+use stream_pairs::{
+    FED_SESSIONS, ImageNumber, JoinedImage, Pairs, Place, Seat, SessionSlot, StreamPoint,
+};
 
 /// An image: its place, and its number, which no other image has.
 #[derive(Clone, Copy, PartialEq, Eq)]
 pub struct ImageKey {
     /// The place.
-    pub place: usize,
+    pub place: Place,
     /// How many images came before it.
-    pub number: u64,
+    pub number: ImageNumber,
 }
 
 /// A recorder session that an image feeds.
 #[derive(Clone, Copy)]
 pub struct FedSession {
     /// Its seat.
-    pub seat: usize,
+    pub seat: Seat,
     /// Its number.
     pub session: i64,
 }
@@ -33,7 +35,7 @@ pub struct FedSession {
 #[derive(Clone, Copy)]
 pub(crate) struct Misfit {
     /// The image's number.
-    pub image: u64,
+    pub image: ImageNumber,
     /// The session's number.
     pub session: i64,
     /// Where the image joined.
@@ -48,7 +50,7 @@ pub(crate) struct Pairing {
     /// The pairs.
     pub pairs: Pairs,
     /// Of each seat the number of the image that was reported to feed its session.
-    told: [Option<u64>; FED_SESSIONS],
+    reported: [Option<ImageNumber>; FED_SESSIONS],
     /// Of each seat the misfit of its session that was reported last.
     misfits: [Option<Misfit>; FED_SESSIONS],
     /// Whether the seat of a session is given back once its recording was stopped.
@@ -58,11 +60,11 @@ pub(crate) struct Pairing {
 impl Pairing {
     /// These pairs, of which nothing was reported.
     pub fn new(pairs: Pairs, gives_back: bool) -> Pairing
-        ensures { result ≡ record { pairs = pairs; told = replicate 64 None; misfits = replicate 64 None; gives_back = gives_back } }
+        ensures { result ≡ record { pairs = pairs; reported = replicate 64 None; misfits = replicate 64 None; gives_back = gives_back } }
     {
         Pairing {
             pairs,
-            told: [None; FED_SESSIONS],
+            reported: [None; FED_SESSIONS],
             misfits: [None; FED_SESSIONS],
             gives_back,
         }
@@ -77,13 +79,13 @@ impl Pairing {
     }
 
     /// The least seat whose session has an image that was not reported before, and that image's number. From now on it was.
-    pub fn next_untold(&mut self) -> Option<(usize, u64)>
-        ensures told { TellsNext self.old.pairs self.old.told result self.new.told }
-        ensures same { self.new ≡ record self.old { told = self.new.told } }
+    pub fn next_unreported(&mut self) -> Option<(Seat, ImageNumber)>
+        ensures reported { ReportsNext self.old.pairs self.old.reported result self.new.reported }
+        ensures same { self.new ≡ record self.old { reported = self.new.reported } }
     {
         for seat in 0..FED_SESSIONS {
-            if let Some(number) = self.untold_image(seat) {
-                self.told[seat] = Some(number);
+            if let Some(number) = self.unreported_image(seat) {
+                self.reported[seat] = Some(number);
                 return Some((seat, number));
             }
         }
@@ -91,23 +93,23 @@ impl Pairing {
     }
 
     /// The number of the image that feeds a session, unless it was reported.
-    fn untold_image(&self, seat: usize) -> Option<u64>
+    fn unreported_image(&self, seat: Seat) -> Option<ImageNumber>
         requires { seat < 64 }
-        ensures { result ≡ untold_image seat self.now.pairs self.now.told }
+        ensures { result ≡ unreported_image seat self.now.pairs self.now.reported }
     {
         match self.fed_key(seat) {
-            Some(key) if self.told[seat] != Some(key.number) => Some(key.number),
+            Some(key) if self.reported[seat] != Some(key.number) => Some(key.number),
             _ => None,
         }
     }
 
     /// The misfit of the least seat whose session has one that was not reported before. From now on it was.
     pub fn next_misfit(&mut self) -> Option<Misfit>
-        ensures told { TellsMisfit self.old.pairs self.old.misfits result self.new.misfits }
+        ensures reported { ReportsMisfit self.old.pairs self.old.misfits result self.new.misfits }
         ensures same { self.new ≡ record self.old { misfits = self.new.misfits } }
     {
         for seat in 0..FED_SESSIONS {
-            if let Some(misfit) = self.untold_misfit(seat) {
+            if let Some(misfit) = self.unreported_misfit(seat) {
                 self.misfits[seat] = Some(misfit);
                 return Some(misfit);
             }
@@ -116,18 +118,18 @@ impl Pairing {
     }
 
     /// The misfit of the session at a seat, unless it was reported.
-    fn untold_misfit(&self, seat: usize) -> Option<Misfit>
+    fn unreported_misfit(&self, seat: Seat) -> Option<Misfit>
         requires { seat < 64 }
-        ensures { result ≡ untold_misfit seat self.now.pairs self.now.misfits }
+        ensures { result ≡ unreported_misfit seat self.now.pairs self.now.misfits }
     {
         match self.misfit_at(seat) {
-            Some(misfit) if !is_told(&misfit, self.misfits[seat]) => Some(misfit),
+            Some(misfit) if !is_reported(&misfit, self.misfits[seat]) => Some(misfit),
             _ => None,
         }
     }
 
     /// The session at a seat and the image of its publication, if they don't fit.
-    fn misfit_at(&self, seat: usize) -> Option<Misfit>
+    fn misfit_at(&self, seat: Seat) -> Option<Misfit>
         ensures { result ≡ misfit_at seat self.now.pairs }
     {
         match self.pairs.slot(seat) {
@@ -157,14 +159,14 @@ impl Pairing {
     }
 
     /// The image at a place.
-    pub fn key_at(&self, place: usize) -> Option<ImageKey>
+    pub fn key_at(&self, place: Place) -> Option<ImageKey>
         ensures { result ≡ key_at place self.now.pairs }
     {
         image_key(place, self.pairs.image(place))
     }
 
     /// The image that feeds the session at a seat.
-    fn fed_key(&self, seat: usize) -> Option<ImageKey>
+    fn fed_key(&self, seat: Seat) -> Option<ImageKey>
         ensures { result ≡ fed_key seat self.now.pairs }
     {
         match self.pairs.image_of_session(seat) {
@@ -195,7 +197,7 @@ impl Pairing {
     }
 
     /// The session that the image at a place feeds.
-    fn session_fed(&self, place: usize) -> Option<FedSession>
+    fn session_fed(&self, place: Place) -> Option<FedSession>
         ensures { result ≡ fed_at (position (feeds place) self.now.pairs.slots) self.now.pairs }
     {
         match self.pairs.session_of_image(place) {
@@ -205,7 +207,7 @@ impl Pairing {
     }
 
     /// The session at a seat.
-    pub fn seated_session(&self, seat: usize) -> Option<FedSession>
+    pub fn seated_session(&self, seat: Seat) -> Option<FedSession>
         ensures { result ≡ seated_session seat self.now.pairs }
     {
         match self.pairs.slot(seat) {
@@ -218,7 +220,7 @@ impl Pairing {
     }
 
     /// Whether the place of an image may be given back, whether it is live or not: it was lost, or its session has ended.
-    pub fn is_over(&self, place: usize) -> bool
+    pub fn is_over(&self, place: Place) -> bool
         ensures { result ≡ is_over place self.now.pairs }
     {
         match self.pairs.image(place) {
@@ -228,7 +230,7 @@ impl Pairing {
     }
 
     /// The image at a place, if it waits for a session: it feeds none, and was not lost.
-    pub fn waiting(&self, place: usize) -> Option<JoinedImage>
+    pub fn waiting(&self, place: Place) -> Option<JoinedImage>
         ensures { result ≡ waiting_image place self.now.pairs }
     {
         match self.pairs.image(place) {
@@ -237,7 +239,7 @@ impl Pairing {
         }
     }
 
-    fn waits(&self, place: usize, image: JoinedImage) -> Option<JoinedImage>
+    fn waits(&self, place: Place, image: JoinedImage) -> Option<JoinedImage>
         ensures { result ≡ waits place image self.now.pairs }
     {
         if image.is_lost || self.pairs.session_of_image(place).is_some() {
@@ -264,7 +266,7 @@ impl Pairing {
 }
 
 /// The image at a place, by what is known of it.
-fn image_key(place: usize, image: Option<JoinedImage>) -> Option<ImageKey>
+fn image_key(place: Place, image: Option<JoinedImage>) -> Option<ImageKey>
     ensures { result ≡ image_key place image }
 {
     match image {
@@ -299,11 +301,11 @@ fn misfit_with(slot: &SessionSlot, image: &JoinedImage) -> Option<Misfit>
 }
 
 /// Whether a misfit is of the same image and session as the one that was reported.
-fn is_told(misfit: &Misfit, told: Option<Misfit>) -> bool
-    ensures { result ≡ is_told misfit.now told }
+fn is_reported(misfit: &Misfit, reported: Option<Misfit>) -> bool
+    ensures { result ≡ is_reported misfit.now reported }
 {
-    match told {
-        Some(told) => told.image == misfit.image && told.session == misfit.session,
+    match reported {
+        Some(reported) => reported.image == misfit.image && reported.session == misfit.session,
         None => false,
     }
 }

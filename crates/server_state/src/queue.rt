@@ -16,7 +16,7 @@ use std::mem;
 use std::rt::Clock;
 use std::sync::{Condvar, CondvarTimeouts, Mutex, Wait};
 use std::time::Duration;
-use stream_pairs::FED_SESSIONS;
+use stream_pairs::{FED_SESSIONS, Place, Seat};
 
 /// A block, and the image that it is of.
 #[derive(Drop)]
@@ -69,7 +69,7 @@ impl Waiting {
     /// No block waits, and none is awaited. Costs memory for 16.
     fn new(alloc: Global) -> Result<Waiting, AllocError>
         ensures blocks { IfOk result (λ made. made.blocks.items ≡ []) }
-        ensures nothing_told { IfOk result (λ made. made ≡ record {
+        ensures nothing_asked { IfOk result (λ made. made ≡ record {
           blocks = made.blocks;
           is_awaited = false;
           is_kept_back = false;
@@ -260,13 +260,13 @@ impl Queue {
     }
 
     /// Asks that the session at a seat settles at once.
-    pub fn ask<R: Wait>(&self, rt: &R, seat: usize) {
+    pub fn ask<R: Wait>(&self, rt: &R, seat: Seat) {
         self.state.lock(rt).asks.ask(seat);
         self.filled.notify_one();
     }
 
     /// Waits until a session that was asked for has settled, or the recording thread has ended.
-    pub fn wait_for_settling<R: Wait>(&self, rt: &R, seat: usize) {
+    pub fn wait_for_settling<R: Wait>(&self, rt: &R, seat: Seat) {
         let state = self.settled.wait_while(rt, self.state.lock(rt), |state| {
             state.asks.is_pending(seat)
         });
@@ -274,19 +274,19 @@ impl Queue {
     }
 
     /// The image at a place leaves: no block of it is put any more.
-    pub fn ask_to_leave<R: Wait>(&self, rt: &R, place: usize) {
+    pub fn ask_to_leave<R: Wait>(&self, rt: &R, place: Place) {
         self.state.lock(rt).leaves.ask(place);
         self.filled.notify_one();
     }
 
     /// The image at a place is to be recorded without being asked.
-    pub fn ask_to_record<R: Wait>(&self, rt: &R, place: usize) {
+    pub fn ask_to_record<R: Wait>(&self, rt: &R, place: Place) {
         self.state.lock(rt).records.ask(place);
         self.filled.notify_one();
     }
 
     /// Whether the recording thread has not done yet with all blocks of an image that leaves.
-    pub fn is_leaving<R: Wait>(&self, rt: &R, place: usize) -> bool {
+    pub fn is_leaving<R: Wait>(&self, rt: &R, place: Place) -> bool {
         self.state.lock(rt).leaves.is_pending(place)
     }
 

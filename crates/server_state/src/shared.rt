@@ -3,8 +3,11 @@
 ghost use Rattle.std.specs.Prelude.{◌≡◌};
 ghost use Rattle.server_state.specs.Noting.{opens_session};
 
+use crate::archive_news::ArchiveNews;
+use crate::client_news::ClientNews;
 use crate::counts::Counts;
 use crate::happening::Happening;
+use crate::image_news::ImageNews;
 use crate::listing::images_text;
 use crate::measuring::recordings_of;
 use crate::meter::Meter;
@@ -12,7 +15,8 @@ use crate::naming::named_word;
 use crate::noting::settle;
 use crate::pairing::{FedSession, ImageKey, Pairing};
 use crate::queue::Queue;
-use crate::teller::Teller;
+use crate::reporter::Reporter;
+use crate::session_news::SessionNews;
 use archive_model::Reply;
 use control_core::Event;
 use frame_core::Refusal;
@@ -21,14 +25,14 @@ use std::alloc::{AllocError, Global};
 use std::net::{SocketAddr, UdpSocket};
 use std::sync::atomic::{AtomicBool, AtomicU8, Ordering};
 use std::sync::{Mutex, Wait};
-use stream_pairs::{FED_SESSIONS, MAX_IMAGES, Pairs, StreamPoint};
+use stream_pairs::{FED_SESSIONS, ImageNumber, MAX_IMAGES, Pairs, Place, Seat, StreamPoint};
 use tool_core::HistoryUse;
 
 /// An image that waits for a session.
 #[derive(Clone, Copy)]
 pub struct WaitingImage {
     /// Its number.
-    pub number: u64,
+    pub number: ImageNumber,
     /// Where it joined.
     pub point: StreamPoint,
     /// Who sent its setup frame.
@@ -57,7 +61,7 @@ pub struct SharedOptions {
     pub is_measured: bool,
 }
 
-/// What the threads share. A method takes one lock at most, and tells what happened when it has none.
+/// What the threads share. A method takes one lock at most, and reports what happened when it has none.
 #[derive(Drop)]
 pub struct Shared<T> {
     pairing: Mutex<Pairing>,
@@ -80,12 +84,12 @@ pub struct Shared<T> {
     /// Whether the server ends once its archive can record nothing any more.
     is_strict: bool,
     has_stopped: AtomicBool,
-    teller: T,
+    reporter: T,
 }
 
-impl<T: Teller> Shared<T> {
+impl<T: Reporter> Shared<T> {
     /// Nothing came yet. Costs memory for tables and for 16 blocks.
-    pub fn new(alloc: Global, options: SharedOptions, teller: T) -> Result<Shared<T>, AllocError>
+    pub fn new(alloc: Global, options: SharedOptions, reporter: T) -> Result<Shared<T>, AllocError>
     where
         T: Drop,
     {
@@ -106,30 +110,30 @@ impl<T: Teller> Shared<T> {
             gives_back: options.gives_back,
             is_strict: options.is_strict,
             has_stopped: AtomicBool::new(false),
-            teller,
+            reporter,
         })
     }
 
-    /// Tells what happened.
-    pub fn tell(&self, happening: &Happening<'_>) {
-        self.teller.tell(happening);
+    /// Reports what happened.
+    pub fn report(&self, happening: &Happening<'_>) {
+        self.reporter.report(happening);
     }
 
-    /// Tells what was counted.
-    pub fn tell_end(&self) {
+    /// Reports the end, with what was counted.
+    pub fn report_end(&self) {
         let counted = self.counts.all();
-        self.tell(&Happening::Ended(counted));
+        self.report(&Happening::Ended(counted));
     }
 
     /// A client's call was answered so: which word is wrong is reported, if it is a start that is BadParameter.
-    pub fn tell_wrong_word(&self, event: &Event, outcome: &Result<Reply, Refusal>) {
+    pub fn report_wrong_word(&self, event: &Event, outcome: &Result<Reply, Refusal>) {
         if let Some(word) = named_word(event, outcome) {
-            self.tell(&Happening::WrongWord(word));
+            self.report(&Happening::Client(ClientNews::WrongWord(word)));
         }
     }
 
-    /// Tells what is measured of the server, with what the thread that receives has measured. Without memory nothing is told.
-    pub fn tell_measures<R: Wait>(
+    /// Hands on what is measured of the server, with what the thread that receives has measured. Without memory nothing is.
+    pub fn report_measures<R: Wait>(
         &self,
         rt: &R,
         alloc: Global,
@@ -137,7 +141,7 @@ impl<T: Teller> Shared<T> {
         images: Vec<ImageMeasures>,
     ) {
         if let Ok(measures) = self.measures(rt, alloc, received, images) {
-            self.teller.measured(&measures);
+            self.reporter.measured(&measures);
         }
     }
 
@@ -169,7 +173,7 @@ impl<T: Teller> Shared<T> {
     }
 
     /// The image at a place: its number.
-    pub fn key_at<R: Wait>(&self, rt: &R, place: usize) -> Option<ImageKey> {
+    pub fn key_at<R: Wait>(&self, rt: &R, place: Place) -> Option<ImageKey> {
         self.pairing.lock(rt).key_at(place)
     }
 
@@ -207,12 +211,12 @@ impl<T: Teller> Shared<T> {
         wake(socket);
     }
 
-    /// Whether it is to look for blocks of all images; it is told once.
+    /// Whether it is to look for blocks of all images; asked again it is not, until there is a next round.
     pub fn takes_round(&self) -> bool {
         self.looks_round.swap(false, Ordering::SeqCst)
     }
 
-    /// A call was answered so: who is to know it is told. Whether a session was opened.
+    /// A call was answered so: the pairs follow it, and what follows from it is reported. Whether a session was opened.
     pub fn note<R: Wait>(&self, rt: &R, event: &Event, outcome: &Result<Reply, Refusal>) -> bool
         ensures { result ≡ opens_session outcome.now }
     {
@@ -221,7 +225,7 @@ impl<T: Teller> Shared<T> {
                 self.pairing.lock(rt).note(event, reply);
                 match reply {
                     Reply::Started { session, .. } | Reply::Extended { session } => {
-                        self.tell_session(rt, *session);
+                        self.report_session(rt, *session);
                         true
                     }
                     _ => false,
@@ -234,38 +238,38 @@ impl<T: Teller> Shared<T> {
         }
     }
 
-    fn tell_session<R: Wait>(&self, rt: &R, session: i64) {
-        self.tell_pairs(rt);
-        self.tell_misfits(rt);
+    fn report_session<R: Wait>(&self, rt: &R, session: i64) {
+        self.report_pairs(rt);
+        self.report_misfits(rt);
         if self.gives_back {
-            self.tell_seat(rt, session);
+            self.report_seat(rt, session);
         } else if session == FED_SESSIONS as i64 - 1 {
-            self.tell(&Happening::LastSession);
+            self.report(&Happening::Session(SessionNews::Last));
         }
     }
 
     /// Reports a session that has no seat.
-    fn tell_seat<R: Wait>(&self, rt: &R, session: i64) {
+    fn report_seat<R: Wait>(&self, rt: &R, session: i64) {
         let seat = self.pairing.lock(rt).pairs.seat_of(session);
         if seat.is_none() {
-            self.tell(&Happening::NoSeat { session });
+            self.report(&Happening::Session(SessionNews::NoSeat { session }));
         }
     }
 
-    /// A device fault is told, the first time.
+    /// Reports a device fault, the first time.
     pub fn note_refusal(&self, refusal: &Refusal) {
         if *refusal == Refusal::DeviceFault && !self.has_faulted.swap(true, Ordering::SeqCst) {
-            self.tell(&Happening::DeviceFault);
+            self.report(&Happening::Archive(ArchiveNews::DeviceFault));
         }
     }
 
-    /// So many entries of the history count, and so many may: told at 90, 95 and 99 hundredths, each once.
+    /// So many entries of the history count, and so many may: reported at 90, 95 and 99 hundredths, each once.
     pub fn note_history(&self, counted: u64, limit: u32) {
         self.meter.set_history(counted, limit);
         let history = HistoryUse { counted, limit };
         let level = history.level();
         if level > 0 && self.history.fetch_max(level, Ordering::SeqCst) < level {
-            self.tell(&Happening::HistoryUsed(history));
+            self.report(&Happening::Archive(ArchiveNews::HistoryUsed(history)));
         }
     }
 
@@ -283,31 +287,31 @@ impl<T: Teller> Shared<T> {
         let count = self.pairing.lock(rt).pairs.image_count();
         self.counts.images.add(1);
         if count == MAX_IMAGES {
-            self.tell(if self.gives_back {
-                &Happening::AllPlacesTaken
+            self.report(if self.gives_back {
+                &Happening::Image(ImageNews::AllPlacesTaken)
             } else {
-                &Happening::LastImage
+                &Happening::Image(ImageNews::Last)
             });
         }
         self.pairing.lock(rt).key_at(place)
     }
 
     /// The place of an image is given back.
-    pub fn left<R: Wait>(&self, rt: &R, place: usize) {
+    pub fn left<R: Wait>(&self, rt: &R, place: Place) {
         let key = self.pairing.lock(rt).key_at(place);
         self.pairing.lock(rt).pairs.left(place);
         if let Some(key) = key {
             let counted = self.counts.counted(place);
             self.counts.leave(place);
-            self.tell(&Happening::Left {
+            self.report(&Happening::Image(ImageNews::Left {
                 image: key.number,
                 counted,
-            });
+            }));
         }
     }
 
     /// The image at a place, if it waits for a session.
-    pub fn waiting<R: Wait>(&self, rt: &R, place: usize) -> Option<WaitingImage> {
+    pub fn waiting<R: Wait>(&self, rt: &R, place: Place) -> Option<WaitingImage> {
         let image = self.pairing.lock(rt).waiting(place)?;
         let sender = match self.senders.lock(rt).get(place) {
             Some(sender) => *sender,
@@ -321,41 +325,41 @@ impl<T: Teller> Shared<T> {
     }
 
     /// Whether the place of an image may be given back, whether it is live or not: it was lost, or its session has ended.
-    pub fn is_over<R: Wait>(&self, rt: &R, place: usize) -> bool {
+    pub fn is_over<R: Wait>(&self, rt: &R, place: Place) -> bool {
         self.pairing.lock(rt).is_over(place)
     }
 
     /// Reports the pairs that were not reported.
-    pub fn tell_pairs<R: Wait>(&self, rt: &R) {
+    pub fn report_pairs<R: Wait>(&self, rt: &R) {
         for _ in 0..FED_SESSIONS {
-            let Some((seat, image)) = self.pairing.lock(rt).next_untold() else {
+            let Some((seat, image)) = self.pairing.lock(rt).next_unreported() else {
                 return;
             };
             let fed = self.pairing.lock(rt).seated_session(seat);
             if let Some(fed) = fed {
                 let session = fed.session;
-                self.tell(&Happening::Paired { image, session });
+                self.report(&Happening::Session(SessionNews::Paired { image, session }));
             }
         }
     }
 
     /// Reports the images and sessions of one publication that don't fit and were not reported.
-    pub fn tell_misfits<R: Wait>(&self, rt: &R) {
+    pub fn report_misfits<R: Wait>(&self, rt: &R) {
         for _ in 0..FED_SESSIONS {
             let Some(misfit) = self.pairing.lock(rt).next_misfit() else {
                 return;
             };
-            self.tell(&Happening::Misfit {
+            self.report(&Happening::Session(SessionNews::Misfit {
                 image: misfit.image,
                 session: misfit.session,
                 joined: misfit.joined,
                 recorded: misfit.recorded,
-            });
+            }));
         }
     }
 
     /// The image at a place, if it feeds a session.
-    pub fn feeding<R: Wait>(&self, rt: &R, place: usize) -> Option<ImageKey> {
+    pub fn feeding<R: Wait>(&self, rt: &R, place: Place) -> Option<ImageKey> {
         let pairing = self.pairing.lock(rt);
         pairing.pairs.session_of_image(place)?;
         pairing.key_at(place)
@@ -367,12 +371,12 @@ impl<T: Teller> Shared<T> {
     }
 
     /// The seat of the session that the image at a place feeds.
-    pub fn seat_of<R: Wait>(&self, rt: &R, place: usize) -> Option<usize> {
+    pub fn seat_of<R: Wait>(&self, rt: &R, place: Place) -> Option<Seat> {
         self.pairing.lock(rt).pairs.session_of_image(place)
     }
 
     /// Whether the image at a place feeds a session that is open.
-    pub fn is_recorded<R: Wait>(&self, rt: &R, place: usize) -> bool {
+    pub fn is_recorded<R: Wait>(&self, rt: &R, place: Place) -> bool {
         self.pairing.lock(rt).pairs.is_recorded(place)
     }
 
@@ -387,27 +391,27 @@ impl<T: Teller> Shared<T> {
     }
 
     /// The open session that writes a recording is to settle at once, if there is one. Its seat. Waits for nothing.
-    pub fn ask_writer<R: Wait>(&self, rt: &R, recording: i64) -> Option<usize> {
-        let session = self.pairing.lock(rt).pairs.writer_of(recording);
-        if let Some(session) = session {
-            self.queue.ask(rt, session);
+    pub fn ask_writer<R: Wait>(&self, rt: &R, recording: i64) -> Option<Seat> {
+        let seat = self.pairing.lock(rt).pairs.writer_of(recording);
+        if let Some(seat) = seat {
+            self.queue.ask(rt, seat);
         }
-        session
+        seat
     }
 
     /// The open session that writes a recording settles at once, if there is one. Waits until it has, or the recording thread
     /// has ended.
     pub fn settle_writer<R: Wait>(&self, rt: &R, recording: i64) {
-        if let Some(session) = self.ask_writer(rt, recording) {
-            self.queue.wait_for_settling(rt, session);
+        if let Some(seat) = self.ask_writer(rt, recording) {
+            self.queue.wait_for_settling(rt, seat);
         }
     }
 
     /// Waits for a settling of the open session that writes a recording, if one was asked for and is not made yet.
     pub fn await_writer<R: Wait>(&self, rt: &R, recording: i64) {
-        let session = self.pairing.lock(rt).pairs.writer_of(recording);
-        if let Some(session) = session {
-            self.queue.wait_for_settling(rt, session);
+        let seat = self.pairing.lock(rt).pairs.writer_of(recording);
+        if let Some(seat) = seat {
+            self.queue.wait_for_settling(rt, seat);
         }
     }
 
@@ -416,12 +420,12 @@ impl<T: Teller> Shared<T> {
         self.note_refusal(&cause);
         let lost = self.pairing.lock(rt).refused(session);
         if let Some(lost) = lost {
-            self.tell(&Happening::Lost {
+            self.report(&Happening::Session(SessionNews::Lost {
                 image: lost.number,
                 session,
                 cause,
                 counted: self.counts.counted(lost.place),
-            });
+            }));
         }
     }
 }

@@ -5,5 +5,7 @@ pub mod laws;
 mod pairs;
 mod points;
 
-pub use pairs::{FED_SESSIONS, JoinedImage, MAX_IMAGES, Pairs, SessionSlot};
+pub use pairs::{
+    FED_SESSIONS, ImageNumber, JoinedImage, MAX_IMAGES, Pairs, Place, Seat, SessionSlot,
+};
 pub use points::StreamPoint;

@@ -10,7 +10,14 @@ use frame_core::{Publication, Refusal};
 use std::alloc::Global;
 use std::marker::Model;
 
-/// Seats of recorder sessions that images feed, counted from 0.
+/// A seat of a recorder session that images feed: which of 64 it has, counted from 0.
+pub type Seat = usize;
+/// A place of an image: which of 64 it has until it leaves, counted from 0.
+pub type Place = usize;
+/// The number of an image: how many images came before it. No other image has it.
+pub type ImageNumber = u64;
+
+/// Seats of recorder sessions that images feed.
 pub const FED_SESSIONS: usize = 64;
 /// Images that there may be at a time.
 pub const MAX_IMAGES: usize = 64;
@@ -27,14 +34,14 @@ pub struct SessionSlot {
     /// Whether the recording was not stopped since.
     pub is_open: bool,
     /// The place of the image that feeds it.
-    pub image: Option<usize>,
+    pub image: Option<Place>,
 }
 
 /// What is known of an image.
 #[derive(Clone, Copy, Debug, PartialEq, Eq)]
 pub struct JoinedImage {
     /// How many images came before it: its number, which no other image has.
-    pub number: u64,
+    pub number: ImageNumber,
     /// Where it joined.
     pub join: StreamPoint,
     /// Whether a session that it fed was refused, or has ended and gave its seat back.
@@ -82,7 +89,7 @@ impl Pairs {
     /// A recorder session of this number was opened at a seat, by a start or an extension: the id of the recording that it
     /// writes, and where that stands. Then each image without a session is paired, by their places. A seat from 64 on is not
     /// noted, nor one that has a session. Costs a step for each session for each image.
-    pub fn opened(&mut self, seat: usize, session: i64, recording: i64, point: StreamPoint)
+    pub fn opened(&mut self, seat: Seat, session: i64, recording: i64, point: StreamPoint)
         ensures { self.new ≡ after_opened seat session recording point self.old }
     {
         self.note(
@@ -101,7 +108,7 @@ impl Pairs {
     /// An image came: where it joined. Its place: the least that was given back, or the next one. Then each image without a
     /// session is paired, by their places. None if its publication has an image, or all 64 places have one; nothing changes
     /// then. Costs a step for each session for each image.
-    pub fn joined(&mut self, join: StreamPoint) -> Option<usize>
+    pub fn joined(&mut self, join: StreamPoint) -> Option<Place>
         ensures state { self.new ≡ after_joined join self.old }
         ensures index { result ≡ joined_index join.publication self.old }
     {
@@ -116,13 +123,13 @@ impl Pairs {
 
     /// The recording of the session at a seat is recorded up to another position. Nothing is paired by it. Costs a
     /// constant time.
-    pub fn settled(&mut self, number: usize, position: i64)
-        ensures { self.new ≡ after_settled number position self.old }
+    pub fn settled(&mut self, seat: Seat, position: i64)
+        ensures { self.new ≡ after_settled seat position self.old }
     {
-        if let Some(Some(slot)) = self.slots.get(number).copied() {
+        if let Some(Some(slot)) = self.slots.get(seat).copied() {
             let mut slot = slot;
             slot.point.position = position;
-            self.put(number, Some(slot));
+            self.put(seat, Some(slot));
         }
     }
 
@@ -131,8 +138,8 @@ impl Pairs {
     pub fn stopped(&mut self, recording: i64)
         ensures { self.new ≡ after_stopped recording self.old }
     {
-        if let Some(number) = self.writer_of(recording) {
-            self.end(number);
+        if let Some(seat) = self.writer_of(recording) {
+            self.end(seat);
         }
     }
 
@@ -146,7 +153,7 @@ impl Pairs {
         }
     }
 
-    fn release(&mut self, seat: usize)
+    fn release(&mut self, seat: Seat)
         ensures { self.new ≡ with_slot seat None (after_refused seat self.old) }
     {
         self.refused(seat);
@@ -155,7 +162,7 @@ impl Pairs {
 
     /// The place of an image is given back, to the next one that comes. A session that it fed stays, without an image. Costs
     /// a step for each session.
-    pub fn left(&mut self, place: usize)
+    pub fn left(&mut self, place: Place)
         ensures { self.new ≡ after_left place self.old }
     {
         let fed = self.session_of_image(place);
@@ -163,7 +170,7 @@ impl Pairs {
         self.vacate(place);
     }
 
-    fn unfeed(&mut self, seat: Option<usize>)
+    fn unfeed(&mut self, seat: Option<Seat>)
         ensures { self.new ≡ unfed_at seat self.old }
     {
         if let Some(seat) = seat {
@@ -171,7 +178,7 @@ impl Pairs {
         }
     }
 
-    fn vacate(&mut self, place: usize)
+    fn vacate(&mut self, place: Place)
         ensures { self.new ≡ record self.old
             { images = vacated (slice_get self.old.images place) place self.old.images } }
     {
@@ -182,18 +189,18 @@ impl Pairs {
     }
 
     /// The session at a seat was refused: it loses its image, which is not paired again. Costs a constant time.
-    pub fn refused(&mut self, number: usize)
-        ensures { self.new ≡ after_refused number self.old }
+    pub fn refused(&mut self, seat: Seat)
+        ensures { self.new ≡ after_refused seat self.old }
     {
-        let Some(index) = self.image_of_session(number) else {
+        let Some(place) = self.image_of_session(seat) else {
             return;
         };
-        self.feed(number, None);
-        self.lose(index);
+        self.feed(seat, None);
+        self.lose(place);
     }
 
     /// The place of the image of a publication. Costs a step for each image.
-    pub fn image_of(&self, publication: &Publication) -> Option<usize>
+    pub fn image_of(&self, publication: &Publication) -> Option<Place>
         ensures { result ≡ image_with publication.now self.now }
     {
         self.images
@@ -202,7 +209,7 @@ impl Pairs {
     }
 
     /// The session at a seat, if it has one. Costs a constant time.
-    pub fn slot(&self, seat: usize) -> Option<SessionSlot>
+    pub fn slot(&self, seat: Seat) -> Option<SessionSlot>
         ensures { result ≡ slot_of seat self.now }
     {
         match self.slots.get(seat) {
@@ -212,7 +219,7 @@ impl Pairs {
     }
 
     /// The seat of the session of a number, if it has one. Costs a step for each session.
-    pub fn seat_of(&self, session: i64) -> Option<usize>
+    pub fn seat_of(&self, session: i64) -> Option<Seat>
         ensures { result ≡ seat_of session self.now }
     {
         self.slots
@@ -222,7 +229,7 @@ impl Pairs {
 
     /// A seat for the session of a number: that of its own number if it is free, else the least that is free. None if none is.
     /// Costs a step for each session.
-    pub fn seat_for(&self, session: i64) -> Option<usize>
+    pub fn seat_for(&self, session: i64) -> Option<Seat>
         ensures { result ≡ seat_for session self.now }
     {
         if self.has_own_seat(session) {
@@ -242,14 +249,14 @@ impl Pairs {
     }
 
     /// The least seat that is free.
-    fn free_seat(&self) -> Option<usize>
+    fn free_seat(&self) -> Option<Seat>
         ensures { result ≡ position is_free self.now.slots }
     {
         self.slots.iter().position(|slot| slot.is_none())
     }
 
     /// The image at a place, unless the place was given back. Costs a constant time.
-    pub fn image(&self, place: usize) -> Option<JoinedImage>
+    pub fn image(&self, place: Place) -> Option<JoinedImage>
         ensures { result ≡ image_in place self.now }
     {
         let image = self.joined_image(place)?;
@@ -257,35 +264,35 @@ impl Pairs {
     }
 
     /// The place of the image that feeds the session at a seat. Costs a constant time.
-    pub fn image_of_session(&self, number: usize) -> Option<usize>
-        ensures { result ≡ image_at number self.now }
+    pub fn image_of_session(&self, seat: Seat) -> Option<Place>
+        ensures { result ≡ image_at seat self.now }
     {
-        match self.slots.get(number) {
+        match self.slots.get(seat) {
             Some(Some(slot)) => slot.image,
             _ => None,
         }
     }
 
     /// The seat of the session that the image at a place feeds. Costs a step for each session.
-    pub fn session_of_image(&self, index: usize) -> Option<usize>
-        ensures { result ≡ position (feeds index) self.now.slots }
+    pub fn session_of_image(&self, place: Place) -> Option<Seat>
+        ensures { result ≡ position (feeds place) self.now.slots }
     {
-        self.slots.iter().position(|slot| feeds(slot, index))
+        self.slots.iter().position(|slot| feeds(slot, place))
     }
 
     /// The seat of the open session that writes a recording, the least of them. None where no open session does. Costs a
     /// step for each session. Does not allocate.
-    pub fn writer_of(&self, recording: i64) -> Option<usize>
+    pub fn writer_of(&self, recording: i64) -> Option<Seat>
         ensures { result ≡ position (writes recording) self.now.slots }
     {
         self.slots.iter().position(|slot| writes(slot, &recording))
     }
 
     /// Whether the image at a place feeds a session that is open. Costs a step for each session. Does not allocate.
-    pub fn is_recorded(&self, index: usize) -> bool
-        ensures { result ≡ is_recorded index self.now }
+    pub fn is_recorded(&self, place: Place) -> bool
+        ensures { result ≡ is_recorded place self.now }
     {
-        self.slots.iter().any(|slot| is_recorded_by(slot, index))
+        self.slots.iter().any(|slot| is_recorded_by(slot, place))
     }
 
     /// The images by their places, those that were given back too. Costs a constant time.
@@ -303,11 +310,11 @@ impl Pairs {
         self.images.iter().filter(|image| !image.has_left).count()
     }
 
-    fn note(&mut self, number: usize, slot: SessionSlot)
-        ensures { self.new ≡ with_new_session number slot self.old }
+    fn note(&mut self, seat: Seat, slot: SessionSlot)
+        ensures { self.new ≡ with_new_session seat slot self.old }
     {
-        if let Some(None) = self.slots.get(number) {
-            self.put(number, Some(slot));
+        if let Some(None) = self.slots.get(seat) {
+            self.put(seat, Some(slot));
         }
     }
 
@@ -321,7 +328,7 @@ impl Pairs {
     }
 
     /// The place of one image more: the least that was given back, or the next one, of 64.
-    fn place_for_next(&self) -> Option<usize>
+    fn place_for_next(&self) -> Option<Place>
         ensures { result ≡ place_for_next self.now }
     {
         match self.vacant() {
@@ -332,7 +339,7 @@ impl Pairs {
     }
 
     /// The least place that was given back.
-    fn vacant(&self) -> Option<usize>
+    fn vacant(&self) -> Option<Place>
         ensures { result ≡ position is_vacant self.now.images }
     {
         self.images.iter().position(|image| image.has_left)
@@ -355,7 +362,7 @@ impl Pairs {
     }
 
     /// Puts an image at a place that was given back, or at the next one.
-    fn put_image(&mut self, place: Option<usize>, image: JoinedImage)
+    fn put_image(&mut self, place: Option<Place>, image: JoinedImage)
         requires inside { MatchOption place (length self.old.images < 64) (λ i. i < length self.old.images) }
         ensures { self.new ≡ record self.old { images = put_image place image self.old.images } }
     {
@@ -365,40 +372,40 @@ impl Pairs {
         }
     }
 
-    fn put(&mut self, number: usize, slot: Option<SessionSlot>)
-        ensures { self.new ≡ with_slot number slot self.old }
+    fn put(&mut self, seat: Seat, slot: Option<SessionSlot>)
+        ensures { self.new ≡ with_slot seat slot self.old }
     {
-        if number < FED_SESSIONS {
-            self.slots[number] = slot;
+        if seat < FED_SESSIONS {
+            self.slots[seat] = slot;
         }
     }
 
-    fn feed(&mut self, number: usize, image: Option<usize>)
-        ensures { self.new ≡ with_slot number (fed_by image (slot_of number self.old)) self.old }
+    fn feed(&mut self, seat: Seat, image: Option<Place>)
+        ensures { self.new ≡ with_slot seat (fed_by image (slot_of seat self.old)) self.old }
     {
-        if let Some(Some(slot)) = self.slots.get(number).copied() {
+        if let Some(Some(slot)) = self.slots.get(seat).copied() {
             let mut slot = slot;
             slot.image = image;
-            self.put(number, Some(slot));
+            self.put(seat, Some(slot));
         }
     }
 
-    fn lose(&mut self, index: usize)
-        ensures { self.new ≡ with_lost_image index self.old }
+    fn lose(&mut self, place: Place)
+        ensures { self.new ≡ with_lost_image place self.old }
     {
-        if let Some(image) = self.images.get_mut(index) {
+        if let Some(image) = self.images.get_mut(place) {
             image.is_lost = true;
         }
     }
 
     /// The session at a seat has ended.
-    fn end(&mut self, number: usize)
-        ensures { self.new ≡ with_slot number (ended (slot_of number self.old)) self.old }
+    fn end(&mut self, seat: Seat)
+        ensures { self.new ≡ with_slot seat (ended (slot_of seat self.old)) self.old }
     {
-        if let Some(Some(slot)) = self.slots.get(number).copied() {
+        if let Some(Some(slot)) = self.slots.get(seat).copied() {
             let mut slot = slot;
             slot.is_open = false;
-            self.put(number, Some(slot));
+            self.put(seat, Some(slot));
         }
     }
 
@@ -407,35 +414,35 @@ impl Pairs {
         ensures { self.new ≡ pair_all self.old }
     {
         let count = self.images.len();
-        for index in 0..count {
-            self.pair(index);
+        for place in 0..count {
+            self.pair(place);
         }
     }
 
     /// Pairs an image with the least session that takes it, unless it has lost its session or has one.
-    fn pair(&mut self, index: usize)
-        ensures { self.new ≡ pair_one index self.old }
+    fn pair(&mut self, place: Place)
+        ensures { self.new ≡ pair_one place self.old }
     {
-        let Some(image) = self.joined_image(index) else {
+        let Some(image) = self.joined_image(place) else {
             return;
         };
-        if image.is_lost || self.session_of_image(index).is_some() {
+        if image.is_lost || self.session_of_image(place).is_some() {
             return;
         }
-        if let Some(number) = self.taker_of(&image.join) {
-            self.feed(number, Some(index));
+        if let Some(seat) = self.taker_of(&image.join) {
+            self.feed(seat, Some(place));
         }
     }
 
     /// What is known of the image at a place.
-    fn joined_image(&self, index: usize) -> Option<JoinedImage>
-        ensures { result ≡ slice_get self.now.images index }
+    fn joined_image(&self, place: Place) -> Option<JoinedImage>
+        ensures { result ≡ slice_get self.now.images place }
     {
-        self.images.get(index).copied()
+        self.images.get(place).copied()
     }
 
     /// The least session that takes an image which joined there.
-    fn taker_of(&self, join: &StreamPoint) -> Option<usize>
+    fn taker_of(&self, join: &StreamPoint) -> Option<Seat>
         ensures { result ≡ position (takes join.now) self.now.slots }
     {
         self.slots.iter().position(|slot| takes(slot, join))
@@ -470,21 +477,21 @@ fn takes(slot: &Option<SessionSlot>, join: &StreamPoint) -> bool
 }
 
 /// Whether an image feeds a session.
-fn feeds(slot: &Option<SessionSlot>, index: usize) -> bool
-    ensures { result ≡ feeds index slot.now }
+fn feeds(slot: &Option<SessionSlot>, place: Place) -> bool
+    ensures { result ≡ feeds place slot.now }
 {
     match slot {
-        Some(slot) => slot.image == Some(index),
+        Some(slot) => slot.image == Some(place),
         None => false,
     }
 }
 
 /// Whether a session is open and an image feeds it.
-fn is_recorded_by(slot: &Option<SessionSlot>, index: usize) -> bool
-    ensures { result ≡ is_recorded_by index slot.now }
+fn is_recorded_by(slot: &Option<SessionSlot>, place: Place) -> bool
+    ensures { result ≡ is_recorded_by place slot.now }
 {
     match slot {
-        Some(slot) => slot.is_open && slot.image == Some(index),
+        Some(slot) => slot.is_open && slot.image == Some(place),
         None => false,
     }
 }

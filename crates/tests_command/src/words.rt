@@ -4,7 +4,7 @@
 use clap::Error;
 use clap::error::ErrorKind;
 use command_line::{ToolCommand, command_of, unreadable_words};
-use folder_commands::{Ending, Exit, concluded, told};
+use folder_commands::{Ending, Exit, concluded, reported};
 use std::alloc::Global;
 use std::cell::Cell;
 use std::fmt::Display;
@@ -97,14 +97,14 @@ fn check_told(
     let whole = error.to_string(alloc)?;
     assert!(rt; error.kind() == kind && whole.as_str().starts_with(text));
     let (mut output, mut errors) = (Vec::new(alloc), Vec::new(alloc));
-    let ended = told(kind, whole.as_str(), &mut output, &mut errors);
+    let ended = reported(kind, whole.as_str(), &mut output, &mut errors);
     let (used, other) = if status == 0 {
         (output, errors)
     } else {
         (errors, output)
     };
     assert!(rt; used.as_slice() == whole.as_bytes() && other.is_empty());
-    let full = told(kind, whole.as_str(), &mut Full, &mut Full);
+    let full = reported(kind, whole.as_str(), &mut Full, &mut Full);
     assert!(rt; ended.status() == status && full.status() == 3);
     Ok(())
 }
@@ -421,7 +421,7 @@ fn a_fault_is_told_by_its_line(rt: HostRuntime) {
     ] {
         let streams = Streams::new(rt.alloc(), line);
         assert!(rt;
-            concluded(&streams, Exit::told(ending)) == status,
+            concluded(&streams, Exit::reported(ending)) == status,
             "{line} {status}"
         );
         assert!(rt;

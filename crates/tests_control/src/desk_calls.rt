@@ -13,7 +13,7 @@ use std::alloc::{AllocError, Global};
 use std::test::*;
 
 /// An archive of so many active recordings.
-fn recording(alloc: Global, count: u8, limit: u32) -> Result<Desk, Refusal> {
+pub fn recording(alloc: Global, count: u8, limit: u32) -> Result<Desk, Refusal> {
     let mut desk = Desk::new(alloc, limit);
     begin(alloc, &mut desk, count).and(Ok(desk))
 }
@@ -174,7 +174,7 @@ fn bytes_are_read_by_the_terms_of_the_recording(rt: HostRuntime) -> Result<(), F
 }
 
 /// Session 0 wrote a block from 0 on, of a recording of which nothing is recorded.
-fn note(desk: &mut Desk, last: i64) -> Result<(), Refusal> {
+pub fn note(desk: &mut Desk, last: i64) -> Result<(), Refusal> {
     let found = desk.session(&0).ok_or(Refusal::StaleSession)?.found;
     let Some(known) = desk.recording(&found.session.recording) else {
         return Err(Refusal::UnknownRecording);

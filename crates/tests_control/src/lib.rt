@@ -7,6 +7,8 @@ mod desk_calls;
 #[cfg(test)]
 mod desks;
 #[cfg(test)]
+mod groups;
+#[cfg(test)]
 mod lines;
 #[cfg(test)]
 mod origins;

@@ -224,6 +224,8 @@ poll-to 0 10
 poll-to 0 10 1 2
 poll-to 0 10 +1
 sweep 1
+checkpoint
+checkpoint 1
 compact 1";
 
 fn is_malformed(alloc: Global, line: &[u8]) -> bool {
@@ -317,7 +319,24 @@ fn check_archive(alloc: Global) -> Result<(), Fail> {
     check_printed(alloc, Reply::Swept { removed: false }, "swept 0\n")?;
     check_printed(alloc, Reply::Verified { frames: 2 }, "verified 2\n")?;
     check_printed(alloc, Reply::Reopened { recordings: 1 }, "reopened 1\n")?;
-    check_printed(alloc, Reply::Compacted, "compacted\n")
+    check_printed(alloc, Reply::Compacted, "compacted\n")?;
+    check_printed(alloc, Reply::Checkpointed, "checkpointed\n")
+}
+
+/// What is told of several sessions that are settled together, which no line asks for.
+fn check_settled_all(alloc: Global) -> Result<(), Fail> {
+    let none = Items::new(alloc);
+    check_printed(
+        alloc,
+        Reply::SettledAll { positions: none },
+        "settled-all\n",
+    )?;
+    let positions = Items::from_vec([Some(128), None, Some(0)].to_vec(alloc)?);
+    check_printed(
+        alloc,
+        Reply::SettledAll { positions },
+        "settled-all 128 - 0\n",
+    )
 }
 
 fn check_state(alloc: Global, is_merged: bool, cursor: i64, text: &str) -> Result<(), Fail> {
@@ -342,6 +361,7 @@ fn replies_of_one_word_and_numbers(rt: HostRuntime) -> Result<(), Fail> {
     check_recordings(rt.alloc())?;
     check_sources(rt.alloc())?;
     check_archive(rt.alloc())?;
+    check_settled_all(rt.alloc())?;
     check_merges(rt.alloc())
 }
 

@@ -141,6 +141,7 @@ fn plain_event(word: &str, of: i64, at: i64, length: i64) -> Event {
         },
         "close" => Event::ReplayClose { replay: of },
         "sweep" => Event::Sweep,
+        "checkpoint" => Event::Checkpoint,
         "verify" => Event::Verify { recording: of },
         _ => Event::Ask(request_of(word, of, at)),
     }

@@ -13,6 +13,8 @@ mod bounded_images;
 #[cfg(test)]
 mod catalogues;
 #[cfg(test)]
+mod checkpoints;
+#[cfg(test)]
 mod compactions;
 #[cfg(test)]
 mod disks;
@@ -20,6 +22,8 @@ mod disks;
 mod folders;
 #[cfg(test)]
 mod frames;
+#[cfg(test)]
+mod groups;
 #[cfg(test)]
 mod histories;
 #[cfg(test)]
@@ -40,6 +44,8 @@ mod receivers;
 mod replays;
 #[cfg(test)]
 mod segments;
+#[cfg(test)]
+mod settled;
 #[cfg(test)]
 mod sparse;
 #[cfg(test)]

@@ -11,8 +11,8 @@ use std::test::Fail;
 
 /// A disk, and the pages of it that are kept.
 #[derive(Drop)]
-struct Paged {
-    disk: MemoryDisk,
+pub(crate) struct Paged {
+    pub(crate) disk: MemoryDisk,
     pages: PageCache,
 }
 
@@ -98,10 +98,10 @@ fn put(
 }
 
 /// Where the last of 130 such frames ends. 128 of them lie in three pages, two of these over the end of one.
-const END: i64 = 12_480;
+pub(crate) const END: i64 = 12_480;
 
 /// A disk with these, and room for so many pages.
-fn stored(rt: &impl Abort, alloc: Global, capacity: usize) -> Result<Paged, Refusal> {
+pub(crate) fn stored(rt: &impl Abort, alloc: Global, capacity: usize) -> Result<Paged, Refusal> {
     let mut paged = with_room(alloc, capacity)?;
     for number in 0..130u8 {
         put(rt, alloc, &mut paged.disk, number, number)?;

@@ -81,7 +81,7 @@ pub(crate) fn played_again<R: Threads + Wait + Abort + Sync + Eprint>(
     match played(rt, alloc, keeps, scenario) {
         Ok(()) => Ok(()),
         first => {
-            first.report(rt);
+            first.tell(rt);
             played(rt, alloc, keeps, scenario)
         }
     }

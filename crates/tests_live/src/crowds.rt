@@ -3,7 +3,7 @@
 use crate::client::{Client, Ports};
 use crate::serving::{bound, options, served_with};
 use disk_core::MemoryDisk;
-use server::{SETTLE_EVERY, ServeOptions, Untold, serve_with};
+use server::{SETTLE_EVERY, ServeOptions, Unreported, serve_with};
 use std::alloc::Global;
 use std::net::{Net, TcpListener, TcpStream};
 use std::rt::Clock;
@@ -44,7 +44,7 @@ fn is_served<R: Threads + Wait + Clock + Net<Listener = TcpListener, Stream = Tc
     let disk = MemoryDisk::new(alloc);
     let (has_ended, is_right) = thread::join(
         rt,
-        move || { serve_with(rt, alloc, listener, socket, disk, &options, Untold).is_ok() },
+        move || { serve_with(rt, alloc, listener, socket, disk, &options, Unreported).is_ok() },
         move || does(rt, alloc, ports, crowd),
     );
     has_ended && is_right

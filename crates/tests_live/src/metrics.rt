@@ -7,7 +7,7 @@ use disk_core::MemoryDisk;
 use metrics_text::{
     ArchiveMeasures, ClientMeasures, DatagramMeasures, ImageMeasures, Measures, RecordingMeasures,
 };
-use server::{Happening, SETTLE_EVERY, Teller, serve_with};
+use server::{Happening, Reporter, SETTLE_EVERY, serve_with};
 use std::alloc::Global;
 use std::net::{Net, TcpListener, TcpStream};
 use std::rt::Clock;
@@ -95,8 +95,8 @@ struct Seen {
 #[derive(Clone, Copy, Drop)]
 struct Looking<'a>(&'a Seen);
 
-impl Teller for Looking<'_> {
-    fn tell(&self, happening: &Happening<'_>) {
+impl Reporter for Looking<'_> {
+    fn report(&self, happening: &Happening<'_>) {
         let _ = happening;
     }
 

@@ -4,7 +4,7 @@ use crate::conversations::holds;
 use crate::serving::{Told, bound, options};
 use disk_core::MemoryDisk;
 use frame_core::{Geometry, Publication};
-use server::{Happening, SETTLE_EVERY, serve_with};
+use server::{Happening, SETTLE_EVERY, SessionNews, serve_with};
 use std::alloc::Global;
 use std::net::{Net, TcpListener, TcpStream};
 use std::rt::Clock;
@@ -39,7 +39,9 @@ fn misfits<R: Threads + Wait + Clock + Net<Listener = TcpListener, Stream = TcpS
     let disk = MemoryDisk::new(alloc);
     let (has_ended, is_right) = thread::join(
         rt,
-        move || { serve_with(rt, alloc, listener, socket, disk, &options, told.teller()).is_ok() },
+        move || {
+            serve_with(rt, alloc, listener, socket, disk, &options, told.reporter()).is_ok()
+        },
         move || holds(rt, alloc, ports, told, conversation),
     );
     if has_ended && is_right {
@@ -73,12 +75,12 @@ fn point(term_length: i32, position: i64) -> StreamPoint {
 
 #[test]
 fn a_misfit_says_what_differs(rt: HostRuntime) -> Result<(), Fail> {
-    let misfit = Happening::Misfit {
+    let misfit = Happening::Session(SessionNews::Misfit {
         image: 3,
         session: 2,
         joined: point(65_536, 192),
         recorded: point(131_072, 64),
-    };
+    });
     let line = format!(in rt.alloc(); "{misfit}")?;
     let said =
         "image 3 does not fit session 2: term length 65536 and not 131072, position 192 and not 64";

@@ -3,7 +3,7 @@
 use crate::client::{Client, Ports};
 use crate::conversations::holds;
 use disk_core::Disk;
-use server::{Happening, SETTLE_EVERY, ServeOptions, Teller, serve_with};
+use server::{Happening, Reporter, SETTLE_EVERY, ServeOptions, SessionNews, serve_with};
 use std::alloc::Global;
 use std::net::{Net, TcpListener, TcpStream, UdpSocket};
 use std::rt::Clock;
@@ -29,7 +29,7 @@ impl Told {
     }
 
     /// Counts what a server tells.
-    pub(crate) fn teller(&self) -> Counting<'_> {
+    pub(crate) fn reporter(&self) -> Counting<'_> {
         Counting(self)
     }
 
@@ -54,13 +54,13 @@ impl Told {
 #[derive(Clone, Copy, Drop)]
 pub(crate) struct Counting<'a>(&'a Told);
 
-impl Teller for Counting<'_> {
-    fn tell(&self, happening: &Happening<'_>) {
+impl Reporter for Counting<'_> {
+    fn report(&self, happening: &Happening<'_>) {
         match happening {
-            Happening::Lost { .. } => {
+            Happening::Session(SessionNews::Lost { .. }) => {
                 self.0.lost.fetch_add(1, Ordering::SeqCst);
             }
-            Happening::Misfit { .. } => {
+            Happening::Session(SessionNews::Misfit { .. }) => {
                 self.0.misfits.fetch_add(1, Ordering::SeqCst);
             }
             _ => {}

@@ -46,7 +46,7 @@ fn served<R: Threads + Wait + Clock + Net<Listener = TcpListener, Stream = TcpSt
     options.is_strict = is_strict;
     let (served, is_right) = thread::join(
         rt,
-        move || { serve_with(rt, alloc, listener, socket, disk, &options, told.teller()).ok() },
+        move || { serve_with(rt, alloc, listener, socket, disk, &options, told.reporter()).ok() },
         move || is_answered(rt, alloc, ports, told, said),
     );
     if is_right { served } else { None }

@@ -102,7 +102,7 @@ fn a_reply_is_handed_on_before_the_next_read(rt: HostRuntime) {
 fn what_was_written_before_stays(rt: HostRuntime) -> Result<(), Fail> {
     let mut out = b"before\n".to_vec(rt.alloc())?;
     let end = end_of(rt.alloc(), b"quit\n".as_slice(), &mut out);
-    let is_told = out.as_slice() == b"before\nbye\n".as_slice();
-    assert!(rt; end.is_none() && is_told);
+    let is_reported = out.as_slice() == b"before\nbye\n".as_slice();
+    assert!(rt; end.is_none() && is_reported);
     Ok(())
 }

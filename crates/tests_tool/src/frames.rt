@@ -179,7 +179,7 @@ pub fn failing(bytes: &[u8], at_once: usize) -> SlowReader<'_> {
 }
 
 /// Whether these lines were written, which stand apart by `; ` here.
-fn is_told(alloc: Global, written: &[u8], told: &str) -> Result<bool, Fail> {
+fn is_reported(alloc: Global, written: &[u8], told: &str) -> Result<bool, Fail> {
     let text = std::str::from_utf8(written)?;
     Ok(text.replace(alloc, "\n", "; ")?.as_str() == told)
 }
@@ -188,7 +188,7 @@ fn is_told(alloc: Global, written: &[u8], told: &str) -> Result<bool, Fail> {
 fn check(alloc: Global, file: &[u8], at_once: usize, told: &str) -> Result<(), Fail> {
     let (listing, out) = listed(alloc, slow(file, at_once))?;
     let is_damaged = listing == Listing::Damaged;
-    if is_told(alloc, out.as_slice(), told)? && is_damaged == told.contains("error") {
+    if is_reported(alloc, out.as_slice(), told)? && is_damaged == told.contains("error") {
         Ok(())
     } else {
         Err(Fail::new(std::str::from_utf8(out.as_slice())?))

@@ -98,7 +98,7 @@ unmade old disk first banks may no_archive obeys (inl blank) = record {
   is = inr (no_archive.0, subst (λ (s : Standing). HasNotBegun old s unknown) (sym blank.1) blank.0);
   any_moment = λ s u leaves. absurd (nothing_left old s u may blank.0 leaves);
 }
-unmade old disk first banks may (failed, inr absent) obeys (inr files) = absurd (some_file (absent obeys files.0.0) files.0.1)
+unmade old disk first banks may (failed, inr absent) obeys (inr files) = absurd (some_file (absent.0 obeys files.0.0) files.0.1)
 unmade old disk first banks may (failed, inl quiet) obeys (inr files) = by first files.1
   where
     any : (s u : State) → LeavesEither old s u → LeavesOnly old disk (RecoversTo (IsNear s u))

@@ -29,7 +29,7 @@ pub trait Answerer {
     fn compact(self, alloc: Global) -> (Self, Result<Reply, Refusal>)
         ensures { ways.compact self result.1 result.0 };
 
-    /// How much of its history an archive has used, where the observer of a script is to be told of it. No answer depends
+    /// How much of its history an archive has used, where the observer of a script is to get it. No answer depends
     /// on it.
     fn history(&self) -> Option<HistoryUse> {
         None

@@ -1,4 +1,4 @@
-//! What is told of a command while it runs, beside what it writes. docs/CONTROL.md, "Standard error".
+//! What an observer gets of a command while it runs, beside what it writes. docs/CONTROL.md, "Standard error".
 
 use crate::history::HistoryUse;
 use archive_model::{Registration, Reply};
@@ -15,7 +15,7 @@ pub enum Beginning {
     Refused(Refusal),
 }
 
-/// Is told how a command goes on. Nothing that is written or recorded depends on it.
+/// Gets how a command goes on. Nothing that is written or recorded depends on it.
 pub trait Observer {
     /// How a script's archive began, before the first line is read.
     fn began(&mut self, _beginning: &Beginning) {}
@@ -31,7 +31,7 @@ pub trait Observer {
     fn verified(&mut self, _known: &Registration, _outcome: &Result<Reply, Refusal>) {}
 }
 
-/// Nobody is told.
+/// Nobody observes.
 #[derive(Clone, Copy, Debug, Drop)]
 pub struct Unobserved;
 

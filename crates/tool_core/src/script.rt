@@ -68,12 +68,12 @@ fn answer_line<W: Write, A: Answerer, O: Observer>(
 {
     let (state, outcome, is_last) = outcome_of(alloc, state, line);
     observer.answered(line.bytes(), &outcome);
-    tell_history(&state.archive, observer);
+    report_history(&state.archive, observer);
     (state, write_outcome(alloc, &outcome, writer), is_last)
 }
 
-/// Tells an observer how much of its history an archive has used.
-fn tell_history<A: Answerer, O: Observer>(archive: &A, observer: &mut O) {
+/// Gives an observer how much of its history an archive has used.
+fn report_history<A: Answerer, O: Observer>(archive: &A, observer: &mut O) {
     if let Some(history) = archive.history() {
         observer.used(&history);
     }
@@ -145,7 +145,7 @@ fn run_lines<R: Read + Drop, W: Write, A: Answerer, O: Observer>(
 /// Answers the control lines of a reader on a writer, up to the line `quit` or the end of the input, as the answerer
 /// answers their calls: docs/CONTROL.md, "Scripts". A line to a merge is answered by the one that is given; it, `quit`, and
 /// what is no line make no call; `block` makes two at most. The answerer and the merge come back as the lines left them, also
-/// where they end early. An observer is told of each answer before it is written.
+/// where they end early. An observer gets each answer before it is written.
 ///
 /// Each line is answered before the next one is waited for. What the writer had stays before what it gains. `Read`
 /// where the reader fails, or was read 9,223,372,036,854,775,807 times; `Memory` where a reply's text or the reader's
@@ -182,7 +182,7 @@ fn after_flush(outcome: Result<(), EarlyEnd>, is_flushed: bool) -> Result<(), Ea
 
 /// Answers the control lines of a reader on a writer as `answer_lines`, over the archive of a disk, and without a merge at
 /// first. Where no file is there it is made, with a history of 1,048,576 entries; else it is opened, and where that is
-/// refused every line is `Broken` but those that need no archive, until `reopen` opens it. An observer is told which of
+/// refused every line is `Broken` but those that need no archive, until `reopen` opens it. An observer gets which of
 /// these it was. The disk comes back. docs/CONTROL.md, "Scripts".
 ///
 /// The faults of `answer_lines`; `Memory` also where the opening finds no memory.
@@ -217,7 +217,7 @@ pub fn run_script<R: Read + Drop, W: Write, D: Disk, O: Observer>(
         Err(disk) => return Err(ScriptFault::Memory(disk)),
     };
     observer.began(&beginning);
-    tell_history(&archive, observer);
+    report_history(&archive, observer);
     let state = ScriptState::new(archive);
     let (state, outcome) = answer_lines(alloc, reader, writer, state, observer);
     let disk = state.into_archive().into_disk();

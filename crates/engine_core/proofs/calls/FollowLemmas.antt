@@ -2,9 +2,9 @@
 use Rattle.std.proofs.Common.{◌≡◌, ◌≢◌, ◌⊎◌, ◌∙◌, inl, inr, sym, ap, subst, refl, ℕ, ℤ, pos, negsuc, ◌+ℤ◌, ◌<◌, ◌≤◌, ◌<ℤ◌, ◌≤ℤ◌, ◌&&◌, Bool, true, false, cond, true≢false, List, [], ◌∷◌, ◌++◌, Option, Some, None, map, int_le, nat_lt, unsigned_abs, arith}
 use Rattle.std.proofs.lemmas.Int.{ints}
 use Rattle.std.proofs.lemmas.Bool.Decides.{nat_tests, Decides-int_eq}
-use Rattle.std.specs.Prelude.{◌^◌, ◌==◌}
+use Rattle.std.specs.Prelude.{◌^◌, ◌==◌, IfSome, IsSomeAnd}
 use Rattle.std.specs.Ordering.{int_eq}
-use Rattle.engine_core.proofs.Words.{Allows, Append, Command, DeskState, IsLaid, IsRequested, KeepsDesk, RecorderSession, RegisterState, Registration, Restart, Written, base_of, both, change, desk_after, find, is_later_base, is_power, layout_of, registration_in, session_in, settled}
+use Rattle.engine_core.proofs.Words.{Allows, Append, Command, DeskState, Each, IsLaid, IsRequested, KeepsDesk, LiesBehind, RecorderSession, RegisterState, Registration, Restart, Written, base_of, both, change, desk_after, each_found, find, found_number, is_later_base, is_power, layout_of, registration_in, session_in, session_number, settled}
 use Rattle.frame_core.specs.Segment.{segment_base}
 use Rattle.frame_core.proofs.LimitsLemmas.{exponent_le}
 use Rattle.archive_model.specs.declared.command.Command.TheVariants.{Start, Stop, Extend, Truncate, PurgeSegments, PurgeRecording}
@@ -16,8 +16,13 @@ use Rattle.archive_model.specs.Register.{changed, changed_by, id_of, registered,
 use Rattle.archive_model.proofs.CopyLemmas.{rise_le}
 use Rattle.archive_model.proofs.RegisterLemmas.{id_kept}
 use Rattle.archive_model.proofs.WellLemmas.{base_is_term}
-use Rattle.control_core.specs.Changes.{settled_by}
+use Rattle.control_core.specs.Changes.{settled_by, settled_each}
 use Rattle.control_core.proofs.AllowedLemmas.{purge_base}
+use Rattle.control_core.specs.Callers.{with_written}
+use Rattle.control_core.specs.Orderly.{WroteBehind}
+use Rattle.control_core.specs.Seats.{AreApart}
+use Rattle.control_core.proofs.DeskLemmas.{apart_written, not_same}
+use Rattle.control_core.proofs.FoundLemmas.{each_both, each_weaker, found_other}
 use Rattle.engine_core.proofs.calls.KnownLemmas.{laid_found, test_of, written_behind}
 use Rattle.engine_core.proofs.files.StayLemmas.{later_bases}
 
@@ -130,6 +135,26 @@ follows_same g = record { next = omega (arith, ints); each = λ id s given found
 
 pub follows_equal : (g h : RegisterState) → h ≡ g → Follows g h
 follows_equal g h same = subst (Follows g) (sym same) (follows_same g)
+
+-- over one call and then another
+goes_then : (r s t : Registration) → GoesOn r s → GoesOn s t → GoesOn r t
+goes_then r s t one two =
+    let low = one.recorded in let high = two.recorded in let first = one.start in let second = two.start in record {
+      id = two.id ∙ one.id;
+      recorded = omega (arith, ints, low, high);
+      start = omega (arith, first, second);
+      bases = λ q from. two.bases q from ∙ one.bases q (omega (arith, second, from));
+    }
+
+follows_then : (g h k : RegisterState) → Follows g h → Follows h k → Follows g k
+follows_then g h k one two =
+    let low = one.next in let high = two.next in record {
+      next = omega (arith, ints, low, high);
+      each = λ id t given found.
+          let mid = two.each id t (omega (arith, ints, low, given)) found in
+          let first = one.each id mid.0 given mid.1 in
+          (first.0, first.1, goes_then first.0 mid.0 t first.2 mid.2);
+    }
 
 -- one recording more
 follows_more : (g : RegisterState) (r : Registration) → id_of r ≡ g.next → Follows g (with_one r g)
@@ -248,3 +273,66 @@ settled_follows d number (Some s) is keeps = by s.written refl
     by (Some w) has =
         follows_changed d.register s.recording (changes.Settle w.last)
         (λ r there. (let lies = written_behind d number s r w keeps is there has in settled_on w.last r (omega (arith, ints, lies.behind, lies.forward))))
+
+-- ---- several sessions, one after another
+
+-- what a session wrote ends past what is recorded
+abbrev EndsPast : RegisterState → RecorderSession → Type 0
+EndsPast g s = (w : Written) (r : Registration) → s.written ≡ Some w → registration_in g s.recording ≡ Some r → r.recorded ≤ℤ w.last
+
+ends_past : (g : RegisterState) (s : RecorderSession) → WroteBehind g s → EndsPast g s
+ends_past g s behind w r has there = by s.written (registration_in g s.recording) has there behind
+  where
+    by : (o : Option Written) (p : Option Registration) → o ≡ Some w → p ≡ Some r → IfSome o (λ x. IsSomeAnd p (LiesBehind x)) → r.recorded ≤ℤ w.last
+    by None p has there behind = absurd cc
+    by (Some x) None has there behind = absurd behind
+    by (Some x) (Some y) has there lies =
+        let written : x ≡ w = cc in
+        let known : y ≡ r = cc in
+        let first = lies.behind in
+        let last = lies.forward in
+        let past : y.recorded ≤ℤ x.last = omega (arith, ints, first, last) in
+        subst (λ (z : Registration). z.recorded ≤ℤ w.last) known (subst (λ (v : Written). y.recorded ≤ℤ v.last) written past)
+
+-- of another recording it does so still
+other_past : (g : RegisterState) (s y : RecorderSession) (k : Change) → y.recording ≢ s.recording → EndsPast g y → EndsPast (changed s.recording k g) y
+other_past g s y k differs past w r has there = past w r has (sym (found_other y.recording s.recording (changed_by k) g.recordings (id_kept k) (not_same y.recording s.recording differs)) ∙ there)
+
+-- once a session's blocks are recorded, what the others wrote does so still
+past_on : (g : RegisterState) (s : RecorderSession) (k : Change) (ss : List RecorderSession) → AreApart ss → find session_number s.number ss ≡ Some s → Each (EndsPast g) ss → Each (EndsPast (changed s.recording k g)) (change session_number s.number (with_written None) ss)
+past_on g s k [] apart found past = absurd cc
+past_on g s k (x ∷ xs) (beside, apart) found (one, all) = by (int_eq s.number x.number) found (λ later. past_on g s k xs apart later all)
+  where
+    by : (b : Bool) → cond b (Some x) (find session_number s.number xs) ≡ Some s → (find session_number s.number xs ≡ Some s → Each (EndsPast (changed s.recording k g)) (change session_number s.number (with_written None) xs))
+        → Each (EndsPast (changed s.recording k g)) (cond b (with_written None x ∷ xs) (x ∷ change session_number s.number (with_written None) xs))
+    by true here rest =
+        let same : x ≡ s = cc in (
+          (λ w r has there. absurd cc),
+          each_both (λ y. y.recording ≢ x.recording) (EndsPast g) (EndsPast (changed s.recording k g)) xs (λ y differs past. other_past g s y k (subst (λ (z : RecorderSession). y.recording ≢ z.recording) same differs) past) beside all,
+        )
+    by false later rest = (other_past g s x k (λ same. each_found session_number (λ y. y.recording ≢ x.recording) s.number xs s beside later (sym same)) one, rest later)
+
+each_follows : (d : DeskState) (numbers : List ℤ) → AreApart d.callers.sessions → Each (EndsPast d.register) d.callers.sessions → Follows d.register (settled_each numbers d).register
+each_follows d [] apart past = follows_same d.register
+each_follows d (n ∷ ns) apart past = by (session_in d n) refl (λ e. each_follows e ns)
+  where
+    wrote : (s : RecorderSession) (o : Option Written) → session_in d n ≡ Some s → s.written ≡ o → ((e : DeskState) → AreApart e.callers.sessions → Each (EndsPast e.register) e.callers.sessions → Follows e.register (settled_each ns e).register)
+        → Follows d.register (settled_each ns (settled_by s o d)).register
+    wrote s None found has rest = rest d apart past
+    wrote s (Some w) found has rest =
+        let number : s.number ≡ n = found_number session_number n d.callers.sessions s found in
+        let here : session_in d s.number ≡ Some s = subst (λ (m : ℤ). session_in d m ≡ Some s) (sym number) found in
+        let mid : DeskState = settled_by s (Some w) d in
+        follows_then d.register mid.register (settled_each ns mid).register
+        (follows_changed d.register s.recording (changes.Settle w.last) (λ r there. settled_on w.last r (each_found session_number (EndsPast d.register) n d.callers.sessions s past found w r has there)))
+        (rest mid (apart_written s.number None d.callers.sessions apart) (past_on d.register s (changes.Settle w.last) d.callers.sessions apart here past))
+
+    by : (o : Option RecorderSession) → session_in d n ≡ o → ((e : DeskState) → AreApart e.callers.sessions → Each (EndsPast e.register) e.callers.sessions → Follows e.register (settled_each ns e).register)
+        → Follows d.register (settled_each ns (settled o d)).register
+    by None found rest = rest d apart past
+    by (Some s) found rest = wrote s s.written found refl rest
+
+-- what several sessions wrote lies so, too
+pub settled_each_follows : (d : DeskState) (numbers : List ℤ) → KeepsDesk d.register d.callers → Follows d.register (settled_each numbers d).register
+settled_each_follows d numbers keeps =
+    each_follows d numbers keeps.seats.sessions.apart (each_weaker (WroteBehind d.register) (EndsPast d.register) d.callers.sessions (ends_past d.register) keeps.orderly.sessions)

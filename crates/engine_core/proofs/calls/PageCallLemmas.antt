@@ -6,7 +6,7 @@ use Rattle.std.specs.List.{list_any}
 use Rattle.std.specs.Ordering.{int_eq}
 use Rattle.std.proofs.lemmas.Bool.Decides.{Decides-int_eq}
 use Rattle.engine_core.proofs.Words.{Allows, BankA, BankB, Below, Block, Command, Decision, DeskState, EngineState, Event, FileId, FileState, Files, IsLaid, IsQuiet, IsRequested, Keep, KeepsDesk, Layout, Life, OpenReplay, Outcome, RecorderSession, Refusal, RegisterState, Registration, Reply, Segment, Stepped, SweepsAtMost, Tests, Written, asked_of, bank_file, base_of, checks, command_in, decision_of, desk_after, file_of, find, found_number, layout_of, offset_of, open_replay_in, reads, registered_keeps, registration_in, reply_after, same_file, session_in, settled, told_of}
-use Rattle.frame_core.specs.declared.refusal.Refusal.TheVariants.{BadBlock, BadPosition, DeviceFault, NoMemory}
+use Rattle.frame_core.specs.declared.refusal.Refusal.TheVariants.{BadBlock, BadPosition, DeviceFault, HistoryFull, NoMemory, NotCatalogue}
 use Rattle.frame_core.specs.ReplayEnd.{bound_of}
 use Rattle.disk_core.specs.Standing.{KeepsBelow}
 use Rattle.segment_store.specs.Stale.{is_kept, is_stale, keeps_base}
@@ -19,15 +19,16 @@ use Rattle.archive_model.specs.Register as register
 use Rattle.archive_model.specs.Register.{is_active, is_end}
 use Rattle.catalogue_log.specs.declared.banks.Bank.{Bank}
 use Rattle.catalogue_log.specs.declared.banks.Bank.TheVariants.{A, B}
+use Rattle.catalogue_log.specs.Banks.{other_of}
 use Rattle.control_core.specs.declared.asked.Asked.{Asked}
 use Rattle.control_core.specs.declared.asked.Told.TheVariants as told
 use Rattle.control_core.specs.declared.event.Event.TheVariants as events
 use Rattle.control_core.specs.declared.request.Request.{Request}
 use Rattle.control_core.specs.Decided.{Refused, Answered, Accepted, IfBoundary}
-use Rattle.control_core.specs.Changes.{after_close, after_open, after_write, settled_position}
+use Rattle.control_core.specs.Changes.{after_close, after_open, after_write, checkpointed, positions_each, settled_each, settled_position}
 use Rattle.control_core.specs.Exact.{plain, span_of}
-use Rattle.control_core.specs.Turns.{begins_at, close_tests, open_tests, poll_tests, settle_tests, sweep_tests, verify_tests, write_tests}
-use Rattle.control_core.specs.Machine.{AtPosition, Breaks, Closes, Commits, Decided, Either, Ended, Ends, Faults, GivesFrames, Opens, Outside, Passing, Polls, RefusesCall, Settles, Step, Sweeps, UnlessBoundary, Unread, Verifies, Writes, recording_of}
+use Rattle.control_core.specs.Turns.{begins_at, close_tests, open_tests, poll_tests, settle_all_tests, settle_tests, sweep_tests, verify_tests, write_tests}
+use Rattle.control_core.specs.Machine.{AtPosition, Breaks, Checkpoints, Closes, Commits, Decided, Either, Ended, Ends, Faults, GivesFrames, Opens, Outside, Passing, Polls, RefusedByBanks, RefusesCall, Settles, SettlesAll, Step, Sweeps, UnlessBoundary, Unread, Verifies, Writes, recording_of}
 use Rattle.frame_core.specs.declared.frame.Frame.{Frame}
 use Rattle.engine_core.specs.Calls.{AnswersEvent}
 use Rattle.engine_core.specs.Handing.{HandsPolled}
@@ -35,7 +36,7 @@ use Rattle.engine_core.specs.KeptPages.{KeepsPages, generation_after}
 use Rattle.engine_core.specs.Moves.{ChangesThese, registered_keep}
 use Rattle.engine_core.specs.Touching.{Touches, WritesBlock, written_by}
 use Rattle.engine_core.proofs.calls.AskLemmas.{decided_requested}
-use Rattle.engine_core.proofs.calls.FollowLemmas.{Follows, command_follows, follows_equal, is_truncation, next_kept, settled_follows}
+use Rattle.engine_core.proofs.calls.FollowLemmas.{Follows, command_follows, follows_equal, is_truncation, next_kept, settled_each_follows, settled_follows}
 use Rattle.engine_core.proofs.calls.KnownLemmas.{laid_found, laid_low, one_known}
 use Rattle.engine_core.proofs.calls.PageLemmas.{KeepsBytes, byte_read, pages_past, pages_stay, same_bytes}
 use Rattle.engine_core.proofs.files.SweepLemmas.{and_both, and_not, base_kept, fresh_kept, length_low, or_left, or_right, start_kept}
@@ -149,6 +150,15 @@ settle_goes old new session outcome keeps step =
       | inr (inr breaks) ↦ follows_equal old.register new.register (breaks_same old outcome new breaks)
     ]
 
+settle_all_goes : (old new : DeskState) (sessions : List ℤ) (outcome : Outcome) → KeepsDesk old.register old.callers → SettlesAll old sessions outcome new → Follows old.register new.register
+settle_all_goes old new sessions outcome keeps step =
+    let done : Ends = Ended (Ok (told.Reply (replies.SettledAll (positions_each sessions old)))) (settled_each sessions old) in
+    elim (passing_or old (settle_all_tests old sessions) checks (Either done (Breaks old)) outcome new step) [
+      | inl same ↦ follows_equal old.register new.register (same_register old new same)
+      | inr (inl settles) ↦ subst (λ (d : DeskState). Follows old.register d.register) (sym settles.1) (settled_each_follows old sessions keeps)
+      | inr (inr breaks) ↦ follows_equal old.register new.register (breaks_same old outcome new breaks)
+    ]
+
 unless_same : (old : DeskState) (ends : Ends) → KeepsRegister old ends → KeepsRegister old (UnlessBoundary old ends)
 unless_same old ends behind =
     either_same old (RefusesCall old BadPosition) (Either (Unread old) ends) (ended_same old (Err BadPosition) old refl) (either_same old (Unread old) ends (unread_same old) behind)
@@ -196,6 +206,14 @@ verify_same old id =
     passing_same old (verify_tests old id) checks (λ outcome new. ((frames : ℤ) × Ended (Ok (told.Reply (replies.Verified frames))) old outcome new) ⊎ Unread old outcome new)
     (λ outcome new end. elim end [ inl verified ↦ same_register old new verified.1.1 | inr unread ↦ unread_same old outcome new unread ])
 
+checkpoint_same : (old : DeskState) → KeepsRegister old (Checkpoints old)
+checkpoint_same old =
+    let anew : Ends = Ended (Ok (told.Reply replies.Checkpointed)) (checkpointed old) in
+    let banks : Ends = RefusedByBanks old in
+    passing_same old (sweep_tests old) checks (Either anew (Either banks (Breaks old)))
+    (either_same old anew (Either banks (Breaks old)) (ended_same old (Ok (told.Reply replies.Checkpointed)) (checkpointed old) refl)
+    (either_same old banks (Breaks old) (either_same old (RefusesCall old NotCatalogue) (RefusesCall old HistoryFull) (ended_same old (Err NotCatalogue) old refl) (ended_same old (Err HistoryFull) old refl)) (breaks_same old)))
+
 -- a step of the machine, or want of memory, which changes nothing
 stepped_or : (old : DeskState) (asked : Asked) (outcome : Outcome) (new : DeskState) → Stepped old asked outcome new → Step old asked outcome new ⊎ (new ≡ old)
 stepped_or old asked (Ok answer) new step = inl step
@@ -217,12 +235,14 @@ event_goes old new event result keeps stepped = elim (stepped_or old (asked_of e
     by (events.Ask request) step = ask_goes old new request result keeps (decided_makes old (decision_of old request) (plain result) new step)
     by (events.Write session block) step = same_goes old new result (write_same old session (span_of block) (plain result) new step)
     by (events.Settle session) step = inl (settle_goes old new session (plain result) keeps step)
+    by (events.SettleAll sessions) step = inl (settle_all_goes old new sessions (plain result) keeps step)
     by (events.ReplayOpen id position size) step = same_goes old new result (open_same old id position size (plain result) new step)
     by (events.ReplayPoll number most) step = same_goes old new result (poll_same old number most None (told_of old (events.ReplayPoll number most) result) new step)
     by (events.ReplayPollTo number most limit) step = same_goes old new result (poll_same old number most (Some limit) (told_of old (events.ReplayPollTo number most limit) result) new step)
     by (events.ReplayClose number) step = same_goes old new result (close_same old number (plain result) new step)
     by events.Sweep step = same_goes old new result (sweep_same old (plain result) new step)
     by (events.Verify id) step = same_goes old new result (verify_same old id (plain result) new step)
+    by events.Checkpoint step = same_goes old new result (checkpoint_same old (plain result) new step)
 
 -- ---- what an event leaves of recorded bytes
 
@@ -249,6 +269,11 @@ byte_below old new l p at byte below keeps has = record {
   inside = omega (arith, below, keeps.no_shorter, has.inside);
   is = keeps.same (offset_of l p) below ∙ has.is;
 }
+
+-- a checkpoint changes the other bank alone
+checkpoint_bytes : (bank : Bank) (old new : Life) (g : RegisterState) → ChangesThese (λ file. file ≡ bank_file bank) 7 old new → KeepsBytes (reads old.now) (reads new.now) g
+checkpoint_bytes bank old new g changes =
+    same_bytes (reads old.now) (reads new.now) g (λ id base. ap (λ (file : FileState). file.reads) (changes.others (Segment id base) (no_bank bank id base)))
 
 -- what a write says of the recording that is written, or of none
 
@@ -346,6 +371,8 @@ event_bytes : (e : EngineState) (event : Event) (new : Life) → KeepsDesk e.des
 event_bytes e (events.Ask request) new keeps touches = ask_bytes (command_in (decision_of e.desk request)) e.log.bank e.life new e.desk.register touches
 event_bytes e (events.Write session block) new keeps touches = write_bytes e.desk session block e.life new keeps touches
 event_bytes e (events.Settle session) new keeps touches = settle_bytes e.life new e.desk.register touches.segments
+event_bytes e (events.SettleAll sessions) new keeps touches = settle_bytes e.life new e.desk.register touches.segments
+event_bytes e events.Checkpoint new keeps touches = checkpoint_bytes (other_of e.log.bank) e.life new e.desk.register touches
 event_bytes e (events.ReplayOpen id position size) new keeps touches = quiet_bytes e.life new e.desk.register touches
 event_bytes e (events.ReplayPoll number most) new keeps touches = quiet_bytes e.life new e.desk.register touches
 event_bytes e (events.ReplayPollTo number most limit) new keeps touches = quiet_bytes e.life new e.desk.register touches

@@ -43,7 +43,7 @@ unmoved old event outcome beside no_fault no_sweep step ends = record {
 abbrev pub sweep_decision : DeskState → Result (Unit {0}) Refusal
 sweep_decision d = checked (sweep_tests d) checks (Ok tt)
 
-sweep_passes : (d : DeskState) (x : Unit {0}) → Ok x ≡ sweep_decision d
+pub sweep_passes : (d : DeskState) (x : Unit {0}) → Ok x ≡ sweep_decision d
     → passes (sweep_tests d) checks ≡ true
 sweep_passes d x is = (held (sweep_tests d) checks tt x (sym is)).0
 
@@ -52,7 +52,7 @@ is_not false is = refl
 is_not true is = absurd (true≢false (sym is))
 
 -- nothing has failed where it is let through
-sweep_works : (d : DeskState) (x : Unit {0}) → Ok x ≡ sweep_decision d → d.is_broken ≡ false
+pub sweep_works : (d : DeskState) (x : Unit {0}) → Ok x ≡ sweep_decision d → d.is_broken ≡ false
 sweep_works d x is = is_not d.is_broken (both (sweep_passes d x is)).0
 
 -- ---- what sessions wrote

@@ -6,7 +6,7 @@ use Rattle.engine_core.proofs.Words.{Block, ChangesFile, ChangesThese, Command, 
 use Rattle.disk_core.specs.Standing.{KeepsBelow}
 use Rattle.control_core.specs.declared.event.Event.TheVariants as events
 use Rattle.control_core.specs.Decided as decisions
-use Rattle.engine_core.specs.Touching.{SettlesBlocks, Touches, WantsMemory, WritesBlock, written_by}
+use Rattle.engine_core.specs.Touching.{SettlesBlocks, SettlesEach, Touches, WantsMemory, WritesBlock, written_by}
 use Rattle.engine_core.proofs.calls.ShownLemmas.{checked_not, comes_behind, is_memory}
 use Rattle.engine_core.proofs.calls.SweepCallLemmas.{one_refusal}
 use Rattle.engine_core.proofs.calls.Targets.{IsTarget}
@@ -66,6 +66,13 @@ nothing_written d session block life = record {
 pub nothing_settled : (e : EngineState) (session : ℤ) → SettlesBlocks e session e.life
 nothing_settled e session = record {
   changes = quiet_these _ 5 e.life e.life (still_quiet e.life);
+  segments = λ file a b. refl;
+}
+
+-- of several sessions
+pub nothing_settled_by : (e : EngineState) (sessions : List ℤ) → SettlesEach e sessions e.life
+nothing_settled_by e sessions = record {
+  changes = quiet_these _ (length sessions + 4) e.life e.life (still_quiet e.life);
   segments = λ file a b. refl;
 }
 

@@ -49,6 +49,7 @@ pub record HasLimits (d : Descriptor) : Type 0 where
   pub segment : is_term_length d.segment_length ≡ true
   pub no_less : d.term_length ≤ℤ d.segment_length
   pub mtu : is_mtu d.mtu ≡ true
+  pub origin : is_origin d.channel d.source_identity ≡ true
 
 limits_of : (d : Descriptor) → has_limits d ≡ true → HasLimits d
 unfolding has_limits
@@ -58,7 +59,7 @@ limits_of d is =
     let c : (((is_term_length d.term_length && is_term_length d.segment_length) && int_le d.term_length d.segment_length) ≡ true) × (is_mtu d.mtu ≡ true) = both b.0 in
     let e : ((is_term_length d.term_length && is_term_length d.segment_length) ≡ true) × (int_le d.term_length d.segment_length ≡ true) = both c.0 in
     let f : (is_term_length d.term_length ≡ true) × (is_term_length d.segment_length ≡ true) = both e.0 in
-    record { term = f.0; segment = f.1; no_less = le_true d.term_length d.segment_length e.1; mtu = c.1 }
+    record { term = f.0; segment = f.1; no_less = le_true d.term_length d.segment_length e.1; mtu = c.1; origin = b.1 }
 
 -- a recording that a compaction kept is laid
 kept_laid : (g : RegisterState) (d : Descriptor) → restores g d ≡ true → IsLaid (as_kept d)
@@ -78,6 +79,7 @@ kept_laid g d is =
         layout = record { term = limits.term; segment = limits.segment; no_less = limits.no_less; start = units.0; start_is = units.1; in_terms = omega (arith, ints, from, ends, units.1) };
         mtu = limits.mtu;
       };
+      origin = limits.origin;
       from_start = from;
       in_stream = ends;
       aligned = aligned_units d.stop_position h.1;

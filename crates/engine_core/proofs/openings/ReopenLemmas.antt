@@ -13,7 +13,7 @@ use Rattle.catalogue_log.proofs.CallerLemmas.{fault_refuses, same_image, told_in
 use Rattle.engine_core.specs.Catalogued.{LeavesCatalogue, OpensCatalogue}
 use Rattle.engine_core.specs.Making.{HasNotStarted}
 use Rattle.engine_core.specs.Opened.{HadFiles, HasNotOpened, HasOpened, IsDeskOf, IsFresh, IsNear, IsNotOpened, IsOpened, LeavesEither, NeitherMadeNorOpened, OpensBy}
-use Rattle.engine_core.specs.Opening.{IsMadeIn, RefusesNew, RefusesOpening}
+use Rattle.engine_core.specs.Opening.{IsMadeIn, MakesBanks, RefusesNew, RefusesOpening}
 use Rattle.engine_core.proofs.calls.EndedLemmas.{recovers_as}
 use Rattle.engine_core.proofs.openings.OpeningLemmas.{none_there, nothing_synced, one_there, read_synced}
 use Rattle.engine_core.proofs.openings.RestartLemmas.{active_same, opened_consistent, register_restarted}
@@ -268,7 +268,17 @@ module _ (old mid : Life) (quiet : IsQuiet old mid) where
       }
 
   -- no archive is made where no file is
-  pub unmade_behind : (new : Life) (limit : ℕ) (files : List FileId) (refusal : Refusal) → files ≡ [] → (IsTrue mid.obeys → AreFilesWith (λ file. IsSome (reads old.now file)) files) → DiskGoesOn mid new → ((refusal ≡ DeviceFault) × HasFailed mid new) ⊎ ((refusal ≡ NoMemory) × (new ≡ mid))
+  -- made after a listing
+  behind_quiet : (new : Life) → MakesBanks mid new → MakesBanks old new
+  behind_quiet new makes =
+      let first = quiet.faults in let then = makes.faults in let calls = makes.calls in let same : moment mid ≡ moment old = ap (λ (past : List Files). length past) quiet.past in record {
+        obeyed = λ obeys. quiet.obeyed (makes.obeyed obeys);
+        faults = omega (arith, first, then);
+        others = λ file not_a not_b. makes.others file not_a not_b ∙ ap (λ (files : Files). files file) quiet.now;
+        calls = omega (arith, same, calls);
+      }
+
+  pub unmade_behind : (new : Life) (limit : ℕ) (files : List FileId) (refusal : Refusal) → files ≡ [] → (IsTrue mid.obeys → AreFilesWith (λ file. IsSome (reads old.now file)) files) → MakesBanks mid new → ((refusal ≡ DeviceFault) × HasFailed mid new) ⊎ ((refusal ≡ NoMemory) × (new ≡ mid))
       → NeitherMadeNorOpened limit old new refusal
   unmade_behind new limit files refusal none all goes (inr memory) =
       inr (inl (
@@ -278,13 +288,13 @@ module _ (old mid : Life) (quiet : IsQuiet old mid) where
   unmade_behind new limit files refusal none all goes (inl failed) =
       inr (inl (
         (λ is. let wrong : BadParameter ≡ DeviceFault = sym is ∙ failed.0 in absurd cc),
-        subst (λ (r : Refusal). RefusesNew old new limit r) (sym failed.0) (still_failed new failed.1, inr (λ obeys. none_there old files none (all (goes.obeyed obeys)))),
+        subst (λ (r : Refusal). RefusesNew old new limit r) (sym failed.0) (still_failed new failed.1, inr ((λ obeys. none_there old files none (all (goes.obeyed obeys))), behind_quiet new goes)),
       ))
 
   -- where no file was, an archive was made
-  pub made_behind : (new : Life) (limit : ℕ) (files : List FileId) → files ≡ [] → (IsTrue mid.obeys → AreFilesWith (λ file. IsSome (reads old.now file)) files) → 1 ≤ limit → limit ≤ 16777216 → DiskGoesOn mid new → HasClosedGate new.now BankB
+  pub made_behind : (new : Life) (limit : ℕ) (files : List FileId) → files ≡ [] → (IsTrue mid.obeys → AreFilesWith (λ file. IsSome (reads old.now file)) files) → 1 ≤ limit → limit ≤ 16777216 → MakesBanks mid new → HasClosedGate new.now BankB
       → IsMadeIn old new limit
-  made_behind new limit files none all some most goes spare = record { some = some; most = most; empty = λ obeys. none_there old files none (all (goes.obeyed obeys)); spare = spare }
+  made_behind new limit files none all some most goes spare = record { some = some; most = most; empty = λ obeys. none_there old files none (all (goes.obeyed obeys)); spare = spare; banks = behind_quiet new goes }
 
   pub had_files : (new : Life) (files : List FileId) → (files ≡ [] → ⊥) → (IsTrue mid.obeys → AreFilesWith (λ file. IsSome (reads old.now file)) files) → DiskGoesOn mid new → HadFiles old new
   had_files new files some all goes obeys = one_there old files some (all (goes.obeyed obeys))

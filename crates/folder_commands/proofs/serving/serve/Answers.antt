@@ -25,7 +25,7 @@ returns-then-words g c =
     let warned : IsTrue c.warns_of_hidden.result = search rules in
     let strict : IsTrue c.args.words.now.is_strict = search rules in
     let new = closed_life c.close.result in
-    subst (ServesFolder g.given c.args.words.now (Some new)) (sym c.told.ensures)
+    subst (ServesFolder g.given c.args.words.now (Some new)) (sym c.reported.ensures)
     (not_looked g.given c.args.words.now _ _ c.in_ok-options.ensures c.in_ok-ports.ensures new (c.close.ensures ∙ c.in_ok-disk.ensures.begun) strict (c.warns_of_hidden.ensures warned))
 
 pub returns : goal.returns

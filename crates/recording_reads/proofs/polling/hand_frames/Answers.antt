@@ -1,4 +1,4 @@
-use Rattle.std.proofs.Common.{rules, refl, ◌≡◌, ◌∙◌, sym, ap, subst, ◌+ℤ◌, ◌<◌, ◌≤ℤ◌, ℤ, pos, to_z, of_z, w64, IsTrue, arith}
+use Rattle.std.proofs.Common.{rules, refl, ◌≡◌, ◌∙◌, sym, subst, ◌+ℤ◌, ◌<◌, ◌≤ℤ◌, ℤ, pos, to_z, of_z, w64, IsTrue, arith}
 use Rattle.std.proofs.lemmas.Int.{ints}
 use Rattle.std.specs.Prelude.{unsigned_abs}
 use Rattle.frame_core.specs.Block.{covered}
@@ -6,10 +6,8 @@ use Rattle.disk_core.specs.DiskImage.{reads}
 use Rattle.replay_core.specs.Pages.{KeepsRead, kept}
 use Rattle.replay_core.specs.Poll as paged
 use Rattle.replay_core.specs.Poll.{AgreeOn, MovesTo, ArePolled}
-use Rattle.replay_core.specs.Taking.{TookSome}
 use Rattle.archive_model.specs.Replay.{placed}
 use Rattle.archive_model.specs.State.{geometry_of}
-use Rattle.control_core.specs.Exact.{frames_end}
 use Rattle.recording_reads.specs.Handing.{BeginBy, TakesEach}
 use Rattle.recording_reads.specs.Recording.{layout_of}
 use Rattle.recording_reads.proofs.PlacedLemmas.{each_before, each_placed, placed_end, some_placed}

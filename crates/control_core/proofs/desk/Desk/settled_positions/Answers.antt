@@ -1,5 +1,5 @@
 -- What is known before the first of them is settled.
-use Rattle.std.proofs.Common.{◌≡◌, rules, map, sym, ap, ◌∙◌}
+use Rattle.std.proofs.Common.{rules, map, sym, ap, ◌∙◌}
 use Rattle.std.proofs.lemmas.List.{take_all}
 use Rattle.control_core.specs.Changes.{position_of}
 use Rattle.control_core.specs.Turns.{session_in}

@@ -9,7 +9,7 @@ use Rattle.server_recorder.proofs.seats.Seats.settle.Goals as goal
 pub settle_with_standing-requires-clause-pass : goal.settle_with_standing-requires-clause-pass
 settle_with_standing-requires-clause-pass g c =
     let items = c.self.inside.seats.items in
-    let n = c.args.session in
+    let n = c.args.seat in
     let below : n < length items = search rules in
     let gets = gets_at items n c.index_mut.result.now below c.index_mut.ensures.value in
     let table = g.A.Naming.table in
@@ -20,7 +20,7 @@ settle_with_standing-requires-clause-pass g c =
 pub settle_with_standing-requires-clause-writer : goal.settle_with_standing-requires-clause-writer
 settle_with_standing-requires-clause-writer g c =
     let items = c.self.inside.seats.items in
-    let n = c.args.session in
+    let n = c.args.seat in
     let below : n < length items = search rules in
     let gets = gets_at items n c.index_mut.result.now below c.index_mut.ensures.value in
     let table = g.A.Naming.table in
@@ -31,7 +31,7 @@ settle_with_standing-requires-clause-writer g c =
 pub invariant_of-self : goal.invariant_of-self
 invariant_of-self g c =
     let items = c.self.inside.seats.items in
-    let n = c.args.session in
+    let n = c.args.seat in
     let below : n < length items = search rules in
     let gets = gets_at items n c.index_mut.result.now below c.index_mut.ensures.value in
     let table = g.A.Naming.table in
@@ -43,7 +43,7 @@ invariant_of-self g c =
 pub returns : goal.returns
 returns g c =
     let items = c.self.inside.seats.items in
-    let n = c.args.session in
+    let n = c.args.seat in
     let below : n < length items = search rules in
     let gets = gets_at items n c.index_mut.result.now below c.index_mut.ensures.value in
     rw (← c.self.view_is) (calls_at n (Err StaleSession, None) (record { board = c.self.inside.board; seats = items }) c.index_mut.result.now c.settle_with_standing.new.self c.settle_with_standing.result (SettlesSession g.D.Disk.life g.A.Naming.opening) gets (record { answers = c.settle_with_standing.ensures.answers; unnoted = c.settle_with_standing.ensures.unnoted; standing = c.settle_with_standing.ensures.standing; raised = c.settle_with_standing.ensures.raised; refused = c.settle_with_standing.ensures.refused; session = c.settle_with_standing.ensures.session }))

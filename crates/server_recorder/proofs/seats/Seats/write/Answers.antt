@@ -9,7 +9,7 @@ use Rattle.server_recorder.proofs.seats.Seats.write.Goals as goal
 pub write-requires : goal.write-requires
 write-requires g c =
     let items = c.self.inside.seats.items in
-    let n = c.args.session in
+    let n = c.args.seat in
     let below : n < length items = search rules in
     let gets = gets_at items n c.index_mut.result.now below c.index_mut.ensures.value in
     let table = g.A.Naming.table in
@@ -20,7 +20,7 @@ write-requires g c =
 pub invariant_of-self : goal.invariant_of-self
 invariant_of-self g c =
     let items = c.self.inside.seats.items in
-    let n = c.args.session in
+    let n = c.args.seat in
     let below : n < length items = search rules in
     let gets = gets_at items n c.index_mut.result.now below c.index_mut.ensures.value in
     let table = g.A.Naming.table in
@@ -32,7 +32,7 @@ invariant_of-self g c =
 pub returns : goal.returns
 returns g c =
     let items = c.self.inside.seats.items in
-    let n = c.args.session in
+    let n = c.args.seat in
     let below : n < length items = search rules in
     let gets = gets_at items n c.index_mut.result.now below c.index_mut.ensures.value in
     rw (← c.self.view_is) (calls_at n (Err StaleSession) (record { board = c.self.inside.board; seats = items }) c.index_mut.result.now c.write.new.self c.write.result (WritesBlock g.D.Disk.life g.A.Naming.opening c.args.block) gets (record { answers = c.write.ensures.answers; unnoted = c.write.ensures.unnoted; same = c.write.ensures.same }))

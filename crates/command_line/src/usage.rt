@@ -1,0 +1,47 @@
+//! What is wrong with words of `serve` and `ask` that the command line itself allows. docs/CONTROL.md, "Standard error".
+
+use std::fmt;
+
+/// What is wrong with the words of `serve` or of `ask`.
+#[derive(Clone, Copy, Debug, PartialEq, Eq)]
+pub enum UsageError {
+    /// The word of `--receive-on` is no address.
+    Address,
+    /// The word of `--receive-on` is a multicast address.
+    Multicast,
+    /// The word of `--window` is not a multiple of 32 in its range.
+    Window,
+    /// `--window` comes without `--aeron`.
+    NeedsAeron,
+    /// `--record` comes without `--aeron`.
+    RecordNeedsAeron,
+    /// `--record` comes too often.
+    Streams,
+    /// `--segment-length` comes without `--record`.
+    NeedsRecord,
+    /// The word of `--segment-length` is not a power of two in its range.
+    SegmentLength,
+    /// Lines may not be sent at once.
+    Lines,
+    /// The word of `--until` is more than one line.
+    Until,
+}
+
+impl fmt::Display for UsageError {
+    fn fmt<W: fmt::Write>(&self, f: &mut fmt::Formatter<W>) -> fmt::Result {
+        f.write_str(match self {
+            UsageError::Address => "--receive-on wants an IPv4 address",
+            UsageError::Multicast => {
+                "--receive-on wants an address of this machine, not a multicast address"
+            }
+            UsageError::Window => "--window wants a multiple of 32",
+            UsageError::NeedsAeron => "--window needs --aeron",
+            UsageError::RecordNeedsAeron => "--record needs --aeron",
+            UsageError::Streams => "--record may be given at most 64 times",
+            UsageError::NeedsRecord => "--segment-length needs --record",
+            UsageError::SegmentLength => "--segment-length wants a power of two",
+            UsageError::Lines => "lines have no line feed, and with their ends at most 65536 bytes",
+            UsageError::Until => "--until wants a line without a line feed",
+        })
+    }
+}

@@ -1,0 +1,9 @@
+mod BytesLemmas
+mod CopyLemmas
+mod DatagramLemmas
+mod HoldLemmas
+mod MadeLemmas
+mod MeetingLemmas
+mod PositionLemmas
+mod ReachLemmas
+mod ReadLemmas

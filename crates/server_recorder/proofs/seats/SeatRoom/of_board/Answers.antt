@@ -1,0 +1,6 @@
+-- The writers of a new board have raised nothing.
+use Rattle.server_recorder.proofs.SeatLemmas.{new_are_new}
+use Rattle.server_recorder.proofs.seats.SeatRoom.of_board.Goals as goal
+
+pub of_parts-requires-clause-writers : goal.of_parts-requires-clause-writers
+of_parts-requires-clause-writers c = new_are_new c.args.board c.args.starts.now c.args.writers.items c.requires.writers

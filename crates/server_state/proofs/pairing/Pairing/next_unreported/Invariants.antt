@@ -1,0 +1,7 @@
+use Rattle.std.proofs.Common.{◌≡◌, ◌<◌, ℕ, None}
+use Rattle.server_state.specs.Noting.{unreported_image}
+use Rattle.server_state.proofs.pairing.Pairing.next_unreported.Given as goal
+
+-- nothing is left to report of the sessions before
+abbrev pub invariant-loop-seat : goal.invariant-loop-seat
+invariant-loop-seat l = (l.self ≡ l.fn.self) × ((n : ℕ) → n < l.seat → unreported_image n l.self.pairs l.self.reported ≡ None)

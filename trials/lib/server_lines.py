@@ -1,0 +1,25 @@
+"""What a server prints while nothing fails: docs/SERVING.md, "What the server prints"."""
+import re
+
+from lib.tool import expect
+
+COUNTS = r"bytes recorded \d+, datagrams lost \d+, NAKs \d+"
+CALM = re.compile(
+    r"control lines on [0-9.:]+, datagrams on [0-9.:]+"
+    r"|a new archive was made, as there was none"
+    r"|the archive is open"
+    r"|image \d+ joined from [0-9.:]+: stream -?\d+, session id -?\d+, initial term -?\d+, term length \d+, mtu \d+, position \d+"
+    r"|image \d+ feeds session \d+"
+    r"|image \d+ is sent no status messages: its MTU of \d+ bytes is longer than its window"
+    rf"|image \d+ has left: {COUNTS}"
+    r"|the last of 64 images is used: .*"
+    r"|all 64 places of images are taken: .*"
+    r"|a connection ended and left replays open:(?: \d+)+"
+    r"|\d+ of the \d+ entries of the history are used, \d+ are left"
+    rf"|ended: connections \d+, datagrams \d+, images \d+, {COUNTS}"
+)
+
+
+def expect_calm(errors: str) -> None:
+    """Asks that a server's standard error has only these lines."""
+    expect("lines of a server that are of a failure, or unknown", [line for line in errors.splitlines() if not CALM.fullmatch(line)], [])
