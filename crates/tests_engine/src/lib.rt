@@ -12,6 +12,8 @@ mod crashes;
 #[cfg(test)]
 mod damage;
 #[cfg(test)]
+mod groups;
+#[cfg(test)]
 mod handing;
 #[cfg(test)]
 mod merging;
