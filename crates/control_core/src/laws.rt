@@ -131,8 +131,8 @@ pub fn an_answered_call_makes_what_it_asks_for()
 pub fn what_several_sessions_settle_is_known_before()
     ensures sessions { (d : DeskState) (numbers : List ℤ) → IsTrue (are_once numbers) →
         sessions_each numbers d ≡ map (session_in d) numbers }
-    ensures positions { (d : DeskState) (numbers : List ℤ) → AreApart d.callers.sessions → IsTrue (are_once numbers) →
-        positions_each numbers d ≡ map (λ n. position_of d (session_in d n)) numbers }
+    ensures positions { (d : DeskState) (numbers : List ℤ) → AreApart d.callers.sessions →
+        IsTrue (are_once numbers) → positions_each numbers d ≡ map (λ n. position_of d (session_in d n)) numbers }
 {}
 
 /// What a call is answered exactly, with the frames, is one of the answers that the desk machine allows, which knows none:
