@@ -110,11 +110,7 @@ fn text_before(alloc: Global) -> Result<Vec<u8>, Refusal> {
 }
 
 /// A checkpoint behind so many others on a disk that stops after so many changes of it: what is answered, and the disk.
-fn stopped(
-    alloc: Global,
-    checkpoints: u64,
-    changes: u64,
-) -> Result<(bool, MemoryDisk), Refusal> {
+fn stopped(alloc: Global, checkpoints: u64, changes: u64) -> Result<(bool, MemoryDisk), Refusal> {
     let mut disk = MemoryDisk::new(alloc);
     let so_far = disk_before(alloc, checkpoints)?.changes();
     disk.stop_after(so_far.wrapping_add(changes));
@@ -195,7 +191,10 @@ fn all_goes_on_in_the_new_bank(rt: HostRuntime) -> Result<(), Fail> {
         assert!(rt;
             catalogue_of(rt.alloc(), disk.crash(&[0])?)? == (checkpoints.wrapping_add(1), 5)
         );
-        assert!(rt; all_leave(rt.alloc(), &disk, text.as_slice())?, "{checkpoints}");
+        assert!(rt;
+            all_leave(rt.alloc(), &disk, text.as_slice())?,
+            "{checkpoints}"
+        );
     }
     Ok(())
 }

@@ -176,7 +176,9 @@ fn numbers_stand_once_and_are_64_at_most(rt: HostRuntime) -> Result<(), Fail> {
     let most = numbers.as_slice();
     assert!(rt; is_refused(rt.alloc(), &mut engine, most, Refusal::BadParameter)?);
     let positions = settled(rt.alloc(), &mut engine, most.get(..64).unwrap_or(&[]))?;
-    assert!(rt; positions.as_slice().get(..4) == Some([Some(64), Some(128), Some(0), None].as_slice()));
+    assert!(rt;
+        positions.as_slice().get(..4) == Some([Some(64), Some(128), Some(0), None].as_slice())
+    );
     let changes = engine.into_disk().changes();
     assert!(rt; changes == BEFORE + CHANGES);
     Ok(())
