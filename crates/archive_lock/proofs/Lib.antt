@@ -3,8 +3,6 @@ mod AheadLemmas
 mod RunLemmas
 mod DiskLemmas
 mod HistoryLemmas
-mod HandingLemmas
-mod AnswerWalks
 mod SpanLemmas
 mod HeldLemmas
 mod KeptLemmas

@@ -9,6 +9,4 @@ pub mod Records
 pub mod Closing
 -- What lies under the lock, and the name of no archive.
 pub mod Held
--- A poll whose frames are handed on.
-pub mod Handing
 pub mod Names

@@ -1,7 +1,6 @@
 //! An archive that threads share: one lock, and one history of their calls.
 #![tactic(auto)]
 
-mod handing;
 mod held;
 mod history;
 pub mod laws;

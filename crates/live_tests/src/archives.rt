@@ -6,7 +6,6 @@ ghost use Rattle.call_history.specs.Passes.{AllOfTable, new_passes};
 
 use crate::agents::{gated_pairs, two_pairs};
 use crate::failing::{Left, each_again, faults, left_on, reads_again};
-use crate::handed_on::handed_on;
 use crate::held_back::one_pair;
 use crate::refused_turns::{damaged_turns, reopened, turned_again};
 use crate::scenarios::{bounded_part, breaks, missing_pass};
@@ -39,7 +38,6 @@ pub(crate) enum Scenario {
     Fault(u64),
     EachAgain,
     ReadAgain,
-    HandedOn,
 }
 
 /// A disk that tells how many changes it has seen.
@@ -192,7 +190,6 @@ fn play<D: Disk + Drop + Send + Counted, A: Naming + Send + Sync, R: Threads + W
         Scenario::Fault(call) => faults(rt, alloc, archive, seats, call),
         Scenario::EachAgain => each_again(rt, alloc, archive, seats),
         Scenario::ReadAgain => reads_again(rt, alloc, archive, seats),
-        Scenario::HandedOn => handed_on(rt, alloc, archive, seats, keeps),
     }
 }
 

@@ -15,7 +15,6 @@ mod crowds;
 #[cfg(test)]
 mod failing;
 #[cfg(test)]
-mod handed_on;
 #[cfg(test)]
 mod held_back;
 #[cfg(test)]

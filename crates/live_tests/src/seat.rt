@@ -8,9 +8,7 @@ use call_history::Pass;
 use control_core::Event;
 use control_lines::{Line, parse_line, print_refusal, print_reply};
 use disk_core::Disk;
-use engine_core::Poll;
 use frame_core::{Refusal, block_of};
-use replay_core::FrameTaker;
 use std::alloc::Global;
 use std::marker::PhantomData;
 use std::process::Abort;
@@ -61,18 +59,6 @@ impl<A: Naming> Seat<A> {
         event: &Event,
     ) -> Result<Reply, Refusal> {
         archive.call(rt, alloc, &mut self.pass, event)
-    }
-
-    /// What the archive answers to a poll whose frames are handed on to a taker.
-    pub fn hand_on<D: Disk, R: Wait, T: FrameTaker>(
-        &mut self,
-        rt: &R,
-        alloc: Global,
-        archive: &SharedArchive<D, A>,
-        poll: &Poll,
-        taker: &mut T,
-    ) -> Result<Option<i64>, Refusal> {
-        archive.hand_on(rt, alloc, &mut self.pass, poll, taker)
     }
 
     /// What the archive answers to a line. Bytes of a block are read by the terms of their session first.
