@@ -5,6 +5,7 @@ mod DiskLemmas
 mod HistoryLemmas
 mod SpanLemmas
 mod HeldLemmas
+mod SeveralLemmas
 mod KeptLemmas
 mod TogetherLemmas
 mod DurableLemmas
