@@ -45,7 +45,11 @@ impl<D: Disk> StoredArchive<D> {
     ///
     /// The refusals of docs/CONTROL.md, "Refusals"; `NoMemory`, before the first call of the disk, which leaves what was written
     /// to be settled; `DeviceFault` where the disk fails, with the archive broken. Costs the open sessions for each number.
-    pub(crate) fn settle_all(&mut self, alloc: Global, sessions: &Items<i64>) -> Result<Reply, Refusal>
+    pub(crate) fn settle_all(
+        &mut self,
+        alloc: Global,
+        sessions: &Items<i64>,
+    ) -> Result<Reply, Refusal>
         ensures ends { HasEnded D.life self.old self.new (events.SettleAll sessions.now) result }
         ensures touches { SettlesEach (state_of D.life self.old) sessions.now (D.life self.new.storage.disk) }
         ensures memory { WantsMemory self.old.desk.state (events.SettleAll sessions.now) result }
@@ -110,7 +114,8 @@ impl Group {
         ensures entries { OnOk result (self.new.entries.items
             ≡ self.old.entries.items ++ entry_of_session (session_in desk.now.state session.now)) }
         ensures segments { OnOk result (self.new.segments.items
-            ≡ self.old.segments.items ++ segment_of_session desk.now.state (session_in desk.now.state session.now)) }
+            ≡ self.old.segments.items
+            ++ segment_of_session desk.now.state (session_in desk.now.state session.now)) }
         ensures refused { IfErr result (λ refusal. refusal ≡ NoMemory) }
     {
         let Some(writer) = desk.session(session) else {
@@ -119,7 +124,8 @@ impl Group {
         let Some(written) = writer.found.session.written else {
             return Ok(());
         };
-        self.segments.push(segment_of(desk, session, &writer, &written))?;
+        self.segments
+            .push(segment_of(desk, session, &writer, &written))?;
         self.entries.push(Entry::Settle {
             recording: writer.found.session.recording,
             position: written.last,
