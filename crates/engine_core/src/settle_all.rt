@@ -114,7 +114,8 @@ impl Group {
         ensures entries { OnOk result (self.new.entries.items
             ≡ self.old.entries.items ++ entry_of_session (session_in desk.now.state session.now)) }
         ensures segments { OnOk result (self.new.segments.items
-            ≡ self.old.segments.items ++ segment_of_session desk.now.state (session_in desk.now.state session.now)) }
+            ≡ self.old.segments.items
+            ++ segment_of_session desk.now.state (session_in desk.now.state session.now)) }
         ensures refused { IfErr result (λ refusal. refusal ≡ NoMemory) }
     {
         let Some(writer) = desk.session(session) else {

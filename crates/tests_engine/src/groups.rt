@@ -141,9 +141,12 @@ fn is_refused(
     refusal: Refusal,
 ) -> Result<bool, Refusal> {
     let counted = engine.desk().counted();
-    let outcome = settled(alloc, engine, numbers);
+    let is_refused = match settled(alloc, engine, numbers) {
+        Ok(_) => false,
+        Err(found) => found == refusal,
+    };
     let desk = engine.desk();
-    Ok(outcome == Err(refusal) && desk.counted() == counted && !desk.is_broken())
+    Ok(is_refused && desk.counted() == counted && !desk.is_broken())
 }
 
 #[test]
@@ -158,10 +161,10 @@ fn a_full_history_refuses_a_group_whole(rt: HostRuntime) -> Result<(), Fail> {
     Ok(())
 }
 
-/// The numbers from 0 to 64.
-fn too_many(alloc: Global) -> Result<Vec<i64>, AllocError> {
+/// So many numbers, from 0 on.
+fn numbers_below(alloc: Global, count: i64) -> Result<Vec<i64>, Refusal> {
     let mut numbers = Vec::new(alloc);
-    for number in 0..65i64 {
+    for number in 0..count {
         numbers.push(number)?;
     }
     Ok(numbers)
@@ -172,13 +175,20 @@ fn numbers_stand_once_and_are_64_at_most(rt: HostRuntime) -> Result<(), Fail> {
     let mut engine = written(rt.alloc(), MemoryDisk::new(rt.alloc()), 16)?;
     assert!(rt; is_refused(rt.alloc(), &mut engine, &[0, 1, 0], Refusal::BadParameter)?);
     assert!(rt; is_refused(rt.alloc(), &mut engine, &[9, 9], Refusal::BadParameter)?);
-    let numbers = too_many(rt.alloc())?;
-    let most = numbers.as_slice();
-    assert!(rt; is_refused(rt.alloc(), &mut engine, most, Refusal::BadParameter)?);
-    let positions = settled(rt.alloc(), &mut engine, most.get(..64).unwrap_or(&[]))?;
+    let many = numbers_below(rt.alloc(), 65)?;
     assert!(rt;
-        positions.as_slice().get(..4) == Some([Some(64), Some(128), Some(0), None].as_slice())
+        is_refused(
+            rt.alloc(),
+            &mut engine,
+            many.as_slice(),
+            Refusal::BadParameter
+        )?
     );
+    let most = numbers_below(rt.alloc(), 64)?;
+    let positions = settled(rt.alloc(), &mut engine, most.as_slice())?;
+    assert!(rt; positions.len() == 64);
+    let first = settled(rt.alloc(), &mut engine, &[0, 1, 2, 3])?;
+    assert!(rt; first.as_slice() == [Some(64), Some(128), Some(0), None].as_slice());
     let changes = engine.into_disk().changes();
     assert!(rt; changes == BEFORE + CHANGES);
     Ok(())
