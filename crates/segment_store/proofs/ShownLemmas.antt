@@ -23,7 +23,7 @@ use Rattle.segment_store.specs.Reading.{RefusesPayload, TellsPayload, encoded_si
 use Rattle.segment_store.proofs.ReadLemmas.{belongs_header, belongs_stored, front_holds, shown_begins}
 
 -- what a window has from an offset on
-pub record HasFrom (file : List ℕ) (offset : ℕ) (bytes : List ℕ) : Type 0 where
+pub record HasNumbersFrom (file : List ℕ) (offset : ℕ) (bytes : List ℕ) : Type 0 where
   pub size : ℕ
   pub are : bytes ≡ take size (drop offset file)
   pub enough : (32 ≤ size) ⊎ (size ≡ min 65536 (length file - offset))
@@ -89,7 +89,7 @@ module _ (image : DiskImage) (l : Layout) (g : Geometry) (limit : ℤ) (p : ℕ)
   size_same Heartbeat f = refl
 
   -- a frame that is shown has its header in front, belongs there and is whole
-  pub shown_header : (f : Frame) → HasFrom file (offset_of l p) bytes → ShowsFrame image l g limit p f
+  pub shown_header : (f : Frame) → HasNumbersFrom file (offset_of l p) bytes → ShowsFrame image l g limit p f
       → StartsWithHeader bytes (without_payload f) × (belongs_at l g p limit (without_payload f) ≡ true) × (offset_of l p + encoded_size (without_payload f) ≤ length file)
   shown_header f has shown =
       let last = shown.stands (length (encoded f) - 1) (omega (arith, length-encoded f)) in
@@ -125,7 +125,7 @@ module _ (image : DiskImage) (l : Layout) (g : Geometry) (limit position : ℤ) 
   there : WereRead → bytes ≡ take asked (drop (offset_of l p) all)
   there read = read ∙ ap (λ (n : ℕ). take asked (drop n (bytes_of (image file)))) offset_is ∙ ap (λ (xs : List ℕ). take asked (drop (offset_of l p) xs)) same_file
 
-  has : WereRead → HasFrom all (offset_of l p) bytes
+  has : WereRead → HasNumbersFrom all (offset_of l p) bytes
   has read = record { size = asked; are = there read; enough = inl room }
 
   -- where no header in front of them belongs there, no frame is shown

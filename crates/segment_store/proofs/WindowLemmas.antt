@@ -14,7 +14,7 @@ use Rattle.segment_store.specs.Layout.{file_of, offset_of}
 use Rattle.segment_store.specs.DamagedFrame.{belongs_at}
 use Rattle.segment_store.specs.Reading.{encoded_size}
 use Rattle.segment_store.specs.Window.{Covers, FrameEndsAt, IsWindow, StartsAt}
-use Rattle.segment_store.proofs.ShownLemmas.{HasFrom, header_shown}
+use Rattle.segment_store.proofs.ShownLemmas.{HasNumbersFrom, header_shown}
 
 -- a part of what was read
 part_of : (file bytes : List ℕ) (count offset start : ℕ) → take count bytes ≡ take count (drop offset file) → start ≤ count → take (count - start) (drop start bytes) ≡ take (count - start) (drop (offset + start) file)
@@ -35,7 +35,7 @@ header_ends image l g limit p bytes header size are starts belongs whole end is 
 pub window_has : (image : DiskImage) (w : Window) (spot : Spot) (l : Layout) (p : ℕ) (bytes : List ℕ) → IsWindow image w → Covers w spot ⊎ StartsAt spot w
     → spot.file ≡ file_of l p → spot.offset ≡ offset_of l p
     → bytes ≡ take (min w.count 65536 - min (spot.offset - w.offset) (min w.count 65536)) (drop (min (spot.offset - w.offset) (min w.count 65536)) w.bytes)
-    → HasFrom (bytes_of (image (file_of l p))) (offset_of l p) bytes × (w.length ≡ length (bytes_of (image (file_of l p))))
+    → HasNumbersFrom (bytes_of (image (file_of l p))) (offset_of l p) bytes × (w.length ≡ length (bytes_of (image (file_of l p))))
 window_has image w spot l p bytes window has file_is offset_is are =
     let file : List ℕ = bytes_of (image w.file) in
     let start : ℕ = min (spot.offset - w.offset) (min w.count 65536) in
@@ -49,5 +49,5 @@ window_has image w spot l p bytes window has file_is offset_is are =
       | inl covers ↦ inl (omega (arith, covers.behind, covers.within, count))
       | inr starts ↦ inr (omega (arith, starts.offset, offset_is, window.count_is))
     ] in
-    subst (λ (f : FileId). HasFrom (bytes_of (image f)) (offset_of l p) bytes × (w.length ≡ length (bytes_of (image f)))) same_file
+    subst (λ (f : FileId). HasNumbersFrom (bytes_of (image f)) (offset_of l p) bytes × (w.length ≡ length (bytes_of (image f)))) same_file
     (record { size = w.count - start; are = read; enough = enough }, window.length_is)

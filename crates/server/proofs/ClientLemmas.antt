@@ -10,7 +10,7 @@ use Rattle.disk_core.specs.Life.{Life}
 use Rattle.engine_core.specs.Engine.{EngineState}
 use Rattle.server.specs.Answering.{ClientView, ClosesReplay, ClosesEach}
 use Rattle.server.specs.Clients.{AreBack, IsBack}
-use Rattle.server_recorder.specs.Seats.{AreClientPasses, HasFrom}
+use Rattle.server_recorder.specs.Seats.{AreClientPasses, HasNumbersFrom}
 
 -- what is known of a result that is Ok, or that is not
 pub ok_part : {T E : Type 0} (P : T → Type 0) (r : Result T E) (value : T) → r ≡ Ok value → IfOk r P → P value
@@ -72,7 +72,7 @@ back_has n [] news back has = absurd cc
 back_has n (o ∷ os) [] back has = absurd back
 back_has n (o ∷ os) (m ∷ ms) back has = rw (back.0).number (either (eqb o.number n) (has_number n os) (has_number n ms) has (back_has n os ms back.1))
 
-pub back_from : (k count : ℕ) (olds news : List (PassView Made)) → AreBack olds news → HasFrom k count olds → HasFrom k count news
+pub back_from : (k count : ℕ) (olds news : List (PassView Made)) → AreBack olds news → HasNumbersFrom k count olds → HasNumbersFrom k count news
 back_from k count olds news back has = λ n from below. back_has n olds news back (has n from below)
 
 pub back_clients : (table : TableId) (count : ℕ) (olds news : List (PassView Made)) → AreBack olds news → AreClientPasses table count olds → AreClientPasses table count news
