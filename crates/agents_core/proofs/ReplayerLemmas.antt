@@ -1,6 +1,7 @@
 -- A replayer's turns, one after another.
 use Rattle.std.proofs.Common.{◌≡◌, ◌+◌, ◌++◌, ◌≤ℤ◌, ◌∙◌, inl, inr, ℕ, ℤ, Bool, true, false, true≢false, List, [], ◌∷◌, length, Option, Some, None, Result, Ok, Err, sym, refl, ap, subst, append_assoc, arith, length-append}
 use Rattle.std.specs.Prelude.{◌⊎◌, ◌&&◌, MatchResult, is_none, not}
+use Rattle.std.specs.Result.{is_err}
 use Rattle.std.specs.Bool.{MatchBool}
 use Rattle.std.specs.Option.{option_or}
 use Rattle.std.proofs.lemmas.Int.{ints}
@@ -20,7 +21,7 @@ use Rattle.position_board.specs.Positions.{seen_at}
 use Rattle.archive_lock.specs.declared.history.Made.{Made}
 use Rattle.archive_lock.specs.History.{EndsWithAnswer, IsNoted}
 use Rattle.agents_core.specs.declared.replayer.Replayer.{Replayer}
-use Rattle.agents_core.specs.Replayers.{FeedsSink, ReplayerRan, RisesBetween, goes_on_after}
+use Rattle.agents_core.specs.Replayers.{FeedsSink, HasNotLooked, MakesOnePoll, ReplayerRan, RisesBetween, goes_on_after}
 use Rattle.recorder_seats.specs.Poll.{frames_of_reply}
 use Rattle.recorder_seats.proofs.AnswerLemmas.{IsPolledReply}
 use Rattle.agents_core.proofs.RecorderLemmas.{IsNotedCall, noted_call, refused_how}
@@ -28,13 +29,20 @@ use Rattle.recorder_seats.proofs.SeatLemmas.{each_append}
 
 -- ---- lists
 
-rises_from : (low mid high : ℤ) (xs : List ℤ) → low ≤ℤ mid → RisesBetween mid xs high → RisesBetween low xs high
-rises_from low mid high [] le rises = omega (arith, ints)
-rises_from low mid high (x ∷ xs) le rises = let first = rises.0 in (omega (arith, ints), rises.1)
-
 rises_append : (low mid high : ℤ) (xs ys : List ℤ) → RisesBetween low xs mid → RisesBetween mid ys high → RisesBetween low (xs ++ ys) high
-rises_append low mid high [] ys these those = rises_from low mid high ys these those
+rises_append low mid high [] ys these those = subst (λ (x : ℤ). RisesBetween x ys high) these those
 rises_append low mid high (x ∷ xs) ys these those = (these.0, rises_append x mid high xs ys these.1 those)
+
+-- ---- results
+
+-- what holds of a result that is refused, or that is not
+pub if_err : {T E : Type 0} (A B : Type 0) (r : Result T E) → is_err r ≡ true → MatchResult r (λ _. A) (λ _. B) → B
+if_err A B (Ok value) is h = absurd (true≢false (sym is))
+if_err A B (Err error) is h = h
+
+pub if_ok : {T E : Type 0} (A B : Type 0) (r : Result T E) → is_err r ≡ false → MatchResult r (λ _. A) (λ _. B) → A
+if_ok A B (Ok value) is h = h
+if_ok A B (Err error) is h = absurd (true≢false is)
 
 -- ---- what a sink took
 
@@ -126,7 +134,7 @@ module _ {K : Type 0} (takes : K → List PolledFrame → Bool → K → Type 0)
     added = [];
     looked = sym (append-nil r.looked.items);
     looks = inl refl;
-    rising = omega (arith, ints);
+    rising = refl;
     refused = refl;
     replay = refl;
     max = refl;
@@ -135,6 +143,26 @@ module _ {K : Type 0} (takes : K → List PolledFrame → Bool → K → Type 0)
     number = refl;
     reader = refl;
   }
+
+  -- a look that found no memory
+  pub turn_unlooked : (old mid : Replayer K) → HasNotLooked old mid → ReplayerRan takes old (record mid { refused = Some NoMemory }) false (Some NoMemory)
+  turn_unlooked old mid un = subst (λ (m : Replayer K). ReplayerRan takes old (record m { refused = Some NoMemory }) false (Some NoMemory)) (sym un.rest) (record {
+    calls = [];
+    own = sym (append-nil old.pass.own);
+    polls = tt;
+    taken = (refl, refl);
+    added = [];
+    looked = un.kept ∙ sym (append-nil old.looked.items);
+    looks = inl refl;
+    rising = refl;
+    refused = refl;
+    replay = refl;
+    max = refl;
+    slot = refl;
+    pass = refl;
+    number = refl;
+    reader = refl;
+  })
 
   -- turns, of which none was refused, and then turns
   pub replayer_more : (old mid new : Replayer K) (goes_on : Bool) (stop : Option Refusal) → ReplayerRan takes old mid true None → ReplayerRan takes mid new goes_on stop → ReplayerRan takes old new goes_on stop
@@ -182,7 +210,7 @@ module _ {K : Type 0} (takes : K → List PolledFrame → Bool → K → Type 0)
     (rises : seen_at old.slot old.reader ≤ℤ position) (now : seen_at old.slot new.reader ≡ position) (replay : new.replay ≡ old.replay) (max : new.max ≡ old.max) (slot : new.slot ≡ old.slot) (pass : new.pass.table ≡ old.pass.table)
     (number : new.pass.number ≡ old.pass.number) (reader : new.reader.table ≡ old.reader.table) where
   rising : RisesBetween (seen_at old.slot old.reader) (position ∷ []) (seen_at old.slot new.reader)
-  rising = (rises, omega (arith, ints))
+  rising = (rises, now)
 
   -- a poll was answered, and its frames taken
   pub turn_polled : (reply : Reply) (frames : List PolledFrame) (wants_more goes : Bool) → EndsWithAnswer life opening old.pass (ReplayPoll old.replay old.max) (Ok reply) new.pass → frames ≡ frames_of_reply reply → takes old.sink frames wants_more new.sink
@@ -261,3 +289,7 @@ one_refused life opening p q event refusal answers unnoted = by (refused_how lif
     by : IsNotedCall p event (Err refusal) q ⊎ ((refusal ≡ NoMemory) × (q ≡ p)) → ((call : Made) × (q.own ≡ p.own ++ call ∷ [])) ⊎ ((q.own ≡ p.own) × (Some refusal ≡ Some NoMemory))
     by (inl noted) = inl (noted.call, noted.own)
     by (inr none) = inr (ap (λ (v : PassView Made). v.own) none.1, ap Some none.0)
+
+-- none was made where there was no memory to look
+pub no_poll : {K : Type 0} (old mid : Replayer K) → HasNotLooked old mid → MakesOnePoll old (record mid { refused = Some NoMemory })
+no_poll {K} old mid un = inr (ap (λ (m : Replayer K). m.pass.own) un.rest, refl)

@@ -30,14 +30,14 @@ module _ {K : Type 0} (takes : K → List PolledFrame → Bool → K → Type 0)
       × MatchBool (goes_on_after reply wants_more) (FeedsSink mid calls goes_on stop new) ((calls ≡ []) × (goes_on ≡ false) × (stop ≡ None) × (new ≡ mid)))
       (λ refusal. (calls ≡ []) × (goes_on ≡ false) × (stop ≡ Some refusal) × (new ≡ old))
 
--- positions that never fall, from one to another
+-- positions that never fall, from one on, and the last of them; that one itself if there are none
 abbrev pub RisesBetween : ℤ → List ℤ → ℤ → Type 0
-RisesBetween low [] high = low ≤ℤ high
+RisesBetween low [] high = high ≡ low
 RisesBetween low (x ∷ xs) high = (low ≤ℤ x) × RisesBetween x xs high
 
 -- What a replayer did, whether it may go on, and what refused it, if something did: its pass gained polls of its replay, and
--- its sink took the frames of those that were answered Ok, and no others. No poll follows one that ends the replayer. Before each
--- poll it looked at its slot, and kept the position. Its pass keeps its number.
+-- its sink took the frames of those that were answered Ok, and no others. No poll follows one that ends the replayer. For each poll
+-- it looked at its slot once, and kept the position: those are all that its reader saw there, in order. Its pass keeps its number.
 pub record ReplayerRan {K : Type 0} (takes : K → List PolledFrame → Bool → K → Type 0) (old new : Replayer K) (goes_on : Bool) (stop : Option Refusal) : Type 0 where
   pub calls : List Made
   pub own : new.pass.own ≡ old.pass.own ++ calls
@@ -54,6 +54,21 @@ pub record ReplayerRan {K : Type 0} (takes : K → List PolledFrame → Bool →
   pub pass : new.pass.table ≡ old.pass.table
   pub number : new.pass.number ≡ old.pass.number
   pub reader : new.reader.table ≡ old.reader.table
+
+-- A replayer looked at its slot once, and kept the position, which its reader saw. But for that it is as it was before the look:
+-- it made no call in between.
+pub record HasLooked {K : Type 0} (old new : Replayer K) : Type 0 where
+  pub position : ℤ
+  pub kept : new.looked.items ≡ old.looked.items ++ position ∷ []
+  pub rises : seen_at new.slot old.reader ≤ℤ position
+  pub seen : seen_at new.slot new.reader ≡ position
+  pub reader : new.reader.table ≡ old.reader.table
+  pub rest : old ≡ record new { reader = old.reader; looked = old.looked }
+
+-- It did not look: it is as it was, but for room that it may have made.
+pub record HasNotLooked {K : Type 0} (old new : Replayer K) : Type 0 where
+  pub kept : new.looked.items ≡ old.looked.items
+  pub rest : new ≡ record old { looked = new.looked }
 
 -- One turn made one poll; or none for want of memory, which is kept.
 abbrev pub MakesOnePoll : {K : Type 0} → Replayer K → Replayer K → Type 0

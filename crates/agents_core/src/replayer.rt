@@ -1,8 +1,8 @@
 //! A replayer: looks at a slot, polls a replay, and hands on the frames. docs/ARCHITECTURE.md, "Agents".
 
-ghost use Rattle.std.specs.Prelude.{◌≡◌, ◌<◌, Option};
+ghost use Rattle.std.specs.Prelude.{◌≡◌, ◌<◌, MatchResult, Option};
 ghost use Rattle.frame_core.specs.declared.refusal.Refusal.{Refusal};
-ghost use Rattle.agents_core.specs.Replayers.{MakesOnePoll, ReplayerEnded, ReplayerRan};
+ghost use Rattle.agents_core.specs.Replayers.{HasLooked, HasNotLooked, MakesOnePoll, ReplayerEnded, ReplayerRan};
 
 use crate::frame_sink::FrameSink;
 use crate::gate::{Gate, Signals};
@@ -13,7 +13,8 @@ use disk_core::Disk;
 use frame_core::Refusal;
 use position_board::{Board, Reader};
 use recorder_seats::polled;
-use std::alloc::Global;
+use std::alloc::{AllocError, Global};
+use std::snapshot::Snapshot;
 use std::sync::Wait;
 
 /// An agent that gives a replay's frames to a sink.
@@ -53,12 +54,41 @@ impl<K: FrameSink> Replayer<K> {
         ensures ran { (stop : Option Refusal) × ReplayerRan K.takes self.old self.new result stop }
         ensures one { MakesOnePoll self.old self.new }
     {
-        if self.looked.reserve(1).is_err() {
+        let before = Snapshot::of(self);
+        if self.look(board).is_err() {
             self.refused = Some(Refusal::NoMemory);
             return false;
         }
+        self.poll(rt, alloc, archive, before)
+    }
+
+    /// Looks at its slot once, and keeps the position. If there is no memory to keep it, it does not look.
+    fn look(&mut self, board: &Board) -> Result<(), AllocError>
+        requires reader { self.old.reader.table ≡ board.now }
+        requires slot { self.old.slot < board.now.words }
+        ensures { MatchResult result (λ _. HasLooked self.old self.new)
+            (λ _. HasNotLooked self.old self.new) }
+    {
+        self.looked.reserve(1)?;
         let position = board.look(&mut self.reader, self.slot);
         self.looked.push_reserved(position);
+        Ok(())
+    }
+
+    /// Polls its replay once, after a look: `before` is what it was before that look. Its frames go to the sink, even if there
+    /// are none. Whether it goes on.
+    fn poll<D: Disk, A: Naming, R: Wait>(
+        &mut self,
+        rt: &R,
+        alloc: Global,
+        archive: &SharedArchive<D, A>,
+        before: Snapshot<Replayer<K>>,
+    ) -> bool
+        requires pass { self.old.pass.table ≡ A.table }
+        requires looked { HasLooked before.value self.old }
+        ensures ran { (stop : Option Refusal) × ReplayerRan K.takes before.value self.new result stop }
+        ensures one { MakesOnePoll before.value self.new }
+    {
         let event = Event::ReplayPoll {
             replay: self.replay,
             max: self.max,
