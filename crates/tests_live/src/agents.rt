@@ -22,11 +22,11 @@ use std::test::Fail;
 use std::thread::{self, Threads};
 
 /// How often an agent may look while it waits, and how many turns it may make.
-const MOST: u32 = 1_000_000;
+pub(crate) const MOST: u32 = 1_000_000;
 
 /// Four agents arrive, and each then waits for the others.
 #[derive(Clone, Copy)]
-struct Meeting<'a> {
+pub(crate) struct Meeting<'a> {
     arrived: &'a AtomicU32,
 }
 
@@ -160,24 +160,24 @@ impl Gate for Ends {
 /// What agents are made with: where the blocks of each source begin, from the last on; how many frames the first sink wants;
 /// and where sources and sinks meet.
 #[derive(Clone, Copy)]
-struct Plan<'a> {
-    offsets: &'a [i32],
-    wanted: usize,
-    meeting: Option<Meeting<'a>>,
+pub(crate) struct Plan<'a> {
+    pub offsets: &'a [i32],
+    pub wanted: usize,
+    pub meeting: Option<Meeting<'a>>,
 }
 
 /// What the agents did, and how many calls were stored, if they were kept.
 #[derive(Drop)]
-struct Told {
-    has_run: bool,
-    refused: usize,
-    rising: usize,
+pub(crate) struct Told {
+    pub has_run: bool,
+    pub refused: usize,
+    pub rising: usize,
     late: usize,
     most: usize,
-    frames: Vec<usize>,
-    left: Vec<usize>,
-    polls: u64,
-    calls: Option<(u64, bool)>,
+    pub frames: Vec<usize>,
+    pub left: Vec<usize>,
+    pub polls: u64,
+    pub calls: Option<(u64, bool)>,
 }
 
 #[test]
@@ -253,7 +253,7 @@ pub(crate) fn gated_pairs<
     Ok(())
 }
 
-fn zeros() -> [AtomicU32; 6] {
+pub(crate) fn zeros() -> [AtomicU32; 6] {
     [
         AtomicU32::new(0),
         AtomicU32::new(0),
@@ -265,7 +265,12 @@ fn zeros() -> [AtomicU32; 6] {
 }
 
 /// Makes agents by a plan, and runs them.
-fn ran<D: Disk + Drop + Send, A: Naming + Send + Sync, G: Gate + Sync, R: Threads + Wait + Sync>(
+pub(crate) fn ran<
+    D: Disk + Drop + Send,
+    A: Naming + Send + Sync,
+    G: Gate + Sync,
+    R: Threads + Wait + Sync,
+>(
     rt: &R,
     alloc: Global,
     archive: SharedArchive<D, A>,

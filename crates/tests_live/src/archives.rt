@@ -5,6 +5,7 @@ ghost use Rattle.archive_lock.specs.Held.{engine_seen, view_of};
 ghost use Rattle.call_history.specs.Passes.{AllOfTable, new_passes};
 
 use crate::agents::{gated_pairs, two_pairs};
+use crate::ends::{End, ended_pairs};
 use crate::failing::{Left, each_again, faults, left_on, reads_again};
 use crate::held_back::one_pair;
 use crate::refused_turns::{damaged_turns, reopened, turned_again};
@@ -31,6 +32,8 @@ pub(crate) enum Scenario {
     Break,
     Agents,
     Gated,
+    /// The pairs end by what happens to one of them.
+    Ended(End),
     HeldBack,
     DamagedTurn,
     TurnAgain,
@@ -184,6 +187,7 @@ fn play<D: Disk + Drop + Send + Counted, A: Naming + Send + Sync, R: Threads + W
         Scenario::Break => breaks(rt, alloc, archive, seats, keeps),
         Scenario::Agents => two_pairs(rt, alloc, archive, seats),
         Scenario::Gated => gated_pairs(rt, alloc, archive, seats),
+        Scenario::Ended(end) => ended_pairs(rt, alloc, archive, seats, end),
         Scenario::HeldBack => one_pair(rt, alloc, archive, seats),
         Scenario::DamagedTurn => damaged_turns(rt, alloc, archive, seats),
         Scenario::TurnAgain => turned_again(rt, alloc, archive, seats),

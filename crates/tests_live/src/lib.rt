@@ -13,10 +13,13 @@ mod conversations;
 #[cfg(test)]
 mod crowds;
 #[cfg(test)]
+mod ends;
+#[cfg(test)]
 mod failing;
 #[cfg(test)]
-#[cfg(test)]
 mod held_back;
+#[cfg(test)]
+mod kept;
 #[cfg(test)]
 mod leaving;
 #[cfg(test)]
