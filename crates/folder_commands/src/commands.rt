@@ -4,7 +4,7 @@ ghost use Rattle.std.specs.Prelude.{◌≡◌, IfErr, IfOk, Some, true, false};
 ghost use Rattle.host_disk.specs.Events.{Given};
 ghost use Rattle.host_disk.specs.HostDisk.{host_life};
 ghost use Rattle.host_disk.specs.Replay.{life_from};
-ghost use Rattle.folder_commands.specs.Folders.{CompactsFolder, IsUnopenedFolder, ListsFile, ListsFolder, ListsFrames, MakesArchive, RunsFolder, RunsOnDisk, RunsOver, ending_in};
+ghost use Rattle.folder_commands.specs.Folders.{CompactsFolder, IsUnopenedFolder, ListsFile, ListsFolder, ListsFrames, MakesArchive, RunsFolder, RunsInMemory, RunsOnDisk, RunsOver, ending_in};
 ghost use Rattle.folder_commands.specs.Left.{ends_with, leaves, left_life, sees};
 ghost use Rattle.folder_commands.specs.Looking.{ListsAsItStands};
 ghost use Rattle.folder_commands.specs.Obeying.{HasObeyed, Obeys};
@@ -84,8 +84,7 @@ fn obey<
         ToolCommand::Create { folder, history } => create(rt, Path::new(folder), *history, writer),
         ToolCommand::Compact { folder } => compact(rt, Path::new(folder), writer),
         ToolCommand::Run { folder: None } => {
-            let (_, done) = run_in_memory(rt, input, writer);
-            Outcome::leaving(done, None)
+            Outcome::leaving(run_without_folder(rt, input, writer), None)
         }
         ToolCommand::Run {
             folder: Some(folder),
@@ -193,6 +192,18 @@ fn run_in_memory<I: Read + Drop, W: Write>(
         SoundDisk::new(rt.alloc()),
         &mut StartReporter::new(rt.alloc(), &screen),
     )
+}
+
+/// The same, whose disk goes.
+fn run_without_folder<I: Read + Drop, W: Write>(
+    rt: HostRuntime,
+    input: I,
+    writer: &mut W,
+) -> Result<(), Exit>
+    ensures { RunsInMemory (I.remaining input) (W.contents writer.old) (W.contents writer.new) (ending_in result) }
+{
+    let (_, done) = run_in_memory(rt, input, writer);
+    done
 }
 
 /// Answers the control lines of an input, over the archive of a folder. Before that is opened it is reported on standard error if
