@@ -6,6 +6,9 @@ Usage: tools/definitions.py           prints the words that are defined in more 
                                       more than MOST_DOUBLE words stand in two files
        tools/definitions.py --print   prints docs/DEFINITIONS.md: each definition of each `specs/`, with the sentence above it
        tools/definitions.py --main    prints each word that the main guarantee unfolds to, file by file
+       tools/definitions.py --untied  prints each field of a record that is a life, a state or a list, and that the other fields have in
+                                      premises alone: whoever proves the record may choose it so that they say nothing; status 1 if
+                                      there is one
 
 A definition's sentence is the comment right above it, without a blank line between. It is marked by what can be computed: whether
 the clauses of MAIN unfold to it, whether those of any other public function do, or neither. The same thing over two types may share
@@ -25,6 +28,8 @@ FUNCTION = re.compile(r"^(\s*)(pub )?(?:const )?fn (\w+)")
 USE = re.compile(r"^\s*(?:ghost )?use Rattle\.(\w+)\.specs\.([\w.]+?)(?:\.\{([^}]*)\}| as (\w+));?$", re.M)
 HEAD = re.compile(r"(?:abbrev |unfoldable )?(?:pub )?(?:record |data )?([A-Za-z_]\w*)\b.* : ")
 NAME = re.compile(r"(?<![\w.])(?:(\w+)\.)?([A-Za-z_]\w*)")
+FIELD = re.compile(r"\s+(?:pub )?((?:[A-Za-z_]\w* )+): (.*)")
+STATE = re.compile(r"(?:Life|DiskImage|Files|\w*State|List\b.*)$")
 MARK, OTHER_MARK = "• ", "◦ "
 # As many words as stood in two files for two things when this was last counted. It falls, and never rises.
 MOST_DOUBLE = 66
@@ -210,6 +215,40 @@ def double_words(specs: Specs) -> dict[str, list[str]]:
     return {name: files for name, files in stands.items() if len(files) > 1}
 
 
+def fields_of(lines: list[str]) -> dict[str, str]:
+    """The fields of a record, each with its type; none of another definition."""
+    found, names = {}, []
+    if not re.match(r"\s*(?:pub )?record ", lines[0]):
+        return {}
+    head = next((at for at, line in enumerate(lines) if line.endswith("where")), len(lines))
+    for line in lines[head + 1 :]:
+        if field := FIELD.match(line):
+            names = field[1].split()
+        for name in names:
+            found[name] = f"{found.get(name, '')} {field[2] if field else line.strip()}".strip()
+    return found
+
+
+def concluded(text: str) -> str:
+    """A type without its premises, and without those within its brackets."""
+    while inner := re.search(r"\(([^()]*)\)", text):
+        text = f"{text[: inner.start()]}[{inner[1].rsplit('→', 1)[-1]}]{text[inner.end() :]}"
+    return text.rsplit("→", 1)[-1]
+
+
+def untied(specs: Specs) -> list[str]:
+    """The fields of lives, states and lists that the other fields of their record have in premises alone."""
+    found = []
+    for (crate, file, word), lines in specs.text.items():
+        fields = fields_of(lines)
+        for name in (it for it, type in fields.items() if STATE.match(type)):
+            own = re.compile(rf"(?<![\w.]){name}(?!\w)")
+            stands = [type for other, type in fields.items() if other != name and own.search(type)]
+            if stands and not any(own.search(concluded(type)) for type in stands):
+                found.append(f"{crate} {file}: {word}.{name}")
+    return found
+
+
 def report(specs: Specs, main: set[Word]) -> int:
     """Prints which words stand for two things, how much has to be believed, and whether the page is what is printed."""
     twice = double_words(specs)
@@ -238,6 +277,10 @@ def main() -> int:
         for (crate, file), names in by_file(words).items():
             print(f"{crate} {file}: {', '.join(names)}")
         return 0
+    if sys.argv[1:] == ["--untied"]:
+        found = untied(specs)
+        print("\n".join(found) or "No record has a state that stands in premises alone")
+        return 1 if found else 0
     if sys.argv[1:]:
         sys.exit(__doc__)
     return report(specs, words)

@@ -19,8 +19,8 @@ ReportsKind kind ending = ⊥
 
 module _ (given : Given) (words : List Text) (input contents written : Option (List ℕ)) where
   -- the words hold a command, which was obeyed
-  abbrev pub HoldsObeyed : Option Life → Ending → Type 0
-  HoldsObeyed left ending = (command : ToolCommand) × IsHeld words command × HasObeyed given input contents written command left ending
+  abbrev pub HoldsObeyed : Option Life → Option Life → Ending → Type 0
+  HoldsObeyed looked left ending = (command : ToolCommand) × IsHeld words command × HasObeyed given input contents written command looked left ending
 
   -- they hold none, and what clap says of them was told; want of memory is told of any words
   abbrev pub HoldsNone : Option Life → Ending → Type 0
@@ -28,5 +28,5 @@ module _ (given : Given) (words : List Text) (input contents written : Option (L
       × ((command : ToolCommand) → IsHeld words command → kind ≡ OutOfMemory)
       × ReportsKind kind ending × (left ≡ None) × (written ≡ contents)
 
-  abbrev pub AnswersWords : Option Life → Ending → Type 0
-  AnswersWords left ending = HoldsObeyed left ending ⊎ HoldsNone left ending
+  abbrev pub AnswersWords : Option Life → Option Life → Ending → Type 0
+  AnswersWords looked left ending = HoldsObeyed looked left ending ⊎ HoldsNone left ending

@@ -2,7 +2,6 @@
 use Rattle.std.specs.Prelude.{◌≡◌, ◌⊎◌, ℕ, [], List, Option, None, Some, Result, Ok, Err, IsTrue, codes}
 use Rattle.std.specs.Io.KnownBytes.{Appends}
 use Rattle.frame_core.specs.declared.refusal.Refusal.TheVariants.{DeviceFault}
-use Rattle.disk_core.specs.DiskImage.{begun}
 use Rattle.disk_core.specs.Life.{IsQuiet, Life}
 use Rattle.catalogue_log.specs.LogState.{Banks}
 use Rattle.host_disk.specs.declared.open_fault.OpenFault.{OpenFault}
@@ -22,8 +21,10 @@ use Rattle.tool_core.specs.Script.{Begins, IsTranscript, IsTranscriptOfFirst}
 use Rattle.tool_core.specs.ScriptLines.{Standing}
 use Rattle.tool_core.specs.Transcript.{WritesText}
 use Rattle.folder_commands.specs.declared.exit.Exit.{Exit}
+use Rattle.folder_commands.specs.declared.sound_disk.SoundDisk.{SoundDisk}
 use Rattle.folder_commands.specs.declared.status.Ending.{Ending}
 use Rattle.folder_commands.specs.declared.status.Ending.TheVariants.{Done, Cut, Refused, Unopened, FoundDamage}
+use Rattle.folder_commands.specs.SoundDisk.{IsFirstLife, sound_life}
 
 -- ---- endings
 
@@ -116,10 +117,14 @@ RunsFolder given input contents written (Some new) ending = RunsOver (life_from 
 RunsFolder given input contents written None (Unopened fault) = written ≡ contents
 RunsFolder given input contents written None ending = ⊥
 
--- `run` over an archive in memory, where no file was
+-- `run` over an archive in memory, on a disk that had no file, and of which no call is made to fail; this is the disk at the end
+abbrev pub RunsOnDisk : SoundDisk → Option (List ℕ) → Option (List ℕ) → Option (List ℕ) → Ending → Type 0
+RunsOnDisk disk input contents written ending =
+    (first : Life) × IsFirstLife first × RunsOver first input contents written (sound_life disk) ending
+
+-- the same, whichever disk that is
 abbrev pub RunsInMemory : Option (List ℕ) → Option (List ℕ) → Option (List ℕ) → Ending → Type 0
-RunsInMemory input contents written ending =
-    (old : Life) × (old.now ≡ begun (λ file. None)) × (old.past ≡ []) × (new : Life) × RunsOver old input contents written new ending
+RunsInMemory input contents written ending = (disk : SoundDisk) × RunsOnDisk disk input contents written ending
 
 -- ---- files
 

@@ -8,7 +8,7 @@ use Rattle.host_disk.specs.Replay.{life_from}
 use Rattle.catalogue_log.specs.declared.hidden.Hidden.{Hidden}
 use Rattle.catalogue_log.specs.LogState.{LogState}
 use Rattle.control_core.specs.Desk.{DeskState}
-use Rattle.archive_view.specs.Hidden.{ReportsHiddenEntry}
+use Rattle.archive_view.specs.Hidden.{TellsHiddenEntry}
 use Rattle.archive_view.specs.View.{IsAsCatalogued}
 
 -- the catalogue of an image has a log, behind whose closed gate an entry stands that may have been answered
@@ -20,9 +20,10 @@ pub record HidesEntry (image : DiskImage) : Type 0 where
   -- the image as it read then
   pub later : DiskImage
   pub same : (file : FileId) → later file ≡ image file
-  pub stands : ReportsHiddenEntry later desk.register log (Some hidden)
+  pub stands : TellsHiddenEntry later desk.register log (Some hidden)
 
--- the folder with these files was looked at, and so does its catalogue
-pub record MayHideEntries (given : Given) : Type 0 where
-  pub looked : Life
+-- The folder with these files was looked at, up to this life, in which each file still reads so; and if what was read of it is what
+-- had been written, its catalogue hides an entry.
+pub record MayHideEntries (given : Given) (looked : Life) : Type 0 where
+  pub same : (file : FileId) → reads looked.now file ≡ reads (life_from given).now file
   pub hides : IsTrue looked.obeys → HidesEntry (reads (life_from given).now)

@@ -17,6 +17,11 @@ abbrev pub leaves : Result (Option ClosedDisk) Outcome → Option Life
 leaves (Ok left) = left_life left
 leaves (Err outcome) = left_life outcome.left
 
+-- the life of a folder that it looked at and left unopened for what it saw, up to its closing; none if there was no such look
+abbrev pub sees : Result (Option ClosedDisk) Outcome → Option Life
+sees (Ok left) = None
+sees (Err outcome) = left_life outcome.looked
+
 -- how it ends
 abbrev pub ends_with : Result (Option ClosedDisk) Outcome → Ending
 ends_with (Ok left) = Done

@@ -3,6 +3,7 @@
 pub mod Usage
 pub mod Status
 pub mod Left
+pub mod SoundDisk
 pub mod Folders
 pub mod Looking
 pub mod Hidden

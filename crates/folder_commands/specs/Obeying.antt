@@ -12,13 +12,14 @@ use Rattle.folder_commands.specs.Looking.{DescribesFolder, ExportsFolder, ListsA
 use Rattle.folder_commands.specs.Serving.{ServesFolder}
 use Rattle.folder_commands.specs.Status.{handed_on}
 
-module _ (given : Given) (input contents written : Option (List ℕ)) where
-  -- it does what its words ask for, ends so, and leaves this of its folder: nothing where it opens none
+module _ (given : Given) (input contents written : Option (List ℕ)) (looked : Option Life) where
+  -- It does what its words ask for, ends so, and leaves this of its folder: nothing if it opens none. This is the life of a folder that it
+  -- looked at and left unopened for what it saw.
   abbrev pub Obeys : ToolCommand → Option Life → Ending → Type 0
   Obeys (Create folder history) left ending = MakesArchive given history contents written left ending
   Obeys (Run None) left ending = RunsInMemory input contents written ending × (left ≡ None)
   Obeys (Run (Some folder)) left ending = RunsFolder given input contents written left ending
-  Obeys (Serve words) left ending = ServesFolder given words left ending × (written ≡ contents)
+  Obeys (Serve words) left ending = ServesFolder given words looked left ending × (written ≡ contents)
   Obeys (Compact folder) left ending = CompactsFolder given contents written left ending
   Obeys (AskList folder false) left ending = ListsFolder given contents written left ending
   Obeys (AskList folder true) left ending = ListsAsItStands given contents written left ending
@@ -31,10 +32,10 @@ module _ (given : Given) (input contents written : Option (List ℕ)) where
   Obeys (Ask words) left ending = AsksServer words contents written ending × (left ≡ None)
 
 -- It does, and what it wrote was handed on, or could not be; the writer keeps it.
-pub record HasObeyed (given : Given) (input contents written : Option (List ℕ)) (command : ToolCommand) (left : Option Life) (ending : Ending) : Type 0 where
+pub record HasObeyed (given : Given) (input contents written : Option (List ℕ)) (command : ToolCommand) (looked left : Option Life) (ending : Ending) : Type 0 where
   pub ended : Ending
   pub gained : Option (List ℕ)
-  pub obeyed : Obeys given input contents gained command left ended
+  pub obeyed : Obeys given input contents gained looked command left ended
   pub kept : Keeps gained written
   pub is_flushed : Bool
   pub handed : ending ≡ handed_on ended is_flushed

@@ -1,5 +1,5 @@
 -- What `serve` does over the archive of a folder, and how it ends: docs/SERVING.md.
-use Rattle.std.specs.Prelude.{◌≡◌, ◌⊎◌, ◌<◌, ◌≤◌, ◌%◌, ℕ, ℤ, pos, Bool, true, false, List, [], ◌∷◌, length, IsTrue, Option, None, Some, is_some}
+use Rattle.std.specs.Prelude.{◌≡◌, ◌⊎◌, ◌<◌, ◌≤◌, ◌%◌, ℕ, ℤ, pos, Bool, true, false, List, [], ◌∷◌, length, IsTrue, IsSomeAnd, Option, None, Some, is_some}
 use Rattle.std.specs.Int.{is_power_of_two}
 use Rattle.std.specs.Net.Addr.{IsMulticastV4}
 use Rattle.std.specs.Net.Grammar.{IsIpv4Text}
@@ -141,13 +141,13 @@ ServesOver strict old new (Cut end) = IsServedUpTo old new end
 ServesOver strict old new ending = ⊥
 
 -- `serve` over the archive of a folder with these files. If its words are wrong, it ends by that, and then alone; else a port
--- is not bound, or the folder is not opened, and nothing is left; or it is served. A strict server opens no archive whose
--- catalogue may hide entries, and leaves the folder as it was.
-abbrev pub ServesFolder : Given → ServeWords → Option Life → Ending → Type 0
-ServesFolder given words None (NoCommand kind) = (kind ≡ ValueValidation) × AreWrong words
-ServesFolder given words None (Failed fault) = AreWrong words → ⊥
-ServesFolder given words None (Unopened fault) = AreWrong words → ⊥
-ServesFolder given words None ending = ⊥
-ServesFolder given words (Some new) Hidden =
-    (AreWrong words → ⊥) × IsTrue words.is_strict × MayHideEntries given × (new ≡ life_from given)
-ServesFolder given words (Some new) ending = (AreWrong words → ⊥) × ServesOver words.is_strict (life_from given) new ending
+-- is not bound, or the folder is not opened, and nothing is left; or it is served. Or a strict server looked at the folder, up to this
+-- life, and its catalogue may hide entries: then the archive is not opened, and the folder is left as it was.
+abbrev pub ServesFolder : Given → ServeWords → Option Life → Option Life → Ending → Type 0
+ServesFolder given words looked None (NoCommand kind) = (kind ≡ ValueValidation) × AreWrong words
+ServesFolder given words looked None (Failed fault) = AreWrong words → ⊥
+ServesFolder given words looked None (Unopened fault) = AreWrong words → ⊥
+ServesFolder given words looked None ending = ⊥
+ServesFolder given words looked (Some new) Hidden =
+    (AreWrong words → ⊥) × IsTrue words.is_strict × IsSomeAnd looked (MayHideEntries given) × (new ≡ life_from given)
+ServesFolder given words looked (Some new) ending = (AreWrong words → ⊥) × ServesOver words.is_strict (life_from given) new ending

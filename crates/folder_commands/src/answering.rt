@@ -30,7 +30,7 @@ pub fn answered<
 >(net: &R, rt: HostRuntime, words: &[String], input: I, writer: &mut W) -> Outcome
     ghost given: { Given }
     ensures { AnswersWords given (map string_bytes words.now) (I.remaining input) (W.contents writer.old) (W.contents writer.new)
-        (left_life result.left) result.exit.ending }
+        (left_life result.looked) (left_life result.left) result.exit.ending }
 {
     match command_of(rt.alloc(), words) {
         Ok(command) => obeyed(net, rt, &command, input, writer),

@@ -63,6 +63,7 @@ pub(crate) fn export<W: Write>(
         Err(exit) => return Err(Outcome {
             exit,
             left: Some(disk.close()),
+            looked: None,
         }),
     };
     let viewer = (opening_of(&rt, &screen), progress_of(&rt, &screen, &extent));
@@ -144,7 +145,11 @@ fn captured<V: Viewer<ReadFolder> + Drop>(
     match placed(rt, disk, recording, span, part, pcap, reporter) {
         Ok(left) => match synced(rt, pcap) {
             Ok(()) => Ok(left),
-            Err(exit) => Err(Outcome { exit, left }),
+            Err(exit) => Err(Outcome {
+                exit,
+                left,
+                looked: None,
+            }),
         },
         Err(outcome) => {
             let _ = fs::remove_file(&rt, part.name.as_str());
@@ -171,7 +176,11 @@ fn placed<V: Viewer<ReadFolder> + Drop>(
     let left = written(rt, disk, recording, span, &part.file, reporter)?;
     match named(rt, part, pcap) {
         Ok(()) => Ok(left),
-        Err(exit) => Err(Outcome { exit, left }),
+        Err(exit) => Err(Outcome {
+            exit,
+            left,
+            looked: None,
+        }),
     }
 }
 
@@ -224,6 +233,7 @@ fn written<V: Viewer<ReadFolder> + Drop>(
         return Err(Outcome {
             exit: Exit::from(EarlyEnd::Memory),
             left: closed(disk),
+            looked: None,
         });
     };
     let left = match export_view(rt.alloc(), disk, recording, span, &mut out, reporter) {
@@ -235,6 +245,7 @@ fn written<V: Viewer<ReadFolder> + Drop>(
         Err(_) => Err(Outcome {
             exit: unwritten(out.get_ref().fault()),
             left,
+            looked: None,
         }),
     }
 }
@@ -251,6 +262,7 @@ fn uncaptured<V: Drop>(
         Stop::Cut(EarlyEnd::Write) => Outcome {
             exit: unwritten(error),
             left: closed(fault.disk),
+            looked: None,
         },
         _ => stopped(fault),
     }

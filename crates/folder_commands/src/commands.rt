@@ -4,8 +4,8 @@ ghost use Rattle.std.specs.Prelude.{◌≡◌, IfErr, IfOk, Some, true, false};
 ghost use Rattle.host_disk.specs.Events.{Given};
 ghost use Rattle.host_disk.specs.HostDisk.{host_life};
 ghost use Rattle.host_disk.specs.Replay.{life_from};
-ghost use Rattle.folder_commands.specs.Folders.{CompactsFolder, IsUnopenedFolder, ListsFile, ListsFolder, ListsFrames, MakesArchive, RunsFolder, RunsInMemory, RunsOver, ending_in};
-ghost use Rattle.folder_commands.specs.Left.{ends_with, leaves, left_life};
+ghost use Rattle.folder_commands.specs.Folders.{CompactsFolder, IsUnopenedFolder, ListsFile, ListsFolder, ListsFrames, MakesArchive, RunsFolder, RunsInMemory, RunsOnDisk, RunsOver, ending_in};
+ghost use Rattle.folder_commands.specs.Left.{ends_with, leaves, left_life, sees};
 ghost use Rattle.folder_commands.specs.Looking.{ListsAsItStands};
 ghost use Rattle.folder_commands.specs.Obeying.{HasObeyed, Obeys};
 ghost use Rattle.folder_commands.specs.Status.{ending_of};
@@ -19,6 +19,7 @@ use crate::observers::{FaultReporter, OpeningReporter, ScriptReporter, StartRepo
 use crate::open_folder::{closed, stopped};
 use crate::outcome::{Left, Outcome};
 use crate::serving::serve;
+use crate::sound_disk::SoundDisk;
 use crate::status::Ending;
 use crate::verifying::verify;
 use crate::why::Why;
@@ -28,7 +29,7 @@ use archive_commands::{
 };
 use archive_export::Span;
 use command_line::ToolCommand;
-use disk_core::{Disk, MemoryDisk};
+use disk_core::Disk;
 use frame_core::Refusal;
 use frame_core::limits::MAX_HISTORY;
 use host_disk::{HostDisk, LastFault};
@@ -52,12 +53,13 @@ pub fn obeyed<
 >(net: &R, rt: HostRuntime, command: &ToolCommand<'_>, input: I, writer: &mut W) -> Outcome
     ghost given: { Given }
     ensures { HasObeyed given (I.remaining input) (W.contents writer.old) (W.contents writer.new) command.now
-        (left_life result.left) result.exit.ending }
+        (left_life result.looked) (left_life result.left) result.exit.ending }
 {
-    let Outcome { exit, left } = Outcome::of(obey(net, rt, command, input, writer));
+    let Outcome { exit, left, looked } = Outcome::of(obey(net, rt, command, input, writer));
     Outcome {
         exit: exit.handed_on(writer.flush().is_ok()),
         left,
+        looked,
     }
 }
 
@@ -74,14 +76,15 @@ fn obey<
     writer: &mut W,
 ) -> Result<Left, Outcome>
     ghost given: { Given }
-    ensures { Obeys given (I.remaining input) (W.contents writer.old) (W.contents writer.new) command.now (leaves result) (ends_with result) }
+    ensures { Obeys given (I.remaining input) (W.contents writer.old) (W.contents writer.new) (sees result) command.now
+        (leaves result) (ends_with result) }
 {
     match command {
         ToolCommand::Serve(words) => serve(net, rt, words),
         ToolCommand::Create { folder, history } => create(rt, Path::new(folder), *history, writer),
         ToolCommand::Compact { folder } => compact(rt, Path::new(folder), writer),
         ToolCommand::Run { folder: None } => {
-            Outcome::leaving(run_in_memory(rt, input, writer), None)
+            Outcome::leaving(run_without_folder(rt, input, writer), None)
         }
         ToolCommand::Run {
             folder: Some(folder),
@@ -128,6 +131,7 @@ fn create<W: Write>(
         Err(CommandFault { why, disk }) => Err(Outcome {
             exit: unmade(why, disk.last_fault(), history),
             left: Some(disk.close()),
+            looked: None,
         }),
     }
 }
@@ -172,22 +176,33 @@ pub(crate) fn sync_name(rt: HostRuntime, folder: &str) -> io::Result<()> {
     }
 }
 
-/// Answers the control lines of an input, over an archive in memory.
+/// Answers the control lines of an input, over an archive in memory. Its disk comes back.
 fn run_in_memory<I: Read + Drop, W: Write>(
+    rt: HostRuntime,
+    input: I,
+    writer: &mut W,
+) -> (SoundDisk, Result<(), Exit>)
+    ensures { RunsOnDisk result.0 (I.remaining input) (W.contents writer.old) (W.contents writer.new) (ending_in result.1) }
+{
+    let screen = Screen::new(&rt);
+    run_over(
+        rt.alloc(),
+        input,
+        writer,
+        SoundDisk::new(rt.alloc()),
+        &mut StartReporter::new(rt.alloc(), &screen),
+    )
+}
+
+/// The same, whose disk goes.
+fn run_without_folder<I: Read + Drop, W: Write>(
     rt: HostRuntime,
     input: I,
     writer: &mut W,
 ) -> Result<(), Exit>
     ensures { RunsInMemory (I.remaining input) (W.contents writer.old) (W.contents writer.new) (ending_in result) }
 {
-    let screen = Screen::new(&rt);
-    let (_, done) = run_over(
-        rt.alloc(),
-        input,
-        writer,
-        MemoryDisk::new(rt.alloc()),
-        &mut StartReporter::new(rt.alloc(), &screen),
-    );
+    let (_, done) = run_in_memory(rt, input, writer);
     done
 }
 
@@ -263,6 +278,7 @@ fn uncompacted<V: Drop>(fault: CommandFault<Watched<HostDisk, V>>) -> Outcome
             why: Why::NoSpare,
         },
         left: closed(fault.disk),
+        looked: None,
     }
 }
 

@@ -15,6 +15,7 @@ mod outcome;
 mod outlet;
 mod reporting;
 mod serving;
+mod sound_disk;
 mod status;
 mod usage;
 mod verifying;

@@ -55,8 +55,8 @@ pub(crate) fn describe<W: Write>(
     let mut reporter = OpeningReporter::new(&screen);
     match describe_archive(rt.alloc(), disk, form, writer, &mut reporter) {
         Ok(disk) => {
-            if let Some(place) = still_hidden_place(rt, folder, hidden) {
-                screen.report(place);
+            if let Some(found) = still_hidden_place(rt, folder, hidden) {
+                screen.report(found.place);
             }
             Ok(closed(disk))
         }

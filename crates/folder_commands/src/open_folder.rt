@@ -59,5 +59,6 @@ pub(crate) fn stopped<F: OpenFolder, V: Drop>(fault: CommandFault<Watched<F, V>>
     Outcome {
         exit: Exit::stopped(why, folder.fault()),
         left: Some(folder.closed()),
+        looked: None,
     }
 }

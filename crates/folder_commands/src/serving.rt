@@ -8,7 +8,7 @@ ghost use Rattle.host_disk.specs.HostDisk.{host_life};
 ghost use Rattle.folder_commands.specs.declared.status.Ending.TheVariants.{NoCommand, Failed};
 ghost use Rattle.folder_commands.specs.declared.why.Why.TheVariants.{Usage};
 ghost use Rattle.folder_commands.specs.Folders.{ending_in};
-ghost use Rattle.folder_commands.specs.Left.{ends_with, leaves};
+ghost use Rattle.folder_commands.specs.Left.{ends_with, leaves, sees};
 ghost use Rattle.folder_commands.specs.Serving.{AreOptions, HasBadOptions, HasBadSegments, HasBadStreams, HasBadWindow, HasNoEnds, HasSegments, HasWindow, IsAddressReason, IsNoAddress, IsReceiverWindow, IsSegmentLength, IsUnbound, RecordsStreams, ServesFolder, ServesOver, segment_reason, streams_reason, window_reason};
 
 use crate::commands::disk_of;
@@ -52,17 +52,20 @@ pub(crate) fn serve<
     R: Threads + Wait + Clock + Eprint + Net<Listener = TcpListener, Stream = TcpStream> + Sync,
 >(net: &R, rt: HostRuntime, words: &ServeWords<'_>) -> Result<Left, Outcome>
     ghost given: { Given }
-    ensures { ServesFolder given words.now (leaves result) (ends_with result) }
+    ensures { ServesFolder given words.now (sees result) (leaves result) (ends_with result) }
 {
     let options = options_of(words, receiver_id(&rt))?;
     let ports = bound(net, words)?;
     let folder = Path::new(words.folder);
     let disk = disk_of(rt, folder)?;
-    if warns_of_hidden(rt, folder, &Screen::new(net)) && words.is_strict {
-        return Err(Outcome {
-            exit: Exit::reported(Ending::Hidden),
-            left: Some(disk.close()),
-        });
+    if let Some(looked) = warns_of_hidden(rt, folder, &Screen::new(net)) {
+        if words.is_strict {
+            return Err(Outcome {
+                exit: Exit::reported(Ending::Hidden),
+                left: Some(disk.close()),
+                looked: Some(looked),
+            });
+        }
     }
     let disk = Watched::new(disk, ServeFaults::new(rt.alloc(), net));
     let metrics = metrics_of(rt, words);
