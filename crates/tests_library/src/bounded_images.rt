@@ -202,8 +202,9 @@ fn nearly_fill(
     last: &[u8],
 ) -> Result<(), Fail> {
     for number in 0..1_023 {
+        let position = i32::wrapping_mul(number, 1_024);
         assert!(rt;
-            holds_message(alloc, image, number * 1_024)? == Some(true),
+            holds_message(alloc, image, position)? == Some(true),
             "at {number}"
         );
     }

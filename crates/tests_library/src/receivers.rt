@@ -178,7 +178,7 @@ fn status_messages_name_no_position_past_a_bound(rt: HostRuntime) -> Result<(), 
 }
 
 /// The bound by which nothing is admitted more than five sixteenths of a term past what is settled.
-fn bound(term_length: i32, most: i32, settled: u64) -> u64 {
+fn bound(term_length: i32, most: i32, settled: u32) -> u64 {
     settled_bound(
         &Geometry {
             initial_term_id: 0,
@@ -186,7 +186,7 @@ fn bound(term_length: i32, most: i32, settled: u64) -> u64 {
             mtu: 1_408,
         },
         most,
-        settled,
+        u64::from(settled),
     )
 }
 
