@@ -123,8 +123,9 @@ RunsOnDisk disk input contents written ending =
     (first : Life) × IsFirstLife first × RunsOver first input contents written (sound_life disk) ending
 
 -- the same, whichever disk that is
-abbrev pub RunsInMemory : Option (List ℕ) → Option (List ℕ) → Option (List ℕ) → Ending → Type 0
-RunsInMemory input contents written ending = (disk : SoundDisk) × RunsOnDisk disk input contents written ending
+pub record RunsInMemory (input contents written : Option (List ℕ)) (ending : Ending) : Type 0 where
+  pub disk : SoundDisk
+  pub runs : RunsOnDisk disk input contents written ending
 
 -- ---- files
 

@@ -2,4 +2,4 @@
 use Rattle.folder_commands.proofs.commands.run_without_folder.Goals as goal
 
 pub returns : goal.returns
-returns g c = (c.run_in_memory-done.result.0, c.run_in_memory-done.ensures)
+returns g c = record { disk = c.run_in_memory-done.result.0; runs = c.run_in_memory-done.ensures }
