@@ -15,7 +15,7 @@ use Rattle.control_core.specs.declared.request.Request.TheVariants.{Truncate}
 use Rattle.control_core.specs.Exact.{Archive, ArchiveEnd, CallEnds, asked_of, broken, reads_files, told_of, with_desk}
 use Rattle.control_core.specs.Machine.{Stepped}
 use Rattle.control_core.specs.Runs.{Leave, StoodAmong, last_left}
-use Rattle.catalogue_log.specs.Checkpointing.{RefusesCheckpoint, log_on}
+use Rattle.catalogue_log.specs.Checkpointing.{MayCheckpoint, RefusesCheckpoint, log_on}
 use Rattle.catalogue_log.specs.LogState.{LogState}
 use Rattle.recording_reads.specs.Handing.{BeginBy}
 use Rattle.engine_core.specs.Recovery.{Recovers, RecoversTo}
@@ -58,10 +58,10 @@ Keeps _ a b = Unit {0}
 abbrev pub EndsAs : Life → Life → Event → Archive → Result Reply Refusal → Archive → Type 0
 EndsAs old new event a outcome b = IfRead (reads_files a.desk event) new (CallEnds a event (HasFailed old new) outcome b) × Keeps event a b
 
--- What a call changes of what a compaction asks of the banks. A checkpoint that is answered goes on in the other bank, and it is
--- refused exactly so; each other call changes nothing.
+-- What a call changes of what a compaction asks of the banks. A checkpoint is answered only where the other bank may be written
+-- and an epoch is left, and goes on there; it is refused exactly so; each other call changes nothing.
 abbrev pub TellsBank : Event → EngineState → LogState → Result Reply Refusal → Type 0
-TellsBank events.Checkpoint old log (Ok reply) = log ≡ log_on old.log old.desk.register
+TellsBank events.Checkpoint old log (Ok reply) = MayCheckpoint old.log × (log ≡ log_on old.log old.desk.register)
 TellsBank events.Checkpoint old log (Err refusal) = KeepsBank old.log log × RefusesCheckpoint (record old.log { is_broken = old.desk.is_broken }) refusal
 TellsBank event old log result = KeepsBank old.log log
 

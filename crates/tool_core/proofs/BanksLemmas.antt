@@ -133,7 +133,7 @@ usable spares.Unusable may = absurd (may refl)
 
 -- what a call of an open archive makes of the banks
 called : (event : Event) (old : EngineState) (log : LogState) (outcome : Result Reply Refusal) → TellsBank event old log outcome → BanksCalled event (banks_of old.log) outcome (banks_of log)
-called events.Checkpoint old log (Ok reply) told = ap banks_of told
+called events.Checkpoint old log (Ok reply) told = ((usable old.log.spare told.0.usable, told.0.later), ap banks_of told.1)
 called events.Checkpoint old log (Err NotCatalogue) told = (ap is_usable told.1.1, same_banks old.log log told.0)
 called events.Checkpoint old log (Err HistoryFull) told = (usable old.log.spare told.1.1, told.1.2, same_banks old.log log told.0)
 called events.Checkpoint old log (Err DeviceFault) told = ((usable old.log.spare told.1.usable, told.1.later), same_banks old.log log told.0)

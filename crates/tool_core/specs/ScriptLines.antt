@@ -174,7 +174,7 @@ Compacts life faulted standing b outcome new c = (outcome ≡ Err Broken) × (ne
 -- bank that was in use may be written. Its banks refuse one exactly so, and the disk may fail only if they do not. Each other
 -- call leaves them as they were.
 abbrev pub BanksCalled : Event → Banks → Result Reply Refusal → Banks → Type 0
-BanksCalled events.Checkpoint b (Ok reply) c = c ≡ next_banks b
+BanksCalled events.Checkpoint b (Ok reply) c = ((b.spare ≡ true) × (b.epoch + 1 < 2 ^ 64)) × (c ≡ next_banks b)
 BanksCalled events.Checkpoint b (Err NotCatalogue) c = (b.spare ≡ false) × (c ≡ b)
 BanksCalled events.Checkpoint b (Err HistoryFull) c = (b.spare ≡ true) × (2 ^ 64 ≤ b.epoch + 1) × (c ≡ b)
 BanksCalled events.Checkpoint b (Err DeviceFault) c = MayCompact b × (c ≡ b)

@@ -76,16 +76,16 @@ module _ (old new : EngineState) (result : Result (Unit {0}) Refusal) (did : Ren
     machine_of : CallEnds (archive_of old blank) events.Checkpoint (Unit {0}) outcome (archive_of new made.0)
     machine_of = other_cause (archive_of old blank) events.Checkpoint (HasFailed old.life new.life) (Unit {0}) outcome (archive_of new made.0) (λ failed. tt) (committed_ends outcome blank (archive_of new made.0) made.1)
 
-pub renewed_answers : (old new : EngineState) → RenewsFiles old new (Ok tt) → new.log ≡ log_on old.log old.desk.register → new.desk ≡ checkpointed old.desk → EndsEvent old new events.Checkpoint (Ok replies.Checkpointed)
-renewed_answers old new did log desk =
+pub renewed_answers : (old new : EngineState) → MayCheckpoint old.log → RenewsFiles old new (Ok tt) → new.log ≡ log_on old.log old.desk.register → new.desk ≡ checkpointed old.desk → EndsEvent old new events.Checkpoint (Ok replies.Checkpointed)
+renewed_answers old new may did log desk =
     let outcome : Result Reply Refusal = Ok replies.Checkpointed in
     let went : Result (Unit {0}) Refusal = Ok tt in
     let made = exact_commit old new replies.Checkpointed anew went outcome blank (λ done is. (refl, desk)) (λ refusal is. absurd cc) in
     record {
       goes_on = record { obeyed = did.changes.obeyed; faults = did.changes.faults };
       cause = λ fault. absurd (let clash = fault in cc);
-      bank = log;
-      machine = call_is_allowed (archive_of old blank) events.Checkpoint outcome (archive_of new made.0) (λ poll. absurd (true≢false (sym poll))) (machine_of old new went did outcome log made);
+      bank = (may, log);
+      machine = call_is_allowed (archive_of old blank) events.Checkpoint outcome (archive_of new made.0) (λ poll. absurd (true≢false (sym poll))) (machine_of old new went did outcome (may, log) made);
       kept = tt;
       swept = λ removed is. absurd cc;
       ended = λ c was cut.

@@ -26,7 +26,7 @@ later_same h x y same later = subst (IsLater h) (sym same) later
 
 -- each call keeps the header, or a checkpoint writes the next one
 later_on : (h : BankHeader) (event : Event) (old : EngineState) (log : LogState) (outcome : Result Reply Refusal) → TellsBank event old log outcome → IsLater h old.log.header → IsLater h log.header
-later_on h events.Checkpoint old log (Ok reply) anew later = later_same h (next_header old.log.header) log.header (ap (λ (l : LogState). l.header) anew) (later_next h old.log.header later)
+later_on h events.Checkpoint old log (Ok reply) anew later = later_same h (next_header old.log.header) log.header (ap (λ (l : LogState). l.header) anew.1) (later_next h old.log.header later)
 later_on h events.Checkpoint old log (Err refusal) keeps later = later_same h old.log.header log.header keeps.0.header later
 later_on h event old log outcome keeps later = later_same h old.log.header log.header keeps.header later
 

@@ -19,7 +19,7 @@ returns-in_err-may_checkpoint-clause-catalogue g c = renews_nothing _
 pub returns-in-Ok-clause-ends : goal.returns-in-Ok-clause-ends
 returns-in-Ok-clause-ends g c =
     let same = c.register.ensures.same in
-    renewed_answers _ _ (record {
+    renewed_answers _ _ c.in_ok-may_checkpoint.ensures.may (record {
       decided = (c.in_ok-decide_sweep.field-0, c.in_ok-decide_sweep.ensures);
       changes = c.in-Ok.ensures.changes;
       moves = λ s sound is. c.in-Ok.ensures.moves s sound (same ∙ is);
