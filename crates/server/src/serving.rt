@@ -21,7 +21,8 @@ use engine_core::Engine;
 use frame_core::limits::{LONGEST_DATAGRAM, MAX_WAITING_BLOCKS};
 use server_receiver::{Images, Receiver, Reception, Senders, TENDING};
 use server_recorder::{
-    OwnRecordings, Recording, SeatRoom, Seats, note_standing, parted, record_all,
+    Flusher, OwnRecordings, Recording, SeatRoom, Seats, Unflushed, note_standing, parted,
+    record_all,
 };
 use server_state::{ArchiveNews, FedBlock, Happening, Reporter, Shared, SharedOptions, Unreported};
 use std::alloc::{AllocError, Global};
@@ -40,7 +41,7 @@ const READ_TIMEOUT: u64 = 100;
 
 /// What all of a server works with: where datagrams come to, and what its threads share.
 #[derive(Drop)]
-struct Serving<'a, R, T> {
+struct Serving<'a, R, T, F> {
     rt: &'a R,
     alloc: Global,
     socket: &'a UdpSocket,
@@ -56,6 +57,8 @@ struct Serving<'a, R, T> {
     shared: &'a Shared<T>,
     /// What the threads that serve clients share.
     lines: &'a Connections<T>,
+    /// What flushes segment files beside the archive.
+    flusher: &'a F,
 }
 
 /// What threads work with, beside what they share.
@@ -144,6 +147,35 @@ pub fn serve_with<
     ensures early { IfErr result (λ fault.
         IsServedUpTo (D.life disk) (D.life (disk_of fault)) (early_end_of fault)) }
 {
+    serve_flushing(
+        rt, alloc, listener, socket, disk, options, reporter, &Unflushed,
+    )
+}
+
+/// Serves the archive of a disk as `serve_with`. Where several sessions are to settle and syncs are slow, their segment files are
+/// flushed first, beside the archive: by as many further threads as the flusher wants, 8 at most. It is to flush files of that
+/// disk. docs/SERVING.md, "When a frame is durable".
+pub fn serve_flushing<
+    R: Threads + Wait + Clock + Sync,
+    D: Disk + Drop + Send,
+    T: Reporter + Drop + Send + Sync,
+    F: Flusher + Sync,
+>(
+    rt: &R,
+    alloc: Global,
+    listener: TcpListener,
+    socket: UdpSocket,
+    disk: D,
+    options: &ServeOptions<'_>,
+    reporter: T,
+    flusher: &F,
+) -> Result<Served<D>, ScriptFault<D>>
+    ensures served { IfOk result (λ back. IsServed (D.life disk) (D.life back.disk)) }
+    ensures stop { IfOk result (λ back.
+        IsServedAs options.now.is_strict (D.life disk) (D.life back.disk) back.stop) }
+    ensures early { IfErr result (λ fault.
+        IsServedUpTo (D.life disk) (D.life (disk_of fault)) (early_end_of fault)) }
+{
     let Ok(shared) = Shared::new(alloc, shared_by(options), reporter) else {
         return Err(ScriptFault::Memory(disk));
     };
@@ -173,6 +205,7 @@ pub fn serve_with<
         is_strict: options.is_strict,
         shared: &lines.shared,
         lines: &lines,
+        flusher,
     };
     begin(&serving, beginning);
     let (served, end) = serve_archive(&serving, tools, seat_room, archive, beginning);
@@ -194,8 +227,9 @@ fn serve_archive<
     R: Threads + Wait + Clock + Sync,
     D: Disk + Drop + Send,
     T: Reporter + Drop + Send + Sync,
+    F: Flusher + Sync,
 >(
-    with: &Serving<'_, R, T>,
+    with: &Serving<'_, R, T, F>,
     tools: Tools,
     seat_room: SeatRoom,
     archive: ScriptArchive<D>,
@@ -230,7 +264,7 @@ fn handed_back<D>(served: Served<D>, end: Result<(), EarlyEnd>) -> Result<Served
 }
 
 /// Reports where the server is, and how its archive began.
-fn begin<R, T: Reporter>(with: &Serving<'_, R, T>, beginning: Beginning) {
+fn begin<R, T: Reporter, F>(with: &Serving<'_, R, T, F>, beginning: Beginning) {
     let ends = (with.lines.listener.address(), with.socket.local_addr());
     if let (Ok(control), Ok(receive)) = ends {
         with.shared.report(&Happening::Bound { control, receive });
@@ -244,8 +278,9 @@ fn serve_open<
     R: Threads + Wait + Clock + Sync,
     D: Disk + Drop + Send,
     T: Reporter + Drop + Send + Sync,
+    F: Flusher + Sync,
 >(
-    with: &Serving<'_, R, T>,
+    with: &Serving<'_, R, T, F>,
     tools: Tools,
     seat_room: SeatRoom,
     engine: Engine<D>,
@@ -256,7 +291,7 @@ fn serve_open<
     let Ok(opened) = Opened::new(with.alloc, false) else {
         return lacking(engine);
     };
-    serve_named::<D, Brand, R, T>(with, tools, seat_room, opened, engine)
+    serve_named::<D, Brand, R, T, F>(with, tools, seat_room, opened, engine)
 }
 
 /// Serves an archive that has a pass for each seat and for each client.
@@ -265,8 +300,9 @@ fn serve_named<
     A: Naming + Send + Sync,
     R: Threads + Wait + Clock + Sync,
     T: Reporter + Drop + Send + Sync,
+    F: Flusher + Sync,
 >(
-    with: &Serving<'_, R, T>,
+    with: &Serving<'_, R, T, F>,
     tools: Tools,
     seat_room: SeatRoom,
     opened: Opened<Made>,
@@ -316,8 +352,9 @@ fn serve_shared<
     A: Naming + Send + Sync,
     R: Threads + Wait + Clock + Sync,
     T: Reporter + Drop + Send + Sync,
+    F: Flusher + Sync,
 >(
-    with: &Serving<'_, R, T>,
+    with: &Serving<'_, R, T, F>,
     tools: Tools,
     archive: &SharedArchive<D, A>,
     clients: Vec<Pass<Made>>,
@@ -377,10 +414,11 @@ fn serve_shared<
 }
 
 /// Serves lines alone, and receives datagrams that no session has.
-fn serve_closed<R: Threads + Wait + Clock + Sync, T: Reporter + Drop + Send + Sync>(
-    with: &Serving<'_, R, T>,
-    tools: Tools,
-) -> Result<(), EarlyEnd> {
+fn serve_closed<
+    R: Threads + Wait + Clock + Sync,
+    T: Reporter + Drop + Send + Sync,
+    F: Flusher + Sync,
+>(with: &Serving<'_, R, T, F>, tools: Tools) -> Result<(), EarlyEnd> {
     let Tools {
         images,
         senders,
@@ -404,8 +442,8 @@ fn serve_closed<R: Threads + Wait + Clock + Sync, T: Reporter + Drop + Send + Sy
 }
 
 /// Records until no more blocks come. The seats.
-fn record<D: Disk, A: Naming, R: Wait + Clock, T: Reporter>(
-    with: &Serving<'_, R, T>,
+fn record<D: Disk, A: Naming, R: Threads + Wait + Clock + Sync, T: Reporter, F: Flusher + Sync>(
+    with: &Serving<'_, R, T, F>,
     archive: &SharedArchive<D, A>,
     mut seats: Seats<A>,
     mut batch: VecDeque<FedBlock>,
@@ -418,13 +456,20 @@ fn record<D: Disk, A: Naming, R: Wait + Clock, T: Reporter>(
         socket: with.socket,
     };
     let own = OwnRecordings::new(with.segment_length);
-    record_all(&recording, &mut seats, own, with.settle_every, &mut batch);
+    record_all(
+        &recording,
+        &mut seats,
+        own,
+        with.settle_every,
+        &mut batch,
+        with.flusher,
+    );
     seats
 }
 
 /// Receives until the server ends, and ends it if no more can be received. Whether more could be.
-fn receive<R: Wait + Clock, T: Reporter>(
-    with: &Serving<'_, R, T>,
+fn receive<R: Wait + Clock, T: Reporter, F>(
+    with: &Serving<'_, R, T, F>,
     images: Images,
     senders: Option<Senders>,
     mut buffer: Vec<u8>,

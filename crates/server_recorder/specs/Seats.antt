@@ -8,6 +8,7 @@ use Rattle.disk_core.specs.Life.{Life}
 use Rattle.archive_model.specs.declared.reply.Reply.{Reply}
 use Rattle.control_core.specs.declared.event.Event.{Event}
 use Rattle.control_core.specs.declared.event.Event.TheVariants.{Settle, Write}
+use Rattle.control_core.specs.Desk.{DeskState}
 use Rattle.engine_core.specs.Engine.{EngineState}
 use Rattle.call_history.specs.Passes.{AllOfTable, HasEach, has_number}
 use Rattle.call_history.specs.Values.{PassView}
@@ -94,6 +95,11 @@ module _ {D : Type 0} (life : D → Life) (opening : EngineState) where
 -- its pass sees all calls so far, and where the archive stands
 pub record SeesStanding (opening : EngineState) (seat : SeatView) (result : Option Standing) (after : SeatView) : Type 0 where
   pub sees : MatchOption result ⊥ (λ standing. SeesDesk opening seat.pass (λ d. standing ≡ standing_of d) after.pass)
+  pub same : after ≡ record seat { pass = after.pass }
+
+-- its pass sees all calls so far, and this is so of the desk that they lead to
+pub record SeesAt (opening : EngineState) (Is : DeskState → Type 0) (seat after : SeatView) : Type 0 where
+  pub sees : SeesDesk opening seat.pass Is after.pass
   pub same : after ≡ record seat { pass = after.pass }
 
 -- ---- passes

@@ -1,6 +1,6 @@
 -- When a session settles what it wrote: docs/SERVING.md, "When a frame is durable". Times are in milliseconds since the recording
 -- thread began; there is none for a moment at which the clock could not be read.
-use Rattle.std.specs.Prelude.{◌≡◌, ◌&&◌, ◌||◌, ◌+◌, ◌-◌, ◌^◌, ◌<◌, ℕ, ℤ, nat_le, min, not, if◌then◌else◌, Bool, true, false, List, Option, None, Some, is_some, slice_index_or, slice_set}
+use Rattle.std.specs.Prelude.{◌≡◌, ◌&&◌, ◌||◌, ◌+◌, ◌-◌, ◌/◌, ◌^◌, ◌<◌, ℕ, zero, ℤ, nat_le, min, not, if◌then◌else◌, Bool, true, false, List, Option, None, Some, is_some, slice_index_or, slice_set}
 use Rattle.std.specs.List.{list_any}
 use Rattle.std.specs.Ordering.{int_eq}
 use Rattle.server_recorder.specs.declared.settling.SessionState.{SessionState}
@@ -38,6 +38,11 @@ session_settled n s =
     if is_some (session_at n s.sessions).written
     then record s { sessions = slice_set s.sessions n (record { written = None; settled_at = s.time }) }
     else s
+
+-- microseconds that each of so many syncs took; without one it is what it was
+abbrev pub pace_after : ℕ → ℕ → ℕ → ℕ
+pace_after micros zero pace = pace
+pace_after micros syncs pace = micros / syncs
 
 -- ---- when a session is due
 

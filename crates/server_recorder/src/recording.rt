@@ -3,6 +3,7 @@
 ghost use Rattle.std.specs.Prelude.{◌≡◌, IfSome};
 ghost use Rattle.server_recorder.specs.Recording.{first_term};
 
+use crate::flushing::{Flusher, Flushing, MOST_FLUSHED};
 use crate::own_recordings::OwnRecordings;
 use crate::seats::Seats;
 use crate::settling::{Settling, Written};
@@ -17,7 +18,11 @@ use std::collections::VecDeque;
 use std::net::UdpSocket;
 use std::rt::Clock;
 use std::sync::Wait;
+use std::thread::{self, Threads};
 use stream_pairs::{FED_SESSIONS, MAX_IMAGES, Place, Seat};
+
+/// Syncs of the disk in a settling.
+const SYNCS: usize = 3;
 
 /// What the thread that records works with.
 #[derive(Drop)]
@@ -36,23 +41,53 @@ pub struct Recording<'a, D: Disk, A: Naming, R, T> {
 
 /// Records the blocks that wait, batch after batch, until no more come, and the images that are recorded without being asked.
 /// A session settles once it is due: a block waits for `settle_every` milliseconds at most. All sessions settle at the end.
-/// Then nobody waits for a settling any more.
+/// Then nobody waits for a settling any more. Where several sessions are due and syncs are slow, their segment files are flushed
+/// first, by threads that end with this one: as many as the flusher wants, 8 at most, as far as there are any.
 ///
 /// Where the archive stands is noted after each settling, and after each call for a recording that nobody asked for, by what
 /// came with the answer. After a write that the disk failed the lock is taken once more for it. Nothing else is noted.
-pub fn record_all<D: Disk, A: Naming, R: Wait + Clock, T: Reporter>(
+pub fn record_all<
+    D: Disk,
+    A: Naming,
+    R: Threads + Wait + Clock + Sync,
+    T: Reporter,
+    F: Flusher + Sync,
+>(
+    with: &Recording<'_, D, A, R, T>,
+    seats: &mut Seats<A>,
+    own: OwnRecordings,
+    settle_every: u64,
+    batch: &mut VecDeque<FedBlock>,
+    flusher: &F,
+) {
+    let flushing = Flushing::new(with.alloc);
+    let (flushing, rt) = (&flushing, with.rt);
+    thread::scope(thread::scope_env(), rt, |scope| {
+        for _ in 0..flusher.width().min(MOST_FLUSHED) {
+            if scope.spawn(move || flushing.serve(rt, flusher)).is_ok() {
+                flushing.add_thread(rt);
+            }
+        }
+        record_batches(with, seats, own, settle_every, batch, flushing);
+        flushing.end(rt);
+    });
+}
+
+/// Records batch after batch until no more come.
+fn record_batches<D: Disk, A: Naming, R: Wait + Clock, T: Reporter>(
     with: &Recording<'_, D, A, R, T>,
     seats: &mut Seats<A>,
     mut own: OwnRecordings,
     settle_every: u64,
     batch: &mut VecDeque<FedBlock>,
+    flushing: &Flushing,
 ) {
     let watch = Stopwatch::new(with.rt);
     let mut settling = Settling::new(settle_every);
     for _ in with.rt.forever() {
         let taken = take_batch(with, &watch, &mut settling, batch);
         write_batch(with, seats, &mut settling, batch);
-        settle_due(with, seats, &mut settling, &taken);
+        settle_due(with, seats, &mut settling, &taken, flushing);
         settle_leaving(with, seats, &mut settling, &taken);
         own.follow(with, seats, &taken, watch.read(with.rt));
         with.shared.queue.answer(with.rt);
@@ -80,18 +115,54 @@ fn take_batch<D: Disk, A: Naming, R: Wait + Clock, T: Reporter>(
     taken
 }
 
-/// Settles each session that is due now; all of them if no more blocks come.
+/// Settles each session that is due now; all of them if no more blocks come. Where there are several, and syncs are slow, their
+/// segment files are flushed first.
 fn settle_due<D: Disk, A: Naming, R: Wait + Clock, T: Reporter>(
     with: &Recording<'_, D, A, R, T>,
     seats: &mut Seats<A>,
     settling: &mut Settling,
     taken: &Taken,
+    flushing: &Flushing,
 ) {
-    let block_waits = with.shared.queue.has_block(with.rt);
+    let due = settling.due(
+        with.shared.queue.has_block(with.rt),
+        &taken.asked,
+        taken.is_over,
+    );
+    flush(with, seats, settling, &due, flushing);
     for seat in 0..FED_SESSIONS {
-        if taken.is_over || settling.is_due(seat, block_waits, taken.asked[seat]) {
+        if due[seat] {
             let _ = settle(with, seats, settling, seat);
         }
+    }
+}
+
+/// Flushes the segment files of sessions that are to settle, if there are several and syncs are slow. Without memory nothing is
+/// flushed. What a flush answers is not looked at: the settling syncs the same files.
+fn flush<D: Disk, A: Naming, R: Wait + Clock, T: Reporter>(
+    with: &Recording<'_, D, A, R, T>,
+    seats: &mut Seats<A>,
+    settling: &mut Settling,
+    due: &[bool; FED_SESSIONS],
+    flushing: &Flushing,
+) {
+    if !settling.is_slow() || !flushing.works() {
+        return;
+    }
+    let Some(sessions) = settling.sessions_of(with.alloc, due) else {
+        return;
+    };
+    if sessions.len() < 2 {
+        return;
+    }
+    let files = seats.unsettled_segments(with.rt, with.alloc, with.archive, 0, sessions.as_slice());
+    let Ok(files) = files else {
+        return;
+    };
+    let watch = Stopwatch::new(with.rt);
+    let rounds = flushing.flush(with.rt, files);
+    if let Some(micros) = watch.micros(with.rt) {
+        settling.note_syncs(micros, rounds);
     }
 }
 
@@ -215,11 +286,11 @@ fn settle<D: Disk, A: Naming, R: Wait + Clock, T: Reporter>(
         return true;
     };
     seats.set_session(seat, written.session);
-    let watch = watch_if_measured(with);
+    let watch = Stopwatch::new(with.rt);
     let (answer, standing) = seats.settle(with.rt, with.alloc, with.archive, seat);
     match answer {
         Ok(position) => {
-            note_time(with, watch);
+            note_time(with, settling, &watch);
             note_settled(with, &written, position);
         }
         Err(cause) => with.shared.refused(with.rt, written.session, cause),
@@ -242,24 +313,15 @@ fn note_settled<D: Disk, A: Naming, R: Wait + Clock, T: Reporter>(
     }
 }
 
-/// A watch that begins now, if the server is measured.
-fn watch_if_measured<D: Disk, A: Naming, R: Wait + Clock, T: Reporter>(
-    with: &Recording<'_, D, A, R, T>,
-) -> Option<Stopwatch> {
-    if with.shared.meter.is_on() {
-        Some(Stopwatch::new(with.rt))
-    } else {
-        None
-    }
-}
-
 /// A settle was made, which began when a watch did.
 fn note_time<D: Disk, A: Naming, R: Wait + Clock, T: Reporter>(
     with: &Recording<'_, D, A, R, T>,
-    watch: Option<Stopwatch>,
+    settling: &mut Settling,
+    watch: &Stopwatch,
 ) {
-    if let Some(watch) = watch {
-        if let Some(micros) = watch.micros(with.rt) {
+    if let Some(micros) = watch.micros(with.rt) {
+        settling.note_syncs(micros, SYNCS);
+        if with.shared.meter.is_on() {
             with.shared.meter.settled(micros);
         }
     }

@@ -1,17 +1,18 @@
 //! The seats of the recorder sessions that images feed. docs/ARCHITECTURE.md, "Followers".
 
-ghost use Rattle.std.specs.Prelude.{◌≡◌, ◌≤◌, ◌<◌, ◌+◌, [], Err, None, pos, slice_get, vec_capacity, vec_len};
+ghost use Rattle.std.specs.Prelude.{◌≡◌, ◌≤◌, ◌<◌, ◌+◌, [], Err, None, IfOk, pos, slice_get, vec_capacity, vec_len};
 ghost use Rattle.frame_core.specs.declared.refusal.Refusal.TheVariants.{StaleSession};
+ghost use Rattle.engine_core.specs.Grouping.{segments_each};
 ghost use Rattle.recorder_seats.specs.Seat.{raised_positions};
 ghost use Rattle.call_history.specs.Passes.{AllOfTable, new_passes};
 ghost use Rattle.position_board.specs.Positions.{new_writers};
-ghost use Rattle.server_recorder.specs.Seats.{AreAllPasses, AreClientPasses, AreNewWriters, AreNumbered, CallsAt, HasNumbersFrom, MakesCall, SeesStanding, SettlesSession, WritesBlock, reseated};
+ghost use Rattle.server_recorder.specs.Seats.{AreAllPasses, AreClientPasses, AreNewWriters, AreNumbered, CallsAt, HasNumbersFrom, MakesCall, SeesAt, SeesStanding, SettlesSession, WritesBlock, reseated};
 
 use archive_lock::{Made, Naming, SharedArchive, Standing};
 use archive_model::Reply;
 use call_history::Pass;
 use control_core::Event;
-use disk_core::Disk;
+use disk_core::{Disk, FileId};
 use frame_core::{Block, Refusal};
 use position_board::{Board, Writer};
 use recorder_seats::RecorderSeat;
@@ -191,6 +192,25 @@ impl<A: Naming> Seats<A> {
             return None;
         }
         Some(self.seats[seat].standing(rt, archive))
+    }
+
+    /// The segment files of what these sessions wrote and did not settle, by the pass of a seat, which takes the lock for it.
+    /// `NoMemory`; `StaleSession` if there is no such seat.
+    pub fn unsettled_segments<D: Disk, R: Wait>(
+        &mut self,
+        rt: &R,
+        alloc: Global,
+        archive: &SharedArchive<D, A>,
+        seat: Seat,
+        sessions: &[i64],
+    ) -> Result<Vec<FileId>, Refusal>
+        ensures { CallsAt seat (Err StaleSession) self.old result self.new (λ seat found after. SeesAt A.opening
+            (λ d. IfOk found (λ files. files.items ≡ segments_each d sessions.now)) seat after) }
+    {
+        if seat >= self.seats.len() {
+            return Err(Refusal::StaleSession);
+        }
+        self.seats[seat].unsettled_segments(rt, alloc, archive, sessions)
     }
 
     /// Settles the session of a seat, and raises its slot, as `RecorderSeat::settle_with_standing`: the position up to which it

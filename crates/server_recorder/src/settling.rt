@@ -2,15 +2,18 @@
 //!
 //! A time is in milliseconds since the recording thread began. It is None if the clock could not be read.
 
-ghost use Rattle.std.specs.Prelude.{◌≡◌, None, false, replicate, slice_set};
-ghost use Rattle.server_recorder.specs.Settling.{PassesFirst, after_block, session_settled, elapsed, is_due, is_enough, is_full, is_overdue, later, nothing_written, session_at, some_overdue, sooner};
+ghost use Rattle.std.specs.Prelude.{◌≡◌, None, false, nat_le, replicate, slice_set};
+ghost use Rattle.server_recorder.specs.Settling.{PassesFirst, after_block, session_settled, elapsed, is_due, is_enough, is_full, is_overdue, later, nothing_written, pace_after, session_at, some_overdue, sooner};
 
+use std::alloc::Global;
 use stream_pairs::{FED_SESSIONS, Place, Seat};
 
 /// A session that wrote so many bytes settles, if no further block waits.
 const SETTLED_IF_NONE_WAITS: u64 = 65_536;
 /// A session that wrote so many bytes settles.
 const SETTLED_ALWAYS: u64 = 1_048_576;
+/// Microseconds that a sync takes at least where segment files are flushed before they are settled.
+const SLOW_SYNC: u64 = 200;
 
 /// What a session wrote and did not settle.
 #[derive(Clone, Copy)]
@@ -43,6 +46,8 @@ pub(crate) struct Settling {
     every: u64,
     time: Option<u64>,
     sessions: [SessionState; FED_SESSIONS],
+    /// Microseconds that each of the last syncs took.
+    pace: u64,
 }
 
 impl Settling {
@@ -52,12 +57,14 @@ impl Settling {
           every = every;
           time = None;
           sessions = replicate 64 nothing_written;
+          pace = 0;
         } }
     {
         Settling {
             every,
             time: None,
             sessions: [NOTHING_WRITTEN; FED_SESSIONS],
+            pace: 0,
         }
     }
 
@@ -66,6 +73,22 @@ impl Settling {
         ensures { self.new ≡ record self.old { time = time } }
     {
         self.time = time;
+    }
+
+    /// Notes that so many syncs, one after another, took so many microseconds. None says nothing.
+    pub fn note_syncs(&mut self, micros: u64, syncs: usize)
+        ensures { self.new ≡ record self.old { pace = pace_after micros syncs self.old.pace } }
+    {
+        if syncs > 0 {
+            self.pace = micros / syncs as u64;
+        }
+    }
+
+    /// Whether the last syncs took so long that segment files are flushed before they are settled: 200 microseconds each.
+    pub fn is_slow(&self) -> bool
+        ensures { result ≡ nat_le 200 self.now.pace }
+    {
+        self.pace >= SLOW_SYNC
     }
 
     /// What the session at a seat wrote and did not settle. None if it wrote nothing.
@@ -132,6 +155,32 @@ impl Settling {
         is_asked
             || is_overdue(self.every, self.time, &state)
             || is_enough(written.bytes, block_waits)
+    }
+
+    /// Which sessions settle now: those that are due, or, if no more blocks come, those that wrote something. `asked`: of each seat
+    /// whether a client asked for it.
+    pub fn due(
+        &self,
+        block_waits: bool,
+        asked: &[bool; FED_SESSIONS],
+        is_over: bool,
+    ) -> [bool; FED_SESSIONS] {
+        let mut due = [false; FED_SESSIONS];
+        for seat in 0..FED_SESSIONS {
+            due[seat] = self.is_due(seat, block_waits, asked[seat] || is_over);
+        }
+        due
+    }
+
+    /// The numbers of the sessions at some seats, as far as they wrote something. None if there is no memory for them.
+    pub fn sessions_of(&self, alloc: Global, seats: &[bool; FED_SESSIONS]) -> Option<Vec<i64>> {
+        let mut sessions = Vec::with_capacity(alloc, FED_SESSIONS).ok()?;
+        for seat in 0..FED_SESSIONS {
+            if let (true, Some(written)) = (seats[seat], self.written(seat)) {
+                sessions.push(written.session).ok()?;
+            }
+        }
+        Some(sessions)
     }
 
     /// Whether the session at a seat wrote so much that it has to settle before its next block is written.

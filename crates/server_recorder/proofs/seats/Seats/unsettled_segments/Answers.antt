@@ -1,0 +1,40 @@
+-- The seat is its own, before the look and after it.
+use Rattle.std.proofs.Common.{◌≡◌, ◌<◌, ◌∙◌, ap, length, rules}
+use Rattle.std.specs.Prelude.{Err, IfOk}
+use Rattle.frame_core.specs.declared.refusal.Refusal.TheVariants.{StaleSession}
+use Rattle.engine_core.specs.Grouping.{segments_each}
+use Rattle.server_recorder.specs.Seats.{SeesAt}
+use Rattle.server_recorder.proofs.SeatLemmas.{calls_at, gets_at, looked_seat, seat_at, seats_set}
+use Rattle.server_recorder.proofs.seats.Seats.unsettled_segments.Goals as goal
+
+pub unsettled_segments-requires : goal.unsettled_segments-requires
+unsettled_segments-requires g c =
+    let items = c.self.inside.seats.items in
+    let n = c.args.seat in
+    let below : n < length items = search rules in
+    let gets = gets_at items n c.index_mut.result.now below c.index_mut.ensures.value in
+    let was = seat_at g.A.Naming.table c.self.inside.board items n c.index_mut.result.now c.self.invariant.0 gets in
+    was.table
+
+pub invariant_of-self : goal.invariant_of-self
+invariant_of-self g c =
+    let items = c.self.inside.seats.items in
+    let n = c.args.seat in
+    let below : n < length items = search rules in
+    let gets = gets_at items n c.index_mut.result.now below c.index_mut.ensures.value in
+    let table = g.A.Naming.table in
+    let board = c.self.inside.board in
+    let was = seat_at table board items n c.index_mut.result.now c.self.invariant.0 gets in
+    let inside = c.self.invariant in
+    let old = c.index_mut.result.now in
+    let new = c.unsettled_segments.new.self in
+    let is : new ≡ record old { pass = record old.pass { seen = new.pass.seen } } = c.unsettled_segments.ensures.same ∙ ap (λ p. record old { pass = p }) c.unsettled_segments.ensures.sees.pass in
+    (seats_set table board items n new inside.0 (looked_seat table board n old new new.pass.seen was is), inside.1)
+
+pub returns : goal.returns
+returns g c =
+    let items = c.self.inside.seats.items in
+    let n = c.args.seat in
+    let below : n < length items = search rules in
+    let gets = gets_at items n c.index_mut.result.now below c.index_mut.ensures.value in
+    rw (← c.self.view_is) (calls_at n (Err StaleSession) (record { board = c.self.inside.board; seats = items }) c.index_mut.result.now c.unsettled_segments.new.self c.unsettled_segments.result (λ seat found after. SeesAt g.A.Naming.opening (λ d. IfOk found (λ files. files.items ≡ segments_each d c.args.sessions.now)) seat after) gets (record { sees = c.unsettled_segments.ensures.sees; same = c.unsettled_segments.ensures.same }))
