@@ -235,7 +235,7 @@ impl RecorderSeat {
 }
 
 /// The position that a settling was answered.
-fn settled_position(outcome: Result<Reply, Refusal>) -> Result<i64, Refusal>
+pub(crate) fn settled_position(outcome: Result<Reply, Refusal>) -> Result<i64, Refusal>
     requires { IfOk outcome (λ reply. (position : ℤ) × (reply ≡ Settled position)) }
     ensures { settling_outcome result ≡ outcome }
 {

@@ -33,7 +33,6 @@ use std::rt::Clock;
 use std::sync::Wait;
 use std::thread::{self, Threads};
 use std::time::Duration;
-use stream_pairs::FED_SESSIONS;
 use tool_core::{Beginning, EarlyEnd, ScriptArchive, ScriptFault};
 
 /// Milliseconds after which a read of the socket ends, if the server is no receiver of the public standard.
@@ -115,8 +114,8 @@ pub fn serve_on<R: Threads + Wait + Clock + Sync, D: Disk + Drop + Send>(
 
 /// Serves the archive of a disk until a line quits. If there is no file it is made, with a history of 1,048,576 entries;
 /// else it is opened, and if that is refused every line is `Broken` but those that need no archive. The disk comes back, as
-/// the last of the calls left it, which are one legal history of the passes of 64 seats and of the clients that are served at
-/// a time.
+/// the last of the calls left it, which are one legal history of the passes of the thread that records and of the clients that
+/// are served at a time.
 ///
 /// Three threads and one for each further client: the caller's answers the lines of connections, one after another, and so
 /// does each of those; one receives datagrams, and sends a NAK frame after each that its image doesn't refuse while something
@@ -294,7 +293,7 @@ fn serve_open<
     serve_named::<D, Brand, R, T, F>(with, tools, seat_room, opened, engine)
 }
 
-/// Serves an archive that has a pass for each seat and for each client.
+/// Serves an archive that has a pass for the thread that records and one for each client.
 fn serve_named<
     D: Disk + Drop + Send,
     A: Naming + Send + Sync,
@@ -309,14 +308,14 @@ fn serve_named<
     engine: Engine<D>,
 ) -> (Served<D>, Result<(), EarlyEnd>)
     requires named { opened.table ≡ A.table }
-    requires counts { A.passes ≡ 64 + with.now.places.count }
+    requires counts { A.passes ≡ 1 + with.now.places.count }
     requires stores { opened.keeps ≡ A.keeps }
     requires opens { engine_seen D.life (view_of engine []) ≡ A.opening }
     ensures { EndsOrLacks (D.life engine.archive.storage.disk) A.opening with.now.is_strict
         (D.life result.0.disk) result.0.stop result.1 }
 {
     let places = with.places;
-    let count = FED_SESSIONS + places.count;
+    let count = 1 + places.count;
     let Ok(room) = Vec::with_capacity(with.alloc, count) else {
         return lacking(engine);
     };
@@ -325,11 +324,10 @@ fn serve_named<
         Ok(made) => made,
         Err(refused) => return lacking(refused.engine),
     };
-    let (passes, clients) = parted::<A>(passes, room);
-    let mut seats = seat_room.seated::<A>(passes);
-    if let Some(standing) = seats.standing(with.rt, &archive, 0) {
-        note_standing(with.shared, &standing);
-    }
+    let (pass, clients) = parted::<A>(passes, room);
+    let mut seats = seat_room.seated::<A>(pass);
+    let standing = seats.standing(with.rt, &archive);
+    note_standing(with.shared, &standing);
     with.shared.meter.set_open();
     let (passes, end) = serve_shared(with, tools, &archive, clients, seats);
     (closed(archive, passes, with.is_strict), end)
@@ -361,7 +359,7 @@ fn serve_shared<
     seats: Seats<A>,
 ) -> (Vec<Pass<Made>>, Result<(), EarlyEnd>)
     requires clients { AreClientPasses A.table A.passes clients.items }
-    requires room { 64 + vec_len clients ≤ vec_capacity clients }
+    requires room { 1 + vec_len clients ≤ vec_capacity clients }
     ensures { AreAllPasses A.table A.passes result.0.items }
 {
     let Tools {
@@ -382,7 +380,7 @@ fn serve_shared<
         *rt,
         |scope| -> (Vec<Pass<Made>>, Result<(), EarlyEnd>)
             requires clients { AreClientPasses A.table A.passes clients.items }
-            requires room { 64 + vec_len clients ≤ vec_capacity clients }
+            requires room { 1 + vec_len clients ≤ vec_capacity clients }
             ensures { AreAllPasses A.table A.passes result.0.items }
         {
             let recorder = match scope.spawn(move || record(with, archive, seats, batch)) {

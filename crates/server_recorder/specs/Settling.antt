@@ -81,6 +81,16 @@ is_due every time waits asked s = is_some s.written && (asked || is_overdue ever
 abbrev pub is_full : SessionState → Bool
 is_full s = wrote_enough true s.written
 
+-- how much a session of a number has written with so many bytes more, short of the largest `u64`
+abbrev pub with_more : ℤ → ℕ → Option Written → ℕ
+with_more session more None = min more (2 ^ 64 - 1)
+with_more session more (Some w) = if int_eq w.session session then min (w.bytes + more) (2 ^ 64 - 1) else min more (2 ^ 64 - 1)
+
+-- what it wrote has waited for at least half as long as a block may
+abbrev pub is_near : ℕ → Option ℕ → Option Written → Bool
+is_near every time None = false
+is_near every time (Some w) = has_lasted (every - every / 2) (elapsed w.since time)
+
 -- ---- when the first one is due
 
 abbrev pub some_overdue : ℕ → Option ℕ → List SessionState → Bool

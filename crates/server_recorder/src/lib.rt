@@ -2,12 +2,14 @@
 #![tactic(auto)]
 
 mod flushing;
+mod grouping;
 mod own_recordings;
 mod recording;
 mod seats;
 mod settling;
 mod stopping;
 mod streams;
+mod writing;
 
 pub use flushing::{Flusher, Unflushed};
 pub use own_recordings::OwnRecordings;

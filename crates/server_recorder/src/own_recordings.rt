@@ -1,9 +1,8 @@
 //! Recordings that the server starts by itself. docs/SERVING.md, "Recording without being asked".
 
-ghost use Rattle.std.specs.Prelude.{◌≡◌, Err, None, Option, replicate, slice_set};
-ghost use Rattle.frame_core.specs.declared.refusal.Refusal.TheVariants.{StaleSession};
+ghost use Rattle.std.specs.Prelude.{◌≡◌, Option, None, replicate, slice_set};
 ghost use Rattle.archive_lock.specs.declared.standing.Standing.{Standing};
-ghost use Rattle.server_recorder.specs.Seats.{CallsAt, MakesCall};
+ghost use Rattle.server_recorder.specs.Seats.{MakesCall};
 
 use crate::recording::Recording;
 use crate::seats::Seats;
@@ -247,18 +246,18 @@ fn start_from<D: Disk, A: Naming, R: Wait + Clock, T: Reporter>(
     }
 }
 
-/// Makes a call by the pass of the first seat, and notes its answer and where the archive stands after it, before or after each
+/// Makes a call by the pass of the seats, and notes its answer and where the archive stands after it, before or after each
 /// other call that is noted.
 fn call<D: Disk, A: Naming, R: Wait, T: Reporter>(
     with: &Recording<'_, D, A, R, T>,
     seats: &mut Seats<A>,
     event: &Event,
 ) -> Result<Reply, Refusal>
-    ensures { (standing : Option Standing) × CallsAt 0 (Err StaleSession, None) seats.old (result, standing) seats.new
-        (MakesCall D.life A.opening event.now) }
+    ensures { (standing : Option Standing)
+        × MakesCall D.life A.opening event.now seats.old (result, standing) seats.new }
 {
     let _turn = with.shared.turn.lock(with.rt);
-    let (outcome, standing) = seats.call(with.rt, with.alloc, with.archive, 0, event);
+    let (outcome, standing) = seats.call(with.rt, with.alloc, with.archive, event);
     with.shared.note(with.rt, event, &outcome);
     if let Some(standing) = standing {
         note_standing(with.shared, &standing);

@@ -2,10 +2,9 @@
 //!
 //! A time is in milliseconds since the recording thread began. It is None if the clock could not be read.
 
-ghost use Rattle.std.specs.Prelude.{◌≡◌, None, false, nat_le, replicate, slice_set};
-ghost use Rattle.server_recorder.specs.Settling.{PassesFirst, after_block, session_settled, elapsed, is_due, is_enough, is_full, is_overdue, later, nothing_written, pace_after, session_at, some_overdue, sooner};
+ghost use Rattle.std.specs.Prelude.{◌≡◌, None, false, nat_le, replicate, slice_set, true};
+ghost use Rattle.server_recorder.specs.Settling.{PassesFirst, after_block, session_settled, elapsed, is_due, is_enough, is_full, is_near, is_overdue, later, nothing_written, pace_after, session_at, some_overdue, sooner, with_more};
 
-use std::alloc::Global;
 use stream_pairs::{FED_SESSIONS, Place, Seat};
 
 /// A session that wrote so many bytes settles, if no further block waits.
@@ -157,30 +156,30 @@ impl Settling {
             || is_enough(written.bytes, block_waits)
     }
 
-    /// Which sessions settle now: those that are due, or, if no more blocks come, those that wrote something. `asked`: of each seat
-    /// whether a client asked for it.
-    pub fn due(
-        &self,
-        block_waits: bool,
-        asked: &[bool; FED_SESSIONS],
-        is_over: bool,
-    ) -> [bool; FED_SESSIONS] {
-        let mut due = [false; FED_SESSIONS];
-        for seat in 0..FED_SESSIONS {
-            due[seat] = self.is_due(seat, block_waits, asked[seat] || is_over);
+    /// Whether what the session at a seat wrote has waited for at least half as long as a block may.
+    pub fn is_near(&self, seat: Seat) -> bool
+        ensures { result ≡ is_near self.now.every self.now.time (session_at seat self.now.sessions).written }
+    {
+        let Some(written) = self.written(seat) else {
+            return false;
+        };
+        match elapsed(written.since, self.time) {
+            Some(wait) => wait >= self.every - self.every / 2,
+            None => true,
         }
-        due
     }
 
-    /// The numbers of the sessions at some seats, as far as they wrote something. None if there is no memory for them.
-    pub fn sessions_of(&self, alloc: Global, seats: &[bool; FED_SESSIONS]) -> Option<Vec<i64>> {
-        let mut sessions = Vec::with_capacity(alloc, FED_SESSIONS).ok()?;
-        for seat in 0..FED_SESSIONS {
-            if let (true, Some(written)) = (seats[seat], self.written(seat)) {
-                sessions.push(written.session).ok()?;
-            }
-        }
-        Some(sessions)
+    /// Whether the session of a number, at a seat, will have written so much with so many bytes more that it has to settle before
+    /// its next block is written.
+    pub fn is_full_with(&self, seat: Seat, session: i64, more: u64) -> bool
+        ensures { result ≡ is_enough true
+            (with_more session more (session_at seat self.now.sessions).written) }
+    {
+        let before = match self.written(seat) {
+            Some(written) if written.session == session => written.bytes,
+            _ => 0,
+        };
+        is_enough(before.saturating_add(more), true)
     }
 
     /// Whether the session at a seat wrote so much that it has to settle before its next block is written.
