@@ -105,7 +105,7 @@ is_there id rows text is none = let bad = sym none ∙ is in cc
 
 holds_by : (rows : List Row) (command : ToolCommand) → HasWords rows command → HoldsBy (command_word command) rows
 holds_by rows (Create folder history) words = (is_there (codes "folder") rows folder.now words.0, history, words.1)
-holds_by rows (Run folder) words = tt
+holds_by rows (Run folder checkpoints) words = tt
 holds_by rows (Serve words) serving = (words, serving)
 holds_by rows (Compact folder) words = is_there (codes "folder") rows folder.now words
 holds_by rows (AskList folder read_only) words = is_there (codes "folder") rows folder.now words.0
@@ -183,9 +183,9 @@ run_alone_taken : (program : Text) → fault_of tool_app (program ∷ codes "run
 unfolding clap_on_literals
 run_alone_taken program = refl
 
-run_alone_met : (program : Text) → IsMet (subcommand_of tool_app (program ∷ codes "run" ∷ [])) (Run None)
+run_alone_met : (program : Text) → IsMet (subcommand_of tool_app (program ∷ codes "run" ∷ [])) (Run None false)
 unfolding clap_on_literals
-run_alone_met program = record { named = refl; words = refl }
+run_alone_met program = record { named = refl; words = (refl, not_set) }
 
 usual_history : IsNumber 1048576 (codes "1048576")
 usual_history = (search rules, refl, omega arith)
@@ -205,10 +205,10 @@ unfolding clap_on_literals
 run_taken program [] plain = absurd plain
 run_taken program (byte ∷ bytes) plain = simp (ne_eqb byte 45 plain) refl
 
-run_met : (program text : Text) (folder : Bor Text) → IsPlainWord text → folder.now ≡ text → IsMet (subcommand_of tool_app (program ∷ codes "run" ∷ text ∷ [])) (Run (Some folder))
+run_met : (program text : Text) (folder : Bor Text) → IsPlainWord text → folder.now ≡ text → IsMet (subcommand_of tool_app (program ∷ codes "run" ∷ text ∷ [])) (Run (Some folder) false)
 unfolding clap_on_literals
 run_met program [] folder plain is = absurd plain
-run_met program (byte ∷ bytes) folder plain is = simp (ne_eqb byte 45 plain) (record { named = refl; words = ap (λ t. Some t) (sym is) })
+run_met program (byte ∷ bytes) folder plain is = simp (ne_eqb byte 45 plain) (record { named = refl; words = (ap (λ t. Some t) (sym is), not_set) })
 
 list_taken : (program text : Text) → IsPlainWord text → fault_of tool_app (program ∷ codes "list" ∷ text ∷ []) ≡ []
 unfolding clap_on_literals
@@ -263,8 +263,10 @@ compact_met program (byte ∷ bytes) folder plain is = simp (ne_eqb byte 45 plai
 held_alone : (program : Text) (command : ToolCommand) → IsPlain command → IsHeld (program ∷ words_of command) command
 held_alone program (Create folder history) plain = subst (λ n. IsHeld (program ∷ codes "create" ∷ folder.now ∷ []) (Create folder n)) (sym plain.1)
     (record { taken = create_taken program folder.now plain.0; met = create_met program folder.now folder plain.0 refl })
-held_alone program (Run None) plain = record { taken = run_alone_taken program; met = run_alone_met program }
-held_alone program (Run (Some folder)) plain = record { taken = run_taken program folder.now plain; met = run_met program folder.now folder plain refl }
+held_alone program (Run None checkpoints) plain = subst (λ set. IsHeld (program ∷ codes "run" ∷ []) (Run None set)) (sym plain)
+    (record { taken = run_alone_taken program; met = run_alone_met program })
+held_alone program (Run (Some folder) checkpoints) plain = subst (λ set. IsHeld (program ∷ codes "run" ∷ folder.now ∷ []) (Run (Some folder) set)) (sym plain.1)
+    (record { taken = run_taken program folder.now plain.0; met = run_met program folder.now folder plain.0 refl })
 held_alone program (Serve words) plain = absurd plain
 held_alone program (Compact folder) plain = record { taken = compact_taken program folder.now plain; met = compact_met program folder.now folder plain refl }
 held_alone program (AskList folder read_only) plain = subst (λ set. IsHeld (program ∷ codes "list" ∷ folder.now ∷ []) (AskList folder set)) (sym plain.1)

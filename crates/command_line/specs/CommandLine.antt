@@ -117,13 +117,13 @@ abbrev pub flag_app : Text → Text → App
 flag_app name flag = with_rule (word_app name (codes "folder")) (flag_option flag)
 
 abbrev pub run_app : App
-run_app = with_rule (new_app (codes "run")) (new_rule (codes "folder"))
+run_app = with_rule (with_rule (new_app (codes "run")) (new_rule (codes "folder"))) (flag_option (codes "checkpoints"))
 
 abbrev pub serve_app : App
-serve_app = with_rule (with_rule (with_rule (with_rule (with_rule (with_rule (with_rule (with_rule (with_rule (with_rule (with_rule (with_rule (with_rule (word_app (codes "serve") (codes "folder"))
+serve_app = with_rule (with_rule (with_rule (with_rule (with_rule (with_rule (with_rule (with_rule (with_rule (with_rule (with_rule (with_rule (with_rule (with_rule (with_rule (word_app (codes "serve") (codes "folder"))
     (port_option (codes "control"))) (port_option (codes "receive"))) address_option) idle_option) settle_option)
     (flag_option (codes "aeron"))) window_option) clients_option) stream_option) segment_option) (flag_option (codes "quiet")))
-    (flag_option (codes "strict"))) metrics_option
+    (flag_option (codes "strict"))) metrics_option) (flag_option (codes "checkpoints"))) (flag_option (codes "no-checkpoints"))
 
 -- a number of an i64 from 0 on, which has to be given
 abbrev pub number_word : Text → Rule
@@ -187,7 +187,7 @@ pub record IsCommand (app : App) (command : Command) : Type 0 where
 -- the word that asks for a command
 abbrev pub command_word : ToolCommand → Text
 command_word (Create folder history) = codes "create"
-command_word (Run folder) = codes "run"
+command_word (Run folder checkpoints) = codes "run"
 command_word (Serve words) = codes "serve"
 command_word (Compact folder) = codes "compact"
 command_word (AskList folder read_only) = codes "list"
@@ -245,6 +245,8 @@ pub record IsServing (rows : List Row) (words : ServeWords) : Type 0 where
   pub quiet_is : IsFlag (one_of (codes "quiet") rows) words.is_quiet
   pub strict_is : IsFlag (one_of (codes "strict") rows) words.is_strict
   pub metrics_is : first_of (codes "metrics") rows ≡ option_map (λ file. file.now) words.metrics
+  pub checkpoints_is : IsFlag (one_of (codes "checkpoints") rows) words.checkpoints
+  pub no_checkpoints_is : IsFlag (one_of (codes "no-checkpoints") rows) words.no_checkpoints
 
 -- the text is an i64 in decimal, and this number
 abbrev pub IsSigned : ℤ → Text → Type 0
@@ -275,7 +277,7 @@ pub record IsAsking (rows : List Row) (words : AskWords) : Type 0 where
 -- the words of a command are those that its subcommand's entries hold
 abbrev pub HasWords : List Row → ToolCommand → Type 0
 HasWords rows (Create folder history) = (first_of (codes "folder") rows ≡ Some folder.now) × IsSomeAnd (one_of (codes "history") rows) (IsNumber history)
-HasWords rows (Run folder) = first_of (codes "folder") rows ≡ option_map (λ f. f.now) folder
+HasWords rows (Run folder checkpoints) = (first_of (codes "folder") rows ≡ option_map (λ f. f.now) folder) × IsFlag (one_of (codes "checkpoints") rows) checkpoints
 HasWords rows (Serve words) = IsServing rows words
 HasWords rows (Compact folder) = first_of (codes "folder") rows ≡ Some folder.now
 HasWords rows (AskList folder read_only) = (first_of (codes "folder") rows ≡ Some folder.now) × IsFlag (one_of (codes "read-only") rows) read_only
@@ -308,8 +310,8 @@ IsPlainWord (byte ∷ bytes) = byte ≢ 45
 -- `export` and `ask` have more words
 abbrev pub IsPlain : ToolCommand → Type 0
 IsPlain (Create folder history) = IsPlainWord folder.now × (history ≡ 1048576)
-IsPlain (Run None) = Unit {0}
-IsPlain (Run (Some folder)) = IsPlainWord folder.now
+IsPlain (Run None checkpoints) = checkpoints ≡ false
+IsPlain (Run (Some folder) checkpoints) = IsPlainWord folder.now × (checkpoints ≡ false)
 IsPlain (Serve words) = ⊥
 IsPlain (Compact folder) = IsPlainWord folder.now
 IsPlain (AskList folder read_only) = IsPlainWord folder.now × (read_only ≡ false)
@@ -322,8 +324,8 @@ IsPlain (Ask words) = ⊥
 -- the word of a command, and its folder or file where it has one
 abbrev pub words_of : ToolCommand → List Text
 words_of (Create folder history) = codes "create" ∷ folder.now ∷ []
-words_of (Run None) = codes "run" ∷ []
-words_of (Run (Some folder)) = codes "run" ∷ folder.now ∷ []
+words_of (Run None checkpoints) = codes "run" ∷ []
+words_of (Run (Some folder) checkpoints) = codes "run" ∷ folder.now ∷ []
 words_of (Serve words) = codes "serve" ∷ words.folder.now ∷ []
 words_of (Compact folder) = codes "compact" ∷ folder.now ∷ []
 words_of (AskList folder read_only) = codes "list" ∷ folder.now ∷ []

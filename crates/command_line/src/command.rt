@@ -23,6 +23,8 @@ pub enum ToolCommand<'a> {
     /// Answer control lines from standard input on standard output, over the archive of a folder or over memory.
     Run {
         folder: Option<&'a str>,
+        /// Whether checkpoints are made between lines.
+        checkpoints: bool,
     },
     /// Answer control lines of connections, over the archive of a folder, and record what datagrams bring.
     Serve(ServeWords<'a>),
@@ -162,6 +164,9 @@ const FROM_HELP: &str = "Where the first frame begins, and not at the recording'
 
 const TO_HELP: &str = "Where the last frame ends, and not at the recorded position";
 
+pub(crate) const CHECKPOINTS_HELP: &str =
+    "Makes the history short when half of it is used, while recordings go on, and answers the line `checkpoint`";
+
 pub(crate) const FOLDER_HELP: &str = "The archive's folder, on a local file system";
 
 /// The word `name` of a command, which has to be given.
@@ -214,7 +219,8 @@ fn run<'a>(alloc: Global) -> Result<Command<'a>, AllocError>
         .about("Answers control lines from standard input on standard output")
         .long_about(RUN_HELP)
         .after_help(RUN_EXAMPLE)
-        .arg(Arg::new(alloc, "folder").help(FOLDER_HELP))
+        .arg(Arg::new(alloc, "folder").help(FOLDER_HELP))?
+        .arg(flag(alloc, "checkpoints", CHECKPOINTS_HELP))
 }
 
 fn compact<'a>(alloc: Global) -> Result<Command<'a>, AllocError>
@@ -400,6 +406,7 @@ fn asked<'a>(name: &str, own: &ArgMatches<'a>) -> Option<ToolCommand<'a>>
         }),
         "run" => Some(ToolCommand::Run {
             folder: own.get_str("folder"),
+            checkpoints: own.get_flag("checkpoints"),
         }),
         "export" => exported(own),
         "compact" => Some(ToolCommand::Compact {

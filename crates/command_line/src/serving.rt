@@ -5,7 +5,7 @@ ghost use Rattle.clap.specs.Words.{found_of, rows_of, rule_of};
 ghost use Rattle.command_line.specs.declared.serving.ServeWords.{ServeWords};
 ghost use Rattle.command_line.specs.CommandLine.{AreNumbers, AreStreams, IsCommand, IsServing, address_option, clients_option, idle_option, metrics_option, port_option, segment_option, serve_app, settle_option, stream_option, window_option, word_app};
 
-use crate::command::{FOLDER_HELP, flag, required};
+use crate::command::{CHECKPOINTS_HELP, FOLDER_HELP, flag, required};
 use clap::builder::ValueParser;
 use clap::{Arg, ArgAction, ArgMatches, Command, value_parser};
 use std::alloc::{AllocError, Global};
@@ -40,6 +40,10 @@ pub struct ServeWords<'a> {
     pub is_strict: bool,
     /// The file that the metrics are written to each second, as it was given. None: there is no such file.
     pub metrics: Option<&'a str>,
+    /// Whether checkpoints are asked for.
+    pub checkpoints: bool,
+    /// Whether a word asks for none.
+    pub no_checkpoints: bool,
 }
 
 const SERVE_HELP: &str =
@@ -90,6 +94,9 @@ full. Without it the server stays up, and answers lines";
 const METRICS_HELP: &str =
     "A file that metrics are written to each second, in the text format of Prometheus, as a textfile collector reads it. It \
 is written beside its place as <file>.part, and then renamed";
+
+const NO_CHECKPOINTS_HELP: &str =
+    "Makes no checkpoints, which --aeron makes without being asked. It needs --aeron";
 
 /// A port of `serve`, which has to be given.
 fn port<'a>(alloc: Global, name: &'a str, help: &'a str) -> Arg<'a>
@@ -231,7 +238,9 @@ pub(crate) fn serve<'a>(alloc: Global) -> Result<Command<'a>, AllocError>
         .arg(segment_length(alloc))?
         .arg(flag(alloc, "quiet", QUIET_HELP))?
         .arg(flag(alloc, "strict", STRICT_HELP))?
-        .arg(metrics(alloc))
+        .arg(metrics(alloc))?
+        .arg(flag(alloc, "checkpoints", CHECKPOINTS_HELP))?
+        .arg(flag(alloc, "no-checkpoints", NO_CHECKPOINTS_HELP))
 }
 
 /// The words of `serve` that its matches hold. An error: there is no memory for the streams.
@@ -297,6 +306,8 @@ fn words_of<'a>(own: &ArgMatches<'a>, streams: Vec<i32>) -> Option<ServeWords<'a
     let is_quiet = own.get_flag("quiet");
     let is_strict = own.get_flag("strict");
     let metrics = own.get_str("metrics");
+    let checkpoints = own.get_flag("checkpoints");
+    let no_checkpoints = own.get_flag("no-checkpoints");
     Some(ServeWords {
         folder,
         control,
@@ -312,5 +323,7 @@ fn words_of<'a>(own: &ArgMatches<'a>, streams: Vec<i32>) -> Option<ServeWords<'a
         is_quiet,
         is_strict,
         metrics,
+        checkpoints,
+        no_checkpoints,
     })
 }

@@ -15,6 +15,10 @@ pub enum UsageError {
     NeedsAeron,
     /// `--record` comes without `--aeron`.
     RecordNeedsAeron,
+    /// `--no-checkpoints` comes without `--aeron`.
+    NoCheckpointsNeedsAeron,
+    /// `--checkpoints` comes with `--no-checkpoints`.
+    Checkpoints,
     /// `--record` comes too often.
     Streams,
     /// `--segment-length` comes without `--record`.
@@ -37,6 +41,8 @@ impl fmt::Display for UsageError {
             UsageError::Window => "--window wants a multiple of 32",
             UsageError::NeedsAeron => "--window needs --aeron",
             UsageError::RecordNeedsAeron => "--record needs --aeron",
+            UsageError::NoCheckpointsNeedsAeron => "--no-checkpoints needs --aeron",
+            UsageError::Checkpoints => "--checkpoints and --no-checkpoints contradict each other",
             UsageError::Streams => "--record may be given at most 64 times",
             UsageError::NeedsRecord => "--segment-length needs --record",
             UsageError::SegmentLength => "--segment-length wants a power of two",

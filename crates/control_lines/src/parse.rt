@@ -57,6 +57,7 @@ fn archive_line(alloc: Global, word: &str, words: &mut Words) -> Result<Line, Re
             replay: words.long()?,
         }),
         "sweep" => Line::Event(Event::Sweep),
+        "checkpoint" => Line::Event(Event::Checkpoint),
         "verify" => Line::Event(Event::Verify {
             recording: words.long()?,
         }),

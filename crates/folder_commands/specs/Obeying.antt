@@ -17,8 +17,8 @@ module _ (given : Given) (input contents written : Option (List ℕ)) (looked : 
   -- looked at and left unopened for what it saw.
   abbrev pub Obeys : ToolCommand → Option Life → Ending → Type 0
   Obeys (Create folder history) left ending = MakesArchive given history contents written left ending
-  Obeys (Run None) left ending = RunsInMemory input contents written ending × (left ≡ None)
-  Obeys (Run (Some folder)) left ending = RunsFolder given input contents written left ending
+  Obeys (Run None checkpoints) left ending = RunsInMemory checkpoints input contents written ending × (left ≡ None)
+  Obeys (Run (Some folder) checkpoints) left ending = RunsFolder checkpoints given input contents written left ending
   Obeys (Serve words) left ending = ServesFolder given words looked left ending × (written ≡ contents)
   Obeys (Compact folder) left ending = CompactsFolder given contents written left ending
   Obeys (AskList folder false) left ending = ListsFolder given contents written left ending

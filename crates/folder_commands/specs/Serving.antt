@@ -1,5 +1,5 @@
 -- What `serve` does over the archive of a folder, and how it ends: docs/SERVING.md.
-use Rattle.std.specs.Prelude.{◌≡◌, ◌⊎◌, ◌<◌, ◌≤◌, ◌%◌, ℕ, ℤ, pos, Bool, true, false, List, [], ◌∷◌, length, IsTrue, IsSomeAnd, Option, None, Some, is_some}
+use Rattle.std.specs.Prelude.{◌≡◌, ◌⊎◌, ◌||◌, ◌<◌, ◌≤◌, ◌%◌, ℕ, ℤ, pos, Bool, true, false, List, [], ◌∷◌, length, IsTrue, IsSomeAnd, Option, None, Some, is_some}
 use Rattle.std.specs.Int.{is_power_of_two}
 use Rattle.std.specs.Net.Addr.{IsMulticastV4}
 use Rattle.std.specs.Net.Grammar.{IsIpv4Text}
@@ -10,7 +10,7 @@ use Rattle.host_disk.specs.Events.{Given}
 use Rattle.host_disk.specs.Replay.{life_from}
 use Rattle.command_line.specs.declared.serving.ServeWords.{ServeWords}
 use Rattle.command_line.specs.declared.usage.UsageError.{UsageError}
-use Rattle.command_line.specs.declared.usage.UsageError.TheVariants.{Address, Multicast, Window, NeedsAeron, RecordNeedsAeron, Streams, NeedsRecord, SegmentLength}
+use Rattle.command_line.specs.declared.usage.UsageError.TheVariants.{Address, Multicast, Window, NeedsAeron, RecordNeedsAeron, Streams, NeedsRecord, SegmentLength, Checkpoints, NoCheckpointsNeedsAeron}
 use Rattle.server.specs.declared.options.ServeOptions.{ServeOptions}
 use Rattle.server.specs.Serving.{IsServedAs, IsServedUpTo}
 use Rattle.folder_commands.specs.declared.why.Why.{Why}
@@ -59,6 +59,13 @@ AsksForSegments streams None bytes = bytes ≡ pos 134217728
 AsksForSegments [] (Some asked) bytes = ⊥
 AsksForSegments (stream ∷ streams) (Some asked) bytes = IsSegmentLength asked × (bytes ≡ pos asked)
 
+-- checkpoints are made with `--aeron` but not with `--no-checkpoints`, and without it with `--checkpoints`; `--no-checkpoints` goes
+-- with `--aeron` alone, and not with `--checkpoints`
+abbrev pub AsksForCheckpoints : Bool → Bool → Bool → Bool → Type 0
+AsksForCheckpoints is_aeron asks false makes = makes ≡ (asks || is_aeron)
+AsksForCheckpoints true false true makes = makes ≡ false
+AsksForCheckpoints is_aeron asks true makes = ⊥
+
 module _ (words : ServeWords) where
   -- the words ask for this receiver window, or for none
   abbrev pub HasWindow : Option ℤ → Type 0
@@ -84,9 +91,13 @@ module _ (words : ServeWords) where
   abbrev pub HasBadSegments : Type 0
   HasBadSegments = (bytes : ℤ) → HasSegments bytes → ⊥
 
-  -- what they say of a receiver window, of streams or of segments is wrong
+  -- what they say of checkpoints is wrong
+  abbrev pub HasBadCheckpoints : Type 0
+  HasBadCheckpoints = (makes : Bool) → AsksForCheckpoints words.is_aeron words.checkpoints words.no_checkpoints makes → ⊥
+
+  -- what they say of a receiver window, of streams, of segments or of checkpoints is wrong
   abbrev pub HasBadOptions : Type 0
-  HasBadOptions = HasBadWindow ⊎ HasBadStreams ⊎ HasBadSegments
+  HasBadOptions = HasBadWindow ⊎ HasBadStreams ⊎ HasBadSegments ⊎ HasBadCheckpoints
 
   -- the options of a server are those of the words, with this receiver's number
   pub record AreOptions (receiver : ℤ) (options : ServeOptions) : Type 0 where
@@ -100,6 +111,8 @@ module _ (words : ServeWords) where
     pub segments : HasSegments options.segment_length
     pub strict : options.is_strict ≡ words.is_strict
     pub measured : options.is_measured ≡ is_some words.metrics
+    pub checkpoints : AsksForCheckpoints words.is_aeron words.checkpoints words.no_checkpoints options.makes_checkpoints
+    pub begins : options.begins_short ≡ options.makes_checkpoints
 
   -- the words name no address, or no ports
   abbrev pub HasNoEnds : Type 0
@@ -129,6 +142,11 @@ streams_reason true = Streams
 abbrev pub segment_reason : List ℤ → UsageError
 segment_reason [] = NeedsRecord
 segment_reason (stream ∷ streams) = SegmentLength
+
+-- and of bad words on checkpoints
+abbrev pub checkpoints_reason : Bool → UsageError
+checkpoints_reason true = Checkpoints
+checkpoints_reason false = NoCheckpointsNeedsAeron
 
 -- ---- the server
 

@@ -1,6 +1,6 @@
 //! The command `serve`: its words, its ports, and the archive of its folder. docs/SERVING.md, "How to run it".
 
-ghost use Rattle.std.specs.Prelude.{◌≡◌, ◌≤◌, ◌<◌, ◌↔◌, IfErr, IfOk, IsTrue, MatchResult};
+ghost use Rattle.std.specs.Prelude.{◌≡◌, ◌&&◌, ◌≤◌, ◌<◌, ◌↔◌, IfErr, IfOk, IsTrue, MatchResult};
 ghost use Rattle.std.specs.IoError.{error_kind};
 ghost use Rattle.clap.specs.declared.error.ErrorKind.TheVariants.{ValueValidation};
 ghost use Rattle.host_disk.specs.Events.{Given};
@@ -9,7 +9,7 @@ ghost use Rattle.folder_commands.specs.declared.status.Ending.TheVariants.{NoCom
 ghost use Rattle.folder_commands.specs.declared.why.Why.TheVariants.{Usage};
 ghost use Rattle.folder_commands.specs.Folders.{ending_in};
 ghost use Rattle.folder_commands.specs.Left.{ends_with, leaves, sees};
-ghost use Rattle.folder_commands.specs.Serving.{AreOptions, HasBadOptions, HasBadSegments, HasBadStreams, HasBadWindow, HasNoEnds, HasSegments, HasWindow, IsAddressReason, IsNoAddress, IsReceiverWindow, IsSegmentLength, IsUnbound, RecordsStreams, ServesFolder, ServesOver, segment_reason, streams_reason, window_reason};
+ghost use Rattle.folder_commands.specs.Serving.{AreOptions, AsksForCheckpoints, HasBadCheckpoints, HasBadOptions, HasBadSegments, HasBadStreams, HasBadWindow, HasNoEnds, HasSegments, HasWindow, IsAddressReason, IsNoAddress, IsReceiverWindow, IsSegmentLength, IsUnbound, RecordsStreams, ServesFolder, ServesOver, checkpoints_reason, segment_reason, streams_reason, window_reason};
 
 use crate::commands::disk_of;
 use crate::exit::Exit;
@@ -47,7 +47,7 @@ struct Ports {
 
 /// Serves the archive of a folder as the words ask for, until a line quits, and reports on standard error what happens. If the
 /// words are wrong, no port is bound and the folder is not opened. It is reported if the archive's catalogue may hide entries; a
-/// strict server does not open it then.
+/// strict server does not open it then, and another one makes no checkpoint before its first line.
 pub(crate) fn serve<
     R: Threads + Wait + Clock + Eprint + Net<Listener = TcpListener, Stream = TcpStream> + Sync,
 >(net: &R, rt: HostRuntime, words: &ServeWords<'_>) -> Result<Left, Outcome>
@@ -58,7 +58,9 @@ pub(crate) fn serve<
     let ports = bound(net, words)?;
     let folder = Path::new(words.folder);
     let disk = disk_of(rt, folder)?;
-    if let Some(looked) = warns_of_hidden(rt, folder, &Screen::new(net)) {
+    let looked = warns_of_hidden(rt, folder, &Screen::new(net));
+    let options = begun(options, looked.is_none());
+    if let Some(looked) = looked {
         if words.is_strict {
             return Err(Outcome {
                 exit: Exit::reported(Ending::Hidden),
@@ -72,6 +74,25 @@ pub(crate) fn serve<
     let reporter = ServeReporter::new(net, words.is_quiet, metrics);
     let (disk, done) = serve_disk(net, rt.alloc(), ports, disk, &options, reporter);
     Outcome::leaving(done, closed(disk))
+}
+
+/// The options of a server that makes no checkpoint before its first line if its catalogue may hide entries.
+fn begun<'a>(options: ServeOptions<'a>, is_plain: bool) -> ServeOptions<'a>
+    ensures { result ≡ record options { begins_short = options.begins_short && is_plain } }
+{
+    ServeOptions {
+        idle_seconds: options.idle_seconds,
+        settle_every: options.settle_every,
+        window: options.window,
+        receiver_id: options.receiver_id,
+        clients: options.clients,
+        streams: options.streams,
+        segment_length: options.segment_length,
+        is_strict: options.is_strict,
+        is_measured: options.is_measured,
+        makes_checkpoints: options.makes_checkpoints,
+        begins_short: options.begins_short && is_plain,
+    }
 }
 
 /// A random number for a receiver, so that no other one is likely to have it. 0 if the system gives none.
@@ -90,6 +111,7 @@ fn options_of<'a>(words: &'a ServeWords<'_>, receiver_id: i64) -> Result<ServeOp
         (AreOptions words.now receiver_id)
         (λ exit. HasBadOptions words.now × (exit.ending ≡ NoCommand ValueValidation)) }
 {
+    let makes_checkpoints = makes_checkpoints(words)?;
     Ok(ServeOptions {
         idle_seconds: u64::from(words.idle),
         settle_every: u64::from(words.settle_every),
@@ -100,6 +122,8 @@ fn options_of<'a>(words: &'a ServeWords<'_>, receiver_id: i64) -> Result<ServeOp
         segment_length: segment_length_of(words)?,
         is_strict: words.is_strict,
         is_measured: words.metrics.is_some(),
+        makes_checkpoints,
+        begins_short: makes_checkpoints,
     })
 }
 
@@ -165,6 +189,23 @@ fn is_segment_length(bytes: u32) -> bool
     ensures { IsTrue result ↔ IsSegmentLength bytes }
 {
     MIN_TERM_LENGTH as u32 <= bytes && bytes <= MAX_TERM_LENGTH as u32 && bytes.is_power_of_two()
+}
+
+/// Whether the words ask for checkpoints: with `--aeron` unless `--no-checkpoints` comes with it, without it by `--checkpoints`.
+/// Refused if both words come, and if `--no-checkpoints` comes without `--aeron`.
+fn makes_checkpoints(words: &ServeWords<'_>) -> Result<bool, Exit>
+    ensures makes { MatchResult result
+        (AsksForCheckpoints words.now.is_aeron words.now.checkpoints words.now.no_checkpoints)
+        (λ exit. HasBadCheckpoints words.now × (exit.ending ≡ NoCommand ValueValidation)) }
+    ensures why { IfErr result (λ exit. exit.why ≡ Usage (checkpoints_reason words.now.checkpoints)) }
+{
+    if words.checkpoints && words.no_checkpoints {
+        return Err(misworded(UsageError::Checkpoints));
+    }
+    if words.no_checkpoints && !words.is_aeron {
+        return Err(misworded(UsageError::NoCheckpointsNeedsAeron));
+    }
+    Ok(words.checkpoints || words.is_aeron && !words.no_checkpoints)
 }
 
 /// The words are wrong, for this reason.

@@ -47,6 +47,8 @@ pub(crate) struct ClientOptions {
     pub closes_replays: bool,
     /// Whether one client is served at a time. Its merge goes on in the next connection.
     pub is_single: bool,
+    /// Whether the line `checkpoint` is answered.
+    pub offers_checkpoints: bool,
 }
 
 impl ClientOptions {
@@ -55,12 +57,14 @@ impl ClientOptions {
         ensures closes { IsTrue result.closes_replays ↔ IsSome options.now.clients }
         ensures single { IsTrue result.is_single ↔ (places.now.count ≡ 1) }
         ensures images { IsTrue result.lists_images ↔ IsSome options.now.window }
+        ensures checkpoints { result.offers_checkpoints ≡ options.now.makes_checkpoints }
     {
         ClientOptions {
             idle: Duration::from_secs(options.idle_seconds),
             lists_images: options.window.is_some(),
             closes_replays: options.clients.is_some(),
             is_single: places.count == 1,
+            offers_checkpoints: options.makes_checkpoints,
         }
     }
 }
@@ -231,8 +235,8 @@ fn answer_client<R: Read + Drop, W: Write, S: Answerer>(
     state: ScriptState<S>,
 ) -> (ScriptState<S>, Result<(), EarlyEnd>, bool)
     ensures whole { OnOk result.1 (WritesText (R.remaining reader) (W.contents writer.old) (W.contents writer.new)
-        (AnswersLines S.ways state result.0)) }
-    ensures early { IfErr result.1 (λ end. EndsEarly end (AnswersFirstLines S.ways state result.0)
+        (AnswersLines S.ways S.checkpoints state result.0)) }
+    ensures early { IfErr result.1 (λ end. EndsEarly end (AnswersFirstLines S.ways S.checkpoints state result.0)
         (R.remaining reader) (W.contents writer.old) (W.contents writer.new)) }
 {
     let mut observer = QuitObserver { has_quit: false };

@@ -1,6 +1,7 @@
 //! The thread of a server that records: seats of sessions, settlings, and recordings that nobody asked for.
 #![tactic(auto)]
 
+mod checkpoints;
 mod own_recordings;
 mod recording;
 mod seats;
@@ -8,6 +9,7 @@ mod settling;
 mod stopping;
 mod streams;
 
+pub use checkpoints::{begin_short, is_begun, note_checkpoint};
 pub use own_recordings::OwnRecordings;
 pub use recording::{Recording, record_all};
 pub use seats::{SeatRoom, Seats, parted};

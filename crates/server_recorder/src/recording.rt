@@ -3,6 +3,7 @@
 ghost use Rattle.std.specs.Prelude.{◌≡◌, IfSome};
 ghost use Rattle.server_recorder.specs.Recording.{first_term};
 
+use crate::checkpoints::{keep_short, retry_when_full, wait_at_most};
 use crate::own_recordings::OwnRecordings;
 use crate::seats::Seats;
 use crate::settling::{Settling, Written};
@@ -38,7 +39,8 @@ pub struct Recording<'a, D: Disk, A: Naming, R, T> {
 /// A session settles once it is due: a block waits for `settle_every` milliseconds at most. All sessions settle at the end.
 /// Then nobody waits for a settling any more.
 ///
-/// Where the archive stands is noted after each settling, and after each call for a recording that nobody asked for, by what
+/// A checkpoint is made after a settling or a call of the server's own which leaves it due, and tried each second while the history
+/// is full. Where the archive stands is noted after each settling, and after each call for a recording that nobody asked for, by what
 /// came with the answer. After a write that the disk failed the lock is taken once more for it. Nothing else is noted.
 pub fn record_all<D: Disk, A: Naming, R: Wait + Clock, T: Reporter>(
     with: &Recording<'_, D, A, R, T>,
@@ -49,12 +51,14 @@ pub fn record_all<D: Disk, A: Naming, R: Wait + Clock, T: Reporter>(
 ) {
     let watch = Stopwatch::new(with.rt);
     let mut settling = Settling::new(settle_every);
+    let mut tried = None;
     for _ in with.rt.forever() {
         let taken = take_batch(with, &watch, &mut settling, batch);
         write_batch(with, seats, &mut settling, batch);
         settle_due(with, seats, &mut settling, &taken);
         settle_leaving(with, seats, &mut settling, &taken);
         own.follow(with, seats, &taken, watch.read(with.rt));
+        retry_when_full(with, seats, &watch, &mut tried);
         with.shared.queue.answer(with.rt);
         if taken.is_over {
             break;
@@ -74,7 +78,7 @@ fn take_batch<D: Disk, A: Naming, R: Wait + Clock, T: Reporter>(
         with.shared.look_round(with.socket);
     }
     settling.set_time(watch.read(with.rt));
-    let wait = settling.next_due();
+    let wait = wait_at_most(with.shared, settling.next_due());
     let taken = with.shared.queue.take(with.rt, batch, wait);
     settling.set_time(watch.read(with.rt));
     taken
@@ -225,7 +229,7 @@ fn settle<D: Disk, A: Naming, R: Wait + Clock, T: Reporter>(
         Err(cause) => with.shared.refused(with.rt, written.session, cause),
     }
     if let Some(standing) = standing {
-        note_standing(with.shared, &standing);
+        keep_short(with, seats, seat, &standing);
     }
     answer.is_ok()
 }

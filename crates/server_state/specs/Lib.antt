@@ -8,3 +8,5 @@ pub mod Naming
 pub mod Handing
 pub mod Asking
 pub mod Stopwatch
+-- Checkpoints that were refused.
+pub mod Checkpointing

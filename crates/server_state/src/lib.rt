@@ -3,6 +3,7 @@
 
 mod archive_news;
 mod asking;
+mod checkpointing;
 mod client_news;
 mod counted;
 mod counts;
@@ -22,6 +23,7 @@ mod shared;
 mod stopwatch;
 
 pub use archive_news::ArchiveNews;
+pub use checkpointing::Checkpointing;
 pub use client_news::ClientNews;
 pub use counted::{Counted, ImageCounted};
 pub use counts::{Count, Counts, ImageCounts};

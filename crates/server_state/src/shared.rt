@@ -4,6 +4,7 @@ ghost use Rattle.std.specs.Prelude.{◌≡◌};
 ghost use Rattle.server_state.specs.Noting.{opens_session};
 
 use crate::archive_news::ArchiveNews;
+use crate::checkpointing::Checkpointing;
 use crate::client_news::ClientNews;
 use crate::counts::Counts;
 use crate::happening::Happening;
@@ -26,7 +27,7 @@ use std::net::{SocketAddr, UdpSocket};
 use std::sync::atomic::{AtomicBool, AtomicU8, Ordering};
 use std::sync::{Mutex, Wait};
 use stream_pairs::{FED_SESSIONS, ImageNumber, MAX_IMAGES, Pairs, Place, Seat, StreamPoint};
-use tool_core::HistoryUse;
+use tool_core::{CheckpointOutcome, HistoryUse};
 
 /// An image that waits for a session.
 #[derive(Clone, Copy)]
@@ -59,6 +60,8 @@ pub struct SharedOptions {
     pub is_strict: bool,
     /// Whether it is measured.
     pub is_measured: bool,
+    /// Whether it makes checkpoints.
+    pub makes_checkpoints: bool,
 }
 
 /// What the threads share. A method takes one lock at most, and reports what happened when it has none.
@@ -73,6 +76,8 @@ pub struct Shared<T> {
     pub counts: Counts,
     /// What is counted for the metrics alone.
     pub meter: Meter,
+    /// When checkpoints are made.
+    pub checkpointing: Checkpointing,
     ends: AtomicBool,
     looks_round: AtomicBool,
     /// Calls that make entries are made and noted one after another.
@@ -102,6 +107,7 @@ impl<T: Reporter> Shared<T> {
             queue: Queue::new(alloc)?,
             counts: Counts::new(alloc)?,
             meter: Meter::new(options.is_measured),
+            checkpointing: Checkpointing::new(options.makes_checkpoints),
             ends: AtomicBool::new(false),
             looks_round: AtomicBool::new(false),
             turn: Mutex::new(()),
@@ -266,10 +272,29 @@ impl<T: Reporter> Shared<T> {
     /// So many entries of the history count, and so many may: reported at 90, 95 and 99 hundredths, each once.
     pub fn note_history(&self, counted: u64, limit: u32) {
         self.meter.set_history(counted, limit);
+        self.checkpointing.note(counted, limit);
         let history = HistoryUse { counted, limit };
         let level = history.level();
         if level > 0 && self.history.fetch_max(level, Ordering::SeqCst) < level {
             self.report(&Happening::Archive(ArchiveNews::HistoryUsed(history)));
+        }
+    }
+
+    /// A checkpoint ended so, with which so many entries count, of so many that may. It is reported if it was made, and each
+    /// cause of a refusal once. Warnings of a history that fills up come again after one that was made.
+    pub fn note_checkpoint(&self, outcome: &CheckpointOutcome, counted: u64, limit: u32) {
+        match outcome {
+            CheckpointOutcome::Made { .. } => {
+                self.history.store(0, Ordering::SeqCst);
+                self.meter.checkpoints.add(1);
+            }
+            CheckpointOutcome::Refused(cause) => {
+                self.note_refusal(cause);
+                self.meter.refused_checkpoints.add(1);
+            }
+        }
+        if self.checkpointing.ended(outcome, counted, limit) {
+            self.report(&Happening::Archive(ArchiveNews::Checkpoint(*outcome)));
         }
     }
 

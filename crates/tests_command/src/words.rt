@@ -185,7 +185,7 @@ fn help(rt: HostRuntime) -> Result<(), Fail> {
         (
             "archive_tool --version",
             ErrorKind::DisplayVersion,
-            "archive_tool 0.1.0 (catalogue 2, rattle-kit-",
+            "archive_tool 0.2.0 (catalogue 2, rattle-kit-",
         ),
     ] {
         check_refused(&rt, rt.alloc(), line, kind, text, 0)?;
@@ -286,8 +286,34 @@ fn a_history_that_is_no_number(rt: HostRuntime) -> Result<(), Fail> {
 #[test]
 fn each_command_has_its_words(rt: HostRuntime) -> Result<(), Fail> {
     for (line, command) in [
-        ("archive_tool run", ToolCommand::Run { folder: None }),
-        ("archive_tool run a", ToolCommand::Run { folder: Some("a") }),
+        (
+            "archive_tool run",
+            ToolCommand::Run {
+                folder: None,
+                checkpoints: false,
+            },
+        ),
+        (
+            "archive_tool run a",
+            ToolCommand::Run {
+                folder: Some("a"),
+                checkpoints: false,
+            },
+        ),
+        (
+            "archive_tool run --checkpoints",
+            ToolCommand::Run {
+                folder: None,
+                checkpoints: true,
+            },
+        ),
+        (
+            "archive_tool run a --checkpoints",
+            ToolCommand::Run {
+                folder: Some("a"),
+                checkpoints: true,
+            },
+        ),
         (
             "archive_tool compact a",
             ToolCommand::Compact { folder: "a" },

@@ -26,7 +26,13 @@ returns-in_ok-get_one-in-create c = record {
 }
 
 pub returns-in-run : goal.returns-in-run
-returns-in-run c = record { named = search rules; words = text_given (found_of c.args.own.now) (codes "folder") _ _ c.get_str-in-run.ensures refl }
+returns-in-run c = record {
+  named = search rules;
+  words = (
+    text_given (found_of c.args.own.now) (codes "folder") _ _ c.get_str-in-run.ensures refl,
+    flag_given (found_of c.args.own.now) (codes "checkpoints") _ c.get_flag.ensures.none c.get_flag.ensures.value c.get_flag.ensures.other,
+  );
+}
 
 pub returns-in_err-get_str-in-compact : goal.returns-in_err-get_str-in-compact
 returns-in_err-get_str-in-compact c = rw c.from_residual-in_err-get_str-in-compact.ensures
@@ -47,7 +53,7 @@ returns-in_ok-get_str-in-list c = record {
   named = search rules;
   words = (
     text_given (found_of c.args.own.now) (codes "folder") _ _ c.get_str-in-list.ensures c.in_ok-get_str-in-list.was,
-    flag_given (found_of c.args.own.now) (codes "read-only") _ c.get_flag.ensures.none c.get_flag.ensures.value c.get_flag.ensures.other,
+    flag_given (found_of c.args.own.now) (codes "read-only") _ c.get_flag-in-list.ensures.none c.get_flag-in-list.ensures.value c.get_flag-in-list.ensures.other,
   );
 }
 

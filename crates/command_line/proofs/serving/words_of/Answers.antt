@@ -64,4 +64,6 @@ returns c = record {
   quiet_is = flag_given (found_of c.args.own.now) (codes "quiet") _ c.get_flag-is_quiet.ensures.none c.get_flag-is_quiet.ensures.value c.get_flag-is_quiet.ensures.other;
   strict_is = flag_given (found_of c.args.own.now) (codes "strict") _ c.get_flag-is_strict.ensures.none c.get_flag-is_strict.ensures.value c.get_flag-is_strict.ensures.other;
   metrics_is = text_given (found_of c.args.own.now) (codes "metrics") _ _ c.get_str-metrics.ensures refl;
+  checkpoints_is = flag_given (found_of c.args.own.now) (codes "checkpoints") _ c.get_flag-checkpoints.ensures.none c.get_flag-checkpoints.ensures.value c.get_flag-checkpoints.ensures.other;
+  no_checkpoints_is = flag_given (found_of c.args.own.now) (codes "no-checkpoints") _ c.get_flag-no_checkpoints.ensures.none c.get_flag-no_checkpoints.ensures.value c.get_flag-no_checkpoints.ensures.other;
 }
