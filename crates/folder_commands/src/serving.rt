@@ -13,6 +13,7 @@ ghost use Rattle.folder_commands.specs.Serving.{AreOptions, AsksForCheckpoints, 
 
 use crate::commands::disk_of;
 use crate::exit::Exit;
+use crate::flushing::FolderFlusher;
 use crate::hidden::warns_of_hidden;
 use crate::open_folder::closed;
 use crate::outcome::{Left, Outcome};
@@ -25,7 +26,7 @@ use command_line::{ServeWords, UsageError};
 use disk_core::Disk;
 use flow_control::{INITIAL_WINDOW, LONGEST_WINDOW, SHORTEST_WINDOW};
 use frame_core::limits::{FRAME_ALIGNMENT, MAX_TERM_LENGTH, MIN_TERM_LENGTH};
-use server::{Reporter, SEGMENT_LENGTH, ServeOptions, Served, serve_with};
+use server::{Flusher, Reporter, SEGMENT_LENGTH, ServeOptions, Served, serve_flushing};
 use std::alloc::Global;
 use std::io::{self, Eprint};
 use std::net::{Ipv4Addr, Net, TcpListener, TcpStream, UdpSocket};
@@ -72,7 +73,8 @@ pub(crate) fn serve<
     let disk = Watched::new(disk, ServeFaults::new(rt.alloc(), net));
     let metrics = metrics_of(rt, words);
     let reporter = ServeReporter::new(net, words.is_quiet, metrics);
-    let (disk, done) = serve_disk(net, rt.alloc(), ports, disk, &options, reporter);
+    let flusher = FolderFlusher::new(net, rt, folder);
+    let (disk, done) = serve_disk(net, rt.alloc(), ports, disk, &options, reporter, &flusher);
     Outcome::leaving(done, closed(disk))
 }
 
@@ -289,6 +291,7 @@ fn serve_disk<
     R: Threads + Wait + Clock + Sync,
     D: Disk + Drop + Send,
     T: Reporter + Drop + Send + Sync,
+    F: Flusher + Sync,
 >(
     net: &R,
     alloc: Global,
@@ -296,11 +299,15 @@ fn serve_disk<
     disk: D,
     options: &ServeOptions<'_>,
     reporter: T,
+    flusher: &F,
 ) -> (D, Result<(), Exit>)
     ensures { ServesOver options.now.is_strict (D.life disk) (D.life result.0) (ending_in result.1) }
 {
     let Ports { listener, socket } = ports;
-    match serve_with(net, alloc, listener, socket, disk, options, reporter) {
+    let served = serve_flushing(
+        net, alloc, listener, socket, disk, options, reporter, flusher,
+    );
+    match served {
         Ok(Served { disk, stop }) => match stop {
             None => (disk, Ok(())),
             Some(stop) => (disk, Err(Exit::reported(Ending::Stuck(stop)))),

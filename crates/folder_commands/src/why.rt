@@ -112,7 +112,7 @@ const BAD_DESCRIPTOR: i32 = 9;
 
 /// The system's text of an error, without its number.
 #[derive(Clone, Copy, Drop)]
-struct SystemText(io::Error);
+pub(crate) struct SystemText(pub io::Error);
 
 impl fmt::Display for SystemText {
     fn fmt<W: fmt::Write>(&self, f: &mut fmt::Formatter<W>) -> fmt::Result {

@@ -308,7 +308,7 @@ fn makes_entry(event: &Event) -> bool
 {
     match event {
         Event::Ask(request) => is_command(request),
-        Event::Settle { .. } => true,
+        Event::Settle { .. } | Event::SettleAll { .. } => true,
         _ => false,
     }
 }

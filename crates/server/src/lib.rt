@@ -16,8 +16,9 @@ mod unopened;
 
 pub use options::{IDLE_SECONDS, SEGMENT_LENGTH, SETTLE_EVERY, ServeOptions};
 pub use served::{Served, Stuck};
+pub use server_recorder::{Flusher, Unflushed};
 pub use server_state::{
     ArchiveNews, ClientNews, Counted, Happening, ImageCounted, ImageNews, LineReporter, Reporter,
     SessionNews, Unreported,
 };
-pub use serving::{serve_on, serve_with};
+pub use serving::{serve_flushing, serve_on, serve_with};

@@ -1,8 +1,7 @@
 //! Recordings that the server starts by itself. docs/SERVING.md, "Recording without being asked".
 
-ghost use Rattle.std.specs.Prelude.{◌≡◌, Err, None, replicate, slice_set};
-ghost use Rattle.frame_core.specs.declared.refusal.Refusal.TheVariants.{StaleSession};
-ghost use Rattle.server_recorder.specs.Seats.{CallsAt, MakesCall};
+ghost use Rattle.std.specs.Prelude.{◌≡◌, None, replicate, slice_set};
+ghost use Rattle.server_recorder.specs.Seats.{MakesCall};
 
 use crate::checkpoints::keep_short;
 use crate::recording::Recording;
@@ -246,8 +245,8 @@ fn start_from<D: Disk, A: Naming, R: Wait + Clock, T: Reporter>(
     }
 }
 
-/// Makes a call by the pass of the first seat, and notes its answer and where the archive stands after it. A checkpoint follows
-/// if the call leaves one due.
+/// Makes a call by the pass of the seats, and notes its answer and where the archive stands after it. A checkpoint follows if the
+/// call leaves one due.
 fn call<D: Disk, A: Naming, R: Wait, T: Reporter>(
     with: &Recording<'_, D, A, R, T>,
     seats: &mut Seats<A>,
@@ -255,22 +254,22 @@ fn call<D: Disk, A: Naming, R: Wait, T: Reporter>(
 ) -> Result<Reply, Refusal> {
     let (outcome, standing) = noted_call(with, seats, event);
     if let Some(standing) = standing {
-        keep_short(with, seats, 0, &standing);
+        keep_short(with, seats, &standing);
     }
     outcome
 }
 
-/// Makes a call by the pass of the first seat, and notes its answer, before or after each other call that is noted. Where the
-/// archive stands after it.
+/// Makes a call by the pass of the seats, and notes its answer, before or after each other call that is noted. Where the archive
+/// stands after it.
 fn noted_call<D: Disk, A: Naming, R: Wait, T: Reporter>(
     with: &Recording<'_, D, A, R, T>,
     seats: &mut Seats<A>,
     event: &Event,
 ) -> (Result<Reply, Refusal>, Option<Standing>)
-    ensures { CallsAt 0 (Err StaleSession, None) seats.old result seats.new (MakesCall D.life A.opening event.now) }
+    ensures { MakesCall D.life A.opening event.now seats.old result seats.new }
 {
     let _turn = with.shared.turn.lock(with.rt);
-    let (outcome, standing) = seats.call(with.rt, with.alloc, with.archive, 0, event);
+    let (outcome, standing) = seats.call(with.rt, with.alloc, with.archive, event);
     with.shared.note(with.rt, event, &outcome);
     (outcome, standing)
 }
