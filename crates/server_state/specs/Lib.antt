@@ -8,3 +8,5 @@ pub mod Naming
 pub mod Handing
 pub mod Asking
 pub mod Stopwatch
+-- Where a publication goes on before its setup frame.
+pub mod Resuming
