@@ -33,6 +33,8 @@ mod recorded;
 #[cfg(test)]
 mod refused_turns;
 #[cfg(test)]
+mod resumed;
+#[cfg(test)]
 mod scenarios;
 #[cfg(test)]
 mod seat;
