@@ -27,6 +27,10 @@ pub(crate) fn usual<'a>(alloc: Global) -> ServeWords<'a> {
         is_quiet: false,
         is_strict: false,
         metrics: None,
+        name: None,
+        logs_times: false,
+        no_create: false,
+        wait: None,
     }
 }
 
@@ -111,6 +115,37 @@ fn serve_has_its_reports(rt: HostRuntime) -> Result<(), Fail> {
         let mut words = usual(rt.alloc());
         words.is_strict = is_strict;
         words.metrics = metrics;
+        assert!(rt;
+            asks_for(rt.alloc(), line.as_str(), ToolCommand::Serve(words))?,
+            "{line}"
+        );
+    }
+    Ok(())
+}
+
+/// Its name, whether lines have their times, whether an archive has to be there, and for how long it is waited for.
+#[test]
+fn serve_has_its_operation(rt: HostRuntime) -> Result<(), Fail> {
+    for (options, name, logs_times, no_create, wait) in [
+        ("--name a-1", Some("a-1"), false, false, None),
+        ("--log-times --name=", Some(""), true, false, None),
+        ("--no-create --wait 30", None, false, true, Some(30)),
+        (
+            "--wait=1 --no-create --log-times",
+            None,
+            true,
+            true,
+            Some(1),
+        ),
+    ] {
+        let line = format!(in rt.alloc();
+            "archive_tool serve a --control 1 --receive 2 {options}"
+        )?;
+        let mut words = usual(rt.alloc());
+        words.name = name;
+        words.logs_times = logs_times;
+        words.no_create = no_create;
+        words.wait = wait;
         assert!(rt;
             asks_for(rt.alloc(), line.as_str(), ToolCommand::Serve(words))?,
             "{line}"
@@ -230,7 +265,7 @@ fn a_missing_port(rt: HostRuntime) -> Result<(), Fail> {
 }
 
 /// Words of `serve` over a folder that is not there, on ports that the system chooses.
-fn unserved<'a>(
+pub(crate) fn unserved<'a>(
     alloc: Global,
     folder: &'a str,
     receive_on: &'a str,
@@ -252,6 +287,10 @@ fn unserved<'a>(
         is_quiet: true,
         is_strict: false,
         metrics: None,
+        name: None,
+        logs_times: false,
+        no_create: false,
+        wait: None,
     }
 }
 
