@@ -64,6 +64,10 @@ with_lengths r ms =
 unfoldable pub recording_data : List Measured → Registration → Data
 recording_data files r = object (with_lengths r (with_extent (total_of (is_segment_of r.descriptor.recording) files) r (with_dates r (with_stream r no_members))))
 
+-- the text of a recording alone, and a line's end after it
+unfoldable pub recording_text : List Measured → Registration → List ℕ
+recording_text files r = compact_text (recording_data files r) ++ codes "\n"
+
 -- a file that a sweep would remove, and why
 unfoldable pub stale_data : RegisterState → FileId → Data
 stale_data g file = object (member (codes "file") (string (name_of file)) (member (codes "why") (string (why_text (staleness_of g file))) no_members))

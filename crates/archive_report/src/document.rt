@@ -2,7 +2,7 @@
 
 ghost use Rattle.std.specs.Prelude.{◌≡◌, IfOk, OnOk, string_bytes};
 ghost use Rattle.serde_json.specs.View.{members_view, view};
-ghost use Rattle.archive_report.specs.DocumentData.{archive_in_total, date_data, document_data, document_text, each_of, recording_data, stale_data, unknown_data, with_dates, with_extent, with_lengths, with_stream};
+ghost use Rattle.archive_report.specs.DocumentData.{archive_in_total, date_data, document_data, document_text, each_of, recording_data, recording_text, stale_data, unknown_data, with_dates, with_extent, with_lengths, with_stream};
 
 use crate::dates::Date;
 use crate::summary::{Staleness, Summary, Total, recorded_bytes};
@@ -72,6 +72,21 @@ fn recordings_of(
         found.push(recording_of(alloc, known, summary)?)?;
     }
     Ok(Value::Array(found))
+}
+
+/// The text of a recording alone, with a line end behind it. An error where there is no memory for it.
+#[tactic(auto, unfolding(crate::specs::DocumentData::recording_text))]
+pub(crate) fn recording_document(
+    alloc: Global,
+    known: &Registration,
+    summary: &Summary,
+) -> Result<String, AllocError>
+    ensures { IfOk result (λ text. string_bytes text ≡ recording_text summary.now.files.items known.now) }
+{
+    let recording = recording_of(alloc, known, summary)?;
+    let mut text = recording.to_string(alloc)?;
+    text.push_str("\n")?;
+    Ok(text)
 }
 
 /// A recording.

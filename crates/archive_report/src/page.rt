@@ -29,6 +29,19 @@ pub(crate) fn page_of(alloc: Global, desk: &Desk, summary: &Summary) -> Result<S
     Ok(page)
 }
 
+/// The part of the page on a recording alone. An error where there is no memory for it.
+pub(crate) fn recording_page(
+    alloc: Global,
+    known: &Registration,
+    summary: &Summary,
+) -> Result<String, AllocError>
+    ensures { IfOk result (λ page. string_bytes page ≡ recording_lines summary.now.files.items known.now) }
+{
+    let mut page = String::new(alloc);
+    add_recording(known, summary, &mut page)?;
+    Ok(page)
+}
+
 /// Each recording.
 fn add_recordings(
     recordings: &[Registration],

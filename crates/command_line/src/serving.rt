@@ -3,9 +3,9 @@
 ghost use Rattle.std.specs.Prelude.{◌≡◌, ℤ, IfOk, List, MatchOption, codes, false, map};
 ghost use Rattle.clap.specs.Words.{found_of, rows_of, rule_of};
 ghost use Rattle.command_line.specs.declared.serving.ServeWords.{ServeWords};
-ghost use Rattle.command_line.specs.CommandLine.{AreNumbers, AreStreams, IsCommand, IsServing, address_option, clients_option, idle_option, metrics_option, port_option, segment_option, serve_app, settle_option, stream_option, window_option, word_app};
+ghost use Rattle.command_line.specs.CommandLine.{AreNumbers, AreStreams, IsCommand, IsServing, address_option, clients_option, idle_option, metrics_option, name_option, port_option, segment_option, serve_app, settle_option, stream_option, window_option, word_app};
 
-use crate::command::{CHECKPOINTS_HELP, FOLDER_HELP, flag, required};
+use crate::command::{CHECKPOINTS_HELP, FOLDER_HELP, flag, required, waiting};
 use clap::builder::ValueParser;
 use clap::{Arg, ArgAction, ArgMatches, Command, value_parser};
 use std::alloc::{AllocError, Global};
@@ -44,6 +44,14 @@ pub struct ServeWords<'a> {
     pub checkpoints: bool,
     /// Whether a word asks for none.
     pub no_checkpoints: bool,
+    /// The name of this recorder, in each line and in each sample of the metrics, as it was given. None: it has none.
+    pub name: Option<&'a str>,
+    /// Whether each line on standard error begins with its time and a level.
+    pub logs_times: bool,
+    /// Whether a folder without an archive is refused.
+    pub no_create: bool,
+    /// Seconds for which the folder is waited for while it is in use. None: it is not waited for.
+    pub wait: Option<u32>,
 }
 
 const SERVE_HELP: &str =
@@ -97,6 +105,16 @@ is written beside its place as <file>.part, and then renamed";
 
 const NO_CHECKPOINTS_HELP: &str =
     "Makes no checkpoints, which --aeron makes without being asked. It needs --aeron";
+
+const NAME_HELP: &str =
+    "The name of this recorder, 1 to 64 of the characters A-Z, a-z, 0-9, _, . and -: lines on standard error begin with it, and each \
+sample of the metrics has it as its label `recorder`. Without it the label is the number of --receive";
+
+const TIMES_HELP: &str =
+    "Begins each line on standard error with its time in UTC, and `error` or `info`";
+
+const NO_CREATE_HELP: &str =
+    "Refuses a folder without an archive, and makes nothing in it. Without it an empty folder gets a new archive";
 
 /// A port of `serve`, which has to be given.
 fn port<'a>(alloc: Global, name: &'a str, help: &'a str) -> Arg<'a>
@@ -209,6 +227,17 @@ fn metrics<'a>(alloc: Global) -> Arg<'a>
         .help(METRICS_HELP)
 }
 
+/// The option `--name`, a text.
+fn name<'a>(alloc: Global) -> Arg<'a>
+    ensures rule { rule_of result ≡ name_option }
+    ensures local { result.global ≡ false }
+{
+    Arg::new(alloc, "name")
+        .long("name")
+        .value_name("text")
+        .help(NAME_HELP)
+}
+
 /// The command `serve` with its folder.
 fn serve_folder<'a>(alloc: Global) -> Result<Command<'a>, AllocError>
     ensures { IfOk result (IsCommand (word_app (codes "serve") (codes "folder"))) }
@@ -240,7 +269,11 @@ pub(crate) fn serve<'a>(alloc: Global) -> Result<Command<'a>, AllocError>
         .arg(flag(alloc, "strict", STRICT_HELP))?
         .arg(metrics(alloc))?
         .arg(flag(alloc, "checkpoints", CHECKPOINTS_HELP))?
-        .arg(flag(alloc, "no-checkpoints", NO_CHECKPOINTS_HELP))
+        .arg(flag(alloc, "no-checkpoints", NO_CHECKPOINTS_HELP))?
+        .arg(name(alloc))?
+        .arg(flag(alloc, "log-times", TIMES_HELP))?
+        .arg(flag(alloc, "no-create", NO_CREATE_HELP))?
+        .arg(waiting(alloc))
 }
 
 /// The words of `serve` that its matches hold. An error: there is no memory for the streams.
@@ -308,6 +341,10 @@ fn words_of<'a>(own: &ArgMatches<'a>, streams: Vec<i32>) -> Option<ServeWords<'a
     let metrics = own.get_str("metrics");
     let checkpoints = own.get_flag("checkpoints");
     let no_checkpoints = own.get_flag("no-checkpoints");
+    let name = own.get_str("name");
+    let logs_times = own.get_flag("log-times");
+    let no_create = own.get_flag("no-create");
+    let wait = own.get_one::<u32>("wait");
     Some(ServeWords {
         folder,
         control,
@@ -325,5 +362,9 @@ fn words_of<'a>(own: &ArgMatches<'a>, streams: Vec<i32>) -> Option<ServeWords<'a
         metrics,
         checkpoints,
         no_checkpoints,
+        name,
+        logs_times,
+        no_create,
+        wait,
     })
 }

@@ -20,6 +20,7 @@ mod sound_disk;
 mod status;
 mod usage;
 mod verifying;
+mod waiting;
 mod why;
 
 pub use answering::{answered, no_command};

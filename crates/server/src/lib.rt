@@ -5,6 +5,7 @@ mod answering;
 mod client;
 mod clients;
 mod connections;
+mod first_bytes;
 mod line_reader;
 mod listener;
 mod options;

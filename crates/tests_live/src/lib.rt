@@ -27,6 +27,8 @@ mod metrics;
 #[cfg(test)]
 mod misfits;
 #[cfg(test)]
+mod protocols;
+#[cfg(test)]
 mod receivers;
 #[cfg(test)]
 mod recorded;

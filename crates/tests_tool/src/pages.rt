@@ -18,8 +18,19 @@ fn with_further_files(alloc: Global) -> Result<MemoryDisk, Fail> {
 
 /// Fails where the description of the archive of a disk is another.
 fn check(alloc: Global, disk: MemoryDisk, form: Form, told: &str) -> Result<(), Fail> {
+    check_asked(alloc, disk, None, form, told)
+}
+
+/// The same of the recording of an id alone.
+fn check_asked(
+    alloc: Global,
+    disk: MemoryDisk,
+    asked: Option<i64>,
+    form: Form,
+    told: &str,
+) -> Result<(), Fail> {
     let mut out = Vec::new(alloc);
-    if describe_archive(alloc, disk, form, &mut out, &mut Unobserved).is_err() {
+    if describe_archive(alloc, disk, asked, form, &mut out, &mut Unobserved).is_err() {
         return Err(Fail::new("the description ended early"));
     }
     if out.as_slice() == told.as_bytes() {
@@ -163,5 +174,20 @@ fn a_page_of_a_source(rt: HostRuntime) -> Result<(), Fail> {
         on disk    0 bytes in 0 segment files\n\
         history    1 of 1048576 entries\n\
         catalogue  version 2\n",
+    )
+}
+
+/// One recording alone, with its files.
+#[test]
+fn a_document_of_one_recording(rt: HostRuntime) -> Result<(), Fail> {
+    check_asked(
+        rt.alloc(),
+        with_further_files(rt.alloc())?,
+        Some(0),
+        Form::Json,
+        "{\"active\":false,\"channel\":\"c\",\"disk_bytes\":65,\"initial_term_id\":42,\"mtu\":1408,\
+        \"recorded_bytes\":64,\"recorded_position\":64,\"recording\":0,\"segment_files\":2,\"segment_length\":131072,\
+        \"session_id\":7,\"source_identity\":\"\",\"start_position\":0,\"start_timestamp\":1000,\"started\":\"1970-01-01T00:00:01Z\",\
+        \"stop_timestamp\":2000,\"stopped\":\"1970-01-01T00:00:02Z\",\"stream_id\":1001,\"term_length\":65536}\n",
     )
 }
