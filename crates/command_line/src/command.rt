@@ -5,7 +5,7 @@ ghost use Rattle.clap.specs.Words.{AddsSubcommand, app_of, fault_of, found_of, k
 ghost use Rattle.command_line.specs.CommandLine.{IsAsked, IsCommand, IsHeld, IsMet, IsPlain, IsWordsFault, create_app, export_app, file_option, flag_app, flag_option, history_option, named_tool, number_word, position_option, required_word, run_app, tool_app, word_app, words_of};
 
 use crate::asking::{AskWords, ask, asking};
-use crate::serving::{ServeWords, serve, served};
+use crate::serving::{ServeWords, serve_consumers, served};
 use crate::version::VERSION;
 use clap::builder::ValueParser;
 use clap::error::ErrorKind;
@@ -359,7 +359,7 @@ fn tool<'a>(alloc: Global) -> Result<Command<'a>, AllocError>
     let tool = with(tool, verify(alloc))?;
     let tool = with(tool, frames(alloc))?;
     let tool = with(tool, describe(alloc))?;
-    let tool = with(tool, serve(alloc))?;
+    let tool = with(tool, serve_consumers(alloc))?;
     let tool = with(tool, compact(alloc))?;
     let tool = with(tool, export(alloc))?;
     with(tool, ask(alloc))
